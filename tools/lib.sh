@@ -9,11 +9,13 @@ top=$(cd "$(dirname "${BASH_SOURCE[0]}")/.." && pwd)
 folder=$(mktemp -d)
 trap 'rm -rf "$folder"' EXIT
 
-# Runs a command, and shows what it says only where it fails, which ends the tool.
-quietly() { "$@" > "$folder/notes" 2>&1 || { cat "$folder/notes" >&2; exit 1; }; }
+# Runs a command, and shows what it says only where it fails, which ends the tool with the status $1.
+quietly_or() { "${@:2}" > "$folder/notes" 2>&1 || { cat "$folder/notes" >&2; exit "$1"; }; }
+quietly() { quietly_or 1 "$@"; }
 
-# Makes the static library or the program of the crate $1, of what the gate proved or anew.
-proved() { quietly "$top/tools/proved" "$1"; }
+# Makes the static library or the program of the crate $1, of what the gate proved or anew. Where it can't, the tool ends with the
+# status $2, or 1.
+proved() { quietly_or "${2:-1}" "$top/tools/proved" "$1"; }
 
 passed=0 failed=0
 # Counts whether the arithmetic expression $1 holds.

@@ -71,6 +71,9 @@ static void subscriber_is_refused(iox2ps_domain_t *domain, const iox2ps_subscrib
 
 static void loan_is_refused(iox2ps_domain_t *domain, const iox2ps_loan_t *loan, iox2ps_status_t code) {
   REFUSED(iox2ps_loan_send(domain, loan, &outs.count, &outs.blocked), code);
+  for (size_t channel = 0; channel < 2; channel++) {
+    REFUSED(iox2ps_loan_deliver_offset_to_connection(domain, loan, channel, 0, &outs.count, &outs.blocked), code);
+  }
   REFUSED(iox2ps_loan_discard(domain, loan), code);
   REFUSED(iox2ps_loan_payload(domain, loan, &outs.written, &outs.len), code);
 }

@@ -599,6 +599,20 @@ static size_t taken_by(iox2ps_domain_t *domain, const iox2ps_publisher_t *publis
   return receivers;
 }
 
+/* How many took a message that was sent into a channel of one connection. */
+static size_t taken_at(iox2ps_domain_t *domain, const iox2ps_publisher_t *publisher, uint8_t byte, size_t channel,
+                       size_t connection) {
+  iox2ps_loan_t loan;
+  iox2ps_blocked_t blocked;
+  void *payload;
+  size_t receivers = 99;
+  IS(iox2ps_publisher_loan(domain, publisher, 1, &loan, &payload), IOX2PS_OK);
+  memcpy(payload, &byte, 1);
+  IS(iox2ps_loan_deliver_offset_to_connection(domain, &loan, channel, connection, &receivers, &blocked), IOX2PS_OK);
+  IS(iox2ps_loan_discard(domain, &loan), IOX2PS_NOT_LIVE);
+  return receivers;
+}
+
 static void channels_are_closed_opened_and_hinted(void) {
   iox2ps_domain_t domain;
   iox2ps_config_t config;
@@ -655,7 +669,58 @@ static void channels_are_closed_opened_and_hinted(void) {
   CHECK(answer == 0 && taken_by(&domain, &publisher, 3) == 0);
   IS(iox2ps_subscriber_receive_copy(&domain, &subscriber, &byte, 1, &len, &sample), IOX2PS_OK);
   CHECK(byte == 2);
+
+  /* Of one connection the other channel takes one message, and a connection that isn't there takes none. */
+  CHECK(taken_at(&domain, &publisher, 3, 1, 0) == 1 && taken_at(&domain, &publisher, 4, 1, 0) == 0);
+  CHECK(taken_at(&domain, &publisher, 5, 1, 5) == 0);
+  IS(iox2ps_subscriber_has_samples(&domain, &subscriber, &answer), IOX2PS_OK);
+  CHECK(answer == 0);
   IS(iox2ps_subscriber_receive_copy(&domain, &subscriber, &byte, 1, &len, &sample), IOX2PS_NO_SAMPLE);
+  IS(iox2ps_domain_destroy(&domain), IOX2PS_OK);
+}
+
+/* A message to one connection waits for its subscriber alone, and the loan stays where nothing is done. */
+static void a_message_goes_to_one_connection(void) {
+  iox2ps_domain_t domain;
+  iox2ps_config_t config;
+  iox2ps_publisher_t publisher;
+  iox2ps_subscriber_t first, second;
+  iox2ps_loan_t loan;
+  iox2ps_blocked_t blocked;
+  iox2ps_sample_t sample;
+  uint8_t byte = 0;
+  void *payload;
+  size_t receivers = 99, len;
+  iox2ps_config_defaults(&config, 1, 1, 1);
+  config.subscriber_max_buffer_size = 1;
+  config.enable_safe_overflow = 0;
+  create(&domain, &config);
+  IS(iox2ps_subscriber_create(&domain, &first), IOX2PS_OK);
+  IS(iox2ps_subscriber_create(&domain, &second), IOX2PS_OK);
+  IS(iox2ps_publisher_create(&domain, &publisher), IOX2PS_OK);
+  CHECK(taken_at(&domain, &publisher, 1, 0, 1) == 1);
+  IS(iox2ps_publisher_loan(&domain, &publisher, 1, &loan, &payload), IOX2PS_OK);
+  memset(payload, 2, 1);
+  IS(iox2ps_loan_deliver_offset_to_connection(&domain, &loan, 1, 1, &receivers, &blocked), IOX2PS_NO_SUCH_CHANNEL);
+  IS(iox2ps_loan_deliver_offset_to_connection(&domain, &loan, 0, 1, &receivers, &blocked), IOX2PS_BLOCKED);
+  IS(iox2ps_loan_deliver_offset_to_connection(&domain, &loan, 0, 1, &receivers, &blocked), IOX2PS_NOT_LIVE);
+  IS(iox2ps_blocked_retry(&domain, &blocked, 0, &receivers), IOX2PS_BLOCKED);
+  IS(iox2ps_subscriber_receive_copy(&domain, &second, &byte, 1, &len, &sample), IOX2PS_OK);
+  CHECK(byte == 1);
+  IS(iox2ps_blocked_retry(&domain, &blocked, 0, &receivers), IOX2PS_OK);
+  CHECK(receivers == 1);
+  IS(iox2ps_publisher_loan(&domain, &publisher, 1, &loan, &payload), IOX2PS_OK);
+  IS(iox2ps_loan_deliver_offset_to_connection(&domain, &loan, 0, 1, &receivers, &blocked), IOX2PS_BLOCKED);
+  IS(iox2ps_blocked_give_up(&domain, &blocked, &receivers), IOX2PS_OK);
+  CHECK(receivers == 0);
+  IS(iox2ps_subscriber_receive_copy(&domain, &second, &byte, 1, &len, &sample), IOX2PS_OK);
+  CHECK(byte == 2);
+  IS(iox2ps_subscriber_receive_copy(&domain, &second, &byte, 1, &len, &sample), IOX2PS_NO_SAMPLE);
+  IS(iox2ps_subscriber_receive_copy(&domain, &first, &byte, 1, &len, &sample), IOX2PS_NO_SAMPLE);
+  IS(iox2ps_publisher_loan(&domain, &publisher, 1, &loan, &payload), IOX2PS_OK);
+  IS(iox2ps_publisher_close(&domain, &publisher), IOX2PS_OK);
+  IS(iox2ps_loan_deliver_offset_to_connection(&domain, &loan, 0, 0, &receivers, &blocked),
+     IOX2PS_SEND_ERROR_CONNECTION_BROKEN_SINCE_SENDER_NO_LONGER_EXISTS);
   IS(iox2ps_domain_destroy(&domain), IOX2PS_OK);
 }
 
@@ -835,6 +900,7 @@ int main(void) {
   channels_are_asked_about();
   channels_are_closed_opened_and_hinted();
   further_channels_have_states_of_their_own();
+  a_message_goes_to_one_connection();
   closed_channels_end_waits_and_get_no_history();
   a_recording_ends_before_a_channel_changes();
   texts_are_iceoryx2s();

@@ -9,26 +9,11 @@
  * Each message has eight bytes, which are a number that no other message has. It is read where it lies as soon as it
  * is received, which is a line of SCRIPT too. */
 #include "iox2_pubsub.h"
+#include "random_numbers.h"
 #include <inttypes.h>
 #include <stdio.h>
 #include <stdlib.h>
 #include <string.h>
-
-/* ---- random numbers */
-
-static uint64_t state;
-
-static uint64_t next(void) {
-  state += UINT64_C(0x9e3779b97f4a7c15);
-  uint64_t x = state;
-  x = (x ^ (x >> 30)) * UINT64_C(0xbf58476d1ce4e5b9);
-  x = (x ^ (x >> 27)) * UINT64_C(0x94d049bb133111eb);
-  return x ^ (x >> 31);
-}
-
-static size_t below(size_t limit) { return (size_t)(next() % limit); }
-
-static int one_in(size_t count) { return below(count) == 0; }
 
 /* ---- things: what the calls have made */
 
@@ -437,7 +422,7 @@ int main(int count, char **arguments) {
   iox2ps_domain_t domain = IOX2PS_DOMAIN_INIT, other = IOX2PS_DOMAIN_INIT;
   iox2ps_config_t config;
   if (count != 5 && count != 6) fail("usage: random_calls SEED CALLS SCRIPT REPLIES [RECORDING]");
-  state = strtoull(arguments[1], NULL, 10);
+  random_state = strtoull(arguments[1], NULL, 10);
   size_t calls = strtoull(arguments[2], NULL, 10);
   script = fopen(arguments[3], "w");
   replies = fopen(arguments[4], "w");

@@ -1,10 +1,12 @@
 /* Makes random calls, most of them on channels, and holds each to a small model: `random_channels SEED CALLS`.
  *
- * The model knows of each connection what waits and is borrowed there, and how its one to three channels stand. It says what each call
+ * The model knows of each connection what waits and is borrowed there, and how its one to three channels stand. A message
+ * may be sent to all connections, into channel 0, or into one channel of one connection. It says what each call
  * has to return; after each call all channels are read and compared with it. The handle of a port that was closed stays
  * where it was, so that many calls are made by numbers that name nothing, which has to be answered by IOX2PS_NOT_LIVE.
  * Memory is never refused here. Each message has eight bytes, which are a number that no other message has. */
 #include "iox2_pubsub.h"
+#include "random_numbers.h"
 #include <inttypes.h>
 #include <stdio.h>
 #include <stdlib.h>
@@ -14,22 +16,6 @@ static _Noreturn void fail(const char *words) {
   fprintf(stderr, "%s\n", words);
   exit(1);
 }
-
-/* ---- random numbers */
-
-static uint64_t random_state;
-
-static uint64_t next(void) {
-  random_state += UINT64_C(0x9e3779b97f4a7c15);
-  uint64_t x = random_state;
-  x = (x ^ (x >> 30)) * UINT64_C(0xbf58476d1ce4e5b9);
-  x = (x ^ (x >> 27)) * UINT64_C(0x94d049bb133111eb);
-  return x ^ (x >> 31);
-}
-
-static size_t below(size_t limit) { return (size_t)(next() % limit); }
-
-static int one_in(size_t count) { return below(count) == 0; }
 
 /* ---- the model: ports by their places, and what two ports share */
 
@@ -49,7 +35,12 @@ typedef struct publisher_t {
   iox2ps_blocked_t blocked;
   uint64_t message; /* that waits */
   size_t place;     /* of the subscriber that it waits for */
+  size_t channel;   /* into which it goes */
+  size_t end;       /* the place behind the last one to which it goes */
   size_t count;     /* how many have taken it */
+  int has_loan;
+  iox2ps_loan_t loan;
+  uint64_t lent; /* what the loan reads */
 } publisher_t;
 
 /* A closed one is there as long as it has borrowed something. */
@@ -71,9 +62,9 @@ typedef struct connection_t {
   size_t sender_place, receiver_place;
   enum end receiver;
   size_t entry; /* among the expired ones */
-  queue_t waiting;
+  queue_t waiting[CHANNELS]; /* of which the first is received */
   size_t borrowed;
-  channel_t channels[CHANNELS]; /* messages go to the first */
+  channel_t channels[CHANNELS];
 } connection_t;
 
 typedef struct sample_t {
@@ -90,7 +81,7 @@ static size_t connection_count, sample_count, expired_entries;
 static uint64_t last_value, next_port = 1;
 
 /* What happened: so that it is seen that it did. */
-static size_t channel_calls, not_live, passed_over, histories_kept_back, waits_ended;
+static size_t channel_calls, not_live, passed_over, histories_kept_back, waits_ended, in_other_channels, loans_lost;
 
 static uint64_t id_of(iox2ps_wide_t wide) {
   if (wide.high) fail("an id is greater than there are ports");
@@ -172,8 +163,20 @@ static void change_state(channel_t *c, uint64_t state) {
   c->has_hint = 0;
 }
 
-/* Whether the connection takes messages. */
-static int is_closed(const connection_t *c) { return c->channels[0].state == IOX2PS_CHANNEL_STATE_CLOSED; }
+/* Whether the channel takes no messages. */
+static int is_closed(const connection_t *c, size_t channel) { return c->channels[channel].state == IOX2PS_CHANNEL_STATE_CLOSED; }
+
+/* What waits goes, in each channel. */
+static void drop_waiting(connection_t *c) {
+  for (size_t channel = 0; channel < CHANNELS; channel++) c->waiting[channel].count = 0;
+}
+
+/* How many messages there are in the connection. */
+static size_t load_of(const connection_t *c) {
+  size_t load = c->borrowed;
+  for (size_t channel = 0; channel < CHANNELS; channel++) load += c->waiting[channel].count;
+  return load;
+}
 
 /* ---- the model: updates */
 
@@ -182,11 +185,11 @@ static size_t buffer_of(const subscriber_t *q) { return q->port.buffer_size ? q-
 static void connect_sender(const publisher_t *p, const subscriber_t *q, size_t place) {
   connection_t *c = connection(p, q);
   c->sender_place = place;
-  if (is_closed(c)) {
+  if (is_closed(c, 0)) {
     histories_kept_back += p->history.count > 0;
     return;
   }
-  for (size_t at = 0; at < p->history.count; at++) push(&c->waiting, p->history.values[at], buffer_of(q));
+  for (size_t at = 0; at < p->history.count; at++) push(&c->waiting[0], p->history.values[at], buffer_of(q));
 }
 
 static void update_publisher(publisher_t *p) {
@@ -194,11 +197,11 @@ static void update_publisher(publisher_t *p) {
     const subscriber_t *q = &subscribers[place];
     connection_t *end = sender_end(p, place);
     if (end && q->is_there && end->subscriber == q->port.id.low) {
-      if (!q->is_open) end->waiting.count = 0;
+      if (!q->is_open) drop_waiting(end);
       continue;
     }
     if (end) {
-      end->waiting.count = 0;
+      drop_waiting(end);
       end->sender_place = NOWHERE;
     }
     if (q->is_there && q->is_open) connect_sender(p, q, place);
@@ -224,7 +227,7 @@ static int retire(const subscriber_t *q, connection_t *end) {
   if (expired >= room) {
     connection_t *leaves = end->borrowed ? first_to_go(q) : end;
     if (!leaves) return 0;
-    leaves->waiting.count = 0;
+    drop_waiting(leaves);
     leaves->receiver = NO_END;
     if (leaves == end) return 1;
   }
@@ -260,7 +263,7 @@ static int update_subscriber(subscriber_t *q) {
 /* A closed publisher of which it has no message is forgotten. */
 static void prune(const subscriber_t *q) {
   for (EACH_OF(q, c)) {
-    if (!publisher_of(c->publisher) && c->waiting.count + c->borrowed == 0) c->receiver = NO_END;
+    if (!publisher_of(c->publisher) && load_of(c) == 0) c->receiver = NO_END;
   }
 }
 
@@ -289,7 +292,7 @@ static void publisher_closes(publisher_t *p) {
     connection_t *c = &connections[at];
     if (c->publisher != p->port.id.low) continue;
     const subscriber_t *q = subscriber_of(c->subscriber);
-    if (!q || !q->is_open || c->receiver == NO_END) c->waiting.count = 0;
+    if (!q || !q->is_open || c->receiver == NO_END) drop_waiting(c);
     c->sender_place = NOWHERE;
   }
   for (size_t at = 0; at < PLACES; at++) prune(&subscribers[at]);
@@ -300,7 +303,7 @@ static void publisher_closes(publisher_t *p) {
 static void subscriber_closes(subscriber_t *q) {
   q->is_open = 0;
   for (EACH_OF(q, c)) {
-    if (!publisher_of(c->publisher)) c->waiting.count = 0;
+    if (!publisher_of(c->publisher)) drop_waiting(c);
   }
   publishers_are_due();
   free_if_unused(q);
@@ -378,24 +381,26 @@ static void close_subscriber(iox2ps_domain_t *domain) {
   if (code == IOX2PS_OK) subscriber_closes(q);
 }
 
-/* The message comes to the subscribers from that place on, until one has no room and is waited for. */
+/* The message comes to the subscribers from that place up to its last one, until one has no room and is waited for. */
 static iox2ps_status_t deliver(publisher_t *p, size_t place) {
   p->is_blocked = 0;
-  for (; place < config.max_subscribers; place++) {
+  for (; place < config.max_subscribers && place < p->end; place++) {
     connection_t *c = sender_end(p, place);
     const subscriber_t *q = c ? subscriber_of(c->subscriber) : NULL;
     if (!q || !q->is_open) continue;
-    if (is_closed(c)) {
+    if (is_closed(c, p->channel)) {
       passed_over++;
       continue;
     }
-    if (c->waiting.count == buffer_of(q) && !config.enable_safe_overflow) {
+    queue_t *waiting = &c->waiting[p->channel];
+    if (waiting->count == buffer_of(q) && !config.enable_safe_overflow) {
       if (!p->retries) continue;
       p->is_blocked = 1;
       p->place = place;
       return IOX2PS_BLOCKED;
     }
-    push(&c->waiting, p->message, buffer_of(q));
+    in_other_channels += p->channel > 0;
+    push(waiting, p->message, buffer_of(q));
     p->count++;
   }
   return IOX2PS_OK;
@@ -414,6 +419,8 @@ static void send_copy(iox2ps_domain_t *domain) {
   update_publisher(p);
   push(&p->history, value, config.history_size);
   p->message = value;
+  p->channel = 0;
+  p->end = config.max_subscribers;
   p->count = 0;
   is_code(code, deliver(p, 0));
   if (code == IOX2PS_BLOCKED) p->blocked = blocked;
@@ -431,13 +438,13 @@ static void end_blocked(iox2ps_domain_t *domain) {
     return;
   }
   const connection_t *c = sender_end(p, was);
-  waits_ended += !gives_up && c && is_closed(c);
+  waits_ended += !gives_up && c && is_closed(c, p->channel);
   is_code(code, deliver(p, was + (gives_up ? 1 : 0)));
   if (code == IOX2PS_OK) is_so(receivers == p->count, "a message has another number of receivers");
 }
 
 static int may_receive(const connection_t *c, enum end from) {
-  return c->receiver == from && c->waiting.count && c->borrowed < config.subscriber_max_borrowed_samples;
+  return c->receiver == from && c->waiting[0].count && c->borrowed < config.subscriber_max_borrowed_samples;
 }
 
 /* What a receive returns after its update: a message comes from an expired publisher, if it can, and else from another one. */
@@ -446,7 +453,7 @@ static iox2ps_status_t receivable(const subscriber_t *q, enum end *from) {
   for (*from = EXPIRED; *from != NO_END; *from = *from == EXPIRED ? AT_PLACE : NO_END) {
     for (EACH_OF(q, c)) {
       if (may_receive(c, *from)) return IOX2PS_OK;
-      waiting += c->waiting.count;
+      waiting += c->waiting[0].count;
     }
   }
   return waiting ? IOX2PS_RECEIVE_ERROR_EXCEEDS_MAX_BORROWS : IOX2PS_NO_SAMPLE;
@@ -455,8 +462,9 @@ static iox2ps_status_t receivable(const subscriber_t *q, enum end *from) {
 static void is_received(const subscriber_t *q, enum end from, const iox2ps_sample_t *sample, uint64_t value) {
   for (EACH_OF(q, c)) {
     if (c->publisher != id_of(sample->origin)) continue;
-    is_so(may_receive(c, from) && c->waiting.values[0] == value, "another message is received");
-    memmove(c->waiting.values, c->waiting.values + 1, --c->waiting.count * sizeof value);
+    is_so(may_receive(c, from) && c->waiting[0].values[0] == value, "another message is received");
+    queue_t *waiting = &c->waiting[0];
+    memmove(waiting->values, waiting->values + 1, --waiting->count * sizeof value);
     c->borrowed++;
     is_so(sample_count < SAMPLES, "more is borrowed than the settings allow");
     samples[sample_count++] = (sample_t){*sample, c->publisher, c->subscriber};
@@ -506,7 +514,7 @@ static void has_samples(iox2ps_domain_t *domain) {
     return;
   }
   is_code(code, update_subscriber(q) ? IOX2PS_OK : IOX2PS_CONNECTION_FAILURE_EXPIRED_BUFFER_FULL);
-  for (EACH_OF(q, c)) wanted |= c->waiting.count > 0;
+  for (EACH_OF(q, c)) wanted |= c->waiting[0].count > 0;
   if (code == IOX2PS_OK) is_so(waits == wanted, "another answer whether a message waits");
 }
 
@@ -587,6 +595,46 @@ static void close_channel(iox2ps_domain_t *domain) {
   if (c && c->channels[channel].state == expected) change_state(&c->channels[channel], IOX2PS_CHANNEL_STATE_CLOSED);
 }
 
+/* Lends a message to be sent to one connection, now or later. */
+static int has_loan(iox2ps_domain_t *domain, publisher_t *p) {
+  void *payload;
+  if (p->has_loan) return 1;
+  iox2ps_status_t code = iox2ps_publisher_loan(domain, &p->port, sizeof p->lent, &p->loan, &payload);
+  is_code(code, !p->is_open ? IOX2PS_NOT_LIVE : p->is_blocked ? IOX2PS_PUBLISHER_IS_BLOCKED : IOX2PS_OK);
+  if (code != IOX2PS_OK) return 0;
+  p->lent = ++last_value;
+  memcpy(payload, &p->lent, sizeof p->lent);
+  p->has_loan = 1;
+  return 1;
+}
+
+static void send_to_connection(iox2ps_domain_t *domain) {
+  publisher_t *p = any_publisher();
+  size_t channel = any_channel(), place = any_place(), receivers = 99;
+  iox2ps_blocked_t blocked;
+  if (!has_loan(domain, p) || one_in(4)) return;
+  iox2ps_status_t code = iox2ps_loan_deliver_offset_to_connection(domain, &p->loan, channel, place, &receivers, &blocked);
+  if (!is_answered(code == IOX2PS_NO_SUCH_CHANNEL ? code : IOX2PS_OK, 1, channel)) return;
+  if (!p->is_open) {
+    is_code(code, IOX2PS_SEND_ERROR_CONNECTION_BROKEN_SINCE_SENDER_NO_LONGER_EXISTS);
+    loans_lost++;
+    p->has_loan = 0;
+    return;
+  }
+  if (p->is_blocked) {
+    is_code(code, IOX2PS_PUBLISHER_IS_BLOCKED);
+    return;
+  }
+  p->has_loan = 0;
+  p->message = p->lent;
+  p->channel = channel;
+  p->end = place < config.max_subscribers ? place + 1 : 0;
+  p->count = 0;
+  is_code(code, deliver(p, place));
+  if (code == IOX2PS_BLOCKED) p->blocked = blocked;
+  else is_so(receivers == p->count, "a message to one connection has another number of receivers");
+}
+
 static void some_has_state(iox2ps_domain_t *domain, const subscriber_t *q, size_t channel, uint64_t state) {
   uint32_t answer = 0, wanted = 0;
   iox2ps_status_t code = iox2ps_subscriber_at_least_one_channel_has_state(domain, &q->port, channel, state, &answer);
@@ -644,14 +692,16 @@ static void call(iox2ps_domain_t *domain) {
   else if (which < 10) create_subscriber(domain);
   else if (which < 12) close_publisher(domain);
   else if (which < 14) close_subscriber(domain);
-  else if (which < 26) send_copy(domain);
+  else if (which < 22) send_copy(domain);
+  else if (which < 26) send_to_connection(domain);
   else if (which < 30) end_blocked(domain);
   else if (which < 40) receive(domain);
   else if (which < 46) release(domain);
   else if (which < 48) has_samples(domain);
   else if (which < 50) update(domain);
-  else if (which < 60) set_channel_state(domain);
-  else if (which < 70) close_channels(domain);
+  else if (which < 58) set_channel_state(domain);
+  else if (which < 66) close_channels(domain);
+  else if (which < 70) send_to_connection(domain);
   else if (which < 76) set_hints(domain);
   else if (which < 86) close_channel(domain);
   else if (which < 91) some_has_state(domain, any_subscriber(), any_channel(), any_state());
@@ -686,7 +736,7 @@ int main(int count, char **arguments) {
   }
   is_code(iox2ps_domain_destroy(&domain), IOX2PS_OK);
   printf("%zu calls, %zu of them on channels, and %zu by numbers of nothing; closed channels let %zu messages pass, end %zu waits "
-         "and keep %zu histories back\n",
-         calls, on_channels, by_nothing, passed_over, waits_ended, histories_kept_back);
+         "and keep %zu histories back; %zu messages go into other channels, and %zu loans are lost\n",
+         calls, on_channels, by_nothing, passed_over, waits_ended, histories_kept_back, in_other_channels, loans_lost);
   return 0;
 }

@@ -503,6 +503,31 @@ static void closed_channels_take_no_messages() {
   CHECK(!*subscriber.set_channel_state(0, 3) && *publisher.has_channel_state(0, 0, 7) && *publisher.has_disconnect_hint(0, 0, 7));
   CHECK(publisher.close_channel(0, 0, 7).has_value() && !*publisher.has_disconnect_hint(0, 0, closed));
   CHECK(**subscriber.receive().expect("a receive") == 2);
+  auto sent_to = [&](int value, std::size_t channel, std::size_t connection) {
+    auto loan = publisher.loan().expect("a loan");
+    *loan = value;
+    return loan.deliver_offset_to_connection(channel, connection)->delivered();
+  };
+  CHECK(sent_to(3, 1, 0) == std::size_t(1) && sent_to(4, 1, 0) == std::size_t(0) && sent_to(5, 1, 5) == std::size_t(0));
+  CHECK(!*subscriber.has_samples());
+}
+
+/* A message to one connection waits for its subscriber alone, and the loan stays where nothing is done. */
+static void a_message_goes_to_one_connection() {
+  auto domain = made(Config<int>(27).subscriber_max_buffer_size(1).enable_safe_overflow(false));
+  auto first = domain.subscriber().expect("a subscriber"), second = domain.subscriber().expect("a subscriber");
+  auto publisher = domain.publisher().expect("a publisher");
+  auto loan = publisher.loan().expect("a loan");
+  *loan = 1;
+  CHECK(loan.deliver_offset_to_connection(1, 1).error() == Error::NoSuchChannel && loan);
+  CHECK(loan.deliver_offset_to_connection(0, 1)->delivered() == std::size_t(1) && !loan);
+  CHECK(loan.deliver_offset_to_connection(0, 1).error() == Error::NotLive);
+  auto later = publisher.loan().expect("a loan");
+  *later = 2;
+  auto sent = later.deliver_offset_to_connection(0, 1).expect("a send");
+  CHECK(sent.blocked() && !*sent.blocked()->retry());
+  CHECK(**second.receive().expect("a receive") == 1 && **sent.blocked()->retry() == std::size_t(1));
+  CHECK(**second.receive().expect("a receive") == 2 && !first.receive().expect("a receive"));
 }
 
 /* Messages go to channel 0 alone, and no call on one channel changes another. */
@@ -610,6 +635,7 @@ int main() {
   channels_are_asked_about();
   channels_are_closed_opened_and_hinted();
   closed_channels_take_no_messages();
+  a_message_goes_to_one_connection();
   further_channels_have_states_of_their_own();
   a_blocked_send_goes_past_a_closed_channel();
   settings_say_how_many_slots_a_publisher_has();

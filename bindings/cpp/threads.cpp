@@ -1,5 +1,6 @@
 /* Domains that several threads use, by the C++ handles. */
 #include "iox2_pubsub_shared.hpp"
+#include "turns.hpp"
 #include <array>
 #include <atomic>
 #include <cstdio>
@@ -16,6 +17,7 @@
 using Message = std::array<std::uint64_t, 8>;
 using Domain = iox2ps::SharedDomain<Message>;
 using M = iox2ps::ManyThreads;
+using WatchedThreads = iox2ps::ManyThreadsWith<Watched>;
 using namespace std::chrono_literals;
 using Clock = std::chrono::steady_clock;
 
@@ -35,18 +37,18 @@ Message message(std::uint64_t number) {
   return all;
 }
 
-Domain keeping(std::size_t buffer) {
+template <typename Lock = std::mutex> auto keeping(std::size_t buffer) {
   iox2ps::Config<Message> config(1);
   config.enable_safe_overflow(false).subscriber_max_buffer_size(buffer);
-  return Domain::create(config).expect("a domain");
+  return iox2ps::SharedDomain<Message, Lock>::create(config).expect("a domain");
 }
 
-iox2ps::BlockedSend<Message, M> blocked(iox2ps::Result<iox2ps::Sent<Message, M>> sent) {
+template <typename Threads> iox2ps::BlockedSend<Message, Threads> blocked(iox2ps::Result<iox2ps::Sent<Message, Threads>> sent) {
   CHECK(sent && sent->blocked());
   return std::move(*sent->blocked());
 }
 
-std::uint64_t first_of(iox2ps::Result<std::optional<iox2ps::Sample<Message, M>>> received) {
+template <typename Threads> std::uint64_t first_of(iox2ps::Result<std::optional<iox2ps::Sample<Message, Threads>>> received) {
   CHECK(received && *received);
   return (***received)[0];
 }
@@ -72,44 +74,74 @@ void a_message_crosses_threads_in_place() {
 }
 
 void receives_wait() {
-  auto domain = keeping(2);
+  auto domain = keeping<Watched>(2);
   auto publisher = domain.publisher().expect("a publisher");
   auto subscriber = domain.subscriber().expect("a subscriber");
   auto started = Clock::now();
   CHECK(!subscriber.timed_receive(20ms).expect("a receive"));
   CHECK(Clock::now() - started >= 20ms);
-  std::thread waiting([&] {
-    CHECK(first_of(subscriber.blocking_receive()) == 1);
-    CHECK(first_of(subscriber.blocking_receive()) == 2);
+  auto waits = asleep_after(to_sleep, [&] {
+    CHECK((**subscriber.blocking_receive_copy())[0] == 1);
+    CHECK((**subscriber.blocking_receive_copy())[0] == 2);
     CHECK(!subscriber.blocking_receive().expect("a receive"));
   });
   for (std::uint64_t number = 1; number < 3; number++) {
-    std::this_thread::sleep_for(20ms);
     CHECK(publisher.send_copy(message(number)).expect("a send").delivered() == 1u);
+    /* It has received the message, and sleeps again. */
+    waits.has_had(to_sleep + number * (1 + to_sleep));
   }
-  std::this_thread::sleep_for(20ms);
   domain.stop_waits();
-  waiting.join();
+  waits.join();
+}
+
+void what_comes_while_a_thread_falls_asleep_is_not_missed() {
+  auto domain = keeping<Watched>(1);
+  auto publisher = domain.publisher().expect("a publisher");
+  auto subscriber = domain.subscriber().expect("a subscriber");
+  /* It has tried, and isn't in the list of those who wait. */
+  auto receives = stopped_after(1, [&] { CHECK(first_of(subscriber.blocking_receive()) == 1); });
+  CHECK(publisher.send_copy(message(1)).expect("a send").delivered() == 1u);
+  receives.go_on();
+  receives.join();
+  CHECK(publisher.send_copy(message(2)).expect("a send").delivered() == 1u);
+  auto waits = blocked(publisher.send_copy(message(3)));
+  auto sends = stopped_after(1, [&] { CHECK(waits.blocking_retry().expect("a retry") == 1u); });
+  CHECK(first_of(subscriber.receive()) == 2);
+  sends.go_on();
+  sends.join();
 }
 
 void sends_wait() {
-  auto domain = keeping(1);
+  auto domain = keeping<Watched>(1);
   auto publisher = domain.publisher().expect("a publisher");
   auto subscriber = domain.subscriber().expect("a subscriber");
   CHECK(publisher.send_copy(message(1)).expect("a send").delivered() == 1u);
   auto started = Clock::now();
   auto waits = blocked(publisher.loan(message(2)).expect("a loan").timed_send(20ms));
   CHECK(Clock::now() - started >= 20ms);
-  std::thread sends([&] { CHECK(waits.blocking_retry().expect("a retry") == 1u); });
-  std::this_thread::sleep_for(20ms);
+  auto sends = asleep_after(to_sleep, [&] { CHECK(waits.blocking_retry().expect("a retry") == 1u); });
   CHECK(first_of(subscriber.receive()) == 1);
   sends.join();
   CHECK(!waits);
   auto third = blocked(publisher.send_copy(message(3)));
-  std::thread gone([&] { CHECK(third.blocking_retry().expect("a retry") == 0u); });
-  std::this_thread::sleep_for(20ms);
+  auto gone = asleep_after(to_sleep, [&] { CHECK(third.blocking_retry().expect("a retry") == 0u); });
   subscriber.close();
   gone.join();
+}
+
+void each_that_waits_is_woken() {
+  iox2ps::Config<Message> config(1);
+  config.max_subscribers(8);
+  auto domain = iox2ps::SharedDomain<Message, Watched>::create(config).expect("a domain");
+  auto publisher = domain.publisher().expect("a publisher");
+  std::vector<iox2ps::Subscriber<Message, WatchedThreads>> subscribers;
+  for (int i = 0; i < 8; i++) subscribers.push_back(domain.subscriber().expect("a subscriber"));
+  std::vector<Watch> all;
+  for (auto &subscriber : subscribers) {
+    all.push_back(asleep_after(to_sleep, [&] { CHECK((**subscriber.blocking_receive_copy())[0] == 5); }));
+  }
+  CHECK(publisher.send_copy(message(5)).expect("a send").delivered() == 8u);
+  for (auto &one : all) one.join();
 }
 
 void each_gets_all_in_order() {
@@ -141,22 +173,18 @@ void each_gets_all_in_order() {
   for (auto &thread : threads) thread.join();
 }
 
-/* A loan waits until this was called, and not longer. */
-template <typename Ends> void lends_after(iox2ps::Publisher<Message, M> &publisher, Ends ends) {
-  std::atomic<bool> has_lent{false};
-  std::thread lends([&] {
+/* A thread waits for a loan, and has it once this was called. */
+template <typename Ends> void lends_after(iox2ps::Publisher<Message, WatchedThreads> &publisher, Ends ends) {
+  auto lends = asleep_after(to_sleep, [&] {
     auto loan = publisher.blocking_loan();
     CHECK(loan && *loan);
-    has_lent = true;
   });
-  std::this_thread::sleep_for(20ms);
-  CHECK(!has_lent);
   ends();
   lends.join();
 }
 
 void loans_wait() {
-  auto domain = keeping(1);
+  auto domain = keeping<Watched>(1);
   auto publisher = domain.publisher().expect("a publisher");
   auto subscriber = domain.subscriber().expect("a subscriber");
   auto first = publisher.loan(message(1)).expect("a loan");
@@ -172,7 +200,7 @@ void loans_wait() {
 }
 
 void loans_wait_for_slots() {
-  auto domain = keeping(1);
+  auto domain = keeping<Watched>(1);
   auto publisher = domain.publisher(iox2ps::PublisherOptions<Message>().preallocated_samples(1)).expect("a publisher");
   auto subscriber = domain.subscriber().expect("a subscriber");
   CHECK(publisher.send_copy(message(1)).expect("a send").delivered() == 1u);
@@ -219,7 +247,7 @@ void copies_and_all_take_the_lock_once() {
 }
 
 void waits_are_stopped_twice_and_taken_back() {
-  auto domain = keeping(1);
+  auto domain = keeping<Watched>(1);
   auto publisher = domain.publisher().expect("a publisher");
   auto subscriber = domain.subscriber().expect("a subscriber");
   domain.stop_waits();
@@ -227,8 +255,7 @@ void waits_are_stopped_twice_and_taken_back() {
   CHECK(!subscriber.blocking_receive().expect("a receive"));
   domain.stop_waits(false);
   domain.stop_waits(false);
-  std::thread waits([&] { CHECK(first_of(subscriber.blocking_receive()) == 1); });
-  std::this_thread::sleep_for(20ms);
+  auto waits = asleep_after(to_sleep, [&] { CHECK(first_of(subscriber.blocking_receive()) == 1); });
   CHECK(publisher.send_copy(message(1)).expect("a send").delivered() == 1u);
   waits.join();
   /* Times of zero, of less, and of the greatest length. */
@@ -266,11 +293,10 @@ void a_thread_that_throws_gives_back_what_it_has() {
 #endif
 
 void a_domain_that_goes_while_others_wait_stays_for_them() {
-  std::optional<Domain> domain = keeping(1);
+  std::optional<iox2ps::SharedDomain<Message, Watched>> domain = keeping<Watched>(1);
   auto publisher = domain->publisher().expect("a publisher");
   auto subscriber = domain->subscriber().expect("a subscriber");
-  std::thread waits([&] { CHECK(first_of(subscriber.blocking_receive()) == 1); });
-  std::this_thread::sleep_for(20ms);
+  auto waits = asleep_after(to_sleep, [&] { CHECK(first_of(subscriber.blocking_receive()) == 1); });
   domain.reset();
   CHECK(publisher.send_copy(message(1)).expect("a send").delivered() == 1u);
   waits.join();
@@ -278,22 +304,22 @@ void a_domain_that_goes_while_others_wait_stays_for_them() {
 
 /* What is read where it lies is given back in the call that waits for the next: so a loan that waits for its slot goes on. */
 void a_slot_comes_back_while_the_next_message_is_waited_for() {
-  auto domain = keeping(1);
+  auto domain = keeping<Watched>(1);
   auto publisher = domain.publisher(iox2ps::PublisherOptions<Message>().preallocated_samples(1)).expect("a publisher");
   auto subscriber = domain.subscriber().expect("a subscriber");
-  std::atomic<std::uint64_t> next{0};
-  std::thread reads([&] {
-    auto read = [&](const iox2ps::Sample<Message, M> &sample) {
-      CHECK((*sample)[0] == next);
-      std::this_thread::sleep_for(20ms); // the publisher waits for the one slot
-      return ++next < 3;
-    };
-    CHECK(subscriber.blocking_for_each(read).has_value());
-  });
-  for (std::uint64_t number = 0; number < 3; number++) {
-    CHECK(publisher.timed_send_copy(message(number), 10s).expect("a send").delivered() == 1u);
-  }
-  reads.join();
+  CHECK(publisher.send_copy(message(0)).expect("a send").delivered() == 1u);
+  std::uint64_t next = 0;
+  std::vector<Watch> sends;
+  auto read = [&](const iox2ps::Sample<Message, WatchedThreads> &sample) {
+    CHECK((*sample)[0] == next);
+    if (++next == 3) return false;
+    sends.push_back(asleep_after(to_sleep, [&publisher, number = next] {
+      CHECK(publisher.blocking_send_copy(message(number)).expect("a send").delivered() == 1u);
+    }));
+    return true;
+  };
+  CHECK(subscriber.blocking_for_each(read).has_value());
+  for (auto &one : sends) one.join();
   CHECK(next == 3);
 }
 
@@ -427,7 +453,7 @@ void each_listener_is_called_for_each_message() {
 }
 
 #ifdef __linux__
-/* Whether it is readable within so many milliseconds. */
+/* Whether it is readable within so many milliseconds; -1 waits for good. */
 bool is_readable(int loop, int milliseconds) {
   epoll_event event;
   return epoll_wait(loop, &event, 1, milliseconds) == 1;
@@ -475,7 +501,7 @@ void an_event_loop_misses_nothing() {
     int loop = loop_over(descriptor);
     std::uint64_t next = 0;
     while (next < messages) {
-      CHECK(is_readable(loop, 10000));
+      CHECK(is_readable(loop, -1));
       descriptor.reset();
       while (auto one = subscriber.receive_copy().expect("a receive")) CHECK((*one)[0] == next++);
     }
@@ -512,14 +538,15 @@ void a_lock_is_brought() {
   std::vector<iox2ps::Subscriber<Message, iox2ps::ManyThreadsWith<Counting>>> subscribers;
   for (int i = 0; i < 4; i++) subscribers.push_back(domain.subscriber().expect("a subscriber"));
   std::vector<std::thread> threads;
+  unsigned start = Counting::taken;
   for (auto &subscriber : subscribers) {
     threads.emplace_back([&] { CHECK((**subscriber.blocking_receive_copy())[0] == 5); });
   }
-  std::this_thread::sleep_for(20ms);
-  unsigned before = Counting::taken;
+  unsigned before = start + static_cast<unsigned>(to_sleep * subscribers.size());
+  while (Counting::taken < before) std::this_thread::yield();
   CHECK(publisher.send_copy(message(5)).expect("a send").delivered() == 4u);
   for (auto &thread : threads) thread.join();
-  CHECK(before > 0 && Counting::taken == before + 5);
+  CHECK(Counting::taken == before + 5);
 }
 
 /* One that lends its holder the priority of whoever waits for it, as robots need. */
@@ -582,7 +609,9 @@ int main() {
   const std::function<void()> tests[] = {
       a_message_crosses_threads_in_place,
       receives_wait,
+      what_comes_while_a_thread_falls_asleep_is_not_missed,
       sends_wait,
+      each_that_waits_is_woken,
       each_gets_all_in_order,
       loans_wait,
       loans_wait_for_slots,

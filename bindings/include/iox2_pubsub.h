@@ -604,6 +604,17 @@ IOX2PS_NODISCARD iox2ps_status_t iox2ps_publisher_close_channel(iox2ps_domain_t 
                                                                 const iox2ps_publisher_t *publisher, size_t channel,
                                                                 size_t connection, uint64_t expected);
 
+/** Sends a message into one channel of one connection of its publisher, and to nobody else, and says how many
+ * subscribers took it: 1 or 0. It is 0 where there is no such connection, and where its subscriber or the channel is
+ * closed. Connections aren't updated, and the message enters no history. With IOX2PS_BLOCKED it waits for room in that
+ * channel, and blocked names the send. A message in another channel than 0 can't be received. The loan is spent with
+ * IOX2PS_OK, IOX2PS_BLOCKED and each IOX2PS_SEND_ERROR_..., and stays with IOX2PS_NOT_LIVE, IOX2PS_PUBLISHER_IS_BLOCKED
+ * and IOX2PS_NO_SUCH_CHANNEL. */
+IOX2PS_NODISCARD iox2ps_status_t iox2ps_loan_deliver_offset_to_connection(iox2ps_domain_t *domain,
+                                                                          const iox2ps_loan_t *loan, size_t channel,
+                                                                          size_t connection, size_t *receivers,
+                                                                          iox2ps_blocked_t *blocked);
+
 /** @} */
 
 #ifdef __cplusplus

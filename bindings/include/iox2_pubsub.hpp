@@ -404,6 +404,21 @@ public:
   /** The same, for so long. */
   Result<Sent<P, M>> timed_send(std::chrono::nanoseconds timeout) { return blocking_send(detail::after(timeout)); }
 
+  /** Sends the message into one channel of one connection of its publisher, and to nobody else, and leaves this empty; with
+   * Error::PublisherIsBlocked and Error::NoSuchChannel it stays. It goes to nobody where there is no such connection, and
+   * where its subscriber or the channel is closed. Connections aren't updated, and it enters no history. A message in another
+   * channel than 0 can't be received. */
+  Result<Sent<P, M>> deliver_offset_to_connection(std::size_t channel, std::size_t connection) {
+    if (!hold_) return Error::NotLive;
+    std::size_t count = 0;
+    iox2ps_blocked_t blocked;
+    iox2ps_status_t code = hold_.call(Waits::Message | Waits::Loan, [&](iox2ps_domain_t *domain) {
+      return iox2ps_loan_deliver_offset_to_connection(domain, &loan_, channel, connection, &count, &blocked);
+    });
+    if (code == IOX2PS_NO_SUCH_CHANNEL) return Error::NoSuchChannel;
+    return sent(code, count, blocked);
+  }
+
   /** Gives the loan back unsent. */
   void discard() {
     if (!hold_) return;

@@ -5,71 +5,94 @@ import time
 
 from .base import ARCHIVE, BINDINGS, WORK, env, sh, step, there
 
-# What each does, in which file, what is replaced by what there, and the tests that see it.
+# What each does, in which file, what is replaced by what there, and the test that sees it, whatever else the machine does.
 IN_RUST = [
-    ("nobody is woken for what comes", "guarded.rs", "        state.waiting.bring(brings);", "", "threads"),
-    ("what comes isn't counted", "guarded.rs", "        if brings.meets(Brings::MESSAGE) {\n            count(&self.changes.messages);",
-     "        if brings.meets(Brings::MESSAGE) {", "threads"),
+    ("nobody is woken for what comes", "guarded.rs", "        state.waiting.bring(brings);", "", "threads::a_receive_waits_for_a_message"),
+    ("a message that comes isn't counted", "guarded.rs", "            count(&self.changes.messages);\n        }\n        if brings.meets",
+     "        }\n        if brings.meets", "threads::what_comes_while_a_thread_falls_asleep_is_not_missed"),
+    ("room that comes isn't counted", "guarded.rs", "            count(&self.changes.others);\n        }\n        if state", "        }\n        if state",
+     "threads::what_comes_while_a_thread_falls_asleep_is_not_missed"),
     ("a thread that is back still counts as awake", "waiting.rs",
-     "            self.awake -= usize::from(self.threads.remove(at).is_awake);", "            self.threads.remove(at);", "threads"),
+     "            self.awake -= usize::from(self.threads.remove(at).is_awake);", "            self.threads.remove(at);",
+     "threads::a_receive_waits_for_a_message"),
     ("a thread isn't woken after the call", "guarded.rs", "            wake.wake();\n        }\n        code\n",
-     "            drop(wake);\n        }\n        code\n", "locks"),
+     "            drop(wake);\n        }\n        code\n", "threads::a_receive_waits_for_a_message"),
     ("who is woken doesn't wake the next", "guarded.rs", "let wake = self.brought(state, wait.brings, code);",
-     "let wake: Option<Wake> = None;", "waits"),
-    ("a stop wakes nobody", "guarded.rs", "            state.waiting.bring(Brings::ALL);", "", "threads"),
-    ("a stop isn't looked at", "guarded.rs", "|| state.is_stopped || is_past", "|| is_past", "threads"),
-    ("time isn't looked at", "guarded.rs", " || is_past(wait.until)", "", "waits"),
-    ("the end of a send frees nobody", "threads.rs", "Brings::SEND.and(Brings::FREE)", "Brings::SEND", "locks"),
+     "let wake: Option<Wake> = None;", "waits::each_of_sixteen_that_wait_is_woken"),
+    ("a stop wakes nobody", "guarded.rs", "            state.waiting.bring(Brings::ALL);", "", "threads::stopping_ends_all_waits"),
+    ("a stop isn't looked at", "guarded.rs", "|| state.is_stopped || is_past", "|| is_past", "threads::stopping_ends_all_waits"),
+    ("time isn't looked at", "guarded.rs", " || is_past(wait.until)", "", "threads::a_receive_waits_for_so_long"),
+    ("the end of a send frees nobody", "threads.rs", "Brings::SEND.and(Brings::FREE)", "Brings::SEND",
+     "locks::the_end_of_a_send_wakes_who_waits_for_it"),
     ("a release frees no slot", "sample.rs", "self.hold.call(Brings::LOAN, release)", "self.hold.call(Brings::NOTHING, release)",
-     "waits"),
-    ("a discard frees no loan", "loan.rs", "self.hold.call(Brings::LOAN,", "self.hold.call(Brings::NOTHING,", "waits"),
-    ("a send frees no loan", "threads.rs", "Brings::MESSAGE.and(Brings::LOAN)", "Brings::MESSAGE", "waits"),
-    ("a receive makes no room", "subscriber.rs", "self.hold.call(Brings::ROOM,", "self.hold.call(Brings::NOTHING,", "threads"),
+     "waits::a_loan_waits_for_a_slot_that_is_released"),
+    ("a discard frees no loan", "loan.rs", "self.hold.call(Brings::LOAN,", "self.hold.call(Brings::NOTHING,",
+     "waits::a_loan_waits_for_a_loan_that_is_given_back_or_sent"),
+    ("a send frees no loan", "threads.rs", "Brings::MESSAGE.and(Brings::LOAN)", "Brings::MESSAGE",
+     "waits::a_loan_waits_for_a_loan_that_is_given_back_or_sent"),
+    ("a receive makes no room", "subscriber.rs", "self.hold.call(Brings::ROOM,", "self.hold.call(Brings::NOTHING,",
+     "threads::a_send_waits_for_room"),
     ("a subscriber that goes makes no room", "subscriber.rs", "self.hold.call(Brings::COPY, |shared| unsafe {",
-     "self.hold.call(Brings::NOTHING, |shared| unsafe {", "threads"),
-    ("a dropped publisher stays", "send_outcome.rs", "shared.close_orphan(blocked.publisher);", "let _ = &shared;", "threads"),
-    ("nothing for one subscriber is nothing for all", "waiting.rs", " || one.port != port;", ";", "locks"),
+     "self.hold.call(Brings::NOTHING, |shared| unsafe {", "threads::a_send_waits_no_longer_for_a_subscriber_that_goes"),
+    ("a dropped publisher stays", "send_outcome.rs", "shared.close_orphan(blocked.publisher);", "let _ = &shared;",
+     "threads::a_publisher_that_goes_while_its_send_waits_closes_then"),
+    ("nothing for one subscriber is nothing for all", "waiting.rs", " || one.port != port;", ";",
+     "locks::a_thread_that_finds_nothing_keeps_no_message_from_others"),
     ("the lock isn't held while a call runs", "lock.rs", "let _guard = self.look().unwrap_or_else(|| self.wait());",
-     "drop(self.look().unwrap_or_else(|| self.wait()));", "threads"),
+     "drop(self.look().unwrap_or_else(|| self.wait()));", "locks::a_lock_lets_in_one_thread_at_a_time"),
     ("a message isn't given back when the next is asked for", "desk.rs", "release(shared, &got.sample);", "let _ = (&shared, got);",
-     "threads"),
-    ("what is given back then frees no loan", "desk.rs", "shared.brings_too = Brings::LOAN;", "", "waits"),
-    ("a reader takes more than it has room for", "desk.rs", "while self.taken.len() < self.capacity {", "loop {", "reader_writer"),
-    ("a reader gives the last message back unread", "reader.rs", "if self.unread() == 0 {", "if self.unread() <= 1 {", "reader_writer"),
+     "threads::each_message_is_given_back_when_the_next_is_asked_for"),
+    ("what is given back then frees no loan", "desk.rs", "shared.brings_too = Brings::LOAN;", "",
+     "waits::a_loan_waits_for_a_slot_that_comes_back_while_the_next_message_is_waited_for"),
+    ("a reader takes more than it has room for", "desk.rs", "while self.taken.len() < self.capacity {", "loop {",
+     "reader_writer::a_reader_takes_what_waits_at_once"),
+    ("a reader gives the last message back unread", "reader.rs", "if self.unread() == 0 {", "if self.unread() <= 1 {",
+     "reader_writer::a_reader_takes_what_waits_at_once"),
     ("a reader is served that doesn't ask", "desk.rs", "if self.state.load(Ordering::Acquire) != ASKED {",
-     "if self.state.load(Ordering::Acquire) == SERVED {", "reader_writer"),
+     "if self.state.load(Ordering::Acquire) == SERVED {", "reader_writer::what_a_reader_has_stays_when_it_does_not_ask"),
     ("a reader takes once more what it was served", "desk.rs", "if self.state.swap(OWN, Ordering::Acquire) == SERVED {",
-     "if self.state.swap(OWN, Ordering::Acquire) > SERVED {", "reader_writer"),
+     "if self.state.swap(OWN, Ordering::Acquire) > SERVED {",
+     "reader_writer::what_a_reader_is_served_before_it_has_the_lock_is_read_once"),
     ("what is done for a reader wakes nobody", "desk.rs", "            return Brings::COPY;", "            return Brings::NOTHING;",
-     "reader_writer"),
+     "reader_writer::a_blocked_send_goes_on_when_another_has_made_room"),
+    ("what is given back for a reader frees no loan", "desk.rs", "            true => Brings::LOAN,", "            true => Brings::NOTHING,",
+     "reader_writer::a_loan_goes_on_when_it_has_freed_its_slot"),
     ("a send doesn't see the room that it has made", "guarded.rs", "let seen = self.changes(wait.what).load(Ordering::Relaxed);\n                "
      "let wake = self.brought(state, wait.brings, code);", "let wake = self.brought(state, wait.brings, code);\n                "
-     "let seen = self.changes(wait.what).load(Ordering::Relaxed);", "reader_writer"),
+     "let seen = self.changes(wait.what).load(Ordering::Relaxed);", "reader_writer::a_blocked_send_goes_on_when_it_has_made_room"),
     ("a reader that goes gives nothing back", "reader.rs", "                batch.give_back(shared);\n                sys::OK",
-     "                let _ = (&batch, shared);\n                sys::OK", "reader_writer"),
+     "                let _ = (&batch, shared);\n                sys::OK", "reader_writer::a_reader_that_is_dropped_gives_all_back"),
     ("a reader that goes frees no loan", "reader.rs", "hold.call(Brings::LOAN, |shared|", "hold.call(Brings::NOTHING, |shared|",
-     "reader_writer"),
+     "reader_writer::a_reader_that_is_dropped_gives_all_back"),
     ("a writer that goes keeps its loan", "writer.rs", "|shared| discard(shared, &lent.loan)", "|_| { let _ = (discard, &lent); sys::OK }",
-     "reader_writer"),
+     "reader_writer::the_loan_that_is_ready_counts"),
     ("a writer forgets its loan while an earlier send waits", "writer.rs", "} else if code != sys::PUBLISHER_IS_BLOCKED {", "} else {",
-     "reader_writer"),
+     "reader_writer::a_writer_is_blocked_by_a_full_buffer"),
     ("a writer doesn't wait for room", "writer.rs", "            sys::BLOCKED => self.retry_until(",
-     "            sys::BLOCKED if until.is_some() => self.retry_until(", "reader_writer"),
+     "            sys::BLOCKED if until.is_some() => self.retry_until(",
+     "reader_writer::a_writer_waits_for_room_for_a_loan_and_for_an_earlier_send"),
     ("a message of a writer wakes nobody", "writer.rs", "let wait = self.wait_for(Waits::Free, until, Brings::SEND);",
-     "let wait = self.wait_for(Waits::Free, until, Brings::NOTHING);", "reader_writer"),
-    ("a task isn't remembered", "guarded.rs", "state.waiting.add_task(port, waker)", "Some(waker)", "events"),
-    ("a task isn't woken", "waiting.rs", "            waker.wake();", "            drop(waker);", "events"),
+     "let wait = self.wait_for(Waits::Free, until, Brings::NOTHING);", "reader_writer::a_message_of_a_writer_wakes_a_reader"),
+    ("a task isn't remembered", "guarded.rs", "state.waiting.add_task(port, waker)", "Some(waker)",
+     "events::a_task_is_woken_once_and_a_future_that_is_dropped_loses_nothing"),
+    ("a task isn't woken", "waiting.rs", "            waker.wake();", "            drop(waker);",
+     "events::a_task_is_woken_once_and_a_future_that_is_dropped_loses_nothing"),
     ("a task that is forgotten is woken", "waiting.rs", "let at = self.tasks.iter().position(is_it)?;",
-     "let at = self.tasks.iter().position(is_it).filter(|_| false)?;", "events"),
-    ("a call waits in a listener", "guarded.rs", "if is_over || is_listening()", "if is_over", "events"),
-    ("a listener is called inside of itself", "listeners.rs", "if put_off(&self)", "if put_off(&self) && false", "events"),
-    ("a listener stays when its subscriber goes", "subscriber.rs", "        self.hold.forget(self.port.id);", "", "events"),
-    ("a descriptor is raised once", "message_fd.rs", "self.0.is_raised.swap(false, Ordering::AcqRel);", "", "events"),
+     "let at = self.tasks.iter().position(is_it).filter(|_| false)?;", "events::a_waker_that_is_forgotten_is_dropped_and_no_other_is"),
+    ("a call waits in a listener", "guarded.rs", "if is_over || is_listening()", "if is_over", "events::a_listener_is_called_without_the_lock"),
+    ("a listener is called inside of itself", "listeners.rs", "if put_off(&self)", "if put_off(&self) && false",
+     "events::a_listener_that_sends_isnt_called_inside_of_itself"),
+    ("a listener stays when its subscriber goes", "subscriber.rs", "        self.hold.forget(self.port.id);", "",
+     "events::a_listener_goes_with_its_subscriber_and_may_own_other_handles"),
+    ("a descriptor is raised once", "message_fd.rs", "self.0.is_raised.swap(false, Ordering::AcqRel);", "",
+     "events::descriptor::a_descriptor_is_readable_when_a_message_came"),
 ]
 
 # The same of the headers, which cpp/threads.cpp has to see.
 IN_CPP = [
     ("nobody is woken for what comes", "shared", "if (!list_.is_empty()) wake.sleeper = next(brings);", ""),
+    ("a message that comes isn't counted", "shared", "      count(messages_);\n      wake.listeners", "      wake.listeners"),
+    ("room that comes isn't counted", "shared", "if ((brings & ~only(Waits::Message)) != 0) count(others_);", ""),
     ("who is woken doesn't wake the next", "shared", "        wake = brought(brings, code);\n        is_over", "        brought(brings, code);\n        is_over"),
     ("what is given back for the next message frees no loan", "shared", "brings |= std::exchange(too_, 0u);", ""),
     ("a listener is called under the lock", "shared", "      wake = brought(brings, code);\n    }\n    wake.wake();",
@@ -112,34 +135,37 @@ def plant(fault):
     return crates / "rust"
 
 
-# How long the tests of a file take without a fault.
-seconds_of = {}
+# Within how many seconds a test ends that doesn't wait for good. Without a fault each of them takes a part of one.
+MOST_SECONDS = 20
 
 
-def ends(crate, tests, seconds):
-    """The status with which these tests end, after this time at the latest: most faults let a thread wait for good."""
+def ends(crate, tests, seconds, *names):
+    """The status with which these tests of a file end, after this time at the latest: most faults let a thread wait for good."""
     target = env(CARGO_TARGET_DIR=str(WORK / "target_faults"), RUSTFLAGS="-Awarnings")
-    sh("cargo", "test", "--offline", "--quiet", "--no-run", "--test", tests, cwd=crate, env=target)
-    command = ["timeout", "-k", "1", str(seconds), "cargo", "test", "--offline", "--quiet", "--test", tests]
-    started = time.monotonic()
-    status = subprocess.run(command, cwd=crate, env=target, capture_output=True).returncode
-    return status, time.monotonic() - started
+    command = ["cargo", "test", "--offline", "--quiet", "--test", tests]
+    sh(*command, "--no-run", cwd=crate, env=target)
+    command = ["timeout", "-k", "1", str(seconds), *command, "--", *names]
+    return subprocess.run(command, cwd=crate, env=target, capture_output=True).returncode
 
 
 def see_fault(fault):
-    """The tests of its file fail, or wait for good."""
-    status, _ = ends(plant(fault), fault[4], 10 + 5 * seconds_of.get(fault[4], 2))
+    """Its test fails, or waits for good."""
+    tests, name = fault[4].split("::", 1)
+    status = ends(plant(fault), tests, MOST_SECONDS, "--exact", name)
     if status == 0:
-        raise RuntimeError(f"tests/{fault[4]}.rs pass")
-    return f"tests/{fault[4]}.rs " + ("waits for good" if status in (124, 137) else "fails")
+        raise RuntimeError(f"tests/{tests}.rs: {name} passes")
+    return f"{name} " + ("waits for good" if status in (124, 137) else "fails")
 
 
-def pass_without(files):
-    """The tests pass where nothing is planted."""
-    for tests in files:
-        status, seconds_of[tests] = ends(plant(None), tests, 300)
-        if status != 0:
+def pass_without(faults):
+    """The tests pass where nothing is planted, also those that see these faults, each by itself."""
+    crate = plant(None)
+    for tests in sorted({fault[4].split("::")[0] for fault in faults}):
+        if ends(crate, tests, 600) != 0:
             raise RuntimeError(f"tests/{tests}.rs fail")
+    for tests, name in sorted({tuple(fault[4].split("::", 1)) for fault in faults}):
+        if ends(crate, tests, MOST_SECONDS, "--exact", name) != 0:
+            raise RuntimeError(f"tests/{tests}.rs: {name} fails")
     return "all tests pass"
 
 
@@ -163,6 +189,10 @@ def see_fault_cpp(fault):
     return "cpp/threads.cpp " + ("waits for good" if status in (124, 137) else "fails")
 
 
+# How long it takes without a fault.
+seconds_of = {}
+
+
 def pass_without_cpp():
     """It passes where nothing is planted."""
     status, seconds_of["cpp"] = ends_cpp(BINDINGS / "include", 300)
@@ -174,7 +204,7 @@ def pass_without_cpp():
 def part_faults(in_rust=IN_RUST, in_cpp=IN_CPP):
     """Each in turn."""
     if there("cargo"):
-        step("the crate without a fault", lambda: pass_without(sorted({fault[4] for fault in in_rust})))
+        step("the crate without a fault", lambda: pass_without(in_rust))
         for fault in in_rust:
             step(f"fault of the crate: {fault[0]}", lambda: see_fault(fault))
     if there("g++"):

@@ -275,6 +275,14 @@ extern "C" {
         receivers: *mut usize,
         blocked: *mut Blocked,
     ) -> u32;
+    pub fn iox2ps_loan_deliver_offset_to_connection(
+        domain: *mut Domain,
+        loan: *const Loan,
+        channel: usize,
+        connection: usize,
+        receivers: *mut usize,
+        blocked: *mut Blocked,
+    ) -> u32;
     pub fn iox2ps_loan_discard(domain: *mut Domain, loan: *const Loan) -> u32;
     pub fn iox2ps_loan_payload(
         domain: *mut Domain,

@@ -189,6 +189,8 @@ pub enum SendError {
     InternalError,
     /// An earlier send of the publisher waits. This library's own.
     PublisherIsBlocked,
+    /// A connection has no channel with this number. This library's own.
+    NoSuchChannel,
 }
 
 impl SendError {
@@ -201,6 +203,7 @@ impl SendError {
             sys::SEND_ERROR_UNABLE_TO_DELIVER => SendError::UnableToDeliver,
             sys::SEND_ERROR_INTERNAL_ERROR => SendError::InternalError,
             sys::PUBLISHER_IS_BLOCKED => SendError::PublisherIsBlocked,
+            sys::NO_SUCH_CHANNEL => SendError::NoSuchChannel,
             sys::SEND_ERROR_CONNECTION_INCOMPATIBLE_BUFFER_SIZE
             | sys::SEND_ERROR_CONNECTION_OUT_OF_MEMORY
             | sys::SEND_ERROR_CONNECTION_EXPIRED_BUFFER_FULL
@@ -224,6 +227,7 @@ impl SendError {
             SendError::UnableToDeliver => sys::SEND_ERROR_UNABLE_TO_DELIVER,
             SendError::InternalError => sys::SEND_ERROR_INTERNAL_ERROR,
             SendError::PublisherIsBlocked => sys::PUBLISHER_IS_BLOCKED,
+            SendError::NoSuchChannel => sys::NO_SUCH_CHANNEL,
         }
     }
 }

@@ -182,7 +182,56 @@ impl<P: Payload + ?Sized, M: Threads> Loan<P, M> {
         outcome(&self.lent.into_hold(), code, receivers, &blocked)
     }
 
-    /// The same, but where an earlier send of the publisher waits, the loan comes back.
+    /// Sends the message into one channel of one connection of its publisher, and to nobody else. `connection`
+    /// is what [`get_connection_id_of`](crate::Publisher::get_connection_id_of) says. It goes to nobody where
+    /// there is no such connection, and where its subscriber or the channel is closed. Connections aren't
+    /// updated, and the message enters no history. A message in another channel than 0 can't be received.
+    ///
+    /// ```
+    /// use iox2_pubsub::Domain;
+    ///
+    /// # fn main() -> Result<(), Box<dyn std::error::Error>> {
+    /// let domain = Domain::<u64>::builder(7).max_subscribers(2).create()?;
+    /// let (first, second) = (domain.subscriber()?, domain.subscriber()?);
+    /// let publisher = domain.publisher()?;
+    /// let to = publisher.get_connection_id_of(second.id()).expect("a connection");
+    /// let sent = publisher.loan_uninit()?.write_payload(5).deliver_offset_to_connection(0, to)?;
+    /// assert_eq!(sent.delivered(), Some(1));
+    /// assert!(first.receive()?.is_none());
+    /// assert_eq!(*second.receive()?.expect("a message"), 5);
+    /// # Ok(())
+    /// # }
+    /// ```
+    ///
+    /// # Errors
+    ///
+    /// See [`SendError`]; `ConnectionError` isn't one of them. The loan is spent: with `PublisherIsBlocked` and
+    /// `NoSuchChannel` it was given back unsent.
+    pub fn deliver_offset_to_connection(
+        self,
+        channel: usize,
+        connection: usize,
+    ) -> Result<SendOutcome<P, M>, SendError> {
+        let (mut receivers, mut blocked) = (0, MaybeUninit::uninit());
+        // SAFETY: see `Shared::at`.
+        let code = self.lent.hold.call(Brings::SEND, |shared| unsafe {
+            sys::iox2ps_loan_deliver_offset_to_connection(
+                shared.at(),
+                &self.lent.loan,
+                channel,
+                connection,
+                &mut receivers,
+                blocked.as_mut_ptr(),
+            )
+        });
+        match code {
+            sys::PUBLISHER_IS_BLOCKED => Err(SendError::PublisherIsBlocked),
+            sys::NO_SUCH_CHANNEL => Err(SendError::NoSuchChannel),
+            code => outcome(&self.lent.into_hold(), code, receivers, &blocked),
+        }
+    }
+
+    /// As [`send`](Loan::send), but where an earlier send of the publisher waits, the loan comes back.
     ///
     /// # Errors
     ///

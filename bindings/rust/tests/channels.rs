@@ -1,10 +1,11 @@
 //! Calls on the channels of connections, by handles of one thread and of many, that count or borrow.
 
 use iox2_pubsub::{
-    BackpressureStrategy, ChannelError, Domain, Subscriber, Threads, CHANNEL_STATE_CLOSED,
-    CHANNEL_STATE_OPEN,
+    BackpressureStrategy, ChannelError, Domain, SendError, Subscriber, Threads,
+    CHANNEL_STATE_CLOSED, CHANNEL_STATE_OPEN,
 };
 use std::thread;
+use std::time::Duration;
 
 macro_rules! by_each_kind {
     ($test:ident) => {{
@@ -191,6 +192,16 @@ fn a_closed_channel_passes_messages_by<M: Threads>(domain: &Domain<u64, M>) {
     publisher.close_channel(0, 0, 7).unwrap();
     assert!(!is_hinted(CHANNEL_STATE_CLOSED));
     assert_eq!(subscriber.receive_copy().unwrap(), Some(2));
+
+    let sent_to = |value, channel, connection| {
+        let loan = publisher.loan_uninit().unwrap().write_payload(value);
+        let sent = loan.deliver_offset_to_connection(channel, connection);
+        sent.unwrap().delivered()
+    };
+    assert_eq!(sent_to(3, 1, 0), Some(1));
+    assert_eq!(sent_to(4, 1, 0), Some(0));
+    assert_eq!(sent_to(5, 1, 5), Some(0));
+    assert_eq!(subscriber.has_samples(), Ok(false));
 }
 
 #[test]
@@ -241,4 +252,41 @@ fn further_channels_have_states_of_their_own() {
     a_further_channel_has_its_own_state(&of_one);
     let of_many = builder().create_shared().unwrap();
     a_further_channel_has_its_own_state(&of_many.borrowed());
+}
+
+// A message to one connection waits for its subscriber alone.
+fn a_message_goes_to_one<M: Threads>(domain: &Domain<u64, M>) {
+    let (first, second) = (domain.subscriber().unwrap(), domain.subscriber().unwrap());
+    let publisher = domain.publisher().unwrap();
+    let to = publisher.get_connection_id_of(second.id()).unwrap();
+    let sent_to = |value, channel, connection| {
+        let loan = publisher.loan_uninit().unwrap().write_payload(value);
+        loan.deliver_offset_to_connection(channel, connection)
+    };
+    assert_eq!(sent_to(1, 0, to).unwrap().delivered(), Some(1));
+    assert_eq!(sent_to(2, 1, to).err(), Some(SendError::NoSuchChannel));
+    let blocked = sent_to(3, 0, to).unwrap().blocked().unwrap();
+    assert_eq!(second.receive_copy().unwrap(), Some(1));
+    assert_eq!(blocked.retry(Duration::ZERO).unwrap().delivered(), Some(1));
+    let given_up = sent_to(4, 0, to).unwrap().blocked().unwrap().give_up();
+    assert_eq!(given_up.unwrap().delivered(), Some(0));
+    assert_eq!(second.receive_copy().unwrap(), Some(3));
+    assert_eq!(second.receive_copy().unwrap(), None);
+    assert_eq!(first.receive_copy().unwrap(), None);
+
+    let lost = publisher.loan_uninit().unwrap().write_payload(5);
+    drop(publisher);
+    let gone = SendError::ConnectionBrokenSinceSenderNoLongerExists;
+    assert_eq!(lost.deliver_offset_to_connection(0, to).err(), Some(gone));
+}
+
+#[test]
+fn messages_go_to_one_connection() {
+    let builder = || {
+        Domain::<u64>::builder(1)
+            .subscriber_max_buffer_size(1)
+            .enable_safe_overflow(false)
+    };
+    a_message_goes_to_one(&builder().create().unwrap());
+    a_message_goes_to_one(&builder().create_shared().unwrap().borrowed());
 }

@@ -308,6 +308,7 @@ mod descriptor {
         fn poll(descriptors: *mut PollFd, count: u64, milliseconds: i32) -> i32;
     }
 
+    // Within so many milliseconds; -1 waits for good.
     fn is_readable(of: &impl AsRawFd, milliseconds: i32) -> bool {
         let mut one = PollFd {
             descriptor: of.as_raw_fd(),
@@ -358,7 +359,7 @@ mod descriptor {
             let descriptor = subscriber.message_fd().unwrap();
             let mut next = 0;
             while next < MESSAGES {
-                assert!(is_readable(&descriptor, 10_000));
+                assert!(is_readable(&descriptor, -1));
                 descriptor.reset().unwrap();
                 for number in receive_all(&subscriber) {
                     assert_eq!(number, next);

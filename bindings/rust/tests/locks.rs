@@ -1,14 +1,18 @@
-//! A lock that is brought, and handles that borrow their domain.
+//! Locks, also one that is brought, and handles that borrow their domain.
+
+mod turns;
 
 use iox2_pubsub::{
     BackpressureStrategy, Borrowed, Domain, DomainLock, Loan, ManyThreads, Publisher, Sample,
-    Subscriber, Threads,
+    StdLock, Subscriber, Threads,
 };
 use std::cell::UnsafeCell;
 use std::ffi::c_void;
-use std::sync::Mutex;
+use std::sync::atomic::{AtomicUsize, Ordering};
+use std::sync::Barrier;
 use std::thread;
-use std::time::Duration;
+use std::time::{Duration, Instant};
+use turns::{asleep_after, Watched, TO_SLEEP};
 
 extern "C" {
     fn pthread_mutexattr_init(attributes: *mut c_void) -> i32;
@@ -76,21 +80,7 @@ impl Drop for Inheriting {
 }
 
 // Whose threads sleep at once, and are woken one by one.
-struct Sleepy(Mutex<()>);
-
-// SAFETY: it is a mutex.
-unsafe impl DomainLock for Sleepy {
-    const LOOKS: u32 = 0;
-
-    fn new() -> Self {
-        Sleepy(Mutex::new(()))
-    }
-
-    fn hold<R>(&self, run: impl FnOnce() -> R) -> R {
-        let _guard = self.0.lock().unwrap();
-        run()
-    }
-}
+type Sleepy = Watched<0>;
 
 fn keeping() -> iox2_pubsub::DomainBuilder<u64> {
     Domain::<u64>::builder(1)
@@ -153,29 +143,36 @@ fn threads_that_sleep_at_once_are_woken_one_by_one() {
     all_in_order(&domain);
     // A call that doesn't wait wakes too.
     let (publisher, subscriber) = (domain.publisher().unwrap(), domain.subscriber().unwrap());
+    let receive = || subscriber.blocking_receive_copy().unwrap();
     thread::scope(|scope| {
-        let receives = scope.spawn(|| subscriber.blocking_receive_copy().unwrap());
-        thread::sleep(Duration::from_millis(30));
+        let receives = asleep_after(scope, TO_SLEEP, receive);
         assert_eq!(publisher.send_copy(7).unwrap().delivered(), Some(1));
-        assert_eq!(receives.join().unwrap(), Some(7));
+        assert_eq!(receives.join(), Some(7));
     });
-    // The end of a send wakes who waits for it.
+}
+
+#[test]
+fn the_end_of_a_send_wakes_who_waits_for_it() {
+    let domain = keeping().create_with_lock::<Sleepy>().unwrap();
+    let (publisher, subscriber) = (domain.publisher().unwrap(), domain.subscriber().unwrap());
     let loan = publisher.loan_uninit().unwrap().write_payload(4);
     for number in 1..3 {
         assert_eq!(publisher.send_copy(number).unwrap().delivered(), Some(1));
     }
     let blocked = publisher.send_copy(3).unwrap().blocked().unwrap();
     thread::scope(|scope| {
-        let sends = scope.spawn(|| loan.blocking_send().unwrap().delivered());
-        thread::sleep(Duration::from_millis(30));
+        let send = || loan.blocking_send().unwrap().delivered();
+        let sends = asleep_after(scope, TO_SLEEP, send);
         assert_eq!(subscriber.receive_copy().unwrap(), Some(1));
         let ended = blocked.retry(Duration::ZERO).unwrap();
         assert_eq!(ended.delivered(), Some(1));
-        thread::sleep(Duration::from_millis(30));
+        // It has tried again, is blocked by the full buffer, and sleeps again.
+        sends.has_had(TO_SLEEP + 1 + TO_SLEEP);
         for number in 2..5 {
-            assert_eq!(subscriber.blocking_receive_copy().unwrap(), Some(number));
+            let received = subscriber.blocking_receive_copy().unwrap();
+            assert_eq!(received, Some(number));
         }
-        assert_eq!(sends.join().unwrap(), Some(1));
+        assert_eq!(sends.join(), Some(1));
     });
 }
 
@@ -184,22 +181,37 @@ fn a_thread_that_finds_nothing_keeps_no_message_from_others() {
     let domain = keeping().create_with_lock::<Sleepy>().unwrap();
     let publisher = domain.publisher().unwrap();
     let (shared, own) = (domain.subscriber().unwrap(), domain.subscriber().unwrap());
-    let moment = Duration::from_millis(30);
     thread::scope(|scope| {
-        let two: Vec<_> = (0..2)
-            .map(|_| scope.spawn(|| shared.blocking_receive_copy().unwrap()))
-            .collect();
-        thread::sleep(moment);
-        let third = scope.spawn(|| own.blocking_receive_copy().unwrap());
-        thread::sleep(moment);
+        let receive = || shared.blocking_receive_copy().unwrap();
+        let first = asleep_after(scope, TO_SLEEP, receive);
+        let second = asleep_after(scope, TO_SLEEP, receive);
+        let receive = || own.blocking_receive_copy().unwrap();
+        let third = asleep_after(scope, TO_SLEEP, receive);
         assert_eq!(publisher.send_copy(7).unwrap().delivered(), Some(2));
-        assert_eq!(third.join().unwrap(), Some(7));
-        thread::sleep(moment);
+        assert_eq!(third.join(), Some(7));
         domain.stop_waits(true);
-        let mut got: Vec<_> = two.into_iter().map(|one| one.join().unwrap()).collect();
-        got.sort_unstable();
-        assert_eq!(got, [None, Some(7)]);
+        assert_eq!((first.join(), second.join()), (Some(7), None));
     });
+}
+
+#[test]
+fn a_lock_lets_in_one_thread_at_a_time() {
+    const THREADS: usize = 8;
+    let (lock, come, inside) = (StdLock::new(), Barrier::new(THREADS), AtomicUsize::new(0));
+    let enter = || {
+        come.wait();
+        lock.hold(|| {
+            assert_eq!(inside.fetch_add(1, Ordering::SeqCst), 0);
+            // The others are on their way, and have time to come in.
+            let started = Instant::now();
+            while started.elapsed() < Duration::from_millis(20) {
+                assert_eq!(inside.load(Ordering::SeqCst), 1);
+                thread::yield_now();
+            }
+            inside.store(0, Ordering::SeqCst);
+        });
+    };
+    thread::scope(|scope| (0..THREADS).for_each(|_| drop(scope.spawn(enter))));
 }
 
 #[test]

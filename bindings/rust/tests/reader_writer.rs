@@ -1,15 +1,16 @@
 //! Readers and writers, which take the lock once for several calls.
 
+mod turns;
+
 use iox2_pubsub::{
     BackpressureStrategy, Borrowed, Domain, DomainBuilder, LoanError, ManyThreads, MayWait,
     Payload, Publisher, Reader, ReceiveError, SendError, SendOutcome, SharedDomain, Subscriber,
     Threads, Writer,
 };
-use std::hint::spin_loop;
-use std::sync::atomic::{AtomicU64, Ordering};
 use std::sync::mpsc;
-use std::thread::{self, yield_now};
+use std::thread::{self, Scope};
 use std::time::{Duration, Instant};
+use turns::{asleep_after, stopped_after, Watch, Watched, WatchedThreads, TO_SLEEP};
 
 const MOMENT: Duration = Duration::from_millis(20);
 
@@ -26,6 +27,11 @@ fn keeping(buffer: usize, borrowed: usize) -> SharedDomain<u64> {
     settings(buffer, borrowed).create_shared().unwrap()
 }
 
+fn watched(buffer: usize, borrowed: usize) -> Domain<u64, WatchedThreads> {
+    let settings = settings(buffer, borrowed);
+    settings.create_with_lock::<Watched>().unwrap()
+}
+
 fn is_delivered<P: Payload + ?Sized, M: Threads>(
     sent: Result<SendOutcome<P, M>, SendError>,
 ) -> bool {
@@ -37,19 +43,18 @@ fn next<M: Threads>(reader: &mut Reader<'_, u64, M>) -> Option<u64> {
 }
 
 // Two producers and four consumers, each of whom gets all in order.
-fn all_in_order<M: MayWait>(domain: &Domain<u64, M>, capacity: usize)
+fn all_in_order<M: MayWait>(domain: &Domain<u64, M>, capacity: usize, messages: u64)
 where
     Publisher<u64, M>: Sync,
     Subscriber<u64, M>: Sync,
 {
-    const MESSAGES: u64 = 3000;
     let publishers = [domain.publisher().unwrap(), domain.publisher().unwrap()];
     let subscribers: Vec<_> = (0..4).map(|_| domain.subscriber().unwrap()).collect();
     thread::scope(|scope| {
         for (of, publisher) in publishers.iter().enumerate() {
             scope.spawn(move || {
                 let mut writer = publisher.writer();
-                for number in 0..MESSAGES {
+                for number in 0..messages {
                     let sent = writer.blocking_send(number << 1 | of as u64).unwrap();
                     assert_eq!(sent.delivered(), Some(4));
                 }
@@ -59,12 +64,12 @@ where
             scope.spawn(move || {
                 let mut reader = subscriber.reader_with_capacity(capacity);
                 let mut next = [0, 0];
-                for _ in 0..2 * MESSAGES {
+                for _ in 0..2 * messages {
                     let value = *reader.blocking_receive().unwrap().unwrap();
                     assert_eq!(value >> 1, next[(value & 1) as usize]);
                     next[(value & 1) as usize] += 1;
                 }
-                assert_eq!(next, [MESSAGES; 2]);
+                assert_eq!(next, [messages; 2]);
             });
         }
     });
@@ -75,8 +80,10 @@ fn each_reader_gets_all_in_order() {
     for (buffer, borrowed, capacity) in [(1, 1, 1), (2, 2, 2), (8, 3, 64), (64, 64, 64), (4, 8, 0)]
     {
         let domain = keeping(buffer, borrowed);
-        all_in_order(&domain, capacity);
-        all_in_order(&domain.borrowed(), capacity);
+        // With short buffers the threads wait for each other at each message.
+        let messages = if buffer < 8 { 500 } else { 3000 };
+        all_in_order(&domain, capacity, messages);
+        all_in_order(&domain.borrowed(), capacity, messages);
         assert_eq!((domain.book_count(), domain.connection_count()), (0, 0));
     }
 }
@@ -159,7 +166,7 @@ fn what_was_read_is_given_back_by_the_next_call() {
 
 #[test]
 fn a_reader_that_is_dropped_gives_all_back() {
-    let domain = keeping(4, 4);
+    let domain = watched(4, 4);
     let (publisher, subscriber) = (domain.publisher().unwrap(), domain.subscriber().unwrap());
     for number in 0..4 {
         assert!(is_delivered(publisher.send_copy(number)));
@@ -177,15 +184,15 @@ fn a_reader_that_is_dropped_gives_all_back() {
     let mut reader = subscriber.reader();
     assert_eq!(next(&mut reader), Some(4));
     thread::scope(|scope| {
-        let lends = scope.spawn(|| publisher.blocking_loan_uninit().map(drop));
-        thread::sleep(MOMENT);
-        assert!(!lends.is_finished());
+        let lends = asleep_after(scope, TO_SLEEP, || {
+            publisher.blocking_loan_uninit().map(drop)
+        });
         let panics = scope.spawn(move || {
             let _reader = reader;
             panic!("as this test wants it");
         });
         assert!(panics.join().is_err());
-        assert_eq!(lends.join().unwrap(), Ok(()));
+        assert_eq!(lends.join(), Ok(()));
     });
 }
 
@@ -259,22 +266,118 @@ fn a_reader_waits_for_so_long_and_until_waits_are_stopped() {
 
 #[test]
 fn a_slot_that_a_waiting_reader_gives_back_frees_a_loan() {
-    let domain = keeping(1, 1);
+    let domain = watched(1, 1);
     let (publisher, subscriber) = (of_one_slot(&domain), domain.subscriber().unwrap());
-    thread::scope(|scope| {
-        let reads = scope.spawn(|| {
-            let mut reader = subscriber.reader();
-            for number in 0..3 {
-                assert_eq!(reader.blocking_receive().unwrap(), Some(&number));
-                thread::sleep(MOMENT); // the publisher waits for the one slot
-            }
+    let mut reader = subscriber.reader();
+    assert!(is_delivered(publisher.send_copy(0)));
+    assert_eq!(reader.blocking_receive().unwrap(), Some(&0));
+    for number in 1..3 {
+        thread::scope(|scope| {
+            let send = || is_delivered(publisher.writer().blocking_send(number));
+            let sends = asleep_after(scope, TO_SLEEP, send);
+            assert_eq!(reader.blocking_receive().unwrap(), Some(&number));
+            assert!(sends.join());
         });
-        let mut writer = publisher.writer();
-        for number in 0..3 {
-            let sent = writer.timed_send(number, Duration::from_secs(10));
-            assert!(is_delivered(sent));
+    }
+}
+
+// ---- what another thread does for a reader that asks: each reader here stands before the lock, after it has asked
+
+// How often a reader's first wait takes the lock before it asks: that others may serve it.
+const TO_ASK: usize = 1;
+
+// A thread that reads so many messages, and stands after so many turns.
+fn stopped_reader<'s, const N: usize>(
+    scope: &'s Scope<'s, '_>,
+    turns: usize,
+    subscriber: &'s Subscriber<u64, WatchedThreads>,
+) -> Watch<'s, [Option<u64>; N]> {
+    let mut reader = subscriber.reader();
+    let mut read = move || reader.blocking_receive().unwrap().copied();
+    stopped_after(scope, turns, move || [(); N].map(|()| read()))
+}
+
+#[test]
+fn what_a_reader_has_stays_when_it_does_not_ask() {
+    let domain = keeping(4, 4);
+    let (publisher, subscriber) = (domain.publisher().unwrap(), domain.subscriber().unwrap());
+    let mut reader = subscriber.reader();
+    assert_eq!(reader.timed_receive(Duration::ZERO).unwrap(), None);
+    for number in 0..2 {
+        assert!(is_delivered(publisher.send_copy(number)));
+    }
+    assert_eq!(reader.blocking_receive().unwrap(), Some(&0));
+    assert_eq!(reader.unread(), 1);
+    assert!(is_delivered(publisher.send_copy(2)));
+    assert_eq!(reader.unread(), 1);
+    for number in 1..3 {
+        assert_eq!(reader.blocking_receive().unwrap(), Some(&number));
+    }
+}
+
+#[test]
+fn what_a_reader_is_served_before_it_has_the_lock_is_read_once() {
+    let domain = watched(2, 2);
+    let (publisher, subscriber) = (domain.publisher().unwrap(), domain.subscriber().unwrap());
+    thread::scope(|scope| {
+        let reads = stopped_reader(scope, TO_ASK, &subscriber);
+        // The first is served, and the second waits in the buffer.
+        for number in 0..2 {
+            assert!(is_delivered(publisher.send_copy(number)));
+            assert_eq!(subscriber.has_samples().unwrap(), number == 1);
         }
-        reads.join().unwrap();
+        reads.go_on();
+        assert_eq!(reads.join(), [Some(0), Some(1)]);
+    });
+}
+
+// The retry that finds the buffer full takes what waits there for the reader. It goes on then, though the reader takes no more.
+#[test]
+fn a_blocked_send_goes_on_when_it_has_made_room() {
+    let domain = watched(1, 2);
+    let (publisher, subscriber) = (domain.publisher().unwrap(), domain.subscriber().unwrap());
+    assert!(is_delivered(publisher.send_copy(0)));
+    thread::scope(|scope| {
+        // It has lent and is blocked, and stands before the retry.
+        let send = || is_delivered(publisher.writer().blocking_send(1));
+        let sends = stopped_after(scope, 2, send);
+        let reads = stopped_reader(scope, TO_ASK, &subscriber);
+        sends.go_on();
+        assert!(sends.join());
+        reads.go_on();
+        assert_eq!(reads.join(), [Some(0), Some(1)]);
+    });
+}
+
+#[test]
+fn a_blocked_send_goes_on_when_another_has_made_room() {
+    let domain = watched(1, 2);
+    let (publisher, subscriber) = (domain.publisher().unwrap(), domain.subscriber().unwrap());
+    let other = domain.publisher().unwrap();
+    assert!(is_delivered(publisher.send_copy(0)));
+    thread::scope(|scope| {
+        let send = || is_delivered(publisher.writer().blocking_send(1));
+        let sends = asleep_after(scope, 2 + TO_SLEEP, send);
+        let reads = stopped_reader(scope, TO_ASK, &subscriber);
+        assert!(is_delivered(other.send_copy(2)));
+        assert!(sends.join());
+        reads.go_on();
+        assert_eq!(reads.join(), [Some(0), Some(2), Some(1)]);
+    });
+}
+
+// What it has read is given back by the loan that finds no slot, which serves the reader.
+#[test]
+fn a_loan_goes_on_when_it_has_freed_its_slot() {
+    let domain = watched(2, 2);
+    let (publisher, subscriber) = (of_one_slot(&domain), domain.subscriber().unwrap());
+    assert!(is_delivered(publisher.send_copy(0)));
+    thread::scope(|scope| {
+        // It asks for the first one too, and takes it itself.
+        let reads = stopped_reader(scope, TO_ASK + 1, &subscriber);
+        assert!(is_delivered(publisher.writer().blocking_send(1)));
+        reads.go_on();
+        assert_eq!(reads.join(), [Some(0), Some(1)]);
     });
 }
 
@@ -338,106 +441,64 @@ fn a_writer_is_blocked_by_a_full_buffer() {
 
 #[test]
 fn a_writer_waits_for_room_for_a_loan_and_for_an_earlier_send() {
-    let domain = keeping(1, 2);
+    let domain = watched(1, 2);
     let builder = domain.publisher_builder().max_loaned_samples(1);
     let (publisher, subscriber) = (builder.create().unwrap(), domain.subscriber().unwrap());
-    let sends_after = |number: u64, ends: &dyn Fn()| {
-        thread::scope(|scope| {
-            let sends = scope.spawn(|| is_delivered(publisher.writer().blocking_send(number)));
-            thread::sleep(MOMENT);
-            assert!(!sends.is_finished());
-            ends();
-            assert!(sends.join().unwrap());
-        });
-    };
-    assert!(is_delivered(publisher.writer().blocking_send(0)));
+    let send = |number| is_delivered(publisher.writer().blocking_send(number));
     let receive = |number| assert_eq!(subscriber.receive_copy().unwrap(), Some(number));
-    sends_after(1, &|| receive(0));
-    receive(1);
-    let out = std::cell::Cell::new(Some(publisher.loan().unwrap()));
+    assert!(send(0));
     thread::scope(|scope| {
-        let publisher = &publisher;
-        let sends = scope.spawn(move || is_delivered(publisher.writer().blocking_send(2)));
-        thread::sleep(MOMENT);
-        assert!(!sends.is_finished());
-        drop(out.take());
-        assert!(sends.join().unwrap());
+        // It lends, and is blocked.
+        let sends = asleep_after(scope, 2 + TO_SLEEP, || send(1));
+        receive(0);
+        assert!(sends.join());
+    });
+    receive(1);
+    let out = publisher.loan().unwrap();
+    thread::scope(|scope| {
+        let sends = asleep_after(scope, TO_SLEEP, || send(2));
+        drop(out);
+        assert!(sends.join());
     });
     // It waits for the earlier send to end, and then for room.
     let blocked = publisher.send_copy(3).unwrap().blocked().unwrap();
     thread::scope(|scope| {
-        let sends = scope.spawn(|| is_delivered(publisher.writer().blocking_send(4)));
-        thread::sleep(MOMENT);
-        receive(2);
+        let sends = asleep_after(scope, TO_SLEEP, || send(4));
+        receive(2); // which may have freed a slot
+        sends.has_had(2 * TO_SLEEP);
         assert!(is_delivered(blocked.retry(Duration::ZERO)));
-        thread::sleep(MOMENT);
+        sends.has_had(2 * TO_SLEEP + 2 + TO_SLEEP);
         assert!(!sends.is_finished());
         receive(3);
-        assert!(sends.join().unwrap());
+        assert!(sends.join());
     });
     receive(4);
 }
 
-// The send that finds the buffer full may itself take what waits there, for a reader that asks. It goes on then, though the
-// reader takes no more. So the second of two sends has to come while the reader asks.
-#[test]
-fn a_blocked_send_goes_on_when_it_has_made_room() {
-    const ROUNDS: u64 = 2000;
-    let domain = keeping(1, 2);
-    let (publisher, subscriber) = (domain.publisher().unwrap(), domain.subscriber().unwrap());
-    let sent = AtomicU64::new(0);
-    let pause = |count: u64| (0..count).for_each(|_| spin_loop());
-    thread::scope(|scope| {
-        let (subscriber, sent) = (&subscriber, &sent);
-        let reads = scope.spawn(move || {
-            let mut reader = subscriber.reader();
-            for round in 0..ROUNDS {
-                while sent.load(Ordering::Acquire) == 2 * round {
-                    yield_now();
-                }
-                pause(round * 7 % 200);
-                assert_eq!(reader.blocking_receive().unwrap(), Some(&(2 * round)));
-                while sent.load(Ordering::Acquire) < 2 * round + 2 {
-                    yield_now();
-                }
-                assert_eq!(reader.blocking_receive().unwrap(), Some(&(2 * round + 1)));
-            }
-        });
-        let mut writer = publisher.writer();
-        for round in 0..ROUNDS {
-            assert!(is_delivered(writer.blocking_send(2 * round)));
-            sent.store(2 * round + 1, Ordering::Release);
-            pause(round * 13 % 300);
-            assert!(is_delivered(writer.blocking_send(2 * round + 1)));
-            sent.store(2 * round + 2, Ordering::Release);
-        }
-        reads.join().unwrap();
-    });
-}
-
 #[test]
 fn a_message_of_a_writer_wakes_a_reader() {
-    let domain = keeping(2, 2);
+    let domain = watched(2, 2);
     let (publisher, subscriber) = (domain.publisher().unwrap(), domain.subscriber().unwrap());
     let (tell, told) = mpsc::channel();
     thread::scope(|scope| {
-        let subscriber = &subscriber;
-        scope.spawn(move || {
-            let mut reader = subscriber.reader();
+        let mut reader = subscriber.reader();
+        let reads = asleep_after(scope, TO_ASK + TO_SLEEP, move || {
             while let Some(number) = reader.blocking_receive().unwrap() {
                 tell.send(*number).unwrap();
             }
         });
         let mut writer = publisher.writer();
         for number in 0..9 {
-            thread::sleep(MOMENT / 4); // it sleeps
             let sent = match number % 3 {
                 0 => writer.send(number),
                 1 => writer.blocking_send(number),
                 _ => writer.timed_send(number, MOMENT),
             };
             assert!(is_delivered(sent));
-            assert_eq!(told.recv_timeout(Duration::from_secs(5)), Ok(number));
+            assert_eq!(told.recv(), Ok(number));
+            // It has taken the message, and sleeps again.
+            let turns = TO_SLEEP + (number as usize + 1) * (1 + TO_SLEEP);
+            reads.has_had(TO_ASK + turns);
         }
         domain.stop_waits(true);
     });
@@ -445,19 +506,17 @@ fn a_message_of_a_writer_wakes_a_reader() {
 
 #[test]
 fn a_stop_ends_the_waits_of_a_writer() {
-    let domain = keeping(1, 2);
+    let domain = watched(1, 2);
     let (publisher, subscriber) = (domain.publisher().unwrap(), domain.subscriber().unwrap());
     let mut writer = publisher.writer();
     assert!(is_delivered(writer.send(0)));
     thread::scope(|scope| {
-        let sends = scope.spawn(move || {
+        let sends = asleep_after(scope, 1 + TO_SLEEP, move || {
             let waits = writer.blocking_send(1).unwrap().blocked().is_some();
             (waits, writer)
         });
-        thread::sleep(MOMENT);
-        assert!(!sends.is_finished());
         domain.stop_waits(true);
-        let (waits, mut writer) = sends.join().unwrap();
+        let (waits, mut writer) = sends.join();
         assert!(waits);
         assert_eq!(subscriber.receive_copy().unwrap(), Some(0));
         assert!(is_delivered(writer.blocking_send(2)));

@@ -1,13 +1,16 @@
 //! Domains that several threads use, by safe Rust alone.
 
+mod turns;
+
 use iox2_pubsub::{
     BackpressureStrategy, BlockedSend, Domain, DomainBuilder, Loan, LoanUninit, ManyThreads,
-    OneThread, Publisher, Sample, SendOutcome, SharedDomain, Subscriber,
+    OneThread, Publisher, Sample, SendOutcome, SharedDomain, Subscriber, Threads,
 };
 use std::ops::ControlFlow;
 use std::sync::mpsc;
 use std::thread;
 use std::time::{Duration, Instant};
+use turns::{asleep_after, stopped_after, Watched, WatchedThreads, TO_SLEEP};
 
 type Message = [u64; 8];
 
@@ -27,16 +30,22 @@ fn domain() -> DomainBuilder<Message> {
 }
 
 // Whose full buffers block.
-fn keeping(buffer: usize) -> SharedDomain<Message> {
+fn settings(buffer: usize) -> DomainBuilder<Message> {
     domain()
         .enable_safe_overflow(false)
         .backpressure_strategy(BackpressureStrategy::RetryUntilDelivered)
         .subscriber_max_buffer_size(buffer)
-        .create_shared()
-        .unwrap()
 }
 
-fn blocked(sent: SendOutcome<Message, ManyThreads>) -> BlockedSend<Message, ManyThreads> {
+fn keeping(buffer: usize) -> SharedDomain<Message> {
+    settings(buffer).create_shared().unwrap()
+}
+
+fn watched(buffer: usize) -> Domain<Message, WatchedThreads> {
+    settings(buffer).create_with_lock::<Watched>().unwrap()
+}
+
+fn blocked<M: Threads>(sent: SendOutcome<Message, M>) -> BlockedSend<Message, M> {
     match sent {
         SendOutcome::Blocked(blocked) => blocked,
         other => panic!("{other:?}"),
@@ -94,24 +103,46 @@ fn a_loan_and_a_sample_cross_threads_in_place() {
 
 #[test]
 fn a_receive_waits_for_a_message() {
-    let domain = domain().create_shared().unwrap();
+    let domain = watched(2);
     let subscriber = domain.subscriber().unwrap();
     let publisher = domain.publisher().unwrap();
-    let (tell, told) = mpsc::channel();
-    let waiting = thread::spawn(move || {
-        let sample = subscriber.blocking_receive().unwrap().unwrap();
-        tell.send(read(&sample)).unwrap();
-        let copy = subscriber.blocking_receive_copy().unwrap().unwrap();
-        tell.send(read(&copy)).unwrap();
+    thread::scope(|scope| {
+        let receives = asleep_after(scope, TO_SLEEP, || {
+            let sample = subscriber.blocking_receive().unwrap().unwrap();
+            let copy = subscriber.blocking_receive_copy().unwrap().unwrap();
+            (read(&sample), read(&copy))
+        });
+        publisher.send_copy(message(1)).unwrap().delivered();
+        // It has received the first, and sleeps again.
+        receives.has_had(TO_SLEEP + 1 + TO_SLEEP);
+        let loan = publisher.loan_uninit().unwrap().write_payload(message(2));
+        loan.send().unwrap().delivered();
+        assert_eq!(receives.join(), (1, 2));
     });
-    thread::sleep(MOMENT);
-    publisher.send_copy(message(1)).unwrap().delivered();
-    assert_eq!(told.recv(), Ok(1));
-    thread::sleep(MOMENT);
-    let loan = publisher.loan_uninit().unwrap().write_payload(message(2));
-    loan.send().unwrap().delivered();
-    assert_eq!(told.recv(), Ok(2));
-    waiting.join().unwrap();
+}
+
+#[test]
+fn what_comes_while_a_thread_falls_asleep_is_not_missed() {
+    let domain = watched(1);
+    let subscriber = domain.subscriber().unwrap();
+    let publisher = domain.publisher().unwrap();
+    thread::scope(|scope| {
+        // It has tried, and isn't in the list of those who wait.
+        let receive = || subscriber.blocking_receive_copy().unwrap();
+        let receives = stopped_after(scope, 1, receive);
+        publisher.send_copy(message(1)).unwrap().delivered();
+        receives.go_on();
+        assert_eq!(receives.join(), Some(message(1)));
+    });
+    publisher.send_copy(message(2)).unwrap().delivered();
+    thread::scope(|scope| {
+        // It is blocked, has tried again, and isn't in the list.
+        let send = || publisher.blocking_send_copy(message(3)).unwrap();
+        let sends = stopped_after(scope, 2, send);
+        assert_eq!(subscriber.receive_copy().unwrap(), Some(message(2)));
+        sends.go_on();
+        assert_eq!(sends.join().delivered(), Some(1));
+    });
 }
 
 #[test]
@@ -142,7 +173,7 @@ fn a_receive_waits_for_so_long() {
 
 #[test]
 fn stopping_ends_all_waits() {
-    let domain = keeping(1);
+    let domain = watched(1);
     let publisher = domain.publisher().unwrap();
     let full = domain.subscriber().unwrap();
     publisher.send_copy(message(1)).unwrap().delivered();
@@ -151,13 +182,11 @@ fn stopping_ends_all_waits() {
     let subscriber = domain.subscriber().unwrap();
     assert!(subscriber.receive().unwrap().is_none());
     thread::scope(|scope| {
-        let receives = scope.spawn(|| subscriber.blocking_iter().count());
-        let sends = scope.spawn(|| waiting_send.blocking_retry().unwrap());
-        thread::sleep(MOMENT);
-        assert!(!receives.is_finished() && !sends.is_finished());
+        let receives = asleep_after(scope, TO_SLEEP, || subscriber.blocking_iter().count());
+        let sends = asleep_after(scope, TO_SLEEP, || waiting_send.blocking_retry().unwrap());
         domain.stop_waits(true);
-        assert_eq!(receives.join().unwrap(), 0);
-        drop(blocked(sends.join().unwrap()));
+        assert_eq!(receives.join(), 0);
+        drop(blocked(sends.join()));
     });
     // Nothing waits now, and what is there is found all the same.
     assert!(subscriber.blocking_receive().unwrap().is_none());
@@ -170,7 +199,7 @@ fn stopping_ends_all_waits() {
 
 #[test]
 fn a_send_waits_for_room() {
-    let domain = keeping(1);
+    let domain = watched(1);
     let publisher = domain.publisher().unwrap();
     let subscriber = domain.subscriber().unwrap();
     publisher.send_copy(message(1)).unwrap().delivered();
@@ -179,77 +208,73 @@ fn a_send_waits_for_room() {
     assert!(started.elapsed() >= MOMENT);
     let waits = blocked(sent);
     thread::scope(|scope| {
-        let sends = scope.spawn(|| waits.blocking_retry().unwrap().delivered());
-        thread::sleep(MOMENT);
-        assert!(!sends.is_finished());
+        let retry = || waits.blocking_retry().unwrap().delivered();
+        let sends = asleep_after(scope, TO_SLEEP, retry);
         assert_eq!(read(&subscriber.receive().unwrap().unwrap()), 1);
-        assert_eq!(sends.join().unwrap(), Some(1));
+        assert_eq!(sends.join(), Some(1));
     });
     assert_eq!(read(&subscriber.receive().unwrap().unwrap()), 2);
 }
 
 #[test]
 fn a_send_waits_no_longer_for_a_subscriber_that_goes() {
-    let domain = keeping(1);
+    let domain = watched(1);
     let publisher = domain.publisher().unwrap();
     let subscriber = domain.subscriber().unwrap();
     publisher.send_copy(message(1)).unwrap().delivered();
     thread::scope(|scope| {
-        let sends = scope.spawn(|| {
-            publisher
-                .blocking_send_copy(message(2))
-                .unwrap()
-                .delivered()
-        });
-        thread::sleep(MOMENT);
-        assert!(!sends.is_finished());
+        // It is blocked first.
+        let send = || publisher.blocking_send_copy(message(2)).unwrap();
+        let sends = asleep_after(scope, 1 + TO_SLEEP, send);
         drop(subscriber);
-        assert_eq!(sends.join().unwrap(), Some(0));
+        assert_eq!(sends.join().delivered(), Some(0));
     });
 }
 
 #[test]
 fn a_send_that_waits_again_has_reached_those_before() {
-    let domain = keeping(1);
+    let domain = watched(1);
     let publisher = domain.publisher().unwrap();
     let subscribers: Vec<_> = (0..3).map(|_| domain.subscriber().unwrap()).collect();
     publisher.send_copy(message(1)).unwrap().delivered();
     assert_eq!(read(&subscribers[1].receive().unwrap().unwrap()), 1);
     let waits = blocked(publisher.send_copy(message(2)).unwrap());
     thread::scope(|scope| {
-        let reads = scope.spawn(|| subscribers[1].blocking_receive_copy().unwrap());
-        let sends = scope.spawn(|| waits.blocking_retry().unwrap().delivered());
-        thread::sleep(MOMENT);
+        let receive = || subscribers[1].blocking_receive_copy().unwrap();
+        let reads = asleep_after(scope, TO_SLEEP, receive);
+        let retry = || waits.blocking_retry().unwrap().delivered();
+        let sends = asleep_after(scope, TO_SLEEP, retry);
         assert_eq!(read(&subscribers[0].receive().unwrap().unwrap()), 1);
-        assert_eq!(reads.join().unwrap().map(|m| read(&m)), Some(2));
+        assert_eq!(reads.join().map(|m| read(&m)), Some(2));
         assert!(!sends.is_finished());
         assert_eq!(read(&subscribers[2].receive().unwrap().unwrap()), 1);
-        assert_eq!(sends.join().unwrap(), Some(3));
+        assert_eq!(sends.join(), Some(3));
     });
 }
 
 #[test]
 fn a_send_that_ends_lets_the_next_of_its_publisher_go() {
     for _ in 0..50 {
-        let domain = keeping(1);
+        let domain = watched(1);
         let publisher = domain.publisher().unwrap();
         let subscriber = domain.subscriber().unwrap();
         publisher.send_copy(message(1)).unwrap().delivered();
         let first = blocked(publisher.send_copy(message(2)).unwrap());
         thread::scope(|scope| {
-            let second = scope.spawn(|| publisher.blocking_send_copy(message(3)).unwrap());
-            let first = scope.spawn(|| first.blocking_retry().unwrap().delivered());
-            thread::sleep(Duration::from_millis(1));
+            let send = || publisher.blocking_send_copy(message(3)).unwrap();
+            let second = asleep_after(scope, TO_SLEEP, send);
+            let retry = || first.blocking_retry().unwrap().delivered();
+            let first = asleep_after(scope, TO_SLEEP, retry);
             drop(subscriber);
-            assert_eq!(first.join().unwrap(), Some(0));
-            assert_eq!(second.join().unwrap().delivered(), Some(0));
+            assert_eq!(first.join(), Some(0));
+            assert_eq!(second.join().delivered(), Some(0));
         });
     }
 }
 
 #[test]
 fn sends_of_one_publisher_wait_for_each_other() {
-    let domain = keeping(1);
+    let domain = watched(1);
     let publisher = domain.publisher().unwrap();
     let subscriber = domain.subscriber().unwrap();
     let loan = publisher.loan_uninit().unwrap().write_payload(message(3));
@@ -257,15 +282,14 @@ fn sends_of_one_publisher_wait_for_each_other() {
     let first = blocked(publisher.send_copy(message(2)).unwrap());
     let loan = loan.send_or_keep().unwrap_err().into_loan().unwrap();
     thread::scope(|scope| {
-        let second = scope.spawn(|| loan.blocking_send().unwrap().delivered());
-        let third = scope.spawn(|| {
-            publisher
-                .blocking_send_copy(message(4))
-                .unwrap()
-                .delivered()
+        let send = || loan.blocking_send().unwrap().delivered();
+        let second = asleep_after(scope, TO_SLEEP, send);
+        let third = asleep_after(scope, TO_SLEEP, || {
+            let sent = publisher.blocking_send_copy(message(4)).unwrap();
+            sent.delivered()
         });
-        thread::sleep(MOMENT);
-        let first = scope.spawn(|| first.blocking_retry().unwrap().delivered());
+        let retry = || first.blocking_retry().unwrap().delivered();
+        let first = asleep_after(scope, TO_SLEEP, retry);
         let mut received = Vec::new();
         while received.len() < 4 {
             received.push(
@@ -280,7 +304,7 @@ fn sends_of_one_publisher_wait_for_each_other() {
         received.sort_unstable();
         assert_eq!(received, [1, 2, 3, 4]);
         for send in [first, second, third] {
-            assert_eq!(send.join().unwrap(), Some(1));
+            assert_eq!(send.join(), Some(1));
         }
     });
 }

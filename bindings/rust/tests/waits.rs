@@ -1,41 +1,59 @@
 //! Calls that wait for loans, waits that are stopped, times of all lengths, and domains that go meanwhile.
 
+mod turns;
+
 use iox2_pubsub::{
-    BackpressureStrategy, Domain, LoanError, ManyThreads, Publisher, SendError, SharedDomain,
+    BackpressureStrategy, Domain, DomainBuilder, LoanError, Publisher, SendError, SharedDomain,
+    Subscriber,
 };
 use std::ops::ControlFlow;
 use std::sync::atomic::{AtomicUsize, Ordering};
 use std::sync::mpsc;
 use std::thread;
-use std::time::{Duration, Instant};
+use std::time::Duration;
+use turns::{asleep_after, turns_of, Watched, WatchedThreads, TO_SLEEP};
 
 const MOMENT: Duration = Duration::from_millis(20);
 
 // Whose full buffers block.
-fn keeping(buffer: usize) -> SharedDomain<u64> {
+fn settings(buffer: usize) -> DomainBuilder<u64> {
     Domain::<u64>::builder(1)
         .enable_safe_overflow(false)
         .backpressure_strategy(BackpressureStrategy::RetryUntilDelivered)
         .subscriber_max_buffer_size(buffer)
         .subscriber_max_borrowed_samples(8)
-        .create_shared()
+}
+
+fn keeping(buffer: usize) -> SharedDomain<u64> {
+    settings(buffer).create_shared().unwrap()
+}
+
+fn watched(buffer: usize) -> Domain<u64, WatchedThreads> {
+    settings(buffer).create_with_lock::<Watched>().unwrap()
+}
+
+// A publisher of one slot.
+fn of_one_slot(domain: &Domain<u64, WatchedThreads>) -> Publisher<u64, WatchedThreads> {
+    let builder = domain.publisher_builder();
+    builder
+        .override_sample_preallocation(|_| 1)
+        .create()
         .unwrap()
 }
 
-// A thread lends once `ends` has been called, and not before.
-fn lends_after(publisher: &Publisher<u64, ManyThreads>, ends: impl FnOnce()) {
+// A thread waits for a loan, and has it once `ends` has been called.
+fn lends_after(publisher: &Publisher<u64, WatchedThreads>, ends: impl FnOnce()) {
     thread::scope(|scope| {
-        let lends = scope.spawn(|| publisher.blocking_loan_uninit().map(drop));
-        thread::sleep(MOMENT);
-        assert!(!lends.is_finished());
+        let lend = || publisher.blocking_loan_uninit().map(drop);
+        let lends = asleep_after(scope, TO_SLEEP, lend);
         ends();
-        assert_eq!(lends.join().unwrap(), Ok(()));
+        assert_eq!(lends.join(), Ok(()));
     });
 }
 
 #[test]
 fn a_loan_waits_for_a_loan_that_is_given_back_or_sent() {
-    let domain = keeping(2);
+    let domain = watched(2);
     let publisher = domain.publisher().unwrap();
     let mut out = vec![publisher.loan().unwrap(), publisher.loan().unwrap()];
     assert_eq!(
@@ -52,12 +70,8 @@ fn a_loan_waits_for_a_loan_that_is_given_back_or_sent() {
 
 #[test]
 fn a_loan_waits_for_a_slot_that_is_released() {
-    let domain = keeping(2);
-    let publisher = domain
-        .publisher_builder()
-        .override_sample_preallocation(|_| 1)
-        .create()
-        .unwrap();
+    let domain = watched(2);
+    let publisher = of_one_slot(&domain);
     let subscriber = domain.subscriber().unwrap();
     publisher.send_copy(1).unwrap().delivered();
     let sample = subscriber.receive().unwrap().unwrap();
@@ -81,37 +95,34 @@ fn a_loan_waits_for_a_slot_that_is_released() {
 // What is read where it lies is given back in the call that waits for the next: so a loan that waits for its slot goes on.
 #[test]
 fn a_loan_waits_for_a_slot_that_comes_back_while_the_next_message_is_waited_for() {
-    let domain = keeping(1);
-    let publisher = domain
-        .publisher_builder()
-        .override_sample_preallocation(|_| 1)
-        .create()
-        .unwrap();
+    let domain = watched(1);
+    let publisher = of_one_slot(&domain);
     let subscriber = domain.subscriber().unwrap();
-    let reads = thread::spawn(move || {
-        let mut next = 0;
+    publisher.send_copy(0).unwrap().delivered();
+    let mut next = 0;
+    thread::scope(|scope| {
+        let publisher = &publisher;
         let read = |number: &u64| {
             assert_eq!(*number, next);
-            thread::sleep(MOMENT); // the publisher waits for the one slot
             next += 1;
-            match next {
-                3 => ControlFlow::Break(()),
-                _ => ControlFlow::Continue(()),
+            if next == 3 {
+                return ControlFlow::Break(());
             }
+            let number = next;
+            asleep_after(scope, TO_SLEEP, move || {
+                let sent = publisher.blocking_send_copy(number).unwrap();
+                assert_eq!(sent.delivered(), Some(1));
+            });
+            ControlFlow::Continue(())
         };
         subscriber.blocking_for_each(read).unwrap();
-        next
     });
-    for number in 0..3 {
-        let sent = publisher.timed_send_copy(number, Duration::from_secs(10));
-        assert_eq!(sent.unwrap().delivered(), Some(1));
-    }
-    assert_eq!(reads.join().unwrap(), 3);
+    assert_eq!(next, 3);
 }
 
 #[test]
 fn a_loan_waits_for_the_end_of_a_send() {
-    let domain = keeping(1);
+    let domain = watched(1);
     let publisher = domain.publisher().unwrap();
     let subscriber = domain.subscriber().unwrap();
     publisher.send_copy(1).unwrap().delivered();
@@ -191,21 +202,23 @@ fn many_threads_lend_and_send_by_one_publisher() {
 
 #[test]
 fn each_of_sixteen_that_wait_is_woken() {
-    let domain = Domain::<u64>::builder(1)
-        .max_subscribers(16)
-        .create_shared()
-        .unwrap();
+    let settings = Domain::<u64>::builder(1).max_subscribers(16);
+    let domain = settings.create_with_lock::<Watched>().unwrap();
     let publisher = domain.publisher().unwrap();
     let subscribers: Vec<_> = (0..16).map(|_| domain.subscriber().unwrap()).collect();
     for round in 0..20 {
         thread::scope(|scope| {
-            for subscriber in &subscribers {
-                scope.spawn(move || {
-                    assert_eq!(subscriber.blocking_receive_copy().unwrap(), Some(round));
-                });
-            }
-            thread::sleep(Duration::from_millis(2));
+            let receive = |subscriber| {
+                asleep_after(scope, TO_SLEEP, move || {
+                    let subscriber: &Subscriber<u64, _> = subscriber;
+                    subscriber.blocking_receive_copy().unwrap()
+                })
+            };
+            let receives: Vec<_> = subscribers.iter().map(receive).collect();
             assert_eq!(publisher.send_copy(round).unwrap().delivered(), Some(16));
+            for one in receives {
+                assert_eq!(one.join(), Some(round));
+            }
         });
     }
 }
@@ -254,7 +267,7 @@ fn one_message_wakes_no_thread_for_good() {
         for number in 0..100 {
             thread::sleep(Duration::from_micros(500));
             publisher.send_copy(number).unwrap().delivered();
-            assert_eq!(told.recv_timeout(Duration::from_secs(5)), Ok(number));
+            assert_eq!(told.recv(), Ok(number));
         }
         domain.stop_waits(true);
     });
@@ -262,7 +275,7 @@ fn one_message_wakes_no_thread_for_good() {
 
 #[test]
 fn waits_are_stopped_twice_and_taken_back() {
-    let domain = keeping(1);
+    let domain = watched(1);
     let subscriber = domain.subscriber().unwrap();
     let publisher = domain.publisher().unwrap();
     for _ in 0..2 {
@@ -272,49 +285,55 @@ fn waits_are_stopped_twice_and_taken_back() {
         domain.stop_waits(false);
         domain.stop_waits(false);
         thread::scope(|scope| {
-            let receives = scope.spawn(|| subscriber.blocking_receive_copy().unwrap());
-            thread::sleep(MOMENT);
-            assert!(!receives.is_finished());
+            let receive = || subscriber.blocking_receive_copy().unwrap();
+            let receives = asleep_after(scope, TO_SLEEP, receive);
             publisher.send_copy(7).unwrap().delivered();
-            assert_eq!(receives.join().unwrap(), Some(7));
+            assert_eq!(receives.join(), Some(7));
         });
     }
     // Many waits at a time are stopped, and taken back at once: each ends or goes on.
     thread::scope(|scope| {
+        let receive = || subscriber.blocking_receive_copy().unwrap();
         let waits: Vec<_> = (0..8)
-            .map(|_| scope.spawn(|| subscriber.blocking_receive_copy().unwrap()))
+            .map(|_| asleep_after(scope, TO_SLEEP, receive))
             .collect();
-        thread::sleep(MOMENT);
         domain.stop_waits(true);
         domain.stop_waits(false);
-        thread::sleep(MOMENT);
+        // Each has tried again, and returned or sleeps again.
+        for wait in &waits {
+            wait.has_had(TO_SLEEP + 1);
+        }
         domain.stop_waits(true);
         for wait in waits {
-            assert_eq!(wait.join().unwrap(), None);
+            assert_eq!(wait.join(), None);
         }
     });
 }
 
 #[test]
 fn times_of_zero_and_of_the_greatest_length() {
-    let domain = keeping(1);
+    let domain = watched(1);
     let subscriber = domain.subscriber().unwrap();
     let publisher = domain.publisher().unwrap();
     let zero = Duration::ZERO;
-    let started = Instant::now();
-    assert_eq!(subscriber.timed_receive_copy(zero).unwrap(), None);
-    assert!(subscriber.timed_receive(zero).unwrap().is_none());
-    let first = publisher.timed_send_copy(1, zero).unwrap();
-    assert_eq!(first.delivered(), Some(1));
-    let loan = publisher.timed_loan_uninit(zero).unwrap().write_payload(2);
-    let second = loan.timed_send(zero).unwrap().timed_wait(zero).unwrap();
-    let blocked = second.blocked().unwrap().timed_retry(zero).unwrap();
-    let blocked = blocked.blocked().unwrap();
+    // With a time of zero each call takes the lock once.
     assert_eq!(
-        publisher.timed_loan_uninit(zero).unwrap_err(),
-        LoanError::PublisherIsBlocked
+        turns_of(|| subscriber.timed_receive_copy(zero)),
+        (Ok(None), 1)
     );
-    assert!(started.elapsed() < Duration::from_secs(5));
+    let (received, turns) = turns_of(|| subscriber.timed_receive(zero));
+    assert_eq!((received.unwrap().is_none(), turns), (true, 1));
+    let (first, turns) = turns_of(|| publisher.timed_send_copy(1, zero));
+    assert_eq!((first.unwrap().delivered(), turns), (Some(1), 1));
+    let loan = publisher.timed_loan_uninit(zero).unwrap().write_payload(2);
+    let (second, turns) = turns_of(|| loan.timed_send(zero).unwrap().timed_wait(zero).unwrap());
+    // The send, and two retries.
+    assert_eq!(turns, 3);
+    let (blocked, turns) = turns_of(|| second.blocked().unwrap().timed_retry(zero).unwrap());
+    assert_eq!(turns, 1);
+    let blocked = blocked.blocked().unwrap();
+    let (refused, turns) = turns_of(|| publisher.timed_loan_uninit(zero).unwrap_err());
+    assert_eq!((refused, turns), (LoanError::PublisherIsBlocked, 1));
     let greatest = Duration::MAX;
     thread::scope(|scope| {
         let retries = scope.spawn(|| blocked.timed_retry(greatest).unwrap().delivered());
@@ -360,20 +379,20 @@ fn a_loan_comes_back_where_the_time_is_up() {
 
 #[test]
 fn a_domain_that_is_dropped_while_others_wait_stays_for_them() {
-    let domain = keeping(1);
+    let domain = watched(1);
     let publisher = domain.publisher().unwrap();
     let subscriber = domain.subscriber().unwrap();
-    let receives = thread::spawn(move || {
-        let first = subscriber.blocking_receive_copy().unwrap();
-        let second = subscriber.blocking_receive().unwrap();
-        (first, second.map(|sample| *sample))
+    thread::scope(|scope| {
+        let receives = asleep_after(scope, TO_SLEEP, move || {
+            let first = subscriber.blocking_receive_copy().unwrap();
+            let second = subscriber.blocking_receive().unwrap();
+            (first, second.map(|sample| *sample))
+        });
+        drop(domain);
+        assert!(!receives.is_finished());
+        publisher.send_copy(1).unwrap().delivered();
+        publisher.blocking_send_copy(2).unwrap().delivered();
+        drop(publisher);
+        assert_eq!(receives.join(), (Some(1), Some(2)));
     });
-    thread::sleep(MOMENT);
-    drop(domain);
-    thread::sleep(MOMENT);
-    assert!(!receives.is_finished());
-    publisher.send_copy(1).unwrap().delivered();
-    publisher.blocking_send_copy(2).unwrap().delivered();
-    drop(publisher);
-    assert_eq!(receives.join().unwrap(), (Some(1), Some(2)));
 }

@@ -4,7 +4,10 @@
 //! Handles are made by one thread and used, sent or dropped by another: each thread has some of its own, and some lie
 //! where all take from. Loans are written and samples read without the lock, while the others call.
 
+mod numbers;
+
 use iox2_pubsub::*;
+use numbers::Random;
 use std::cell::Cell;
 use std::ffi::CString;
 use std::os::raw::c_char;
@@ -40,22 +43,6 @@ thread_local! {
     static CALLED: Cell<u64> = const { Cell::new(0) };
 }
 
-struct Random(u64);
-
-impl Random {
-    fn next(&mut self) -> u64 {
-        self.0 = self.0.wrapping_add(0x9e3779b97f4a7c15);
-        let mut x = self.0;
-        x = (x ^ (x >> 30)).wrapping_mul(0xbf58476d1ce4e5b9);
-        x = (x ^ (x >> 27)).wrapping_mul(0x94d049bb133111eb);
-        x ^ (x >> 31)
-    }
-
-    fn below(&mut self, limit: usize) -> usize {
-        (self.next() % limit as u64) as usize
-    }
-}
-
 #[derive(Default)]
 struct Things {
     publishers: Vec<Arc<Publisher<Message, M>>>,
@@ -77,14 +64,6 @@ struct Worker<'p> {
 fn read(message: &Message) -> u64 {
     assert!(message.iter().all(|word| *word == message[0]), "torn");
     message[0]
-}
-
-fn pick<'v, T>(random: &mut Random, all: &'v [T]) -> Option<&'v T> {
-    (!all.is_empty()).then(|| &all[random.below(all.len())])
-}
-
-fn take<T>(random: &mut Random, all: &mut Vec<T>) -> Option<T> {
-    (!all.is_empty()).then(|| all.swap_remove(random.below(all.len())))
 }
 
 impl Worker<'_> {
@@ -209,29 +188,29 @@ impl Worker<'_> {
             return;
         };
         match random.below(6) {
-            0 => self.own.samples.extend(take(random, &mut pool.samples)),
-            1 => pool.samples.extend(take(random, &mut self.own.samples)),
+            0 => self.own.samples.extend(random.take(&mut pool.samples)),
+            1 => pool.samples.extend(random.take(&mut self.own.samples)),
             2 => {
-                self.own.loans.extend(take(random, &mut pool.loans));
-                pool.blocked.extend(take(random, &mut self.own.blocked));
+                self.own.loans.extend(random.take(&mut pool.loans));
+                pool.blocked.extend(random.take(&mut self.own.blocked));
             }
             3 => {
-                pool.loans.extend(take(random, &mut self.own.loans));
-                self.own.blocked.extend(take(random, &mut pool.blocked));
+                pool.loans.extend(random.take(&mut self.own.loans));
+                self.own.blocked.extend(random.take(&mut pool.blocked));
             }
             4 => {
-                let shared = pick(random, &self.own.publishers).cloned();
+                let shared = random.of(&self.own.publishers).cloned();
                 pool.publishers.extend(shared);
                 self.own
                     .publishers
-                    .extend(take(random, &mut pool.publishers));
+                    .extend(random.take(&mut pool.publishers));
             }
             _ => {
-                let shared = pick(random, &self.own.subscribers).cloned();
+                let shared = random.of(&self.own.subscribers).cloned();
                 pool.subscribers.extend(shared);
                 self.own
                     .subscribers
-                    .extend(take(random, &mut pool.subscribers));
+                    .extend(random.take(&mut pool.subscribers));
             }
         }
     }
@@ -263,13 +242,13 @@ impl Worker<'_> {
                     .extend(factory.create().ok().map(Arc::new));
             }
             8..=19 => {
-                let Some(publisher) = pick(random, &self.own.publishers).cloned() else {
+                let Some(publisher) = random.of(&self.own.publishers).cloned() else {
                     return;
                 };
                 self.lend(&publisher);
             }
             20..=31 => {
-                let Some(mut loan) = take(random, &mut self.own.loans) else {
+                let Some(mut loan) = random.take(&mut self.own.loans) else {
                     return;
                 };
                 // Once more, in place. What a blocked publisher hands back is as it was: the script writes once.
@@ -282,7 +261,7 @@ impl Worker<'_> {
                 self.send(loan);
             }
             32..=41 => {
-                let Some(publisher) = pick(random, &self.own.publishers).cloned() else {
+                let Some(publisher) = random.of(&self.own.publishers).cloned() else {
                     return;
                 };
                 let waits = random.below(4) == 0;
@@ -294,9 +273,9 @@ impl Worker<'_> {
                 };
                 self.sent(sent);
             }
-            42..=44 => drop(take(random, &mut self.own.loans)),
+            42..=44 => drop(random.take(&mut self.own.loans)),
             45..=52 => {
-                let Some(blocked) = take(random, &mut self.own.blocked) else {
+                let Some(blocked) = random.take(&mut self.own.blocked) else {
                     return;
                 };
                 let sent = match random.below(4) {
@@ -308,43 +287,43 @@ impl Worker<'_> {
                 self.sent(sent);
             }
             53..=72 => {
-                let Some(subscriber) = pick(random, &self.own.subscribers).cloned() else {
+                let Some(subscriber) = random.of(&self.own.subscribers).cloned() else {
                     return;
                 };
                 self.receive(&subscriber);
             }
             73..=75 => {
-                if let Some(subscriber) = pick(random, &self.own.subscribers) {
+                if let Some(subscriber) = random.of(&self.own.subscribers) {
                     let _ = subscriber.has_samples();
                 }
             }
             76..=78 => match random.below(2) {
                 0 => {
-                    if let Some(publisher) = pick(random, &self.own.publishers) {
+                    if let Some(publisher) = random.of(&self.own.publishers) {
                         let _ = publisher.update_connections();
                     }
                 }
                 _ => {
-                    if let Some(subscriber) = pick(random, &self.own.subscribers) {
+                    if let Some(subscriber) = random.of(&self.own.subscribers) {
                         let _ = subscriber.update_connections();
                     }
                 }
             },
             79..=83 => self.exchange(),
-            84..=96 => drop(take(random, &mut self.own.samples)),
+            84..=96 => drop(random.take(&mut self.own.samples)),
             97..=99 => {
-                if let Some(subscriber) = pick(random, &self.own.subscribers).cloned() {
+                if let Some(subscriber) = random.of(&self.own.subscribers).cloned() {
                     self.read_on(&subscriber);
                 }
             }
             100..=102 => {
-                if let Some(publisher) = pick(random, &self.own.publishers).cloned() {
+                if let Some(publisher) = random.of(&self.own.publishers).cloned() {
                     self.write_on(&publisher);
                 }
             }
             _ => match random.below(2) {
-                0 => drop(take(random, &mut self.own.publishers)),
-                _ => drop(take(random, &mut self.own.subscribers)),
+                0 => drop(random.take(&mut self.own.publishers)),
+                _ => drop(random.take(&mut self.own.subscribers)),
             },
         }
     }

@@ -2,7 +2,10 @@
 //! a subscriber gets those of each publisher one after the other from the first that it gets, and in the end the last
 //! of each that was sent while it was connected. Only what was given up may be missing. Ends with a line of counts.
 
+mod numbers;
+
 use iox2_pubsub::*;
+use numbers::Random;
 use std::collections::{HashMap, HashSet};
 use std::panic::{catch_unwind, AssertUnwindSafe};
 use std::sync::atomic::{AtomicU64, Ordering};
@@ -16,30 +19,6 @@ const TIME: Duration = Duration::from_micros(300);
 
 /// The publisher's name, the message's number among its messages, and their sum, in all the rest.
 type Message = [u64; 8];
-
-struct Random(u64);
-
-impl Random {
-    fn next(&mut self) -> u64 {
-        self.0 = self.0.wrapping_add(0x9e37_79b9_7f4a_7c15);
-        let mut x = self.0;
-        x = (x ^ (x >> 30)).wrapping_mul(0xbf58_476d_1ce4_e5b9);
-        x = (x ^ (x >> 27)).wrapping_mul(0x94d0_49bb_1331_11eb);
-        x ^ (x >> 31)
-    }
-
-    fn below(&mut self, limit: usize) -> usize {
-        (self.next() % limit as u64) as usize
-    }
-
-    fn of<'v, T>(&mut self, all: &'v [T]) -> Option<&'v T> {
-        (!all.is_empty()).then(|| &all[self.below(all.len())])
-    }
-
-    fn take<T>(&mut self, all: &mut Vec<T>) -> Option<T> {
-        (!all.is_empty()).then(|| all.swap_remove(self.below(all.len())))
-    }
-}
 
 fn lock<T>(mutex: &Mutex<T>) -> MutexGuard<'_, T> {
     mutex.lock().unwrap_or_else(PoisonError::into_inner)

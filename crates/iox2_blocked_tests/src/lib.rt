@@ -11,6 +11,8 @@ mod blocked_slices;
 #[cfg(test)]
 mod boxes;
 #[cfg(test)]
+mod connection_sends;
+#[cfg(test)]
 mod fickle;
 #[cfg(test)]
 mod handlers;

@@ -11,3 +11,4 @@ pub mod Warnings
 pub mod Steps
 pub mod Returns
 pub mod Channels
+pub mod ConnectionSends

@@ -3,6 +3,7 @@
 
 pub mod channel_changes;
 pub mod channels;
+pub mod connection_sends;
 pub mod loans;
 pub mod publishers;
 pub mod questions;

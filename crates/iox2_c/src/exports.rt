@@ -4,6 +4,7 @@
 
 mod channel_changes;
 mod channels;
+mod connection_sends;
 mod domains;
 mod loans;
 mod publishers;

@@ -1,5 +1,5 @@
 -- A subscriber that went over its connections is closed.
-use Rattle.std.proofs.Common.{◌≡◌, ◌≢◌, ℕ, ◌<◌, Bool, true, false, not, List, [], map, eqb, get_or, refl, ap, sym, subst, ◌∙◌, inl, inr, ◌⊎◌, arith}
+use Rattle.std.proofs.Common.{◌≡◌, ◌≢◌, ℕ, ◌<◌, Bool, true, false, not, List, map, eqb, get_or, refl, ap, sym, subst, ◌∙◌, inl, inr, ◌⊎◌, arith}
 use Rattle.std.proofs.lemmas.Bool.{cases_eq, eqb-true}
 use Rattle.std.proofs.lemmas.Option.{same_Some}
 use Rattle.std.specs.declared.option.Option.{Option}
@@ -8,7 +8,7 @@ use Rattle.std.specs.Option.{option_map}
 use Rattle.slab.specs.Slab.{get}
 use Rattle.iox2_slots.specs.Link.{Link}
 use Rattle.iox2_slots.specs.SlotBook.{Book}
-use Rattle.iox2_store.specs.machine.Mailbox.{Mailbox, has_data, has_numbers, numbers_in}
+use Rattle.iox2_store.specs.machine.Mailbox.{Mailbox, has_numbers, numbers_in, ChannelNumber}
 use Rattle.iox2_store.specs.machine.Numbers.{contains, is_nil}
 use Rattle.iox2_store.specs.machine.Places.{occupants}
 use Rattle.iox2_store.specs.machine.Ports.{subscriber_shut, subscriber_closed}
@@ -24,7 +24,7 @@ use Rattle.iox2_laws.proofs.Puts.{found_mapped}
 use Rattle.iox2_ends.specs.Counters.{times}
 use Rattle.iox2_ends.specs.Finds.{IsReceivers}
 use Rattle.iox2_ends.specs.LookUp.{look_up}
-use Rattle.iox2_ends.specs.Mailboxes.{is_between, mailbox_if_any, receiver_ends}
+use Rattle.iox2_ends.specs.Mailboxes.{is_between, mailbox_if_any, receiver_ends, numbered}
 use Rattle.iox2_ends.proofs.LookUps.{look_up-there}
 use Rattle.iox2_ends.proofs.MailboxChanges.{both-true}
 use Rattle.iox2_domain.specs.Ports.{PublisherFields, SubscriberFields, due}
@@ -35,7 +35,7 @@ use Rattle.iox2_domain.proofs.lemmas.containers.LookUps.{map-at}
 use Rattle.iox2_steps.proofs.creations.PublishersDue.{with_publishers_due, publishers_due-are}
 use Rattle.iox2_domain.proofs.lemmas.fields.OwnKeys.{receiver-leads}
 use Rattle.iox2_domain.proofs.lemmas.fields.Standing.{some_is}
-use Rattle.iox2_domain.proofs.lemmas.fields.Views.{mailboxes-are, no-others}
+use Rattle.iox2_domain.proofs.lemmas.fields.Views.{mailboxes-are}
 use Rattle.iox2_domain.specs.Midway.{IsMidway, with_channels_of}
 use Rattle.iox2_steps.proofs.releases.SettledChannels.{box-still, freed-channels, freed-linked, pruned-linked, settles-channels, shut-linked}
 use Rattle.iox2_domain.specs.Reaches.{Reaches}
@@ -48,9 +48,9 @@ use Rattle.iox2_closes.specs.Agreement.{IsOrphan, HasOwnedParts, KeepsMessages}
 use Rattle.iox2_closes.specs.Closes.{HasNoPublisher, is_empty_link}
 use Rattle.iox2_closes.proofs.OwnedParts.{due-parts}
 use Rattle.iox2_closes.proofs.KeptMessages.{keeps-trans, keeps-entries, keeps-complete}
-use Rattle.iox2_closes.proofs.Sheds.{sheds-closed}
+use Rattle.iox2_closes.proofs.Sheds.{sheds-closed, HasLost}
 use Rattle.iox2_closes.proofs.CloseSteps.{box-numbers, link-empty}
-use Rattle.iox2_closes.proofs.CloseWalk.{IsClosing}
+use Rattle.iox2_closes.proofs.CloseWalk.{IsClosing, IsDrained}
 
 -- the machine's publisher, due
 abbrev due_publisher : Publisher → Publisher
@@ -101,18 +101,18 @@ module _ {T U : Type 0} (f : Fields T U) (sound : IsDomain f) (place : ℕ) (y :
       let no : None ≡ Some _ = sym gone ∙ ap s.publishers (sym (same ∙ mine)) ∙ publisher-stands f sound.parts i x at_x in absurd cc
 
   -- nothing waits from one that is gone
-  dropped : (p : ℕ) → s.publishers p ≡ None → has_data (t.mailboxes p y.id) ≡ false
-  dropped p gone = ap has_data (mailboxes-are f' p y.id) ∙ by (look_up (is_between p y.id) f'.connections.slots) refl where
-    by : (o : Option Link) → look_up (is_between p y.id) f'.connections.slots ≡ o → has_data (mailbox_if_any (numbers_of f'.books p) o) ≡ false
-    by None e = refl
+  dropped : (p : ℕ) → s.publishers p ≡ None → HasLost (t.mailboxes p y.id)
+  dropped p gone = subst HasLost (sym (mailboxes-are f' p y.id)) (by (look_up (is_between p y.id) f'.connections.slots) refl) where
+    by : (o : Option Link) → look_up (is_between p y.id) f'.connections.slots ≡ o → HasLost (mailbox_if_any (numbers_of f'.books p) o)
+    by None e = (refl, refl)
     by (Some c) e =
         let at = look_up-there (is_between p y.id) f'.connections.slots c e in
         let parts = both-true (eqb c.home.publisher p) (eqb c.home.subscriber y.id) at.2 in
-        let none : c.waiting ≡ [] = elim (closing.dropped at.0 c at.1 (eqb-true c.home.subscriber y.id parts.1) (departed-from p gone c (eqb-true c.home.publisher p parts.0))) [
+        let none : IsDrained c = elim (closing.dropped at.0 c at.1 (eqb-true c.home.subscriber y.id parts.1) (departed-from p gone c (eqb-true c.home.publisher p parts.0))) [
           | inl none ↦ none
           | inr left ↦ absurd (done at.0 left)
         ] in
-        ap (λ (ws : List ℕ). not (is_nil (map (numbers_of f'.books p) ws))) none
+        (ap (λ (ws : List ℕ). not (is_nil (map (numbers_of f'.books p) ws))) none.0, ap (numbered (numbers_of f'.books p)) none.1)
 
   -- something is borrowed in a connection with a publisher that is gone
   busy-numbers : (k : ℕ) (c : Link) → get f'.connections k ≡ Some c → HasNoPublisher f.publishers c → is_empty_link c ≡ false
@@ -124,7 +124,7 @@ module _ {T U : Type 0} (f : Fields T U) (sound : IsDomain f) (place : ℕ) (y :
         let back = nothing-returned f' closing.parts.parts k c at (subst (λ (xs : List (Option PublisherFields)). HasNoPublisher xs c) (sym closing.publishers) departed) in
         let busy = closing.busy k c at departed in
         let some = busy.stands in
-        absurd (omega (arith, some, ap (times busy.slot) no.0, ap (times busy.slot) no.1, ap (times busy.slot) back))
+        absurd (omega (arith, some, ap (times busy.slot) no.0, ap (times busy.slot) no.1, ap (λ (ms : List ChannelNumber). times busy.slot (map (λ (m : ChannelNumber). m.number) ms)) no.2, ap (times busy.slot) back))
 
   -- and who is known and gone has something left
   known : (p : ℕ) (v : Subscriber) → t.subscribers y.id ≡ Some v → (contains v.expired p ≡ true) ⊎ LeadsTo v.ends p → s.publishers p ≡ None → has_numbers (t.mailboxes p y.id) ≡ true
@@ -148,7 +148,7 @@ module _ {T U : Type 0} (f : Fields T U) (sound : IsDomain f) (place : ℕ) (y :
 
   -- so it is closed, but for its place
   closed-but : publishers_due t ≡ record (subscriber_pruned (subscriber_shut s y.id port) y.id) { channels = t.channels }
-  closed-but = sheds-closed s y.id port t closing.sheds (λ p gone. (dropped p gone, no-others f' p y.id)) known
+  closed-but = sheds-closed s y.id port t closing.sheds dropped known
 
   -- ---- the publishers are due, and it may go
 

@@ -33,6 +33,7 @@ use Rattle.iox2_closes.proofs.CloseKeys.{ExpiredBelow, ExpiredLeft, KeysLeft}
 use Rattle.iox2_domain.specs.OpenMarks.{IsUnmarkedReceiver}
 use Rattle.iox2_domain.proofs.lemmas.slots.PublisherBooks.{link-held}
 use Rattle.iox2_steps.proofs.receivers.DepartedEnds.{nothing-returned}
+use Rattle.iox2_store.specs.machine.Mailbox.{ChannelNumber}
 
 -- there is something
 pub some-of : {A : Type 0} (o : Option A) → IsSome o → (x : A) × (o ≡ Some x)
@@ -182,14 +183,14 @@ module _ {T U : Type 0} (f : Fields T U) (parts : HasOwnedParts f) (place key : 
     outcome : ((is_empty_link c ≡ true) × ForgetsConnection f place key mid) ⊎ ((is_empty_link c ≡ false) × (mid ≡ f))
     outcome = by (load c) refl where
       none : load c ≡ 0 → is_empty_link c ≡ true
-      none e = λ i. is_nil (no-length c.waiting (omega (arith, e)) i) && is_nil (no-length c.borrowed (omega (arith, e)) i)
+      none e = λ i. is_nil (map (λ (m : ChannelNumber). m.number) (no-length c.others (omega (arith, e)) i)) && (is_nil (no-length c.waiting (omega (arith, e)) i) && is_nil (no-length c.borrowed (omega (arith, e)) i))
 
       some : (n : ℕ) → load c ≡ suc n → (b : Bool) → is_empty_link c ≡ b → is_empty_link c ≡ false
       some n e false is = is
       some n e true is =
           let no = link-empty c is in
           let back = nothing-returned f parts.parts key c left.link_stands left.departed in
-          absurd (omega (arith, e, ap (λ (xs : List ℕ). length xs) no.0, ap (λ (xs : List ℕ). length xs) no.1, ap (λ (xs : List ℕ). length xs) back))
+          absurd (omega (arith, e, ap (λ (xs : List ℕ). length xs) no.0, ap (λ (xs : List ℕ). length xs) no.1, ap (λ (ms : List ChannelNumber). length ms) no.2, ap (λ (xs : List ℕ). length xs) back))
 
       by : (n : ℕ) → load c ≡ n → ((is_empty_link c ≡ true) × ForgetsConnection f place key mid) ⊎ ((is_empty_link c ≡ false) × (mid ≡ f))
       by zero e = inl (none e, subst (λ (n : ℕ). ForgetsConnection f n key mid) left-place (empty c left.link_stands e))

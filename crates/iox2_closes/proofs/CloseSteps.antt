@@ -6,9 +6,9 @@ use Rattle.std.specs.declared.option.Option.{Option}
 use Rattle.std.specs.declared.option.Option.TheVariants.{None, Some}
 use Rattle.std.specs.Option.{option_map}
 use Rattle.slab.specs.Slab.{Slab, Updates, ContainsKey, get, with_value}
-use Rattle.iox2_slots.specs.Link.{Link}
+use Rattle.iox2_slots.specs.Link.{Link, other_slots}
 use Rattle.iox2_slots.specs.SlotBook.{Book}
-use Rattle.iox2_store.specs.machine.Mailbox.{Mailbox, has_numbers}
+use Rattle.iox2_store.specs.machine.Mailbox.{Mailbox, has_numbers, ChannelNumber}
 use Rattle.iox2_store.specs.machine.Numbers.{is_nil, put_at}
 use Rattle.iox2_store.specs.machine.State.{subscriber_changed}
 use Rattle.iox2_ends.specs.LookUp.{look_up}
@@ -46,12 +46,9 @@ use Rattle.iox2_closes.proofs.ClosedSubscribers.{forgetful-parts, forgetful-is}
 use Rattle.iox2_closes.proofs.KeptMessages.{keeps-same, keeps-trans}
 use Rattle.iox2_closes.proofs.LeftRecounts.{with_fewer, fewer-parts, fewer-is, fewer-keeps}
 use mathlib.Core.Path.{fun_ext}
+use Rattle.iox2_steps.proofs.closes.LeftConnections.{numbers-held}
 
 -- ---- lists of slots
-
-is_nil-map : (f : ℕ → ℕ) (xs : List ℕ) → is_nil (map f xs) ≡ is_nil xs
-is_nil-map f [] = refl
-is_nil-map f (x ∷ xs) = refl
 
 nil-from : (xs : List ℕ) → is_nil xs ≡ true → xs ≡ []
 nil-from [] e = refl
@@ -64,18 +61,20 @@ some-slot (x ∷ xs) e = (x, omega (arith, times-cons x x xs, one_if_same x))
 
 -- a connection is empty, or something stands in it
 pub link-busy : (c : Link) → is_empty_link c ≡ false → IsBusy c
-link-busy c e = by (is_nil c.waiting) (is_nil c.borrowed) refl refl e where
-  by : (w b : Bool) → is_nil c.waiting ≡ w → is_nil c.borrowed ≡ b → (is_nil c.waiting && is_nil c.borrowed) ≡ false → IsBusy c
-  by false b is_w is_b e = let s = some-slot c.waiting is_w in record { slot = s.0; stands = omega (arith, s.1) }
-  by true false is_w is_b e = let s = some-slot c.borrowed is_b in record { slot = s.0; stands = omega (arith, s.1) }
-  by true true is_w is_b e = absurd (let no : true ≡ false = sym (λ i. is_w i && is_b i) ∙ e in cc)
+link-busy c e = by (is_nil (other_slots c)) (is_nil c.waiting) (is_nil c.borrowed) refl refl refl e where
+  by : (o w b : Bool) → is_nil (other_slots c) ≡ o → is_nil c.waiting ≡ w → is_nil c.borrowed ≡ b → is_empty_link c ≡ false → IsBusy c
+  by false w b is_o is_w is_b e = let s = some-slot (other_slots c) is_o in record { slot = s.0; stands = omega (arith, s.1) }
+  by true false b is_o is_w is_b e = let s = some-slot c.waiting is_w in record { slot = s.0; stands = omega (arith, s.1) }
+  by true true false is_o is_w is_b e = let s = some-slot c.borrowed is_b in record { slot = s.0; stands = omega (arith, s.1) }
+  by true true true is_o is_w is_b e = absurd (let no : true ≡ false = sym (λ i. is_o i && (is_w i && is_b i)) ∙ e in cc)
 
-pub link-empty : (c : Link) → is_empty_link c ≡ true → (c.waiting ≡ []) × (c.borrowed ≡ [])
-link-empty c e = by (is_nil c.waiting) (is_nil c.borrowed) refl refl e where
-  by : (w b : Bool) → is_nil c.waiting ≡ w → is_nil c.borrowed ≡ b → (is_nil c.waiting && is_nil c.borrowed) ≡ true → (c.waiting ≡ []) × (c.borrowed ≡ [])
-  by true true is_w is_b e = (nil-from c.waiting is_w, nil-from c.borrowed is_b)
-  by true false is_w is_b e = absurd (let no : false ≡ true = sym (λ i. is_w i && is_b i) ∙ e in cc)
-  by false b is_w is_b e = absurd (let no : false ≡ true = sym (λ i. is_w i && is_b i) ∙ e in cc)
+pub link-empty : (c : Link) → is_empty_link c ≡ true → (c.waiting ≡ []) × (c.borrowed ≡ []) × (c.others ≡ [])
+link-empty c e = by c.others c.waiting c.borrowed e where
+  by : (os : List ChannelNumber) (ws bs : List ℕ) → (is_nil (map (λ (m : ChannelNumber). m.number) os) && (is_nil ws && is_nil bs)) ≡ true → (ws ≡ []) × (bs ≡ []) × (os ≡ [])
+  by [] [] [] e = (refl, refl, refl)
+  by [] [] (b ∷ bs) e = absurd cc
+  by [] (w ∷ ws) bs e = absurd cc
+  by (m ∷ ms) ws bs e = absurd cc
 
 module _ {T U : Type 0} (f : Fields T U) (parts : HasOwnedParts f) where
   -- ---- ports and connections in the state
@@ -99,7 +98,7 @@ module _ {T U : Type 0} (f : Fields T U) (parts : HasOwnedParts f) where
     box-is = mailboxes-are f p q ∙ mailbox-there (numbers_of f.books) f.connections key p q c parts.parts.apart at refl refl
 
     pub box-numbers : has_numbers ((state_of (kept_of f)).mailboxes p q) ≡ not (is_empty_link c)
-    box-numbers = ap has_numbers box-is ∙ (λ i. not (is_nil-map (numbers_of f.books p) c.waiting i && is_nil-map (numbers_of f.books p) c.borrowed i))
+    box-numbers = ap has_numbers box-is ∙ numbers-held (numbers_of f.books p) c
 
     -- its publisher's book
     pub book : IsBookOf f.books p c.home.book
@@ -195,7 +194,7 @@ module _ {T U : Type 0} (f : Fields T U) (parts : HasOwnedParts f) where
 
         module _ (none : is_empty_link c ≡ true) (connections : Slab Link) (removed : Updates f.connections connections key None) where
           empty : IsEmptyLink c
-          empty = let no = link-empty c none in record { waiting = no.0; borrowed = no.1; returned = nothing-returned f parts.parts key c at departed }
+          empty = let no = link-empty c none in record { waiting = no.0; borrowed = no.1; others = no.2; returned = nothing-returned f parts.parts key c at departed }
 
           unsent : SenderHas f.publishers key c → ⊥
           unsent has = departed c.home.publisher_place has.publisher has.stands has.is_its

@@ -78,6 +78,10 @@ module _ {T U : Type 0} (f : Fields T U) (sound : IsDomain f) where
 
 -- ---- the walk
 
+-- No slot waits there, in whatever channel.
+abbrev pub IsDrained : Link → Type 0
+IsDrained c = (c.waiting ≡ []) × (c.others ≡ [])
+
 -- the subscriber, or without the key that is there
 abbrev pub IsLess : Option ℕ → SubscriberFields → SubscriberFields → Type 0
 IsLess o y z = (z ≡ y) ⊎ ((key : ℕ) × (o ≡ Some key) × (z ≡ key_forgotten key y))
@@ -99,7 +103,7 @@ module _ {T U : Type 0} (f : Fields T U) (sound : IsDomain f) (place : ℕ) (y :
     pub next_port : f'.next_port ≡ f.next_port
     pub subscriber : (z : SubscriberFields) × (get_or f'.subscribers place None ≡ Some z) × (z.id ≡ y.id)
     pub busy : (k : ℕ) (c : Link) → get f'.connections k ≡ Some c → HasNoPublisher f.publishers c → IsBusy c
-    pub dropped : (k : ℕ) (c : Link) → get f'.connections k ≡ Some c → c.home.subscriber ≡ y.id → HasNoPublisher f.publishers c → (c.waiting ≡ []) ⊎ rest subscriber.0 k
+    pub dropped : (k : ℕ) (c : Link) → get f'.connections k ≡ Some c → c.home.subscriber ≡ y.id → HasNoPublisher f.publishers c → IsDrained c ⊎ rest subscriber.0 k
     pub held : (k : ℕ) (b : Book) → get f'.books k ≡ Some b → IsOrphan f b → IsUsed b
     pub sheds : Sheds shut_state y.id (record port { is_open = false }) (state_of (kept_of f'))
 
@@ -240,7 +244,7 @@ module _ {T U : Type 0} (f : Fields T U) (sound : IsDomain f) (place : ℕ) (y :
           | inr away ↦ so_far.busy k d (was k d away at_d) departed
         ];
         dropped = λ k d at_d mine departed. elim (cases_eq k key) [
-          | inl here ↦ inl (ap (λ (l : Link). l.waiting) (at-key k d here at_d).0)
+          | inl here ↦ inl (ap (λ (l : Link). l.waiting) (at-key k d here at_d).0, ap (λ (l : Link). l.others) (at-key k d here at_d).0)
           | inr away ↦ elim (so_far.dropped k d (was k d away at_d) mine departed) [ inl none ↦ inl none | inr left ↦ inr (still k away left) ]
         ];
         held = λ k b at_b orphan. elim (cases_eq k c.home.book) [

@@ -3,7 +3,7 @@ use Rattle.std.specs.Prelude.{◌≡◌, ◌≢◌, ◌⊎◌, ◌<◌, ◌&&◌
 use Rattle.std.specs.declared.option.Option.{Option}
 use Rattle.std.specs.declared.option.Option.TheVariants.{None, Some}
 use Rattle.slab.specs.Slab.{get, Updates}
-use Rattle.iox2_slots.specs.Link.{Link}
+use Rattle.iox2_slots.specs.Link.{Link, other_slots}
 use Rattle.iox2_slots.specs.SlotBook.{Book}
 use Rattle.iox2_store.specs.machine.Mailbox.{has_numbers, waiting_dropped}
 use Rattle.iox2_store.specs.machine.Numbers.{without, is_nil}
@@ -40,9 +40,9 @@ IsStanding publishers home = IsSomeAnd (slice_index_or publishers home.publisher
 abbrev pub HasNoPublisher : List (Option PublisherFields) → Link → Type 0
 HasNoPublisher publishers c = StandsNowhere publishers c.home.publisher
 
--- No slot waits there, and none is borrowed.
+-- No slot waits there, in whatever channel, and none is borrowed.
 abbrev pub is_empty_link : Link → Bool
-is_empty_link c = is_nil c.waiting && is_nil c.borrowed
+is_empty_link c = is_nil (other_slots c) && (is_nil c.waiting && is_nil c.borrowed)
 
 -- Some slot stands in the connection.
 pub record IsBusy (c : Link) : Type 0 where

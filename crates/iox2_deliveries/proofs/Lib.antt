@@ -7,3 +7,5 @@ mod ReadyPass
 mod GrowthPass
 mod GrowingPass
 pub mod SentEnds
+mod ToConnection
+mod WaitingChannels

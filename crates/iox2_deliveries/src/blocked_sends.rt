@@ -1,5 +1,5 @@
 //! A blocked send is tried again, or given up.
-ghost use Rattle.std.specs.Prelude.{◌≡◌, ◌≤◌, ◌+◌, ◌↔◌, IsTrue, None, Some, slice_index_or, is_some};
+ghost use Rattle.std.specs.Prelude.{◌≡◌, ◌≤◌, ◌<◌, ◌+◌, ◌↔◌, IsTrue, None, Some, length, slice_index_or, is_some};
 ghost use Rattle.iox2_slots.specs.SlotBook.{IsInUse};
 ghost use Rattle.iox2_store.specs.machine.Sends.{more_retries};
 ghost use Rattle.iox2_store.specs.machine.SingleCalls.{HoldsBlocked};
@@ -9,7 +9,7 @@ ghost use Rattle.iox2_ends.specs.Receivers.{HasReclaimed};
 ghost use Rattle.iox2_domain.specs.Boxes.{answers_of};
 ghost use Rattle.iox2_domain.specs.Ports.{PublisherFields};
 ghost use Rattle.iox2_domain.specs.declared.publisher_state.BlockedDelivery.{BlockedDelivery};
-ghost use Rattle.iox2_domain.specs.Fields.{kept_of};
+ghost use Rattle.iox2_domain.specs.Fields.{kept_of, within_reach};
 ghost use Rattle.iox2_domain.specs.Kept.{state_of};
 ghost use Rattle.iox2_domain.specs.Invariant.{IsDomain};
 ghost use Rattle.iox2_domain.specs.BlockedSends.{with_outcome, counters_after, HasBlocked, CanGoOn, GoesOn, RetriesAs, GivesUpAs};
@@ -34,33 +34,49 @@ fn more_retries(retries: u64) -> u64
     }
 }
 
-// The delivery in a slot that had been blocked is over, or waits for a receiver again.
+// A delivery that had been blocked is over, or waits for a receiver again.
 fn conclude_blocked(
     publisher: &mut PublisherState,
     book: &mut SlotBook,
-    slot: usize,
+    blocked: BlockedDelivery,
     outcome: DeliveryOutcome,
 )
-    requires once { times slot publisher.old.loans ≤ 1 }
-    requires in_use { IsInUse book.old slot }
-    ensures publisher { publisher.new ≡ with_outcome outcome slot publisher.old }
-    ensures book { book.new ≡ with_counters book.old (counters_after outcome slot book.old.holders) }
+    requires once { times blocked.slot publisher.old.loans ≤ 1 }
+    requires in_use { IsInUse book.old blocked.slot }
+    ensures publisher { publisher.new ≡ with_outcome outcome blocked publisher.old }
+    ensures book { book.new ≡ with_counters book.old (counters_after outcome blocked.slot book.old.holders) }
 {
     match outcome {
         DeliveryOutcome::Complete { .. } => {
-            publisher.remove_loan(slot);
+            publisher.remove_loan(blocked.slot);
             publisher.blocked = None;
-            book.release(slot);
+            book.release(blocked.slot);
         }
         DeliveryOutcome::Suspended(progress) => {
-            publisher.blocked = Some(BlockedDelivery { slot, progress });
+            publisher.blocked = Some(BlockedDelivery {
+                progress,
+                ..blocked
+            });
         }
     }
 }
 
-// The blocked delivery of the publisher at a place, which has reclaimed what was given back, is taken
-// up there.
-fn go_on<T: Drop, U: Default + Drop, F: BackpressureFn, G: DegradationFn>(
+// The keys of the connections to which a blocked delivery may go: its publisher's, or none behind the one
+// for which it waits.
+fn keys_within<'a>(keys: &'a [Option<usize>], blocked: &BlockedDelivery) -> &'a [Option<usize>]
+    requires { (blocked.now.progress).place < length keys.now }
+    ensures { result.now ≡ within_reach blocked.now keys.now }
+{
+    if blocked.is_alone {
+        &keys[..blocked.progress.place + 1]
+    } else {
+        keys
+    }
+}
+
+/// The blocked delivery of the publisher at a place, which has reclaimed what was given back, is taken
+/// up there.
+pub(crate) fn go_on<T: Drop, U: Default + Drop, F: BackpressureFn, G: DegradationFn>(
     state: &mut DomainState<T, U>,
     boxes: &Boxes<F, G>,
     place: usize,
@@ -84,6 +100,7 @@ fn go_on<T: Drop, U: Default + Drop, F: BackpressureFn, G: DegradationFn>(
     let delivery = Delivery {
         publisher: publisher.id.value(),
         slot: blocked.slot,
+        channel: blocked.channel,
         strategy: publisher.strategy,
         start,
         elapsed,
@@ -95,10 +112,10 @@ fn go_on<T: Drop, U: Default + Drop, F: BackpressureFn, G: DegradationFn>(
         &handler,
         &mut state.connections,
         book,
-        &publisher.keys,
+        keys_within(&publisher.keys, &blocked),
         &state.subscribers,
     );
-    conclude_blocked(publisher, book, blocked.slot, outcome);
+    conclude_blocked(publisher, book, blocked, outcome);
     outcome
 }
 

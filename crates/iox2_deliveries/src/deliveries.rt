@@ -70,6 +70,8 @@ fn conclude(
             book.hold(slot);
             publisher.blocked = Some(BlockedDelivery {
                 slot,
+                channel: 0,
+                is_alone: false,
                 progress: Progress {
                     place: progress.place,
                     retries: progress.retries,
@@ -134,6 +136,7 @@ fn send_slot<T: Drop, U: Default + Drop, X: BackpressureFn>(
     let delivery = Delivery {
         publisher: publisher.id.value(),
         slot,
+        channel: 0,
         strategy: publisher.strategy,
         start: Progress::begun(),
         elapsed: Duration::ZERO,

@@ -6,6 +6,7 @@
 #![tactic(auto)]
 
 mod blocked_sends;
+mod connection_sends;
 mod contents;
 mod deliveries;
 mod discards;
@@ -19,6 +20,7 @@ mod sample_reads;
 mod send_end;
 
 pub use blocked_sends::{give_up_send, has_blocked_send, is_waiting, retry_send};
+pub use connection_sends::send_to_connection;
 pub use contents::{cell_at_mut, cells_at_mut, user_header_at_mut, value_at_mut, values_at_mut};
 pub use deliveries::{has_handler_at, send_ready, send_unasked};
 pub use discards::discard_loan;

@@ -1,5 +1,6 @@
 -- A blocked send goes on: its message is delivered to the receivers that remain.
 use Rattle.std.specs.Prelude.{◌≡◌, ℕ, ◌≤◌, drop, List, length, slice_set, slice_index_or}
+use Rattle.std.specs.declared.option.Option.{Option}
 use Rattle.std.specs.declared.option.Option.TheVariants.{None, Some}
 use Rattle.std.specs.declared.time.Duration.{Duration}
 use Rattle.slab.specs.Slab.{get, with_value}
@@ -14,14 +15,14 @@ use Rattle.iox2_ends.specs.declared.sender.DeliveryOutcome.{DeliveryOutcome}
 use Rattle.iox2_domain.specs.declared.publisher_state.BlockedDelivery.{BlockedDelivery}
 use Rattle.iox2_domain.specs.Ports.{PublisherFields}
 use Rattle.iox2_domain.specs.Kept.{state_of, entries_of}
-use Rattle.iox2_domain.specs.Fields.{Fields, kept_of, numbers_of, blocked_send}
+use Rattle.iox2_domain.specs.Fields.{Fields, kept_of, numbers_of, within_reach, blocked_send}
 use Rattle.iox2_domain.specs.Invariant.{IsDomain}
 use Rattle.iox2_domain.specs.Deliveries.{DeliversFrom}
 
--- The publisher after a delivery of the slot that had been blocked: the loan is out no more, or it waits for a receiver again.
-abbrev pub with_outcome : DeliveryOutcome → (slot : ℕ) → PublisherFields → PublisherFields
-with_outcome (DeliveryOutcome.Complete count has_failed) slot x = record x { loans = without slot x.loans; blocked = None }
-with_outcome (DeliveryOutcome.Suspended progress) slot x = record x { blocked = Some (record { slot = slot; progress = progress }) }
+-- The publisher after a delivery that had been blocked: the loan is out no more, or it waits for a receiver again.
+abbrev pub with_outcome : DeliveryOutcome → BlockedDelivery → PublisherFields → PublisherFields
+with_outcome (DeliveryOutcome.Complete count has_failed) b x = record x { loans = without b.slot x.loans; blocked = None }
+with_outcome (DeliveryOutcome.Suspended progress) b x = record x { blocked = Some (record b { progress = progress }) }
 
 -- The counters then: the loan was one holder.
 abbrev pub counters_after : DeliveryOutcome → (slot : ℕ) → List ℕ → List ℕ
@@ -31,26 +32,26 @@ counters_after (DeliveryOutcome.Suspended progress) slot holders = holders
 -- The blocked delivery of the publisher x may be taken up there: at its place or a later one, with no more receivers counted.
 pub record CanGoOn (x : PublisherFields) (b : BlockedDelivery) (start : Progress) : Type 0 where
   pub later : (b.progress).place ≤ start.place
-  pub within : start.place ≤ length x.keys
+  pub within : start.place ≤ length (within_reach b x.keys)
   pub counted : start.count ≤ start.place
 
 -- The blocked delivery of the publisher x, which stands at that place, was taken up there, with this outcome.
 pub record GoesOn {T U : Type 0} (environment : Environment) (old : Fields T U) (place : ℕ) (x : PublisherFields) (b : BlockedDelivery)
     (start : Progress) (elapsed : Duration) (outcome : DeliveryOutcome) (new : Fields T U) : Type 0 where
   pub delivered : Fields T U
-  pub delivers : DeliversFrom environment old x b.slot start elapsed outcome delivered
+  pub delivers : DeliversFrom environment old x b.channel (within_reach b x.keys) b.slot start elapsed outcome delivered
   pub book : Book
   pub stands : get delivered.books x.book ≡ Some book
   pub ended : new ≡ record delivered {
-    publishers = slice_set delivered.publishers place (Some (with_outcome outcome b.slot x));
+    publishers = slice_set delivered.publishers place (Some (with_outcome outcome b x));
     books = with_value delivered.books x.book (with_counters book (counters_after outcome b.slot book.holders));
   }
 
--- The machine's delivery of the message n of the publisher x goes on from there, and its send ends or is blocked again. No
--- entry is newly kept.
-pub record ConcludesAs {T U : Type 0} (environment : Environment) (old new : Fields T U) (x : PublisherFields) (n : ℕ) (start : Progress) (elapsed : Duration) (result : SendResult) : Type 0 where
+-- The machine's delivery of the message n of the publisher x goes on from there, into that channel at these keys, and its send ends
+-- or is blocked again. No entry is newly kept.
+pub record ConcludesAs {T U : Type 0} (environment : Environment) (old new : Fields T U) (x : PublisherFields) (n channel : ℕ) (keys : List (Option ℕ)) (start : Progress) (elapsed : Duration) (result : SendResult) : Type 0 where
   pub agrees : IsDomain new
-  pub concludes : DeliverAndConclude environment (state_of (kept_of old)) x.id n 0 start.retries elapsed start.place (drop start.place (sender_ends old.connections x.keys)) start.count start.has_failed
+  pub concludes : DeliverAndConclude environment (state_of (kept_of old)) x.id n channel start.retries elapsed start.place (drop start.place (sender_ends old.connections keys)) start.count start.has_failed
       (state_of (kept_of new)) result
   pub entries : (m : ℕ) (entry : Entry T U) → entries_of (kept_of new) m ≡ Some entry → entries_of (kept_of old) m ≡ Some entry
 

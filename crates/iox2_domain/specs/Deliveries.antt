@@ -1,11 +1,11 @@
 -- A publisher's message is delivered, and its send ends.
-use Rattle.std.specs.Prelude.{◌≡◌, ◌⊎◌, ℕ, ◌≤◌, cond, drop, List, [], ◌∷◌, ◌++◌, length, map, nat_lt, slice_get, slice_set}
+use Rattle.std.specs.Prelude.{◌≡◌, ◌⊎◌, ℕ, ◌≤◌, false, cond, drop, List, [], ◌∷◌, ◌++◌, length, map, nat_lt, slice_get, slice_set}
 use Rattle.std.specs.declared.option.Option.{Option}
 use Rattle.std.specs.declared.option.Option.TheVariants.{None, Some}
 use Rattle.std.specs.Option.{option_map}
 use Rattle.slab.specs.Slab.{Slab, get, with_value}
 use Rattle.circular_buffer.specs.Buffer.{Buffer, buffer, keep_last}
-use Rattle.iox2_store.specs.machine.Delivery.{Deliver, no_time}
+use Rattle.iox2_store.specs.machine.Delivery.{DeliverIn, no_time}
 use Rattle.iox2_slots.specs.Link.{Link}
 use Rattle.iox2_store.specs.machine.Loans.{entry_of}
 use Rattle.iox2_store.specs.machine.Numbers.{put_at, without}
@@ -27,9 +27,9 @@ use Rattle.iox2_domain.specs.Kept.{state_of, entries_of}
 use Rattle.iox2_domain.specs.Fields.{Fields, kept_of}
 use Rattle.iox2_domain.specs.Invariant.{IsDomain, details_of}
 
--- The slot of the publisher x went to the receivers that remained, with this outcome. Connections and counters changed
--- together, and nothing else did.
-pub record DeliversFrom {T U : Type 0} (environment : Environment) (old : Fields T U) (x : PublisherFields) (slot : ℕ) (start : Progress) (elapsed : Duration) (outcome : DeliveryOutcome) (new : Fields T U) : Type 0 where
+-- The slot of the publisher x went into that channel at these keys of its own, from the start on, with this outcome. Connections
+-- and counters changed together, and nothing else did.
+pub record DeliversFrom {T U : Type 0} (environment : Environment) (old : Fields T U) (x : PublisherFields) (channel : ℕ) (keys : List (Option ℕ)) (slot : ℕ) (start : Progress) (elapsed : Duration) (outcome : DeliveryOutcome) (new : Fields T U) : Type 0 where
   pub book : Book
   pub stands : get old.books x.book ≡ Some book
   pub holders : List ℕ
@@ -38,9 +38,9 @@ pub record DeliversFrom {T U : Type 0} (environment : Environment) (old : Fields
   pub recounts : Recounts x.id book.holders old.connections holders connections
   pub alone : GrowsAlone slot book.holders holders
   pub delivers : (number : ℕ → ℕ → ℕ)
-      → Deliver environment old.config x.id x.strategy x.backpressure_handler (taking_buffers old.connections x.id (map (option_map details_of) old.subscribers)) (number x.id slot)
-      start.retries elapsed start.place (drop start.place (sender_ends old.connections x.keys)) start.count start.has_failed (mailboxes_of number old.connections x.id)
-      (end_of (number x.id slot) (sender_ends old.connections x.keys) outcome) (mailboxes_of number connections x.id)
+      → DeliverIn environment old.config x.id x.strategy x.backpressure_handler (taking_buffers old.connections x.id channel (map (option_map details_of) old.subscribers)) (number x.id slot)
+      channel start.retries elapsed start.place (drop start.place (sender_ends old.connections keys)) start.count start.has_failed (mailboxes_of number old.connections x.id)
+      (end_of (number x.id slot) channel (sender_ends old.connections keys) outcome) (mailboxes_of number connections x.id)
 
 -- The publisher without the loan in the slot.
 abbrev pub with_loan_out : (slot : ℕ) → PublisherFields → PublisherFields
@@ -80,14 +80,14 @@ with_send_ended f place x slot book = record f {
 -- receiver. The loan is out still, and the history is one holder more.
 abbrev pub with_send_blocked : {T U : Type 0} → Fields T U → (place : ℕ) → PublisherFields → (slot : ℕ) → Progress → Book → Fields T U
 with_send_blocked f place x slot progress book = record f {
-  publishers = slice_set f.publishers place (Some (record x { history = pushed x.history slot; blocked = Some (record { slot = slot; progress = progress }) }));
+  publishers = slice_set f.publishers place (Some (record x { history = pushed x.history slot; blocked = Some (record { slot = slot; channel = 0; is_alone = false; progress = progress }) }));
   books = with_value f.books x.book (with_left (leaving x.history slot) (with_counters (with_sent slot book) (one_holder_more slot book.holders)));
 }
 
 -- The publisher whose slot was delivered with this outcome: it is out no more, or it waits for a receiver.
 abbrev pub with_delivered : DeliveryOutcome → (slot : ℕ) → PublisherFields → PublisherFields
 with_delivered (DeliveryOutcome.Complete count has_failed) slot x = with_loan_out slot x
-with_delivered (DeliveryOutcome.Suspended progress) slot x = record x { blocked = Some (record { slot = slot; progress = progress }) }
+with_delivered (DeliveryOutcome.Suspended progress) slot x = record x { blocked = Some (record { slot = slot; channel = 0; is_alone = false; progress = progress }) }
 
 -- Its book, in which a slot that is out still has one holder more for the history that is to have it.
 abbrev pub with_history_holder : DeliveryOutcome → (slot : ℕ) → Book → Book
@@ -126,7 +126,7 @@ pub record CanSend {T U : Type 0} (f : Fields T U) (x : PublisherFields) (slot :
 -- blocked.
 pub record SendsSlot {T U : Type 0} (environment : Environment) (old : Fields T U) (place : ℕ) (x : PublisherFields) (slot : ℕ) (outcome : DeliveryOutcome) (new : Fields T U) : Type 0 where
   pub delivered : Fields T U
-  pub delivers : DeliversFrom environment old x slot begun no_time outcome delivered
+  pub delivers : DeliversFrom environment old x 0 x.keys slot begun no_time outcome delivered
   pub book : Book
   pub stands : get delivered.books x.book ≡ Some book
   pub ended : new ≡ with_send outcome delivered place x slot book

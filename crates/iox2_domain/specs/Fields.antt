@@ -1,5 +1,5 @@
 -- The fields of a domain, and what they keep. Ports know connections, books and slots by number.
-use Rattle.std.specs.Prelude.{ℕ, Bool, true, false, ◌+◌, ◌==◌, List, [], ◌∷◌, drop, map, cond, nat_lt, slice_get, slice_index, slice_index_or}
+use Rattle.std.specs.Prelude.{ℕ, Bool, true, false, ◌+◌, ◌==◌, List, [], ◌∷◌, drop, take, map, cond, nat_lt, slice_get, slice_index, slice_index_or}
 use Rattle.std.specs.declared.option.Option.{Option}
 use Rattle.std.specs.declared.option.Option.TheVariants.{None, Some}
 use Rattle.std.specs.Option.{option_map, option_and_then, option_map_or}
@@ -88,13 +88,18 @@ module _ {T U : Type 0} where
 
 -- ---- ports and connections
 
+-- Of what stands at a publisher's places, that to which its blocked delivery may go: all of it, or none behind the place at which
+-- it waits.
+abbrev pub within_reach : {A : Type 0} → BlockedDelivery → List A → List A
+within_reach b xs = cond b.is_alone (take ((b.progress).place + 1) xs) xs
+
 -- The machine's blocked send, where slots have these numbers and the publisher has these ends.
 abbrev pub blocked_send : (number : ℕ → ℕ) → (ends : List (Option ℕ)) → BlockedDelivery → BlockedSend
 blocked_send number ends b = record {
   message = number b.slot;
-  channel = 0;
+  channel = b.channel;
   place = (b.progress).place;
-  ends = drop (b.progress).place ends;
+  ends = drop (b.progress).place (within_reach b ends);
   retries = (b.progress).retries;
   count = (b.progress).count;
   has_failed = (b.progress).has_failed;

@@ -31,6 +31,7 @@ pub mod LoanCalls
 pub mod LoanLends
 pub mod Deliveries
 pub mod BlockedSends
+pub mod ConnectionSends
 pub mod SentLoans
 pub mod Discards
 pub mod Drops

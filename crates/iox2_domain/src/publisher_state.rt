@@ -23,6 +23,10 @@ use std::marker::Model;
 pub struct BlockedDelivery {
     /// The slot of the message, which is a loan that is out until the delivery ends.
     pub slot: usize,
+    /// The channel into which it goes.
+    pub channel: usize,
+    /// Whether it goes to the receiver for which it waits, and to no later one.
+    pub is_alone: bool,
     /// How far the delivery has come. It waits for the receiver at the first place that remains.
     pub progress: Progress,
 }

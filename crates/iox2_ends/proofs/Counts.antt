@@ -4,11 +4,12 @@ use Rattle.std.specs.List.{sum_by}
 use Rattle.std.proofs.lemmas.Bool.{cases_lt, cases_eq, ne_eqb, eq-eqb}
 use Rattle.std.proofs.lemmas.List.Sums.{sum_by-cons, sum_by_push, sum_by-set, get_or-le-sum_by}
 use Rattle.std.proofs.lemmas.List.{length-set, get_or-set_same, get_or-set_other, get_or_past}
-use Rattle.iox2_slots.specs.Link.{Link, IsPut}
+use Rattle.iox2_slots.specs.Link.{Link, slots_in, IsPut}
 use Rattle.iox2_slots.specs.declared.connection.PutOutcome.{PutOutcome}
 use Rattle.iox2_slots.specs.declared.connection.PutOutcome.TheVariants.{Taken, Overwrote, Full}
 use Rattle.iox2_ends.specs.Counters.{times, stands_in, stands, IsCovered, CountersFollow, one_holder_more, one_holder_less, recounted, CanLeave}
 use Rattle.iox2_ends.proofs.MailboxChanges.{within_if_some}
+use Rattle.iox2_ends.proofs.OtherNumbers.{stands-in-channel, stands-with}
 
 -- one where the two slots are the same
 abbrev pub one_if : ℕ → ℕ → ℕ
@@ -78,30 +79,33 @@ CountersFollow-kept p hs ls key c d at home same = record {
 }
 
 -- the slot that a put overwrote has a holder
-pub put-can_leave : (p : ℕ) (hs : List ℕ) (ls : List (Option Link)) (key slot : ℕ) (overflow : Bool) (c d : Link) (o : PutOutcome) → IsCovered p hs ls → get_or ls key None ≡ Some c → c.home.publisher ≡ p → IsPut c slot overflow o d → CanLeave o hs
-put-can_leave p hs ls key slot overflow c d Taken covered at mine q = tt
-put-can_leave p hs ls key slot overflow c d (Overwrote oldest) covered at mine q =
-    counter_if_stands p hs ls key oldest c covered at mine (rw q.2.1 (omega (arith, times-cons oldest oldest q.2.0, one_if_same oldest)))
-put-can_leave p hs ls key slot overflow c d Full covered at mine q = tt
+pub put-can_leave : (p : ℕ) (hs : List ℕ) (ls : List (Option Link)) (key channel slot : ℕ) (overflow : Bool) (c d : Link) (o : PutOutcome) → IsCovered p hs ls → get_or ls key None ≡ Some c → c.home.publisher ≡ p → IsPut channel c slot overflow o d → CanLeave o hs
+put-can_leave p hs ls key channel slot overflow c d Taken covered at mine q = tt
+put-can_leave p hs ls key channel slot overflow c d (Overwrote oldest) covered at mine q =
+    counter_if_stands p hs ls key oldest c covered at mine (omega (arith, stands-in-channel oldest channel c, ap (times oldest) q.2.1, times-cons oldest oldest q.2.0, one_if_same oldest))
+put-can_leave p hs ls key channel slot overflow c d Full covered at mine q = tt
 
 -- the counters after a put follow it
-put-counts : (hs : List ℕ) (slot : ℕ) (overflow : Bool) (c d : Link) (o : PutOutcome) → slot < length hs → CanLeave o hs → IsPut c slot overflow o d → (n : ℕ) → get_or (recounted o slot hs) n 0 + stands_in n c ≡ get_or hs n 0 + stands_in n d
-put-counts hs slot overflow c d Taken below can q n = rw q.1 (omega (arith, times_push n c.waiting slot, get_or-one_holder_more hs slot n below))
-put-counts hs slot overflow c d (Overwrote oldest) below can q n =
-    rw (q.2.2, q.2.1) (omega (
+put-counts : (hs : List ℕ) (channel slot : ℕ) (overflow : Bool) (c d : Link) (o : PutOutcome) → slot < length hs → CanLeave o hs → IsPut channel c slot overflow o d → (n : ℕ) → get_or (recounted o slot hs) n 0 + stands_in n c ≡ get_or hs n 0 + stands_in n d
+put-counts hs channel slot overflow c d Taken below can q n =
+    rw q.1 (omega (arith, stands-with n channel (slots_in channel c ++ slot ∷ []) c, times_push n (slots_in channel c) slot, get_or-one_holder_more hs slot n below))
+put-counts hs channel slot overflow c d (Overwrote oldest) below can q n =
+    rw q.2.2 (omega (
       arith,
+      stands-with n channel (q.2.0 ++ slot ∷ []) c,
+      ap (times n) q.2.1,
       times_push n q.2.0 slot,
       times-cons n oldest q.2.0,
       get_or-one_holder_more hs slot n below,
       get_or-one_holder_less (one_holder_more slot hs) oldest n (omega (arith, can, get_or-one_holder_more hs slot oldest below)),
     ))
-put-counts hs slot overflow c d Full below can q n = rw q.2 refl
+put-counts hs channel slot overflow c d Full below can q n = rw q.2 refl
 
-pub put-follows : (p : ℕ) (hs : List ℕ) (ls : List (Option Link)) (key slot : ℕ) (overflow : Bool) (c d : Link) (o : PutOutcome) → slot < length hs → IsCovered p hs ls → get_or ls key None ≡ Some c → c.home.publisher ≡ p → d.home ≡ c.home → IsPut c slot overflow o d
+pub put-follows : (p : ℕ) (hs : List ℕ) (ls : List (Option Link)) (key channel slot : ℕ) (overflow : Bool) (c d : Link) (o : PutOutcome) → slot < length hs → IsCovered p hs ls → get_or ls key None ≡ Some c → c.home.publisher ≡ p → d.home ≡ c.home → IsPut channel c slot overflow o d
     → CountersFollow p hs ls (recounted o slot hs) (set ls key (Some d))
-put-follows p hs ls key slot overflow c d o below covered at mine home q =
+put-follows p hs ls key channel slot overflow c d o below covered at mine home q =
     CountersFollow-changed p hs (recounted o slot hs) ls key c d at mine (ap (λ h. h.publisher) home ∙ mine)
-    (put-counts hs slot overflow c d o below (put-can_leave p hs ls key slot overflow c d o covered at mine q) q)
+    (put-counts hs channel slot overflow c d o below (put-can_leave p hs ls key channel slot overflow c d o covered at mine q) q)
 
 -- a put adds at most one holder to the slot
 pub recounted-grows : (o : PutOutcome) (slot : ℕ) (hs : List ℕ) → slot < length hs → CanLeave o hs → get_or (recounted o slot hs) slot 0 ≤ get_or hs slot 0 + 1

@@ -1,16 +1,16 @@
 -- One put of a delivery, seen from the machine.
-use Rattle.std.proofs.Common.{◌≡◌, ◌<◌, ◌≤◌, ◌+◌, length, drop, ℕ, List, [], ◌∷◌, Bool, true, false, cond, not, ◌&&◌, ◌||◌, eqb, nat_lt, Option, None, Some, get_or, refl, ap, sym, ◌∙◌, subst, inl, inr, ◌⊎◌, arith}
+use Rattle.std.proofs.Common.{◌≡◌, ◌<◌, ◌≤◌, ◌+◌, length, map, drop, ℕ, zero, suc, List, [], ◌∷◌, ◌++◌, Bool, true, false, cond, not, ◌&&◌, ◌||◌, eqb, nat_lt, Option, None, Some, get_or, refl, ap, sym, ◌∙◌, subst, inl, inr, ◌⊎◌, arith}
 use Rattle.std.proofs.lemmas.Bool.{eqb-true, ne_eqb}
 use Rattle.std.proofs.lemmas.List.{drop_more, drop_all, map-append, length-map}
 use Rattle.std.proofs.Math.ListN.{get_or-map}
 use Rattle.std.specs.Option.{option_map, option_and_then}
 use Rattle.std.specs.Prelude.{IsSomeAnd}
 use Rattle.slab.specs.Slab.{Slab, get, with_value, ContainsKey}
-use Rattle.iox2_slots.specs.Link.{Link, is_shut, IsPut}
+use Rattle.iox2_slots.specs.Link.{Link, slots_in, with_slots_in, is_shut_in, IsPut}
 use Rattle.iox2_store.specs.machine.Channel.{Channel, is_closed}
-use Rattle.iox2_store.specs.machine.Mailbox.{Mailbox}
+use Rattle.iox2_store.specs.machine.Mailbox.{Mailbox, waiting_in, with_waiting_in, has_room_in}
 use Rattle.iox2_store.specs.machine.Records.{Environment}
-use Rattle.iox2_store.specs.machine.Delivery.{PutResult, Skipped, DeliveryEnd, Put, is_blocking, is_failed, accepted_count}
+use Rattle.iox2_store.specs.machine.Delivery.{PutResult, Skipped, DeliveryEnd, PutIn, is_blocking, is_failed, accepted_count}
 use Rattle.iox2_store.specs.declared.service_config.ServiceConfig.{ServiceConfig}
 use Rattle.iox2_slots.specs.declared.connection.Home.{Home}
 use Rattle.iox2_slots.specs.declared.connection.PutOutcome.{PutOutcome}
@@ -23,9 +23,10 @@ use Rattle.iox2_ends.specs.declared.sender.DeliveryOutcome.{DeliveryOutcome}
 use Rattle.iox2_ends.specs.LookUp.{look_up, IsOnly}
 use Rattle.iox2_ends.specs.Mailboxes.{mailbox_of, mailboxes_of, subscriber_of_key, sender_ends}
 use Rattle.iox2_ends.specs.Homes.{IsApart, SameHomes, KeepsOthers, IsSenders, IsSenderLinked, fixed_of}
-use Rattle.iox2_ends.specs.Receivers.{has_id, buffer_if_open, buffers_of, taking_buffers, is_open_one, is_open_at, takes_at, KnowsReceivers, IsReadyToDeliver}
+use Rattle.iox2_ends.specs.Receivers.{has_id, buffer_if_open, buffers_of, taking_buffers, is_open_one, is_open_at, takes_at, KnowsReceivers, HaveChannel, IsReadyToDeliver}
 use Rattle.iox2_ends.specs.Handlers.{marks_of}
 use Rattle.iox2_ends.specs.Deliveries.{result_of, end_of, retries_at, elapsed_at, ComesTo, PutsMessage, DeliversMessage}
+use Rattle.iox2_ends.proofs.OtherNumbers.{waiting-in, with-waiting-in}
 use Rattle.iox2_ends.proofs.LookUps.{look_up-found, look_up-there}
 use Rattle.iox2_ends.proofs.MailboxChanges.{Updates-with_value, SameHomes-updated, KeepsOthers-updated, was, IsApart-same, both-true, mailbox-there, channels-there, channels-same, row-changed, put_at-own}
 use mathlib.Core.Path.{fun_ext}
@@ -76,22 +77,22 @@ buffers-closed slab receivers key c knows at not_receiving = by (look_up (has_id
       let shut : (eqb y.port_id c.home.subscriber && y.is_open) ≡ false = rw here at not_receiving in
       rw (rw found.2 at shut) refl
 
--- what a connection that takes messages says of its receiver and of its channel
-takes-both : (receivers : List (Option ReceiverDetails)) (i : ℕ) (c : Link) → takes_at receivers i c ≡ true → (is_open_at receivers i c.home.subscriber ≡ true) × (not (is_shut c) ≡ true)
-takes-both receivers i c h = both-true (is_open_at receivers i c.home.subscriber) (not (is_shut c)) h
+-- what a connection that takes messages in a channel says of its receiver and of the channel
+takes-both : (receivers : List (Option ReceiverDetails)) (i channel : ℕ) (c : Link) → takes_at receivers i channel c ≡ true → (is_open_at receivers i c.home.subscriber ≡ true) × (not (is_shut_in channel c) ≡ true)
+takes-both receivers i channel c h = both-true (is_open_at receivers i c.home.subscriber) (not (is_shut_in channel c)) h
 
-takes-open : (receivers : List (Option ReceiverDetails)) (i : ℕ) (c : Link) → takes_at receivers i c ≡ true → is_open_at receivers i c.home.subscriber ≡ true
-takes-open receivers i c h = (takes-both receivers i c h).0
+takes-open : (receivers : List (Option ReceiverDetails)) (i channel : ℕ) (c : Link) → takes_at receivers i channel c ≡ true → is_open_at receivers i c.home.subscriber ≡ true
+takes-open receivers i channel c h = (takes-both receivers i channel c h).0
 
-takes-shut : (receivers : List (Option ReceiverDetails)) (i : ℕ) (c : Link) → takes_at receivers i c ≡ true → is_shut c ≡ false
-takes-shut receivers i c h = by (is_shut c) (takes-both receivers i c h).1 where
+takes-shut : (receivers : List (Option ReceiverDetails)) (i channel : ℕ) (c : Link) → takes_at receivers i channel c ≡ true → is_shut_in channel c ≡ false
+takes-shut receivers i channel c h = by (is_shut_in channel c) (takes-both receivers i channel c h).1 where
   by : (b : Bool) → not b ≡ true → b ≡ false
   by true e = absurd cc
   by false e = refl
 
 -- one that doesn't has a receiver that isn't open, or a closed channel
-takes-not : (receivers : List (Option ReceiverDetails)) (i : ℕ) (c : Link) → takes_at receivers i c ≡ false → (is_open_at receivers i c.home.subscriber ≡ false) ⊎ (is_shut c ≡ true)
-takes-not receivers i c h = by (is_open_at receivers i c.home.subscriber) (is_shut c) h where
+takes-not : (receivers : List (Option ReceiverDetails)) (i channel : ℕ) (c : Link) → takes_at receivers i channel c ≡ false → (is_open_at receivers i c.home.subscriber ≡ false) ⊎ (is_shut_in channel c ≡ true)
+takes-not receivers i channel c h = by (is_open_at receivers i c.home.subscriber) (is_shut_in channel c) h where
   by : (a b : Bool) → (a && not b) ≡ false → (a ≡ false) ⊎ (b ≡ true)
   by false b e = inl refl
   by true true e = inr refl
@@ -110,84 +111,111 @@ lt-false : (a b : ℕ) → a ≡ b → nat_lt a b ≡ false
 lt-false a b e = grind arith
 
 -- one put, at numbers
-pub put-mailbox : {F : Type 0} (environment : Environment) (number : ℕ → ℕ) (config : ServiceConfig) (v : Delivery) (handler : Option (BackpressureHandler F)) (place q : ℕ) (buffers : ℕ → Option ℕ) (c d : Link) (o : PutOutcome) (result : PutResult)
-    → IsPut c v.slot config.enable_safe_overflow o d → ComesTo environment config v handler place q o result
-    → Put environment config v.publisher v.strategy (marks_of handler) buffers (number v.slot) q (retries_at v place) (elapsed_at v place) (Some c.buffer) (mailbox_of number c) result (mailbox_of number d)
-put-mailbox environment number config v handler place q buffers c d Taken result h comes =
-    rw (h.1, length-map c.waiting number, lt-true (length c.waiting) c.buffer h.0, map-append number c.waiting (v.slot ∷ [])) (comes, refl)
-put-mailbox environment number config v handler place q buffers c d (Overwrote oldest) result h comes =
-    rw (h.2.2, length-map c.waiting number, lt-false (length c.waiting) c.buffer h.1, h.0, h.2.1, map-append number h.2.0 (v.slot ∷ [])) (comes, refl)
-put-mailbox environment number config v handler place q buffers c d Full result h comes =
-    rw (h.2, length-map c.waiting number, lt-false (length c.waiting) c.buffer h.1, h.0) (comes, refl)
+module _ {F : Type 0} (environment : Environment) (number : ℕ → ℕ) (config : ServiceConfig) (v : Delivery) (handler : Option (BackpressureHandler F)) (place q : ℕ) (buffers : ℕ → Option ℕ) (c d : Link) where
+  abbrev box : Mailbox
+  box = mailbox_of number c
+
+  waits : waiting_in v.channel box ≡ map number (slots_in v.channel c)
+  waits = waiting-in number v.channel c
+
+  as-long : length (waiting_in v.channel box) ≡ length (slots_in v.channel c)
+  as-long = ap (length {A = ℕ}) waits ∙ length-map (slots_in v.channel c) number
+
+  -- other slots in the channel
+  replaced : (slots : List ℕ) (ns : List ℕ) → d ≡ with_slots_in v.channel (slots ++ v.slot ∷ []) c → map number slots ≡ ns → mailbox_of number d ≡ with_waiting_in v.channel (ns ++ number v.slot ∷ []) box
+  replaced slots ns is same =
+      ap (mailbox_of number) is ∙ sym (with-waiting-in number v.channel (slots ++ v.slot ∷ []) c)
+      ∙ ap (λ (xs : List ℕ). with_waiting_in v.channel xs box) (map-append number slots (v.slot ∷ []) ∙ ap (λ (xs : List ℕ). xs ++ number v.slot ∷ []) same)
+
+  pub put-mailbox : (o : PutOutcome) (result : PutResult) → IsPut v.channel c v.slot config.enable_safe_overflow o d → ComesTo environment config v handler place q o result
+      → PutIn environment config v.publisher v.strategy (marks_of handler) buffers (number v.slot) v.channel q (retries_at v place) (elapsed_at v place) (Some c.buffer) (mailbox_of number c) result (mailbox_of number d)
+  put-mailbox Taken result h comes =
+      let room : has_room_in v.channel c.buffer (mailbox_of number c) ≡ true = lt-true (length (waiting_in v.channel (mailbox_of number c))) c.buffer (omega (arith, as-long, h.0)) in
+      rw room (comes, replaced (slots_in v.channel c) (waiting_in v.channel (mailbox_of number c)) h.1 (sym waits))
+  put-mailbox (Overwrote oldest) result h comes =
+      let full : has_room_in v.channel c.buffer (mailbox_of number c) ≡ false = lt-false (length (waiting_in v.channel (mailbox_of number c))) c.buffer (as-long ∙ h.1) in
+      rw (full, h.0) (comes, replaced h.2.0 (drop 1 (waiting_in v.channel (mailbox_of number c))) h.2.2 (sym (ap (λ (xs : List ℕ). drop 1 xs) (waits ∙ ap (map number) h.2.1))))
+  put-mailbox Full result h comes =
+      let full : has_room_in v.channel c.buffer (mailbox_of number c) ≡ false = lt-false (length (waiting_in v.channel (mailbox_of number c))) c.buffer (as-long ∙ h.1) in
+      rw (full, h.0) (comes, ap (mailbox_of number) h.2)
+
+-- other slots in a channel leave what never changes, and what was given back
+slots-fixed : (channel : ℕ) (slots : List ℕ) (c : Link) → fixed_of (with_slots_in channel slots c) ≡ fixed_of c
+slots-fixed zero slots c = refl
+slots-fixed (suc k) slots c = refl
+
+slots-returned : (channel : ℕ) (slots : List ℕ) (c : Link) → (with_slots_in channel slots c).returned ≡ c.returned
+slots-returned zero slots c = refl
+slots-returned (suc k) slots c = refl
 
 -- a put leaves what never changes
-pub put-fixed : (c : Link) (slot : ℕ) (overflow : Bool) (o : PutOutcome) (d : Link) → IsPut c slot overflow o d → fixed_of d ≡ fixed_of c
-put-fixed c slot overflow Taken d h = ap fixed_of h.1
-put-fixed c slot overflow (Overwrote _) d h = ap fixed_of h.2.2
-put-fixed c slot overflow Full d h = ap fixed_of h.2
+pub put-fixed : (channel : ℕ) (c : Link) (slot : ℕ) (overflow : Bool) (o : PutOutcome) (d : Link) → IsPut channel c slot overflow o d → fixed_of d ≡ fixed_of c
+put-fixed channel c slot overflow Taken d h = ap fixed_of h.1 ∙ slots-fixed channel (slots_in channel c ++ slot ∷ []) c
+put-fixed channel c slot overflow (Overwrote _) d h = ap fixed_of h.2.2 ∙ slots-fixed channel (h.2.0 ++ slot ∷ []) c
+put-fixed channel c slot overflow Full d h = ap fixed_of h.2
 
 -- a put leaves the connection where it stands
-pub put-home : (c : Link) (slot : ℕ) (overflow : Bool) (o : PutOutcome) (d : Link) → IsPut c slot overflow o d → d.home ≡ c.home
-put-home c slot overflow o d h = ap (λ (t : Home × ℕ × ℕ × Bool × List Channel). t.0) (put-fixed c slot overflow o d h)
+pub put-home : (channel : ℕ) (c : Link) (slot : ℕ) (overflow : Bool) (o : PutOutcome) (d : Link) → IsPut channel c slot overflow o d → d.home ≡ c.home
+put-home channel c slot overflow o d h = ap (λ (t : Home × ℕ × ℕ × Bool × List Channel). t.0) (put-fixed channel c slot overflow o d h)
 
 -- a put leaves what was given back
-pub put-returned : (c : Link) (slot : ℕ) (overflow : Bool) (o : PutOutcome) (d : Link) → IsPut c slot overflow o d → d.returned ≡ c.returned
-put-returned c slot overflow Taken d h = ap (λ (e : Link). e.returned) h.1
-put-returned c slot overflow (Overwrote _) d h = ap (λ (e : Link). e.returned) h.2.2
-put-returned c slot overflow Full d h = ap (λ (e : Link). e.returned) h.2
+pub put-returned : (channel : ℕ) (c : Link) (slot : ℕ) (overflow : Bool) (o : PutOutcome) (d : Link) → IsPut channel c slot overflow o d → d.returned ≡ c.returned
+put-returned channel c slot overflow Taken d h = ap (λ (e : Link). e.returned) h.1 ∙ slots-returned channel (slots_in channel c ++ slot ∷ []) c
+put-returned channel c slot overflow (Overwrote _) d h = ap (λ (e : Link). e.returned) h.2.2 ∙ slots-returned channel (h.2.0 ++ slot ∷ []) c
+put-returned channel c slot overflow Full d h = ap (λ (e : Link). e.returned) h.2
 
 module _ {p : ℕ} {slab : Slab Link} {keys : List (Option ℕ)} {receivers : List (Option ReceiverDetails)} (i key : ℕ) (ready : IsReadyToDeliver p slab keys receivers) (at : get_or keys i None ≡ Some key) where
   pub home-of : (c : Link) → get slab key ≡ Some c → IsSenders p i c
   home-of c was_c = senders-at p slab keys i key c ready.linked at was_c
 
   -- its channel says whether its receiver may take messages
-  taking-there : (c : Link) → get slab key ≡ Some c → taking_buffers slab p receivers c.home.subscriber ≡ cond (is_shut c) None (buffers_of receivers c.home.subscriber)
-  taking-there c was_c =
-      ap (λ (channels : ℕ → Channel). cond (is_closed (channels 0)) None (buffers_of receivers c.home.subscriber))
+  taking-there : (channel : ℕ) (c : Link) → get slab key ≡ Some c → taking_buffers slab p channel receivers c.home.subscriber ≡ cond (is_shut_in channel c) None (buffers_of receivers c.home.subscriber)
+  taking-there channel c was_c =
+      ap (λ (channels : ℕ → Channel). cond (is_closed (channels channel)) None (buffers_of receivers c.home.subscriber))
       (channels-there slab key p c.home.subscriber c ready.apart was_c (home-of c was_c).publisher refl)
 
-  pub put-homes : (slot : ℕ) (overflow : Bool) (o : PutOutcome) (c d : Link) → get slab key ≡ Some c → IsPut c slot overflow o d → SameHomes slab (with_value slab key d)
-  put-homes slot overflow o c d was_c put = SameHomes-updated slab (with_value slab key d) key c d was_c (put-fixed c slot overflow o d put) (Updates-with_value slab key c d was_c)
+  pub put-homes : (channel slot : ℕ) (overflow : Bool) (o : PutOutcome) (c d : Link) → get slab key ≡ Some c → IsPut channel c slot overflow o d → SameHomes slab (with_value slab key d)
+  put-homes channel slot overflow o c d was_c put = SameHomes-updated slab (with_value slab key d) key c d was_c (put-fixed channel c slot overflow o d put) (Updates-with_value slab key c d was_c)
 
-  pub put-others : (slot : ℕ) (overflow : Bool) (o : PutOutcome) (c d : Link) → get slab key ≡ Some c → IsPut c slot overflow o d → KeepsOthers p slab (with_value slab key d)
-  put-others slot overflow o c d was_c put =
+  pub put-others : (channel slot : ℕ) (overflow : Bool) (o : PutOutcome) (c d : Link) → get slab key ≡ Some c → IsPut channel c slot overflow o d → KeepsOthers p slab (with_value slab key d)
+  put-others channel slot overflow o c d was_c put =
       KeepsOthers-updated p slab (with_value slab key d) key c (Some d) was_c (home-of c was_c).publisher (Updates-with_value slab key c d was_c)
 
   -- a put is the machine's, at the end to which the place leads
-  pub put-puts : {F : Type 0} (environment : Environment) (config : ServiceConfig) (v : Delivery) (handler : Option (BackpressureHandler F)) (o : PutOutcome) (c d : Link) (result : Reception) → v.publisher ≡ p → get slab key ≡ Some c → takes_at receivers i c ≡ true
-      → IsPut c v.slot config.enable_safe_overflow o d → ComesTo environment config v handler i c.home.subscriber o (result_of result) → (number : ℕ → ℕ → ℕ)
-      → PutsMessage environment config v handler (taking_buffers slab p receivers) (number p v.slot) i (subscriber_of_key slab (get_or keys i None)) (mailboxes_of number slab p) (result_of result) (mailboxes_of number (with_value slab key d) p)
+  pub put-puts : {F : Type 0} (environment : Environment) (config : ServiceConfig) (v : Delivery) (handler : Option (BackpressureHandler F)) (o : PutOutcome) (c d : Link) (result : Reception) → v.publisher ≡ p → get slab key ≡ Some c → takes_at receivers i v.channel c ≡ true
+      → IsPut v.channel c v.slot config.enable_safe_overflow o d → ComesTo environment config v handler i c.home.subscriber o (result_of result) → (number : ℕ → ℕ → ℕ)
+      → PutsMessage environment config v handler (taking_buffers slab p v.channel receivers) (number p v.slot) i (subscriber_of_key slab (get_or keys i None)) (mailboxes_of number slab p) (result_of result) (mailboxes_of number (with_value slab key d) p)
   put-puts environment config v handler o c d result by_p was_c receiving put comes number =
       rw (at, was_c) (
         mailbox_of (number p) d,
         goes,
-        fun_ext (λ q. row-changed number slab (with_value slab key d) key p c d ready.apart (IsApart-same slab (with_value slab key d) ready.apart (put-homes v.slot config.enable_safe_overflow o c d was_c put)) was_c
-            (home-of c was_c).publisher (ap (λ (t : Home × ℕ × ℕ × Bool × List Channel). t.0) (put-fixed c v.slot config.enable_safe_overflow o d put)) (Updates-with_value slab key c d was_c) q),
+        fun_ext (λ q. row-changed number slab (with_value slab key d) key p c d ready.apart (IsApart-same slab (with_value slab key d) ready.apart (put-homes v.channel v.slot config.enable_safe_overflow o c d was_c put)) was_c
+            (home-of c was_c).publisher (ap (λ (t : Home × ℕ × ℕ × Bool × List Channel). t.0) (put-fixed v.channel c v.slot config.enable_safe_overflow o d put)) (Updates-with_value slab key c d was_c) q),
       )
     where
-      takes : taking_buffers slab p receivers c.home.subscriber ≡ Some c.buffer
-      takes = taking-there c was_c
-          ∙ ap (λ (b : Bool). cond b None (buffers_of receivers c.home.subscriber)) (takes-shut receivers i c receiving)
-          ∙ buffers-open slab receivers key i c ready.knows (ready.one_id c.home.subscriber) was_c (takes-open receivers i c receiving)
+      takes : taking_buffers slab p v.channel receivers c.home.subscriber ≡ Some c.buffer
+      takes = taking-there v.channel c was_c
+          ∙ ap (λ (b : Bool). cond b None (buffers_of receivers c.home.subscriber)) (takes-shut receivers i v.channel c receiving)
+          ∙ buffers-open slab receivers key i c ready.knows (ready.one_id c.home.subscriber) was_c (takes-open receivers i v.channel c receiving)
 
-      goes : Put environment config v.publisher v.strategy (marks_of handler) (taking_buffers slab p receivers) (number p v.slot) c.home.subscriber (retries_at v i) (elapsed_at v i) (taking_buffers slab p receivers c.home.subscriber) (mailboxes_of number slab p c.home.subscriber) (result_of result) (mailbox_of (number p) d)
+      goes : PutIn environment config v.publisher v.strategy (marks_of handler) (taking_buffers slab p v.channel receivers) (number p v.slot) v.channel c.home.subscriber (retries_at v i) (elapsed_at v i) (taking_buffers slab p v.channel receivers c.home.subscriber) (mailboxes_of number slab p c.home.subscriber) (result_of result) (mailbox_of (number p) d)
       goes = rw (mailbox-there number slab key p c.home.subscriber c ready.apart was_c (home-of c was_c).publisher refl, takes)
-          (put-mailbox environment (number p) config v handler i c.home.subscriber (taking_buffers slab p receivers) c d o (result_of result) put comes)
+          (put-mailbox environment (number p) config v handler i c.home.subscriber (taking_buffers slab p v.channel receivers) c d o (result_of result) put comes)
 
   -- a closed receiver is skipped, and so is a closed channel
-  pub put-passes : {F : Type 0} (environment : Environment) (config : ServiceConfig) (v : Delivery) (handler : Option (BackpressureHandler F)) (c : Link) → get slab key ≡ Some c → takes_at receivers i c ≡ false → (number : ℕ → ℕ → ℕ)
-      → PutsMessage environment config v handler (taking_buffers slab p receivers) (number p v.slot) i (subscriber_of_key slab (get_or keys i None)) (mailboxes_of number slab p) Skipped (mailboxes_of number slab p)
+  pub put-passes : {F : Type 0} (environment : Environment) (config : ServiceConfig) (v : Delivery) (handler : Option (BackpressureHandler F)) (c : Link) → get slab key ≡ Some c → takes_at receivers i v.channel c ≡ false → (number : ℕ → ℕ → ℕ)
+      → PutsMessage environment config v handler (taking_buffers slab p v.channel receivers) (number p v.slot) i (subscriber_of_key slab (get_or keys i None)) (mailboxes_of number slab p) Skipped (mailboxes_of number slab p)
   put-passes environment config v handler c was_c shut number =
       rw (at, was_c) (mailboxes_of number slab p c.home.subscriber, skipped, put_at-own (mailboxes_of number slab p) c.home.subscriber)
     where
-      none : taking_buffers slab p receivers c.home.subscriber ≡ None
-      none = taking-there c was_c
-          ∙ elim (takes-not receivers i c shut) [
-            | inl away ↦ ap (cond (is_shut c) None) (buffers-closed slab receivers key c ready.knows was_c (rw (home-of c was_c).place away)) ∙ cond-same (is_shut c) None
+      none : taking_buffers slab p v.channel receivers c.home.subscriber ≡ None
+      none = taking-there v.channel c was_c
+          ∙ elim (takes-not receivers i v.channel c shut) [
+            | inl away ↦ ap (cond (is_shut_in v.channel c) None) (buffers-closed slab receivers key c ready.knows was_c (rw (home-of c was_c).place away)) ∙ cond-same (is_shut_in v.channel c) None
             | inr closed ↦ ap (λ (b : Bool). cond b None (buffers_of receivers c.home.subscriber)) closed
           ]
 
-      skipped : Put environment config v.publisher v.strategy (marks_of handler) (taking_buffers slab p receivers) (number p v.slot) c.home.subscriber (retries_at v i) (elapsed_at v i) (taking_buffers slab p receivers c.home.subscriber) (mailboxes_of number slab p c.home.subscriber) Skipped (mailboxes_of number slab p c.home.subscriber)
+      skipped : PutIn environment config v.publisher v.strategy (marks_of handler) (taking_buffers slab p v.channel receivers) (number p v.slot) v.channel c.home.subscriber (retries_at v i) (elapsed_at v i) (taking_buffers slab p v.channel receivers c.home.subscriber) (mailboxes_of number slab p c.home.subscriber) Skipped (mailboxes_of number slab p c.home.subscriber)
       skipped = rw none (refl, refl)
 
 -- ---- the loop
@@ -221,16 +249,25 @@ IsReadyToDeliver-same p old new keys receivers ready same = record {
   one_id = ready.one_id;
 }
 
+-- each connection has the channels that it had
+pub HaveChannel-same : (channel : ℕ) (old new : Slab Link) → HaveChannel channel old → SameHomes old new → HaveChannel channel new
+HaveChannel-same channel old new have same = record {
+  at = λ key c at some.
+      let c' = was old new key c same at in
+      let long : length c'.0.channels ≡ length c.channels = ap (λ (t : Home × ℕ × ℕ × Bool × List Channel). length t.4) c'.2 in
+      omega (arith, long, have.at key c'.0 c'.1 some);
+}
+
 -- the same receivers take messages after each of its puts
-pub taking-same : (p : ℕ) (old new : Slab Link) (receivers : List (Option ReceiverDetails)) → IsApart old → SameHomes old new → taking_buffers new p receivers ≡ taking_buffers old p receivers
-taking-same p old new receivers apart same =
-    ap {B = ℕ → Option ℕ} (λ (channels : ℕ → ℕ → ℕ → Channel) (q : ℕ). cond {A = Option ℕ} (is_closed (channels p q 0)) None (buffers_of receivers q)) (channels-same old new apart same)
+pub taking-same : (p channel : ℕ) (old new : Slab Link) (receivers : List (Option ReceiverDetails)) → IsApart old → SameHomes old new → taking_buffers new p channel receivers ≡ taking_buffers old p channel receivers
+taking-same p channel old new receivers apart same =
+    ap {B = ℕ → Option ℕ} (λ (channels : ℕ → ℕ → ℕ → Channel) (q : ℕ). cond {A = Option ℕ} (is_closed (channels p q channel)) None (buffers_of receivers q)) (channels-same old new apart same)
 
 pub puts-same : {F : Type 0} (environment : Environment) (config : ServiceConfig) (v : Delivery) (handler : Option (BackpressureHandler F)) (old now : Slab Link) (receivers : List (Option ReceiverDetails)) (n i : ℕ) (end : Option ℕ) (boxes : ℕ → Mailbox) (result : PutResult) (boxes' : ℕ → Mailbox)
-    → IsApart old → SameHomes old now → PutsMessage environment config v handler (taking_buffers now v.publisher receivers) n i end boxes result boxes'
-    → PutsMessage environment config v handler (taking_buffers old v.publisher receivers) n i end boxes result boxes'
+    → IsApart old → SameHomes old now → PutsMessage environment config v handler (taking_buffers now v.publisher v.channel receivers) n i end boxes result boxes'
+    → PutsMessage environment config v handler (taking_buffers old v.publisher v.channel receivers) n i end boxes result boxes'
 puts-same environment config v handler old now receivers n i end boxes result boxes' apart same puts =
-    subst (λ (buffers : ℕ → Option ℕ). PutsMessage environment config v handler buffers n i end boxes result boxes') (taking-same v.publisher old now receivers apart same) puts
+    subst (λ (buffers : ℕ → Option ℕ). PutsMessage environment config v handler buffers n i end boxes result boxes') (taking-same v.publisher v.channel old now receivers apart same) puts
 
 -- a key leads to the same subscriber
 pub subscriber_of_key-same : (old new : Slab Link) → SameHomes old new → (x : Option ℕ) → subscriber_of_key new x ≡ subscriber_of_key old x
@@ -262,10 +299,10 @@ module _ {F : Type 0} (environment : Environment) (config : ServiceConfig) (v : 
   pub deliver-stops : (i count : ℕ) (has_failed : Bool) (boxes mid : ℕ → Mailbox) (d : Reception) → i < length ends
       → PutsMessage environment config v handler buffers n i (get_or ends i None) boxes (result_of d) mid → is_blocking (result_of d) ≡ true
       → DeliversMessage environment config v handler buffers n i (drop i ends) count has_failed boxes
-      (end_of n ends (DeliveryOutcome.Suspended (record { place = i; retries = retries_at v i; count = count; has_failed = has_failed }))) mid
+      (end_of n v.channel ends (DeliveryOutcome.Suspended (record { place = i; retries = retries_at v i; count = count; has_failed = has_failed }))) mid
   deliver-stops i count has_failed boxes mid d below at stops = rw (drop_more ends i None below) (result_of d, mid, at, rw stops (refl, refl))
 
   -- where no place remains the delivery is over
   pub deliver-ends : (i count : ℕ) (has_failed : Bool) (boxes : ℕ → Mailbox) → length ends ≤ i
-      → DeliversMessage environment config v handler buffers n i (drop i ends) count has_failed boxes (end_of n ends (DeliveryOutcome.Complete count has_failed)) boxes
+      → DeliversMessage environment config v handler buffers n i (drop i ends) count has_failed boxes (end_of n v.channel ends (DeliveryOutcome.Complete count has_failed)) boxes
   deliver-ends i count has_failed boxes over = rw (drop_all i ends over) (refl, refl)

@@ -1,34 +1,53 @@
 -- What waits in a connection is lost, one slot after the other.
-use Rattle.std.proofs.Common.{◌≡◌, ℕ, ◌<◌, List, [], length, None, Some, get_or, refl, ap, sym, ◌∙◌, arith}
+use Rattle.std.proofs.Common.{◌≡◌, ℕ, ◌+◌, ◌<◌, List, [], length, map, None, Some, get_or, refl, ap, sym, ◌∙◌, arith}
 use Rattle.std.proofs.lemmas.List.{length-set}
 use Rattle.std.specs.Prelude.{IsSomeAnd}
 use Rattle.slab.specs.Slab.{Slab, ContainsKey, get, Updates, with_value}
-use Rattle.iox2_slots.specs.Link.{Link, IsDropped, borrowed_alone}
-use Rattle.iox2_store.specs.machine.Mailbox.{Mailbox, waiting_dropped}
+use Rattle.iox2_slots.specs.Link.{Link, other_slots, IsDropped, IsOtherDropped, borrowed_alone}
+use Rattle.iox2_store.specs.machine.Mailbox.{Mailbox, ChannelNumber, waiting_dropped}
 use Rattle.iox2_ends.specs.Mailboxes.{mailbox_of, mailboxes_of, with_box}
 use Rattle.iox2_ends.specs.Homes.{IsApart, fixed_of}
-use Rattle.iox2_ends.specs.Counters.{stands_in, one_holder_less}
+use Rattle.iox2_ends.specs.Counters.{times, stands_in, one_holder_less}
 use Rattle.iox2_ends.specs.Recounts.{Recounts}
 use Rattle.iox2_ends.specs.Drops.{DropsFrom, DropsWaiting, EmptiesFrom, DropsAll, RemovesConnection, without_waiting}
 use Rattle.iox2_ends.specs.Reclaims.{IsHeld, ReclaimsFrom}
 use Rattle.iox2_ends.proofs.MailboxChanges.{Updates-with_value, mailbox-there, mailboxes-changed}
-use Rattle.iox2_ends.proofs.Counts.{one_if_same, times-cons, get_or-one_holder_less}
+use Rattle.iox2_ends.proofs.Counts.{one_if, one_if_same, times-cons, get_or-one_holder_less}
 use Rattle.iox2_ends.proofs.Recounts.{Recounts-one}
 use Rattle.iox2_ends.proofs.ReclaimSteps.{own-at}
 
 -- ---- from one connection
 
--- a slot that waits has a holder
-pub dropped-in_use : (hs : List ℕ) (slot : ℕ) (c d : Link) → IsHeld hs c → IsDropped c (Some slot) d → 0 < get_or hs slot 0
-dropped-in_use hs slot c d held r =
-    let some : 0 < stands_in slot c = rw r.1 (omega (arith, times-cons slot slot r.0, one_if_same slot)) in
-    omega (arith, held.at slot)
+-- One slot that waits went: nothing else of the connection changes.
+pub record LosesOne (slot : ℕ) (c d : Link) : Type 0 where
+  pub kept : d ≡ record c { waiting = d.waiting; others = d.others }
+  pub counts : (n : ℕ) → stands_in n c ≡ one_if n slot + stands_in n d
+
+-- the first of channel 0, or of the others
+pub loses-first : (slot : ℕ) (c d : Link) → IsDropped c (Some slot) d → LosesOne slot c d
+loses-first slot c d r = record {
+  kept = rw r.2 refl;
+  counts = λ n. rw (r.2, r.1) (omega (arith, times-cons n slot r.0));
+}
+
+pub loses-other : (slot : ℕ) (c d : Link) → IsOtherDropped c (Some slot) d → LosesOne slot c d
+loses-other slot c d r = record {
+  kept = r.1 ∙ (λ t. record c { waiting = sym (ap (λ (l : Link). l.waiting) r.1) t; others = d.others });
+  counts = λ n.
+      let first : times n (other_slots c) ≡ one_if n slot + times n (other_slots d) = ap (λ (ms : List ChannelNumber). times n (map (λ (m : ChannelNumber). m.number) ms)) r.0.1 ∙ times-cons n slot (other_slots d) in
+      let rest : stands_in n d ≡ times n c.waiting + times n c.borrowed + times n c.returned + times n (other_slots d) = ap (stands_in n) r.1 in
+      omega (arith, first, rest);
+}
+
+-- it has a holder
+pub dropped-in_use : (hs : List ℕ) (slot : ℕ) (c d : Link) → IsHeld hs c → LosesOne slot c d → 0 < get_or hs slot 0
+dropped-in_use hs slot c d held r = omega (arith, held.at slot, r.counts slot, one_if_same slot)
 
 -- one slot went
-drops-one : (hs : List ℕ) (slot : ℕ) (c d : Link) → IsHeld hs c → IsDropped c (Some slot) d → DropsFrom hs c (one_holder_less slot hs) d
+drops-one : (hs : List ℕ) (slot : ℕ) (c d : Link) → IsHeld hs c → LosesOne slot c d → DropsFrom hs c (one_holder_less slot hs) d
 drops-one hs slot c d held r = record {
-  kept = rw r.2 refl;
-  counters = λ n. rw (r.2, r.1) (omega (arith, times-cons n slot r.0, get_or-one_holder_less hs slot n in_use));
+  kept = r.kept;
+  counters = λ n. omega (arith, r.counts n, get_or-one_holder_less hs slot n in_use);
   shrinks = λ n. omega (arith, get_or-one_holder_less hs slot n in_use);
   slots = length-set hs slot _;
 }
@@ -36,24 +55,31 @@ drops-one hs slot c d held r = record {
     in_use : 0 < get_or hs slot 0
     in_use = dropped-in_use hs slot c d held r
 
--- one slot more went
-pub drops-more : (hs hs' : List ℕ) (slot : ℕ) (a c d : Link) → IsHeld hs' c → DropsFrom hs a hs' c → IsDropped c (Some slot) d → DropsFrom hs a (one_holder_less slot hs') d
-drops-more hs hs' slot a c d held x r = let y = drops-one hs' slot c d held r in record {
-  kept = y.kept ∙ ap (λ (l : Link). let k : Link = record l { waiting = d.waiting } in k) x.kept;
+pub DropsFrom-same : (hs : List ℕ) (c : Link) → DropsFrom hs c hs c
+DropsFrom-same hs c = record { kept = refl; counters = λ n. refl; shrinks = λ n. omega arith; slots = refl }
+
+-- some slots went, and then others
+pub DropsFrom-trans : (hs hs' hs'' : List ℕ) (a b c : Link) → DropsFrom hs a hs' b → DropsFrom hs' b hs'' c → DropsFrom hs a hs'' c
+DropsFrom-trans hs hs' hs'' a b c x y = record {
+  kept = y.kept ∙ ap (λ (l : Link). let k : Link = record l { waiting = c.waiting; others = c.others } in k) x.kept;
   counters = λ n. omega (arith, x.counters n, y.counters n);
   shrinks = λ n. omega (arith, x.shrinks n, y.shrinks n);
   slots = y.slots ∙ x.slots;
 }
 
+-- one slot more went
+pub drops-more : (hs hs' : List ℕ) (slot : ℕ) (a c d : Link) → IsHeld hs' c → DropsFrom hs a hs' c → LosesOne slot c d → DropsFrom hs a (one_holder_less slot hs') d
+drops-more hs hs' slot a c d held x r = DropsFrom-trans hs hs' (one_holder_less slot hs') a c d x (drops-one hs' slot c d held r)
+
 -- counters that follow still hold what stands in the connection
-pub dropped-held : (hs : List ℕ) (slot : ℕ) (c d : Link) → IsHeld hs c → IsDropped c (Some slot) d → IsHeld (one_holder_less slot hs) d
+pub dropped-held : (hs : List ℕ) (slot : ℕ) (c d : Link) → IsHeld hs c → LosesOne slot c d → IsHeld (one_holder_less slot hs) d
 dropped-held hs slot c d held r = record { at = λ n. omega (arith, held.at n, (drops-one hs slot c d held r).counters n) }
 
 -- then what was given back is reclaimed
 pub drops-reclaims : (hs hs' hs'' : List ℕ) (a b c : Link) → DropsFrom hs a hs' b → ReclaimsFrom hs' b hs'' c → EmptiesFrom hs a hs'' c
 drops-reclaims hs hs' hs'' a b c x y = record {
   kept = y.kept ∙ ap (λ (l : Link). let k : Link = record l { returned = c.returned } in k) x.kept
-      ∙ (λ t. record a { waiting = sym (ap (λ (l : Link). l.waiting) y.kept) t; returned = c.returned });
+      ∙ (λ t. record a { waiting = sym (ap (λ (l : Link). l.waiting) y.kept) t; returned = c.returned; others = sym (ap (λ (l : Link). l.others) y.kept) t });
   fewer = omega (arith, ap (λ (l : Link). length l.returned) x.kept, y.fewer);
   counters = λ n. omega (arith, x.counters n, y.counters n);
   shrinks = λ n. omega (arith, x.shrinks n, y.shrinks n);
@@ -61,10 +87,10 @@ drops-reclaims hs hs' hs'' a b c x y = record {
 }
 
 -- nothing but what is borrowed is left
-pub all-dropped : (hs hs' hs'' : List ℕ) (a b c : Link) → DropsFrom hs a hs' b → b.waiting ≡ [] → ReclaimsFrom hs' b hs'' c → c.returned ≡ [] → c ≡ borrowed_alone a
-all-dropped hs hs' hs'' a b c x none y clear =
+pub all-dropped : (hs hs' hs'' : List ℕ) (a b c : Link) → DropsFrom hs a hs' b → b.waiting ≡ [] → b.others ≡ [] → ReclaimsFrom hs' b hs'' c → c.returned ≡ [] → c ≡ borrowed_alone a
+all-dropped hs hs' hs'' a b c x none nowhere y clear =
     (drops-reclaims hs hs' hs'' a b c x y).kept
-    ∙ (λ t. record a { waiting = (ap (λ (l : Link). l.waiting) y.kept ∙ none) t; returned = clear t })
+    ∙ (λ t. record a { waiting = (ap (λ (l : Link). l.waiting) y.kept ∙ none) t; returned = clear t; others = (ap (λ (l : Link). l.others) y.kept ∙ nowhere) t })
 
 -- ---- from a connection of a slab
 

@@ -11,14 +11,14 @@ use Rattle.slab.specs.Slab.{Slab, get}
 use Rattle.iox2_slots.specs.Link.{Link, load}
 use Rattle.iox2_store.specs.machine.Channel.{Channel}
 use Rattle.iox2_slots.specs.declared.connection.Home.{Home}
-use Rattle.iox2_store.specs.machine.Mailbox.{Mailbox}
+use Rattle.iox2_store.specs.machine.Mailbox.{Mailbox, ChannelNumber}
 use Rattle.iox2_ends.specs.Homes.{IsApart, fixed_of}
 use Rattle.iox2_ends.specs.Mailboxes.{mailbox_of}
 use Rattle.iox2_ends.specs.Reclaims.{Reclaims}
 use Rattle.iox2_ends.specs.Recounts.{returned_count}
 use Rattle.iox2_ends.proofs.MailboxChanges.{IsApart-same, mailbox-there}
 
-nothing : (xs : List ℕ) → length xs ≡ 0 → xs ≡ []
+nothing : {A : Type 0} (xs : List A) → length xs ≡ 0 → xs ≡ []
 nothing [] e = refl
 nothing (x ∷ xs) e = absurd (omega arith)
 
@@ -33,12 +33,16 @@ alike c d fixed none_c none_d = λ t. record {
   waiting = (nothing d.waiting (omega (arith, none_d)) ∙ sym (nothing c.waiting (omega (arith, none_c)))) t;
   borrowed = (nothing d.borrowed (omega (arith, none_d)) ∙ sym (nothing c.borrowed (omega (arith, none_c)))) t;
   returned = (nothing d.returned (omega (arith, none_d)) ∙ sym (nothing c.returned (omega (arith, none_c)))) t;
+  others = (nothing d.others (omega (arith, none_d)) ∙ sym (nothing c.others (omega (arith, none_c)))) t;
 }
 
 -- a connection in which no slot stands is the same where its publisher reclaimed slots
 pub still-empty : (p : ℕ) (holders holders' : List ℕ) (old new : Slab Link) → IsApart old → Reclaims p holders old holders' new → (key : ℕ) (c : Link) → get old key ≡ Some c → load c ≡ 0
     → get new key ≡ Some c
 still-empty p holders holders' old new apart r key c at none = by (get new key) refl (r.recounts.homes.same key ∙ ap (option_map fixed_of) at) where
+  same-number : ChannelNumber → ChannelNumber
+  same-number m = record m { number = m.number }
+
   by : (o : Option Link) → get new key ≡ o → option_map fixed_of (get new key) ≡ Some (fixed_of c) → get new key ≡ Some c
   by None e same = absurd (let no : None ≡ Some (fixed_of c) = sym (ap (option_map fixed_of) e) ∙ same in cc)
   by (Some d) e same =
@@ -51,9 +55,10 @@ still-empty p holders holders' old new apart r key c at none = by (get new key) 
       ∙ mailbox-there (λ q s. s) old key c.home.publisher c.home.subscriber c apart at refl refl in
       let waits : length d.waiting ≡ length c.waiting = sym (length-map d.waiting (λ s. s)) ∙ ap (λ (box : Mailbox). length box.waiting) there ∙ length-map c.waiting (λ s. s) in
       let lent : length d.borrowed ≡ length c.borrowed = sym (length-map d.borrowed (λ s. s)) ∙ ap (λ (box : Mailbox). length box.borrowed) there ∙ length-map c.borrowed (λ s. s) in
+      let elsewhere : length d.others ≡ length c.others = sym (length-map d.others same-number) ∙ ap (λ (box : Mailbox). length box.others) there ∙ length-map c.others same-number in
       let now : returned_count new key ≡ length d.returned = ap (λ o. option_map_or (λ (x : Link). length x.returned) o 0) e in
       let then : returned_count old key ≡ length c.returned = ap (λ o. option_map_or (λ (x : Link). length x.returned) o 0) at in
-      e ∙ ap Some (alike c d fixed none (omega (arith, none, waits, lent, now, then, r.recounts.fewer key)))
+      e ∙ ap Some (alike c d fixed none (omega (arith, none, waits, lent, elsewhere, now, then, r.recounts.fewer key)))
 
 -- ---- sums
 

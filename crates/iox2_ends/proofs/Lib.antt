@@ -1,5 +1,6 @@
 pub mod LookUps
 pub mod MailboxChanges
+pub mod OtherNumbers
 pub mod Counts
 pub mod SplitLists
 pub mod DeliverySteps

@@ -82,18 +82,18 @@ module _ {p : ℕ} {slab : Slab Link} {keys : List (Option ℕ)} {receivers : Li
 
     -- what is put at the end of an emptied connection is put there
     from-emptied : {F : Type 0} (environment : Environment) (config : ServiceConfig) (v : Delivery) (handler : Option (BackpressureHandler F)) (result : Reception) (boxes' : ℕ → Mailbox) (number : ℕ → ℕ → ℕ)
-        → PutsMessage environment config v handler (taking_buffers emptied p receivers) (number p v.slot) i (subscriber_of_key emptied (get_or keys i None)) (mailboxes_of number emptied p) (result_of result) boxes'
-        → PutsMessage environment config v handler (taking_buffers slab p receivers) (number p v.slot) i (subscriber_of_key slab (get_or keys i None)) (mailboxes_of number slab p) (result_of result) boxes'
+        → PutsMessage environment config v handler (taking_buffers emptied p v.channel receivers) (number p v.slot) i (subscriber_of_key emptied (get_or keys i None)) (mailboxes_of number emptied p) (result_of result) boxes'
+        → PutsMessage environment config v handler (taking_buffers slab p v.channel receivers) (number p v.slot) i (subscriber_of_key slab (get_or keys i None)) (mailboxes_of number slab p) (result_of result) boxes'
     from-emptied environment config v handler result boxes' number puts =
-        subst (λ (end : Option ℕ). PutsMessage environment config v handler (taking_buffers slab p receivers) (number p v.slot) i end (mailboxes_of number slab p) (result_of result) boxes') (subscriber_of_key-same slab emptied reclaims.recounts.homes (get_or keys i None))
-        (subst (λ (boxes : ℕ → Mailbox). PutsMessage environment config v handler (taking_buffers slab p receivers) (number p v.slot) i (subscriber_of_key emptied (get_or keys i None)) boxes (result_of result) boxes')
+        subst (λ (end : Option ℕ). PutsMessage environment config v handler (taking_buffers slab p v.channel receivers) (number p v.slot) i end (mailboxes_of number slab p) (result_of result) boxes') (subscriber_of_key-same slab emptied reclaims.recounts.homes (get_or keys i None))
+        (subst (λ (boxes : ℕ → Mailbox). PutsMessage environment config v handler (taking_buffers slab p v.channel receivers) (number p v.slot) i (subscriber_of_key emptied (get_or keys i None)) boxes (result_of result) boxes')
         (ap (λ (all : ℕ → ℕ → Mailbox). all p) (reclaims.mailboxes number))
         (subst (λ (buffers : ℕ → Option ℕ). PutsMessage environment config v handler buffers (number p v.slot) i (subscriber_of_key emptied (get_or keys i None)) (mailboxes_of number emptied p) (result_of result) boxes')
-        (taking-same p slab emptied receivers ready.apart reclaims.recounts.homes) puts))
+        (taking-same p v.channel slab emptied receivers ready.apart reclaims.recounts.homes) puts))
 
     -- a closed receiver is skipped, and so is a closed channel
-    pub reclaim-passes : {F : Type 0} (environment : Environment) (config : ServiceConfig) (v : Delivery) (handler : Option (BackpressureHandler F)) → takes_at receivers i c ≡ false → (number : ℕ → ℕ → ℕ)
-        → PutsMessage environment config v handler (taking_buffers slab p receivers) (number p v.slot) i (subscriber_of_key slab (get_or keys i None)) (mailboxes_of number slab p) Skipped (mailboxes_of number emptied p)
+    pub reclaim-passes : {F : Type 0} (environment : Environment) (config : ServiceConfig) (v : Delivery) (handler : Option (BackpressureHandler F)) → takes_at receivers i v.channel c ≡ false → (number : ℕ → ℕ → ℕ)
+        → PutsMessage environment config v handler (taking_buffers slab p v.channel receivers) (number p v.slot) i (subscriber_of_key slab (get_or keys i None)) (mailboxes_of number slab p) Skipped (mailboxes_of number emptied p)
     reclaim-passes environment config v handler shut number =
         from-emptied environment config v handler Reception.Skipped (mailboxes_of number emptied p) number (put-passes i key ready-emptied at environment config v handler c stands_c shut number)
 
@@ -106,12 +106,12 @@ module _ {p : ℕ} {slab : Slab Link} {keys : List (Option ℕ)} {receivers : Li
 
     -- ---- and then the put
 
-    module _ (slot : ℕ) (overflow : Bool) (o : PutOutcome) (d : Link) (put : IsPut c slot overflow o d) where
+    module _ (channel slot : ℕ) (overflow : Bool) (o : PutOutcome) (d : Link) (put : IsPut channel c slot overflow o d) where
       twice : with_value emptied key d ≡ with_value slab key d
       twice = ap (λ (slots : List (Option Link)). let s : Slab Link = record slab { slots = slots } in s) (set-set slab.slots key (Some c) (Some d))
 
       pub reclaim-can_leave : CanLeave o hs'
-      reclaim-can_leave = put-can_leave p hs' emptied.slots key slot overflow c d o covered-emptied stands_c (home-of i key ready-emptied at c stands_c).publisher put
+      reclaim-can_leave = put-can_leave p hs' emptied.slots key channel slot overflow c d o covered-emptied stands_c (home-of i key ready-emptied at c stands_c).publisher put
 
       module _ (own : HoldsItself p slot hs slab.slots) where
         own-emptied : HoldsItself p slot hs' emptied.slots
@@ -126,7 +126,7 @@ module _ {p : ℕ} {slab : Slab Link} {keys : List (Option ℕ)} {receivers : Li
         pub put-recounted : Recounts p hs slab (recounted o slot hs') (with_value slab key d)
         put-recounted = subst (Recounts p hs slab (recounted o slot hs')) twice
             (Recounts-trans p hs hs' (recounted o slot hs') slab emptied (with_value emptied key d) reclaims.recounts
-            (put-recounts i key ready-emptied at hs' slot overflow o c d (in_range hs' slot some) some covered-emptied stands_c put))
+            (put-recounts i key ready-emptied at hs' channel slot overflow o c d (in_range hs' slot some) some covered-emptied stands_c put))
 
         pub put-grows : get_or (recounted o slot hs') slot 0 ≤ get_or hs slot 0 + 1
         put-grows = omega (arith, recounted-grows o slot hs' (in_range hs' slot some) reclaim-can_leave, r.shrinks slot)
@@ -134,11 +134,11 @@ module _ {p : ℕ} {slab : Slab Link} {keys : List (Option ℕ)} {receivers : Li
         pub put-alone : GrowsAlone slot hs (recounted o slot hs')
         put-alone = record { others = λ n differs. omega (arith, (recounted-alone o slot hs' (in_range hs' slot some) reclaim-can_leave).others n differs, r.shrinks n) }
 
-    pub reclaim-puts : {F : Type 0} (environment : Environment) (config : ServiceConfig) (v : Delivery) (handler : Option (BackpressureHandler F)) (o : PutOutcome) (d : Link) (result : Reception) → v.publisher ≡ p → takes_at receivers i c ≡ true
-        → IsPut c v.slot config.enable_safe_overflow o d → ComesTo environment config v handler i c.home.subscriber o (result_of result) → (number : ℕ → ℕ → ℕ)
-        → PutsMessage environment config v handler (taking_buffers slab p receivers) (number p v.slot) i (subscriber_of_key slab (get_or keys i None)) (mailboxes_of number slab p) (result_of result) (mailboxes_of number (with_value slab key d) p)
+    pub reclaim-puts : {F : Type 0} (environment : Environment) (config : ServiceConfig) (v : Delivery) (handler : Option (BackpressureHandler F)) (o : PutOutcome) (d : Link) (result : Reception) → v.publisher ≡ p → takes_at receivers i v.channel c ≡ true
+        → IsPut v.channel c v.slot config.enable_safe_overflow o d → ComesTo environment config v handler i c.home.subscriber o (result_of result) → (number : ℕ → ℕ → ℕ)
+        → PutsMessage environment config v handler (taking_buffers slab p v.channel receivers) (number p v.slot) i (subscriber_of_key slab (get_or keys i None)) (mailboxes_of number slab p) (result_of result) (mailboxes_of number (with_value slab key d) p)
     reclaim-puts environment config v handler o d result by_p receiving put comes number =
         from-emptied environment config v handler result (mailboxes_of number (with_value slab key d) p) number
-        (subst (λ (s : Slab Link). PutsMessage environment config v handler (taking_buffers emptied p receivers) (number p v.slot) i (subscriber_of_key emptied (get_or keys i None)) (mailboxes_of number emptied p) (result_of result) (mailboxes_of number s p))
-        (twice v.slot config.enable_safe_overflow o d put)
+        (subst (λ (s : Slab Link). PutsMessage environment config v handler (taking_buffers emptied p v.channel receivers) (number p v.slot) i (subscriber_of_key emptied (get_or keys i None)) (mailboxes_of number emptied p) (result_of result) (mailboxes_of number s p))
+        (twice v.channel v.slot config.enable_safe_overflow o d put)
         (put-puts i key ready-emptied at environment config v handler o c d result by_p stands_c receiving put comes number))

@@ -74,15 +74,15 @@ recounted-in_use o slot n hs below in_use can some = elim (cases_eq n slot) [
 
 module _ {p : ℕ} {slab : Slab Link} {keys : List (Option ℕ)} {receivers : List (Option ReceiverDetails)} (i key : ℕ) (ready : IsReadyToDeliver p slab keys receivers) (at : get_or keys i None ≡ Some key) where
   -- a put into a connection of the publisher
-  pub put-recounts : (hs : List ℕ) (slot : ℕ) (overflow : Bool) (o : PutOutcome) (c d : Link) → slot < length hs → 0 < get_or hs slot 0 → IsCovered p hs slab.slots → get slab key ≡ Some c → IsPut c slot overflow o d
+  pub put-recounts : (hs : List ℕ) (channel slot : ℕ) (overflow : Bool) (o : PutOutcome) (c d : Link) → slot < length hs → 0 < get_or hs slot 0 → IsCovered p hs slab.slots → get slab key ≡ Some c → IsPut channel c slot overflow o d
       → Recounts p hs slab (recounted o slot hs) (with_value slab key d)
-  put-recounts hs slot overflow o c d below in_use covered was_c put = record {
-    homes = put-homes i key ready at slot overflow o c d was_c put;
-    others = put-others i key ready at slot overflow o c d was_c put;
-    counters = put-follows p hs slab.slots key slot overflow c d o below covered was_c mine (put-home c slot overflow o d put) put;
+  put-recounts hs channel slot overflow o c d below in_use covered was_c put = record {
+    homes = put-homes i key ready at channel slot overflow o c d was_c put;
+    others = put-others i key ready at channel slot overflow o c d was_c put;
+    counters = put-follows p hs slab.slots key channel slot overflow c d o below covered was_c mine (put-home channel c slot overflow o d put) put;
     slots = length-recounted o slot hs;
-    in_use = λ n some. recounted-in_use o slot n hs below in_use (put-can_leave p hs slab.slots key slot overflow c d o covered was_c mine put) some;
-    fewer = returned-updated slab (with_value slab key d) key c d was_c (omega (arith, ap (length {A = ℕ}) (put-returned c slot overflow o d put))) (Updates-with_value slab key c d was_c);
+    in_use = λ n some. recounted-in_use o slot n hs below in_use (put-can_leave p hs slab.slots key channel slot overflow c d o covered was_c mine put) some;
+    fewer = returned-updated slab (with_value slab key d) key c d was_c (omega (arith, ap (length {A = ℕ}) (put-returned channel c slot overflow o d put))) (Updates-with_value slab key c d was_c);
   }
     where
       mine : c.home.publisher ≡ p

@@ -5,7 +5,7 @@ use Rattle.iox2_store.specs.machine.Numbers.{contains, without, IsOnce}
 use Rattle.iox2_slots.specs.Link.{Link, with_returned}
 use Rattle.iox2_store.specs.machine.Mailbox.{Mailbox, with_released}
 use Rattle.iox2_slots.proofs.LinkLemmas.{without-absent}
-use Rattle.iox2_ends.specs.Mailboxes.{mailbox_of}
+use Rattle.iox2_ends.specs.Mailboxes.{numbered, mailbox_of}
 use Rattle.iox2_ends.specs.Counters.{times, stands_in}
 use Rattle.iox2_ends.proofs.Counts.{one_if, times-cons, times_push}
 
@@ -63,4 +63,4 @@ stands_in-with_returned n slot c h once = omega (arith, times-without n slot c.b
 
 -- a slot that is given back leaves the mailbox
 pub mailbox-with_returned : (number : ℕ → ℕ) (slot : ℕ) (c : Link) → contains c.borrowed slot ≡ true → IsOnce (map number c.borrowed) → mailbox_of number (with_returned slot c) ≡ with_released (number slot) (mailbox_of number c)
-mailbox-with_returned number slot c h once = ap (λ (ns : List ℕ). let box : Mailbox = record { waiting = map number c.waiting; borrowed = ns; others = [] } in box) (map-without number slot c.borrowed h once)
+mailbox-with_returned number slot c h once = ap (λ (ns : List ℕ). let box : Mailbox = record { waiting = map number c.waiting; borrowed = ns; others = numbered number c.others } in box) (map-without number slot c.borrowed h once)

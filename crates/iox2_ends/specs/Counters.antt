@@ -2,7 +2,7 @@
 use Rattle.std.specs.Prelude.{◌≡◌, ◌≢◌, ℕ, ◌+◌, ◌-◌, ◌<◌, ◌≤◌, ◌==◌, cond, List, count_by, sum_by, slice_index, slice_set}
 use Rattle.std.specs.declared.option.Option.{Option}
 use Rattle.std.specs.declared.option.Option.TheVariants.{None, Some}
-use Rattle.iox2_slots.specs.Link.{Link}
+use Rattle.iox2_slots.specs.Link.{Link, other_slots}
 use Rattle.iox2_slots.specs.SlotBook.{Book}
 use Rattle.iox2_slots.specs.declared.connection.PutOutcome.{PutOutcome}
 use Rattle.iox2_slots.specs.declared.connection.PutOutcome.TheVariants.{Taken, Overwrote, Full}
@@ -13,7 +13,7 @@ times slot slots = count_by (λ other. other == slot) slots
 
 -- How often a slot stands in a connection.
 abbrev pub stands_in : (slot : ℕ) → Link → ℕ
-stands_in slot c = times slot c.waiting + times slot c.borrowed + times slot c.returned
+stands_in slot c = times slot c.waiting + times slot c.borrowed + times slot c.returned + times slot (other_slots c)
 
 -- How often a slot of the publisher p stands in a connection.
 abbrev pub stands : (p slot : ℕ) → Option Link → ℕ

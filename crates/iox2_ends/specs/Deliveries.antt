@@ -6,7 +6,7 @@ use Rattle.slab.specs.Slab.{Slab}
 use Rattle.iox2_slots.specs.Link.{Link}
 use Rattle.iox2_store.specs.machine.Mailbox.{Mailbox}
 use Rattle.iox2_store.specs.machine.Records.{Environment}
-use Rattle.iox2_store.specs.machine.Delivery.{PutResult, Accepted, Skipped, Failed, Would_block, DeliveryEnd, Complete, Suspended, Decides, no_time, PutAtEnd, Deliver}
+use Rattle.iox2_store.specs.machine.Delivery.{PutResult, Accepted, Skipped, Failed, Would_block, DeliveryEnd, Complete, Suspended, Decides, no_time, PutAtEndIn, DeliverIn}
 use Rattle.iox2_store.specs.declared.service_config.ServiceConfig.{ServiceConfig}
 use Rattle.iox2_slots.specs.declared.connection.PutOutcome.{PutOutcome}
 use Rattle.iox2_slots.specs.declared.connection.PutOutcome.TheVariants.{Taken, Overwrote, Full}
@@ -31,11 +31,11 @@ result_of Reception.Skipped = Skipped
 result_of Reception.Failed = Failed
 result_of Reception.WouldBlock = Would_block
 
--- How a delivery of the message n to these ends is over, in the machine's words.
-abbrev pub end_of : (n : ℕ) → List (Option ℕ) → DeliveryOutcome → DeliveryEnd
-end_of n ends (DeliveryOutcome.Complete count has_failed) = Complete count has_failed
-end_of n ends (DeliveryOutcome.Suspended at) =
-    Suspended (record { message = n; channel = 0; place = at.place; ends = drop at.place ends; retries = at.retries; count = at.count; has_failed = at.has_failed })
+-- How a delivery of the message n into that channel at these ends is over, in the machine's words.
+abbrev pub end_of : (n channel : ℕ) → List (Option ℕ) → DeliveryOutcome → DeliveryEnd
+end_of n channel ends (DeliveryOutcome.Complete count has_failed) = Complete count has_failed
+end_of n channel ends (DeliveryOutcome.Suspended at) =
+    Suspended (record { message = n; channel = channel; place = at.place; ends = drop at.place ends; retries = at.retries; count = at.count; has_failed = at.has_failed })
 
 -- How often the receiver at a place was asked again, and the time since it was asked first: the one at which the delivery
 -- is taken up was asked before, the others are asked anew.
@@ -63,23 +63,23 @@ module _ {F : Type 0} (environment : Environment) (config : ServiceConfig) (d : 
     -- The machine's put of the message n at the end that stands at the place, in the publisher's mailboxes.
     abbrev pub PutsMessage : (n place : ℕ) → (end : Option ℕ) → (ℕ → Mailbox) → PutResult → (ℕ → Mailbox) → Type 0
     PutsMessage n place end boxes result boxes' =
-        PutAtEnd environment config d.publisher d.strategy (marks_of handler) buffers n (retries_at d place) (elapsed_at d place) end boxes result boxes'
+        PutAtEndIn environment config d.publisher d.strategy (marks_of handler) buffers n d.channel (retries_at d place) (elapsed_at d place) end boxes result boxes'
 
     -- The machine's delivery of the message n to these ends, which stand from that place on, in the publisher's mailboxes.
     abbrev pub DeliversMessage : (n place : ℕ) → List (Option ℕ) → (count : ℕ) → (has_failed : Bool) → (ℕ → Mailbox) → DeliveryEnd → (ℕ → Mailbox) → Type 0
     DeliversMessage n place ends count has_failed boxes how boxes' =
-        Deliver environment config d.publisher d.strategy (marks_of handler) buffers n (retries_at d place) (elapsed_at d place) place ends count has_failed boxes how boxes'
+        DeliverIn environment config d.publisher d.strategy (marks_of handler) buffers n d.channel (retries_at d place) (elapsed_at d place) place ends count has_failed boxes how boxes'
 
   module _ (receivers : List (Option ReceiverDetails)) where
     -- Whatever numbers the slots have, the slot's message is put at the end to which the key at the place leads.
     abbrev pub PutsSlot : (place : ℕ) → (key : Option ℕ) → Slab Link → Reception → Slab Link → Type 0
     PutsSlot place key old result new = (number : ℕ → ℕ → ℕ)
-        → PutsMessage (taking_buffers old d.publisher receivers) (number d.publisher d.slot) place (subscriber_of_key old key) (mailboxes_of number old d.publisher) (result_of result) (mailboxes_of number new d.publisher)
+        → PutsMessage (taking_buffers old d.publisher d.channel receivers) (number d.publisher d.slot) place (subscriber_of_key old key) (mailboxes_of number old d.publisher) (result_of result) (mailboxes_of number new d.publisher)
 
     -- Whatever numbers the slots have, the slot's message is delivered to the ends at these keys from the place on at which
     -- the delivery is taken up, with what it came to so far.
     abbrev pub DeliversSlot : (keys : List (Option ℕ)) → Slab Link → DeliveryOutcome → Slab Link → Type 0
     DeliversSlot keys old how new = (number : ℕ → ℕ → ℕ)
-        → Deliver environment config d.publisher d.strategy (marks_of handler) (taking_buffers old d.publisher receivers) (number d.publisher d.slot) (d.start).retries d.elapsed
+        → DeliverIn environment config d.publisher d.strategy (marks_of handler) (taking_buffers old d.publisher d.channel receivers) (number d.publisher d.slot) d.channel (d.start).retries d.elapsed
         (d.start).place (drop (d.start).place (sender_ends old keys)) (d.start).count (d.start).has_failed (mailboxes_of number old d.publisher)
-        (end_of (number d.publisher d.slot) (sender_ends old keys) how) (mailboxes_of number new d.publisher)
+        (end_of (number d.publisher d.slot) d.channel (sender_ends old keys) how) (mailboxes_of number new d.publisher)

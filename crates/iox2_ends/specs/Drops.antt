@@ -8,16 +8,20 @@ use Rattle.iox2_ends.specs.Mailboxes.{mailboxes_of, with_box}
 use Rattle.iox2_ends.specs.Counters.{stands_in}
 use Rattle.iox2_ends.specs.Recounts.{Recounts}
 
+-- The connection in which nothing waits.
+abbrev pub without_waiting : Link → Link
+without_waiting c = record c { waiting = []; others = [] }
+
 -- Slots that waited in the connection went: nothing else of it changes, and each of them has one holder less.
 pub record DropsFrom (holders : List ℕ) (old : Link) (holders' : List ℕ) (new : Link) : Type 0 where
-  pub kept : new ≡ record old { waiting = new.waiting }
+  pub kept : new ≡ record old { waiting = new.waiting; others = new.others }
   pub counters : (slot : ℕ) → slice_index holders' slot + stands_in slot old ≡ slice_index holders slot + stands_in slot new
   pub shrinks : (slot : ℕ) → slice_index holders' slot ≤ slice_index holders slot
   pub slots : length holders' ≡ length holders
 
 -- The same, and slots that were given back may have gone too.
 pub record EmptiesFrom (holders : List ℕ) (old : Link) (holders' : List ℕ) (new : Link) : Type 0 where
-  pub kept : new ≡ record old { waiting = new.waiting; returned = new.returned }
+  pub kept : new ≡ record old { waiting = new.waiting; returned = new.returned; others = new.others }
   pub fewer : length new.returned ≤ length old.returned
   pub counters : (slot : ℕ) → slice_index holders' slot + stands_in slot old ≡ slice_index holders slot + stands_in slot new
   pub shrinks : (slot : ℕ) → slice_index holders' slot ≤ slice_index holders slot
@@ -43,12 +47,8 @@ pub record RemovesConnection (p : ℕ) (holders : List ℕ) (old : Slab Link) (k
 
 -- The connection at the key is gone, and what waited in it is lost.
 pub record RemovesDropped (holders : List ℕ) (old : Slab Link) (key : ℕ) (link : Link) (holders' : List ℕ) (new : Slab Link) : Type 0 where
-  pub drops : DropsFrom holders link holders' (record link { waiting = [] })
-  pub goes : Updates (with_value old key (record link { waiting = [] })) new key None
-
--- The connection in which nothing waits.
-abbrev pub without_waiting : Link → Link
-without_waiting c = record c { waiting = [] }
+  pub drops : DropsFrom holders link holders' (without_waiting link)
+  pub goes : Updates (with_value old key (without_waiting link)) new key None
 
 -- All that waited in the connection at the key is lost, and each of these slots has one holder less.
 pub record DropsWaiting (key : ℕ) (holders : List ℕ) (old : Slab Link) (holders' : List ℕ) (new : Slab Link) : Type 0 where

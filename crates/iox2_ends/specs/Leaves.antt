@@ -1,16 +1,16 @@
 -- A publisher that leaves lets go of its slots.
 use Rattle.std.specs.Prelude.{◌≡◌, ℕ, Bool, cond, not, ◌+◌, ◌&&◌, List, [], length, slice_index}
-use Rattle.iox2_slots.specs.Link.{Link}
+use Rattle.iox2_slots.specs.Link.{Link, other_slots}
 use Rattle.iox2_store.specs.machine.Numbers.{is_nil}
 use Rattle.iox2_ends.specs.Counters.{times, stands_in}
 
 -- The connection, in which what waits is lost but where it is awaited, and what was given back is reclaimed.
 abbrev pub left_link : (awaited : Bool) → Link → Link
-left_link awaited c = record c { waiting = cond awaited c.waiting []; returned = [] }
+left_link awaited c = record c { waiting = cond awaited c.waiting []; returned = []; others = cond awaited c.others [] }
 
 -- Some slot waits or is borrowed.
 abbrev pub holds_slots : Link → Bool
-holds_slots c = not (is_nil c.waiting && is_nil c.borrowed)
+holds_slots c = not (is_nil (other_slots c) && (is_nil c.waiting && is_nil c.borrowed))
 
 -- Each slot has one holder less for each place where it stood in the connection and stands no more.
 pub record ReleasesFrom (holders : List ℕ) (old : Link) (holders' : List ℕ) (new : Link) : Type 0 where

@@ -1,12 +1,12 @@
 -- The machine's mailboxes, as the connections of a slab show them. `number` has the message number of each slot, by publisher.
-use Rattle.std.specs.Prelude.{ℕ, Bool, ◌&&◌, ◌==◌, List, [], map}
+use Rattle.std.specs.Prelude.{ℕ, Bool, ◌&&◌, ◌==◌, List, map}
 use Rattle.std.specs.declared.option.Option.{Option}
 use Rattle.std.specs.declared.option.Option.TheVariants.{None, Some}
 use Rattle.std.specs.Option.{option_map, option_and_then}
 use Rattle.slab.specs.Slab.{Slab, get}
 use Rattle.iox2_slots.specs.Link.{Link, channel_at}
 use Rattle.iox2_store.specs.machine.Channel.{Channel, new_channels}
-use Rattle.iox2_store.specs.machine.Mailbox.{Mailbox, empty_mailbox}
+use Rattle.iox2_store.specs.machine.Mailbox.{Mailbox, ChannelNumber, empty_mailbox}
 use Rattle.iox2_store.specs.machine.Numbers.{put_at}
 use Rattle.iox2_ends.specs.LookUp.{look_up}
 
@@ -14,9 +14,13 @@ use Rattle.iox2_ends.specs.LookUp.{look_up}
 abbrev pub is_between : (p q : ℕ) → Link → Bool
 is_between p q c = (c.home.publisher == p) && (c.home.subscriber == q)
 
--- The mailbox that a connection is, where its slots have these numbers. It has channel 0 alone.
+-- The numbers of slots that wait in channels other than 0, where slots have these numbers.
+abbrev pub numbered : (ℕ → ℕ) → List ChannelNumber → List ChannelNumber
+numbered number ms = map (λ (m : ChannelNumber). record m { number = number m.number }) ms
+
+-- The mailbox that a connection is, where its slots have these numbers.
 abbrev pub mailbox_of : (ℕ → ℕ) → Link → Mailbox
-mailbox_of number c = record { waiting = map number c.waiting; borrowed = map number c.borrowed; others = [] }
+mailbox_of number c = record { waiting = map number c.waiting; borrowed = map number c.borrowed; others = numbered number c.others }
 
 -- The mailbox that a connection is, or an empty one.
 abbrev pub mailbox_if_any : (ℕ → ℕ) → Option Link → Mailbox

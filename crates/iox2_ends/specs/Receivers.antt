@@ -1,10 +1,10 @@
 -- The subscribers at their places, as a publisher that delivers sees them.
-use Rattle.std.specs.Prelude.{◌≡◌, ℕ, Bool, true, false, cond, not, ◌&&◌, ◌==◌, List, [], slice_index_or}
+use Rattle.std.specs.Prelude.{◌≡◌, ◌<◌, ℕ, length, Bool, true, false, cond, not, ◌&&◌, ◌==◌, List, [], slice_index_or}
 use Rattle.std.specs.declared.option.Option.{Option}
 use Rattle.std.specs.declared.option.Option.TheVariants.{None, Some}
 use Rattle.std.specs.Option.{option_and_then}
 use Rattle.slab.specs.Slab.{Slab, get}
-use Rattle.iox2_slots.specs.Link.{Link, is_shut}
+use Rattle.iox2_slots.specs.Link.{Link, is_shut_in}
 use Rattle.iox2_store.specs.machine.Channel.{is_closed}
 use Rattle.iox2_ends.specs.LookUp.{look_up, IsOnly}
 use Rattle.iox2_ends.specs.Mailboxes.{channels_in}
@@ -23,9 +23,9 @@ buffer_if_open y = cond y.is_open (Some y.buffer_size) None
 abbrev pub buffers_of : List (Option ReceiverDetails) → ℕ → Option ℕ
 buffers_of receivers q = option_and_then buffer_if_open (look_up (has_id q) receivers)
 
--- The buffers of the receivers that take messages of the publisher p, by id: they are open, and so is their channel 0.
-abbrev pub taking_buffers : Slab Link → (p : ℕ) → List (Option ReceiverDetails) → ℕ → Option ℕ
-taking_buffers connections p receivers q = cond (is_closed (channels_in connections p q 0)) None (buffers_of receivers q)
+-- The buffers of the receivers that take messages of the publisher p in that channel, by id: they are open, and so is the channel.
+abbrev pub taking_buffers : Slab Link → (p channel : ℕ) → List (Option ReceiverDetails) → ℕ → Option ℕ
+taking_buffers connections p channel receivers q = cond (is_closed (channels_in connections p q channel)) None (buffers_of receivers q)
 
 -- It is the receiver with that id, and open.
 abbrev pub is_open_one : (q : ℕ) → Option ReceiverDetails → Bool
@@ -36,9 +36,9 @@ is_open_one q (Some y) = (y.port_id == q) && y.is_open
 abbrev pub is_open_at : List (Option ReceiverDetails) → (place q : ℕ) → Bool
 is_open_at receivers place q = is_open_one q (slice_index_or receivers place None)
 
--- The connection takes messages: its receiver stands at the place and is open, and its channel 0 isn't closed.
-abbrev pub takes_at : List (Option ReceiverDetails) → (place : ℕ) → Link → Bool
-takes_at receivers place c = is_open_at receivers place c.home.subscriber && not (is_shut c)
+-- The connection takes messages in that channel: its receiver stands at the place and is open, and the channel isn't closed.
+abbrev pub takes_at : List (Option ReceiverDetails) → (place channel : ℕ) → Link → Bool
+takes_at receivers place channel c = is_open_at receivers place c.home.subscriber && not (is_shut_in channel c)
 
 -- A subscriber that is there stands at the place that its connections name, and has their buffer.
 pub record KnowsReceivers (connections : Slab Link) (receivers : List (Option ReceiverDetails)) : Type 0 where
@@ -48,6 +48,10 @@ pub record KnowsReceivers (connections : Slab Link) (receivers : List (Option Re
 -- The connections at these keys have no slot that was given back and not yet reclaimed.
 pub record HasReclaimed (connections : Slab Link) (keys : List (Option ℕ)) : Type 0 where
   pub at : (i key : ℕ) (c : Link) → slice_index_or keys i None ≡ Some key → get connections key ≡ Some c → c.returned ≡ []
+
+-- Each connection has a channel with that number. Channel 0 is always there.
+pub record HaveChannel (channel : ℕ) (connections : Slab Link) : Type 0 where
+  pub at : (key : ℕ) (c : Link) → get connections key ≡ Some c → 0 < channel → channel < length c.channels
 
 -- What a delivery of the publisher p needs of connections, keys and receivers.
 pub record IsReadyToDeliver (p : ℕ) (connections : Slab Link) (keys : List (Option ℕ)) (receivers : List (Option ReceiverDetails)) : Type 0 where

@@ -14,8 +14,22 @@ pub fn drop_waiting(connection: &mut Connection, book: &mut SlotBook)
     ensures book { book.new ≡ with_counters book.old book.new.holders }
     ensures drops { DropsFrom book.old.holders connection.old book.new.holders connection.new }
     ensures all { connection.new.waiting ≡ [] }
+    ensures others { connection.new.others ≡ [] }
 {
     while let Some(slot) = connection.drop_first() {
+        book.release(slot);
+    }
+    drop_others(connection, book);
+}
+
+// The same of the channels other than 0.
+fn drop_others(connection: &mut Connection, book: &mut SlotBook)
+    requires { IsHeld book.old.holders connection.old }
+    ensures book { book.new ≡ with_counters book.old book.new.holders }
+    ensures drops { DropsFrom book.old.holders connection.old book.new.holders connection.new }
+    ensures kept { connection.new ≡ record connection.old { others = [] } }
+{
+    while let Some(slot) = connection.drop_other() {
         book.release(slot);
     }
 }

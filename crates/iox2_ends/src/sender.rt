@@ -8,7 +8,7 @@ ghost use Rattle.iox2_store.specs.machine.Numbers.{last_n};
 ghost use Rattle.iox2_store.specs.machine.Delivery.{by_action, is_blocking, is_failed, accepted_count};
 ghost use Rattle.slab.specs.Slab.{get};
 ghost use Rattle.iox2_ends.specs.Homes.{IsApart, IsSenderLinked};
-ghost use Rattle.iox2_ends.specs.Receivers.{is_open_at, takes_at, HasReclaimed, IsReadyToDeliver};
+ghost use Rattle.iox2_ends.specs.Receivers.{is_open_at, takes_at, HasReclaimed, HaveChannel, IsReadyToDeliver};
 ghost use Rattle.iox2_ends.specs.Counters.{times, IsCovered, HoldsItself, GrowsAlone, recounted, CanLeave, with_counters, one_holder_more};
 ghost use Rattle.iox2_ends.specs.Recounts.{Recounts, returned_count};
 ghost use Rattle.iox2_ends.specs.Reclaims.{IsHeld, Reclaims, ReclaimsFrom};
@@ -96,6 +96,8 @@ pub struct Delivery {
     pub publisher: u128,
     /// The publisher's slot in which the message lies.
     pub slot: usize,
+    /// The channel of each connection into which it goes.
+    pub channel: usize,
     /// What happens at a full receiver, where no handler says otherwise.
     pub strategy: BackpressureStrategy,
     /// Where the delivery is taken up.
@@ -276,17 +278,22 @@ fn stands_open<R: Receiver>(receivers: &Vec<Option<R>>, place: usize, id: u128) 
     }
 }
 
-// Whether a connection takes messages: the subscriber, which the publisher knows at the place, is
-// open, and so is the channel. The mark of the connection mostly says so.
-fn is_open<R: Receiver>(connection: &Connection, receivers: &Vec<Option<R>>, place: usize) -> bool
+// Whether a channel of a connection takes messages: the subscriber, which the publisher knows at the
+// place, is open, and so is the channel. Of channel 0 the mark of the connection mostly says so.
+fn is_open<R: Receiver>(
+    connection: &Connection,
+    receivers: &Vec<Option<R>>,
+    place: usize,
+    channel: usize,
+) -> bool
     requires { connection.now.is_open ≡ true → is_open_at (map (option_map R.details_of) receivers.now.items) place connection.now.home.subscriber ≡ true }
-    ensures value { result ≡ takes_at (map (option_map R.details_of) receivers.now.items) place connection.now }
+    ensures value { result ≡ takes_at (map (option_map R.details_of) receivers.now.items) place channel connection.now }
     ensures bounded { IsBounded connection.now }
 {
-    if connection.is_open() {
+    if channel == 0 && connection.is_open() {
         return true;
     }
-    stands_open(receivers, place, connection.home().subscriber) && !connection.is_closed()
+    stands_open(receivers, place, connection.home().subscriber) && !connection.is_closed(channel)
 }
 
 // Counts the holders after a put.
@@ -320,6 +327,7 @@ fn deliver_at<R: Receiver, F: BackpressureFn>(
     place: usize,
 ) -> Reception
     requires at { place < length keys.now }
+    requires known { HaveChannel delivery.now.channel connections.old }
     requires ready { IsReadyToDeliver delivery.now.publisher connections.old keys.now (map (option_map R.details_of) receivers.now.items) }
     requires own { HoldsItself delivery.now.publisher delivery.now.slot book.old.holders connections.old.slots }
     requires fits { holders_at book.old delivery.now.slot + 1 < 2 ^ 64 }
@@ -336,18 +344,18 @@ fn deliver_at<R: Receiver, F: BackpressureFn>(
     };
     let connection = &mut connections[key];
     reclaim_from(connection, book);
-    if !is_open(connection, receivers, place) {
+    if !is_open(connection, receivers, place, delivery.channel) {
         return Reception::Skipped;
     }
-    let outcome = connection.put(delivery.slot, config.enable_safe_overflow);
+    let outcome = connection.put(delivery.channel, delivery.slot, config.enable_safe_overflow);
     recount(book, outcome, delivery.slot);
     reception_of(config, delivery, handler, place, connection, outcome)
 }
 
-/// Delivers a message to the receivers at the places that remain, one after the other, until one
-/// blocks it. What each gave back is reclaimed first. A receiver that is closed or whose channel is
-/// closed is skipped. One with room takes the message, and with safe overflow each does; at any other
-/// the handler decides, or the strategy where there is no handler.
+/// Delivers a message into a channel of the connections at the places that remain, one after the
+/// other, until a receiver blocks it. What each gave back is reclaimed first. A receiver that is
+/// closed or whose channel is closed is skipped. One with room takes the message, and with safe
+/// overflow each does; at any other the handler decides, or the strategy where there is no handler.
 ///
 /// A send starts at the first place. A send that was blocked is taken up where it blocked, or behind
 /// that receiver, with what it came to so far.
@@ -369,6 +377,7 @@ pub fn deliver<R: Receiver, F: BackpressureFn>(
     keys: &[Option<usize>],
     receivers: &Vec<Option<R>>,
 ) -> DeliveryOutcome
+    requires known { HaveChannel delivery.now.channel connections.old }
     requires ready { IsReadyToDeliver delivery.now.publisher connections.old keys.now (map (option_map R.details_of) receivers.now.items) }
     requires own { HoldsItself delivery.now.publisher delivery.now.slot book.old.holders connections.old.slots }
     requires start { delivery.now.start.place ≤ length keys.now }
@@ -531,7 +540,7 @@ fn put_in_room(connection: &mut Connection, book: &mut SlotBook, slot: usize)
     ensures connection { connection.new ≡ record connection.old { waiting = connection.old.waiting ++ slot ∷ [] } }
     ensures book { book.new ≡ with_counters book.old (one_holder_more slot book.old.holders) }
 {
-    if let PutOutcome::Taken = connection.put(slot, false) {
+    if let PutOutcome::Taken = connection.put(0, slot, false) {
         book.hold(slot);
     }
 }

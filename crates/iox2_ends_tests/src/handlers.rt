@@ -47,7 +47,7 @@ fn connection_with(alloc: Global, buffer_size: usize, slot: usize) -> Result<Con
     ensures { IfOk result (λ c. c ≡ record (empty_link HOME buffer_size 1 1) { waiting = slot ∷ [] }) }
 {
     let mut connection = Connection::new(alloc, HOME, buffer_size, 1, 1)?;
-    connection.put(slot, false);
+    connection.put(0, slot, false);
     Ok(connection)
 }
 
@@ -55,11 +55,13 @@ fn connection_with(alloc: Global, buffer_size: usize, slot: usize) -> Result<Con
 fn delivery_of(slot: usize, retries: u64) -> Delivery
     ensures sender { result.publisher ≡ 1 }
     ensures slot { result.slot ≡ slot }
+    ensures channel { result.channel ≡ 0 }
     ensures start { result.start ≡ record begun { retries = retries } }
 {
     Delivery {
         publisher: 1,
         slot,
+        channel: 0,
         strategy: BackpressureStrategy::DiscardData,
         start: Progress {
             retries,

@@ -7,7 +7,7 @@ use Rattle.std.proofs.lemmas.Option.{none-some, same_Some}
 use Rattle.iox2_store.specs.machine.Limits.{buffer_limit, channel_count}
 use Rattle.iox2_store.specs.machine.Numbers.{put_at, contains, size}
 use Rattle.iox2_store.specs.machine.Places.{occupants}
-use Rattle.iox2_store.specs.machine.Mailbox.{Mailbox, numbers_in, has_numbers, has_borrows, has_data, waiting_count, IsWithin, OthersWithin}
+use Rattle.iox2_store.specs.machine.Mailbox.{Mailbox, numbers_in, has_numbers, has_borrows, has_waiting, waiting_count, IsWithin, OthersWithin}
 use Rattle.iox2_store.specs.machine.Records.{Loan, Publisher}
 use Rattle.iox2_store.specs.machine.State.{State}
 use Rattle.iox2_store.specs.machine.WellFormed.{LeadsTo, publisher_place, BlockedIsWellFormed, PublisherIsWellFormed, SubscriberIsWellFormed, MailboxIsWellFormed, LoanIsWellFormed, IsWellFormed}
@@ -81,7 +81,7 @@ module _ {T U : Type 0} where
       known = λ h. w.known (ap has_numbers (sym box) ∙ h);
       sender_end = λ x e h. w.sender_end x (sym same ∙ e) (ap has_numbers (sym box) ∙ h);
       receiver_end = λ h. w.receiver_end (ap has_borrows (sym box) ∙ h);
-      departed = λ gone h. w.departed (sym same ∙ gone) (ap has_data (sym box) ∙ h);
+      departed = λ gone h. w.departed (sym same ∙ gone) (ap has_waiting (sym box) ∙ h);
     }
 
     -- a loan stays well-formed where its publisher and that one's mailboxes stay the same

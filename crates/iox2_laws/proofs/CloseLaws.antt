@@ -9,7 +9,7 @@ use Rattle.std.proofs.lemmas.Option.{none-some, same_Some}
 use Rattle.iox2_store.specs.machine.Limits.{buffer_limit, channel_count}
 use Rattle.iox2_store.specs.machine.Numbers.{contains, put_at}
 use Rattle.iox2_store.specs.machine.Places.{occupant, vacated, places_kept, is_port}
-use Rattle.iox2_store.specs.machine.Mailbox.{Mailbox, numbers_in, has_numbers, has_borrows, has_data, waiting_count, waiting_dropped, IsWithin, OthersWithin}
+use Rattle.iox2_store.specs.machine.Mailbox.{Mailbox, numbers_in, has_numbers, has_borrows, has_waiting, waiting_count, waiting_dropped, IsWithin, OthersWithin}
 use Rattle.iox2_store.specs.machine.Records.{Publisher, Subscriber}
 use Rattle.iox2_store.specs.machine.State.{State, publishers_due, subscribers_due}
 use Rattle.iox2_store.specs.machine.Releases.{is_connected, pruned, subscriber_pruned, freed_if_unused}
@@ -22,7 +22,7 @@ use Rattle.iox2_laws.proofs.Puts.{put_at-same, put_at-other, found_put, found_re
 use Rattle.iox2_laws.proofs.FilterLemmas.{contains_in_filter, contains-filter, IsOnce-filter, length-filter_le}
 use Rattle.iox2_laws.proofs.PlaceLemmas.{occupant-vacated, vacated_keeps, length-vacated, occupant-places_kept, places_kept_keeps, length-places_kept}
 use Rattle.iox2_laws.proofs.PlaceLemmas.{injective_places_kept, is_port-true}
-use Rattle.iox2_laws.proofs.MailboxLemmas.{has_numbers-borrows, has_numbers-data, has_numbers_dropped, IsWithin-dropped, OthersWithin-dropped, contains_in_dropped}
+use Rattle.iox2_laws.proofs.MailboxLemmas.{has_numbers-borrows, has_numbers-waiting, has_numbers_dropped, IsWithin-dropped, OthersWithin-dropped, contains_in_dropped}
 use Rattle.iox2_laws.proofs.Freed.{freed_if_unused_keeps, freed_if_unused_advances}
 use Rattle.iox2_laws.proofs.PortChanges.{changed, places_agree_by, place_of_publisher, place_of_subscriber, publisher_kept, subscriber_kept, loan_kept, sender_reset_keeps, receiver_reset_keeps}
 use Rattle.iox2_laws.proofs.PortChanges.{RestIsWellFormed, IsNearlyWellFormed, publishers_due_nearly, subscribers_due_keeps}
@@ -125,7 +125,7 @@ module _ {T U : Type 0} where
       → ((y : Subscriber) → t.subscribers q ≡ Some y → (waiting_count (s.mailboxes p q) ≤ y.buffer) × OthersWithin (channel_count s.config) y.buffer (s.mailboxes p q))
       → (has_borrows (t.mailboxes p q) ≡ true → has_borrows (s.mailboxes p q) ≡ true
       → (y : Subscriber) × (t.subscribers q ≡ Some y) × ((contains y.expired p ≡ true) ⊎ LeadsTo y.ends p))
-      → (t.publishers p ≡ None → has_data (t.mailboxes p q) ≡ true
+      → (t.publishers p ≡ None → has_waiting (t.mailboxes p q) ≡ true
       → (y : Subscriber) × (t.subscribers q ≡ Some y) × (y.is_open ≡ true) × ((contains y.expired p ≡ true) ⊎ LeadsTo y.ends p))
       → MailboxIsWellFormed (changed s t) p q
   mailbox_kept s t p q w more fewer loses room ends departed = record {
@@ -160,10 +160,10 @@ module _ {T U : Type 0} where
 
   -- What waits from a publisher that is gone waits for an open subscriber that has its end.
   gone_waits : (s : State T U) → IsWellFormed s → (p : ℕ) (x : Publisher) (i q : ℕ) → (publisher_gone s p x).publishers i ≡ None
-      → has_data ((publisher_gone s p x).mailboxes i q) ≡ true
+      → has_waiting ((publisher_gone s p x).mailboxes i q) ≡ true
       → (y : Subscriber) × (s.subscribers q ≡ Some y) × (y.is_open ≡ true) × ((contains y.expired i ≡ true) ⊎ LeadsTo y.ends i)
   gone_waits s w p x i q gone h =
-      elim (eqb i p) as (λ b. eqb i p ≡ b → cond b None (s.publishers i) ≡ None → has_data (cond b (mailbox_after_publisher s p x) (s.mailboxes i) q) ≡ true
+      elim (eqb i p) as (λ b. eqb i p ≡ b → cond b None (s.publishers i) ≡ None → has_waiting (cond b (mailbox_after_publisher s p x) (s.mailboxes i) q) ≡ true
       → (y : Subscriber) × (s.subscribers q ≡ Some y) × (y.is_open ≡ true) × ((contains y.expired i ≡ true) ⊎ LeadsTo y.ends i)) [
         | true ↦ λ same _ h. subst (λ j. (y : Subscriber) × (s.subscribers q ≡ Some y) × (y.is_open ≡ true) × ((contains y.expired j ≡ true) ⊎ LeadsTo y.ends j))
             (sym (eqb-true i p same)) (own_waits h)
@@ -180,11 +180,11 @@ module _ {T U : Type 0} where
           let parts : (y.is_open ≡ true) × (is_port (occupant y.ends x.place) p ≡ true) = and_parts y.is_open (is_port (occupant y.ends x.place) p) e in
           (y, refl, parts.0, inr (x.place, is_port-true (occupant y.ends x.place) p parts.1))
 
-      own_waits : has_data (mailbox_after_publisher s p x q) ≡ true
+      own_waits : has_waiting (mailbox_after_publisher s p x q) ≡ true
           → (y : Subscriber) × (s.subscribers q ≡ Some y) × (y.is_open ≡ true) × ((contains y.expired p ≡ true) ⊎ LeadsTo y.ends p)
       own_waits =
           elim (option_map_or has_end (s.subscribers q) false) as (λ b. option_map_or has_end (s.subscribers q) false ≡ b
-          → has_data (cond b (s.mailboxes p q) (waiting_dropped (s.mailboxes p q))) ≡ true
+          → has_waiting (cond b (s.mailboxes p q) (waiting_dropped (s.mailboxes p q))) ≡ true
           → (y : Subscriber) × (s.subscribers q ≡ Some y) × (y.is_open ≡ true) × ((contains y.expired p ≡ true) ⊎ LeadsTo y.ends p)) [
             | true ↦ λ e _. open_with_end (s.subscribers q) e
             | false ↦ λ _ h. absurd (true≢false (sym h))
@@ -223,7 +223,7 @@ module _ {T U : Type 0} where
           ap (λ o. option_map (pruned t q) o) found.1,
           found.2,
           receiver_end_left (is_connected t q) (found.0).expired (found.0).ends i
-              (connected_by_numbers (t.publishers i) (t.mailboxes i q) (is_connected t q i) refl (has_numbers-data (t.mailboxes i q) h)) found.3,
+              (connected_by_numbers (t.publishers i) (t.mailboxes i q) (is_connected t q i) refl (has_numbers-waiting (t.mailboxes i q) h)) found.3,
         ));
     loans = λ n l e. loan_kept s s' n l (w.loans n l e)
         (omega arith) (λ q. loss_has_fewer (s.mailboxes l.publisher q) (s'.mailboxes l.publisher q) (gone_loses s p x l.publisher q))
@@ -357,13 +357,13 @@ module _ {T U : Type 0} where
           ] refl
 
       -- what waits from a departed publisher waits for another subscriber
-      departed_waits : (p r : ℕ) → s.publishers p ≡ None → has_data (s'.mailboxes p r) ≡ true
+      departed_waits : (p r : ℕ) → s.publishers p ≡ None → has_waiting (s'.mailboxes p r) ≡ true
           → (v : Subscriber) × (s'.subscribers r ≡ Some v) × (v.is_open ≡ true) × ((contains v.expired p ≡ true) ⊎ LeadsTo v.ends p)
       departed_waits p r gone h =
-          elim (eqb r q) as (λ b. eqb r q ≡ b → has_data (cond b (mailbox_after_subscriber s q p) (s.mailboxes p r)) ≡ true
+          elim (eqb r q) as (λ b. eqb r q ≡ b → has_waiting (cond b (mailbox_after_subscriber s q p) (s.mailboxes p r)) ≡ true
           → (v : Subscriber) × (cond b (Some new) (s.subscribers r) ≡ Some v) × (v.is_open ≡ true) × ((contains v.expired p ≡ true) ⊎ LeadsTo v.ends p)) [
             | true ↦ λ _ h. absurd (true≢false (sym h
-                ∙ ap (λ (o : Option Publisher). has_data (cond (is_some o) (s.mailboxes p q) (waiting_dropped (s.mailboxes p q)))) gone))
+                ∙ ap (λ (o : Option Publisher). has_waiting (cond (is_some o) (s.mailboxes p q) (waiting_dropped (s.mailboxes p q)))) gone))
             | false ↦ λ _ h. (w.mailboxes p r).departed gone h
           ] refl h
 

@@ -12,6 +12,7 @@ use Rattle.iox2_laws.proofs.LoansLeft.{LoansKept, LoanEnds, kept_trans, kept_end
 use Rattle.iox2_laws.proofs.PortsStay.{PortsStay, ports_stay_trans, loan_set_stays, delivered_stays}
 use Rattle.iox2_laws.proofs.SendsRemain.{PortsRemain, ports_remain, ports_remain_trans, delivered_remains, delivered_waits_with}
 use Rattle.iox2_laws.proofs.UpToDate.{goes_on_subscribers}
+use Rattle.iox2_laws.proofs.Waits.{Waits, loan_set_waits, waits_trans, delivered_waits}
 
 module _ {T U : Type 0} (environment : Environment) (s : State T U) (n : ℕ) (l : Loan T U) (channel place : ℕ) (s' : State T U) (result : SendResult)
     (h : SendToConnection environment s n l channel place s' result) where
@@ -83,3 +84,12 @@ module _ {T U : Type 0} (environment : Environment) (s : State T U) (n : ℕ) (l
       by_option (s'.subscribers ≡ s.subscribers) (s.publishers l.publisher) _ _ h
       (λ _ k. ap (λ (t : State T U). t.subscribers) k.0)
       (λ x _ k. goes_on_subscribers environment before l.publisher n channel 0 no_time place (end_of x) 0 false s' result k)
+
+  -- All ports wait as they did, but for publishers that are spared, of which its own is one.
+  pub send_to_connection_waits : (Spared : ℕ → Type 0) → Spared l.publisher → Waits Spared s s'
+  send_to_connection_waits Spared spared =
+      by_option (Waits Spared s s') (s.publishers l.publisher) _ _ h
+      (λ _ k. subst (Waits Spared s) (sym k.0) (loan_set_waits Spared s n None))
+      (λ x _ k.
+      waits_trans Spared s before s' (loan_set_waits Spared s n None)
+      (delivered_waits Spared l.publisher spared environment before n channel 0 no_time place (end_of x) 0 false s' result k))

@@ -12,7 +12,7 @@ use Rattle.iox2_laws.proofs.PortChanges.{RestIsWellFormed, IsNearlyWellFormed, w
 use Rattle.iox2_laws.specs.Laws.{Advances}
 use Rattle.iox2_store.specs.machine.Numbers.{put_at, contains}
 use Rattle.iox2_store.specs.machine.Places.{occupant, occupants, vacated}
-use Rattle.iox2_store.specs.machine.Mailbox.{has_borrows, has_data, waiting_count, OthersWithin}
+use Rattle.iox2_store.specs.machine.Mailbox.{has_borrows, has_waiting, waiting_count, OthersWithin}
 use Rattle.iox2_store.specs.machine.Records.{Publisher, Subscriber}
 use Rattle.iox2_store.specs.machine.State.{State, connected_publishers}
 use Rattle.iox2_store.specs.machine.Releases.{is_unused, place_freed, freed_if_unused}
@@ -65,7 +65,7 @@ module _ {T U : Type 0} where
   }
 
   removed_mailbox : (s : State T U) (q : ℕ) (places : List (Option ℕ)) (p r : ℕ) → (has_borrows (s.mailboxes p q) ≡ true → ⊥)
-      → (s.publishers p ≡ None → has_data (s.mailboxes p q) ≡ true → ⊥) → MailboxIsWellFormed s p r
+      → (s.publishers p ≡ None → has_waiting (s.mailboxes p q) ≡ true → ⊥) → MailboxIsWellFormed s p r
       → MailboxIsWellFormed (record s { subscribers = put_at s.subscribers q None; subscriber_places = places }) p r
   removed_mailbox s q places p r nothing lost b = record {
     within = b.within;
@@ -83,14 +83,14 @@ module _ {T U : Type 0} where
     departed = λ gone h.
         elim (eqb r q) as (λ c. eqb r q ≡ c
         → (y : Subscriber) × (cond c None (s.subscribers r) ≡ Some y) × (y.is_open ≡ true) × ((contains y.expired p ≡ true) ⊎ LeadsTo y.ends p)) [
-          | true ↦ λ same. absurd (lost gone (ap (λ k. has_data (s.mailboxes p k)) (sym (eqb-true r q same)) ∙ h))
+          | true ↦ λ same. absurd (lost gone (ap (λ k. has_waiting (s.mailboxes p k)) (sym (eqb-true r q same)) ∙ h))
           | false ↦ λ _. b.departed gone h
         ] refl;
   }
 
   -- A subscriber that has borrowed nothing, and for which nothing waits from departed publishers, may go.
   pub subscriber_removed_keeps : (s : State T U) (q : ℕ) → IsNearlyWellFormed s q → ((p : ℕ) → has_borrows (s.mailboxes p q) ≡ true → ⊥)
-      → ((p : ℕ) → s.publishers p ≡ None → has_data (s.mailboxes p q) ≡ true → ⊥)
+      → ((p : ℕ) → s.publishers p ≡ None → has_waiting (s.mailboxes p q) ≡ true → ⊥)
       → IsWellFormed (record s { subscribers = put_at s.subscribers q None; subscriber_places = vacated q s.subscriber_places })
   subscriber_removed_keeps s q nearly nothing lost = let w : RestIsWellFormed s = nearly.rest in record {
     publisher_places = record { bound = w.publisher_places.bound; stands = w.publisher_places.stands; known = w.publisher_places.known };
@@ -145,7 +145,7 @@ module _ {T U : Type 0} where
 
   -- For nobody that is unused something waits from a departed publisher.
   unused_waits_for_nothing : (s : State T U) → RestIsWellFormed s → (q : ℕ) → is_unused s q ≡ true
-      → (p : ℕ) → s.publishers p ≡ None → has_data (s.mailboxes p q) ≡ true → ⊥
+      → (p : ℕ) → s.publishers p ≡ None → has_waiting (s.mailboxes p q) ≡ true → ⊥
   unused_waits_for_nothing s w q unused p gone h =
       let at : (y : Subscriber) × (s.subscribers q ≡ Some y) × (y.is_open ≡ true) × ((contains y.expired p ≡ true) ⊎ LeadsTo y.ends p) =
       (w.mailboxes p q).departed gone h in

@@ -6,7 +6,7 @@ use Rattle.iox2_laws.proofs.NumberLemmas.{contains_in_append, contains_left, con
 use Rattle.iox2_laws.proofs.NumberLemmas.{length-last_n, length-without_le, IsOnce-drop, IsOnce-last_n, IsOnce-push, IsOnce-left, IsOnce-right, IsOnce-apart, IsOnce-append, IsOnce-without}
 use Rattle.iox2_store.specs.machine.Numbers.{contains, without, is_nil, last_n, IsOnce}
 use Rattle.iox2_laws.proofs.ChannelNumbers.{numbers, numbers_of-same, numbers_of-other, contains_in_part, IsOnce-part, contains_in_replaced, IsOnce-replaced, length-part_le, length-numbers, length-channels}
-use Rattle.iox2_store.specs.machine.Mailbox.{ChannelNumber, numbers_of, with_numbers_of, other_numbers, waiting_in, with_waiting_in, has_room_in, with_appended_in, other_room, OthersWithin, Mailbox, empty_mailbox, numbers_in, has_numbers, has_borrows, is_borrowed, has_data, can_receive, waiting_count, with_waiting, waiting_dropped, BorrowsFirst, with_released, IsWithin}
+use Rattle.iox2_store.specs.machine.Mailbox.{ChannelNumber, numbers_of, with_numbers_of, other_numbers, waiting_in, with_waiting_in, has_room_in, with_appended_in, other_room, OthersWithin, Mailbox, empty_mailbox, numbers_in, has_numbers, has_borrows, is_borrowed, has_waiting, has_data, can_receive, waiting_count, with_waiting, waiting_dropped, BorrowsFirst, with_released, IsWithin}
 
 -- ---- numbers and their presence
 
@@ -37,6 +37,24 @@ has_numbers-data box h = at (other_numbers box) box.waiting box.borrowed h
     at os [] bs h = absurd (true≢false (sym h))
     at [] (w ∷ ws) bs h = refl
     at (o ∷ os) (w ∷ ws) bs h = refl
+
+-- and so has one in which a number waits in whatever channel
+pub has_numbers-waiting : (box : Mailbox) → has_waiting box ≡ true → has_numbers box ≡ true
+has_numbers-waiting box h = at (other_numbers box) box.waiting box.borrowed h
+  where
+    at : (os ws bs : List ℕ) → not (is_nil os && is_nil ws) ≡ true → not (is_nil os && (is_nil ws && is_nil bs)) ≡ true
+    at [] [] bs h = absurd (true≢false (sym h))
+    at [] (w ∷ ws) bs h = refl
+    at (o ∷ os) ws bs h = refl
+
+-- what waits in channel 0 waits
+pub has_waiting-data : (box : Mailbox) → has_data box ≡ true → has_waiting box ≡ true
+has_waiting-data box h = at (other_numbers box) box.waiting h
+  where
+    at : (os ws : List ℕ) → not (is_nil ws) ≡ true → not (is_nil os && is_nil ws) ≡ true
+    at os [] h = absurd (true≢false (sym h))
+    at [] (w ∷ ws) h = refl
+    at (o ∷ os) (w ∷ ws) h = refl
 
 -- without borrowed messages only waiting ones are left
 pub has_numbers_dropped : (box : Mailbox) → has_numbers (waiting_dropped box) ≡ has_borrows box
@@ -357,8 +375,8 @@ has_numbers-borrowed n box box' borrows = (
 )
 
 -- something waits where a message is received
-pub has_data-borrowed : (n : ℕ) (box box' : Mailbox) → BorrowsFirst box n box' → has_data box ≡ true
-has_data-borrowed n box box' borrows = ap (λ ws. not (is_nil ws)) borrows.1
+pub has_waiting-borrowed : (n : ℕ) (box box' : Mailbox) → BorrowsFirst box n box' → has_waiting box ≡ true
+has_waiting-borrowed n box box' borrows = has_waiting-data box (ap (λ ws. not (is_nil ws)) borrows.1)
 
 -- what is left when a number is taken out of those that are borrowed was there
 left_after : (n : ℕ) (ws bs : List ℕ) (m : ℕ) → contains (ws ++ without n bs) m ≡ true → contains (ws ++ bs) m ≡ true

@@ -22,7 +22,7 @@ use Rattle.iox2_laws.specs.Laws.{Advances}
 use Rattle.iox2_laws.proofs.CallCases.{publisher_cases, subscriber_cases}
 use Rattle.iox2_laws.proofs.Puts.{put_at-other, at_each, found_put}
 use Rattle.iox2_laws.proofs.PlaceLemmas.{occupant-set_place, length-set_place_le, found_set, free_place_is}
-use Rattle.iox2_laws.proofs.MailboxLemmas.{has_numbers-borrows, has_numbers-data, nothing_anywhere, OthersWithin-none}
+use Rattle.iox2_laws.proofs.MailboxLemmas.{has_numbers-borrows, has_numbers-waiting, nothing_anywhere, OthersWithin-none}
 use Rattle.iox2_laws.proofs.PublisherUpdates.{update_publisher_keeps, update_publisher_advances}
 use Rattle.iox2_laws.proofs.SubscriberUpdates.{update_subscriber_keeps, update_subscriber_advances}
 use Rattle.iox2_laws.proofs.PortChanges.{places_agree_by, place_of_publisher, place_of_subscriber, publisher_kept, subscriber_kept, loan_kept}
@@ -233,7 +233,7 @@ module _ {T U : Type 0} where
       departed = λ gone h.
           let found : (y : Subscriber) × (s.subscribers q ≡ Some y) × (y.is_open ≡ true) × ((contains y.expired p ≡ true) ⊎ LeadsTo y.ends p) =
           v.departed gone h in
-          (found.0, old_stays q (v.known (has_numbers-data (s.mailboxes p q) h)).1 ∙ found.1, found.2, found.3);
+          (found.0, old_stays q (v.known (has_numbers-waiting (s.mailboxes p q) h)).1 ∙ found.1, found.2, found.3);
     };
     loans = λ n l e. loan_kept s s' n l (w.loans n l e)
         (omega arith) (λ q n h. h) (w.loans n l e).is_out;

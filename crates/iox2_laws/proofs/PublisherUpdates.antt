@@ -6,7 +6,7 @@ use Rattle.std.proofs.lemmas.Bool.{true≢false, ne_eqb}
 use Rattle.std.proofs.lemmas.Option.{none-some, same_Some}
 use Rattle.iox2_store.specs.machine.Numbers.{put_at, contains, size}
 use Rattle.iox2_store.specs.machine.Places.{occupants}
-use Rattle.iox2_store.specs.machine.Mailbox.{Mailbox, numbers_in, has_numbers, has_borrows, has_data}
+use Rattle.iox2_store.specs.machine.Mailbox.{Mailbox, numbers_in, has_numbers, has_borrows, has_waiting}
 use Rattle.iox2_store.specs.machine.Records.{Publisher, Subscriber, BlockedSend, Loan, Environment}
 use Rattle.iox2_store.specs.machine.State.{State, held, is_blocked}
 use Rattle.iox2_store.specs.machine.PublisherUpdate.{SenderSide, with_sender_side, UpdatePublisher}
@@ -170,7 +170,7 @@ module _ {T U : Type 0} where
           (λ i m. has_borrows (m q) ≡ true → (y : Subscriber) × (s.subscribers q ≡ Some y) × ((contains y.expired i ≡ true) ⊎ LeadsTo y.ends i)) p'
           (λ _ h. (w.mailboxes p q).receiver_end (k.borrows q h)) (λ _. (w.mailboxes p' q).receiver_end);
       departed = λ gone h. let before : (s.publishers p' ≡ None) × (eqb p' p ≡ false) = gone_before p' gone in
-          (w.mailboxes p' q).departed before.0 (subst (λ (m : ℕ → Mailbox). has_data (m q) ≡ true) (same_boxes p' before.1) h);
+          (w.mailboxes p' q).departed before.0 (subst (λ (m : ℕ → Mailbox). has_waiting (m q) ≡ true) (same_boxes p' before.1) h);
     }
 
     loan_keeps : (n : ℕ) (l : Loan T U) → LoanIsWellFormed s n l → LoanIsWellFormed after n l

@@ -1,14 +1,14 @@
 -- A receive, and the question whether anything waits, keep a state well-formed.
 use Rattle.std.proofs.Common.{◌≡◌, ℕ, Bool, true, refl, sym, subst, ◌∙◌, arith, Option, None, Some, ◌⊎◌, inl, inr, le_trans}
 use Rattle.iox2_laws.proofs.Cases.{by_option, by_bool}
-use Rattle.iox2_laws.proofs.MailboxLemmas.{IsWithin-borrowed, OthersWithin-borrowed, waiting_count-borrowed, contains_in_borrowed, has_numbers-borrowed, has_data-borrowed, has_borrows-borrowed}
+use Rattle.iox2_laws.proofs.MailboxLemmas.{IsWithin-borrowed, OthersWithin-borrowed, waiting_count-borrowed, contains_in_borrowed, has_numbers-borrowed, has_waiting-borrowed, has_borrows-borrowed}
 use Rattle.iox2_laws.proofs.PlaceLemmas.{leads_to}
 use Rattle.iox2_laws.proofs.ReleaseLaws.{Shrinks, shrinks_same, with_receivers, ReceiversAgree, receivers_keep, subscriber_keeps, at_each_mailbox}
 use Rattle.iox2_laws.proofs.SubscriberUpdates.{update_subscriber_keeps, update_subscriber_advances}
 use Rattle.iox2_laws.specs.Laws.{Advances}
 use Rattle.iox2_store.specs.machine.Limits.{buffer_limit}
 use Rattle.iox2_store.specs.machine.Numbers.{put_at, contains}
-use Rattle.iox2_store.specs.machine.Mailbox.{Mailbox, has_numbers, has_borrows, has_data, BorrowsFirst}
+use Rattle.iox2_store.specs.machine.Mailbox.{Mailbox, has_numbers, has_borrows, has_waiting, BorrowsFirst}
 use Rattle.iox2_store.specs.machine.Records.{Subscriber, Environment}
 use Rattle.iox2_store.specs.machine.State.{State}
 use Rattle.iox2_store.specs.machine.Receives.{ReceiveResult, Got_sample, No_sample, Receive_error, can_receive_of, MayReceiveFrom, TakeSample, Receive, HasSamples}
@@ -43,9 +43,9 @@ module _ {T U : Type 0} where
         (λ _. (y, here, received_from (s.config).subscriber_max_borrowed_samples y (λ r. s.mailboxes r q) p may))
         (w.mailboxes i j).receiver_end;
     departed = λ i j. at_each_mailbox s.mailboxes p q box
-        (λ i j m. s.publishers i ≡ None → has_data m ≡ true
+        (λ i j m. s.publishers i ≡ None → has_waiting m ≡ true
         → (z : Subscriber) × (s.subscribers j ≡ Some z) × (z.is_open ≡ true) × ((contains z.expired i ≡ true) ⊎ LeadsTo z.ends i)) i j
-        (λ gone _. (w.mailboxes p q).departed gone (has_data-borrowed n (s.mailboxes p q) box borrows))
+        (λ gone _. (w.mailboxes p q).departed gone (has_waiting-borrowed n (s.mailboxes p q) box borrows))
         (w.mailboxes i j).departed;
   }
 

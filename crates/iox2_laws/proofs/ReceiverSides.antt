@@ -13,7 +13,7 @@ use Rattle.iox2_laws.proofs.ReleaseLaws.{stands_with}
 use Rattle.iox2_store.specs.machine.Limits.{expired_limit}
 use Rattle.iox2_store.specs.machine.Numbers.{put_at, contains, without, IsOnce}
 use Rattle.iox2_store.specs.machine.Places.{occupant, set_place}
-use Rattle.iox2_store.specs.machine.Mailbox.{Mailbox, has_numbers, has_borrows, has_data, waiting_dropped}
+use Rattle.iox2_store.specs.machine.Mailbox.{Mailbox, has_numbers, has_borrows, has_waiting, waiting_dropped}
 use Rattle.iox2_store.specs.machine.Records.{Publisher, Subscriber, Handler, Environment}
 use Rattle.iox2_store.specs.machine.State.{State, Warnings, warned}
 use Rattle.iox2_store.specs.machine.Connections.{expired_buffer_full}
@@ -91,7 +91,7 @@ last_there ns n = contains_right ns (n ∷ []) n (or_left (eqb n n) false (eq-eq
 module _ {T U : Type 0} where
   -- The subscriber has to know p: something of it is borrowed, or waits although p departed.
   abbrev pub HasToKnow : State T U → (p : ℕ) → Mailbox → Type 0
-  HasToKnow s p box = (has_borrows box ≡ true) ⊎ ((s.publishers p ≡ None) × (has_data box ≡ true))
+  HasToKnow s p box = (has_borrows box ≡ true) ⊎ ((s.publishers p ≡ None) × (has_waiting box ≡ true))
 
   -- Nobody has to know a publisher of which nothing is borrowed and nothing waits.
   nothing_left : (s : State T U) (p : ℕ) (box : Mailbox) → has_borrows box ≡ false → HasToKnow s p (waiting_dropped box) → ⊥

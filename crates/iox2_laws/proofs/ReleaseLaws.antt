@@ -9,12 +9,12 @@ use Rattle.iox2_laws.proofs.PortChanges.{RestIsWellFormed, IsNearlyWellFormed, w
 use Rattle.iox2_laws.proofs.Freed.{freed_if_unused_keeps, freed_if_unused_advances}
 use Rattle.iox2_laws.proofs.FilterLemmas.{contains_in_filter, contains-filter, IsOnce-filter, length-filter_le}
 use Rattle.iox2_laws.proofs.PlaceLemmas.{occupant-places_kept, places_kept_keeps, length-places_kept, injective_places_kept}
-use Rattle.iox2_laws.proofs.MailboxLemmas.{has_numbers-borrows, has_numbers-data, IsWithin-released, contains_in_released, has_borrows_before_release, has_numbers_before_release}
+use Rattle.iox2_laws.proofs.MailboxLemmas.{has_numbers-borrows, has_numbers-waiting, IsWithin-released, contains_in_released, has_borrows_before_release, has_numbers_before_release}
 use Rattle.iox2_laws.specs.Laws.{Advances}
 use Rattle.iox2_store.specs.machine.Limits.{buffer_limit, channel_count, expired_limit}
 use Rattle.iox2_store.specs.machine.Numbers.{put_at, contains, size}
 use Rattle.iox2_store.specs.machine.Places.{occupant, occupants}
-use Rattle.iox2_store.specs.machine.Mailbox.{Mailbox, numbers_in, has_numbers, has_borrows, has_data, waiting_count, with_released, IsWithin, OthersWithin}
+use Rattle.iox2_store.specs.machine.Mailbox.{Mailbox, numbers_in, has_numbers, has_borrows, has_waiting, waiting_count, with_released, IsWithin, OthersWithin}
 use Rattle.iox2_store.specs.machine.Records.{Publisher, Subscriber}
 use Rattle.iox2_store.specs.machine.State.{State, Warnings, held, is_present}
 use Rattle.iox2_store.specs.machine.Releases.{is_connected, pruned, unborrowed, subscriber_pruned, released, freed_if_unused}
@@ -86,7 +86,7 @@ module _ {T U : Type 0} where
     pub shrinks : (p q : ℕ) → Shrinks (buffer_limit s.config) (s.config).subscriber_max_borrowed_samples (s.mailboxes p q) (boxes p q)
     pub borrowed : (p q : ℕ) → has_borrows (boxes p q) ≡ true
         → (y : Subscriber) × (subscribers q ≡ Some y) × ((contains y.expired p ≡ true) ⊎ LeadsTo y.ends p)
-    pub departed : (p q : ℕ) → s.publishers p ≡ None → has_data (boxes p q) ≡ true
+    pub departed : (p q : ℕ) → s.publishers p ≡ None → has_waiting (boxes p q) ≡ true
         → (y : Subscriber) × (subscribers q ≡ Some y) × (y.is_open ≡ true) × ((contains y.expired p ≡ true) ⊎ LeadsTo y.ends p)
 
   absent_still : (s : State T U) (boxes : ℕ → ℕ → Mailbox) (p q n : ℕ)
@@ -285,9 +285,9 @@ module _ {T U : Type 0} where
       at_each_mailbox s.mailboxes p q (with_released n (s.mailboxes p q)) (λ i j box. has_borrows box ≡ true → has_borrows (s.mailboxes i j) ≡ true) i j
       (has_borrows_before_release n (s.mailboxes p q)) (λ h. h)
 
-  released_data : (s : State T U) (p q n i j : ℕ) → has_data (mailboxes_after_release s p q n i j) ≡ true → has_data (s.mailboxes i j) ≡ true
+  released_data : (s : State T U) (p q n i j : ℕ) → has_waiting (mailboxes_after_release s p q n i j) ≡ true → has_waiting (s.mailboxes i j) ≡ true
   released_data s p q n i j =
-      at_each_mailbox s.mailboxes p q (with_released n (s.mailboxes p q)) (λ i j box. has_data box ≡ true → has_data (s.mailboxes i j) ≡ true) i j
+      at_each_mailbox s.mailboxes p q (with_released n (s.mailboxes p q)) (λ i j box. has_waiting box ≡ true → has_waiting (s.mailboxes i j) ≡ true) i j
       (λ h. h) (λ h. h)
 
   -- the mailboxes of other subscribers stay
@@ -329,7 +329,7 @@ module _ {T U : Type 0} where
             ap (option_map (pruned (unborrowed s p q n) q)) (ap s.subscribers (sym (eqb-true j q same)) ∙ old.1),
             old.2,
             pruned_knows (unborrowed s p q n) q i old.0 (ap (λ k. has_numbers (mailboxes_after_release s p q n i k)) (sym (eqb-true j q same))
-                ∙ has_numbers-data (mailboxes_after_release s p q n i j) h) old.3,
+                ∙ has_numbers-waiting (mailboxes_after_release s p q n i j) h) old.3,
           )
           | false ↦ λ _. old
         ] refl;

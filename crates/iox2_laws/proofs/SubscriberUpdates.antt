@@ -12,7 +12,7 @@ use Rattle.iox2_laws.proofs.Walks.{for_each_place_keeps}
 use Rattle.iox2_laws.specs.Laws.{Advances}
 use Rattle.iox2_store.specs.machine.Limits.{buffer_limit, expired_limit}
 use Rattle.iox2_store.specs.machine.Numbers.{put_at, contains}
-use Rattle.iox2_store.specs.machine.Mailbox.{Mailbox, has_numbers, has_borrows, has_data, waiting_dropped, IsWithin}
+use Rattle.iox2_store.specs.machine.Mailbox.{Mailbox, has_numbers, has_borrows, has_waiting, waiting_dropped, IsWithin}
 use Rattle.iox2_store.specs.machine.Records.{Subscriber, Handler, Environment}
 use Rattle.iox2_store.specs.machine.State.{State, has_sender_end}
 use Rattle.iox2_store.specs.machine.SubscriberUpdate.{ReceiverSide, ConnectAtPlace, DisconnectAtPlace, UpdateReceiverSide, receiver_side, with_receiver_side, UpdateSubscriber}
@@ -93,10 +93,10 @@ module _ {T U : Type 0} where
   }
 
   -- What waits in a mailbox of the side waited before.
-  waited_before : (s : State T U) (q : ℕ) (side : ReceiverSide) → ReceiverSideIsWellFormed s q side → (p : ℕ) → has_data (side.mailboxes p) ≡ true
-      → has_data (s.mailboxes p q) ≡ true
+  waited_before : (s : State T U) (q : ℕ) (side : ReceiverSide) → ReceiverSideIsWellFormed s q side → (p : ℕ) → has_waiting (side.mailboxes p) ≡ true
+      → has_waiting (s.mailboxes p q) ≡ true
   waited_before s q side b p h =
-      ⊎_elim (λ same. ap has_data (sym same) ∙ h) (λ dropped. absurd (true≢false (sym h ∙ ap has_data dropped.0))) (b.boxes p)
+      ⊎_elim (λ same. ap has_waiting (sym same) ∙ h) (λ dropped. absurd (true≢false (sym h ∙ ap has_waiting dropped.0))) (b.boxes p)
 
   updated_agrees : (s : State T U) → IsWellFormed s → (q : ℕ) (y : Subscriber) (side : ReceiverSide) → s.subscribers q ≡ Some y → ReceiverSideIsWellFormed s q side
       → ReceiversAgree s (put_at s.subscribers q (Some (subscriber_with y side))) (mailboxes_with s q side) side.warnings
@@ -117,7 +117,7 @@ module _ {T U : Type 0} where
         (old.0, put_at-other s.subscribers q (Some (subscriber_with y side)) j apart ∙ old.1, old.2));
     departed = λ i j gone.
         at_each (s.mailboxes i) q (side.mailboxes i)
-        (λ k m. has_data m ≡ true → (z : Subscriber) × (put_at s.subscribers q (Some (subscriber_with y side)) k ≡ Some z) × (z.is_open ≡ true) ×
+        (λ k m. has_waiting m ≡ true → (z : Subscriber) × (put_at s.subscribers q (Some (subscriber_with y side)) k ≡ Some z) × (z.is_open ≡ true) ×
         ((contains z.expired i ≡ true) ⊎ LeadsTo z.ends i)) j
         (λ _ h.
         let old : (z : Subscriber) × (s.subscribers q ≡ Some z) × (z.is_open ≡ true) × ((contains z.expired i ≡ true) ⊎ LeadsTo z.ends i) =

@@ -8,11 +8,11 @@ use Rattle.iox2_store.specs.machine.Numbers.{put_at, contains, without, last_n, 
 use Rattle.iox2_store.specs.machine.Places.{occupants}
 use Rattle.iox2_store.specs.machine.Mailbox.{Mailbox, has_room, waiting_count, with_appended_in, has_room_in}
 use Rattle.iox2_store.specs.machine.Records.{Loan, Publisher, Subscriber, BlockedSend, Handler, Environment}
-use Rattle.iox2_store.specs.machine.State.{State, receiving_buffer, channel_buffer, has_receiver_end}
+use Rattle.iox2_store.specs.machine.State.{State, receiving_buffer, channel_buffer, has_receiver_end, with_loan}
 use Rattle.iox2_store.specs.machine.Delivery.{PutResult, DeliveryEnd, Complete, Suspended, no_time, is_blocking, accepted_count, is_failed, PutIn, DeliverIn}
 use Rattle.iox2_store.specs.machine.Connections.{ForEachPlace}
 use Rattle.iox2_store.specs.machine.PublisherUpdate.{SenderSide, sender_side, history_for, UpdateSenderPlace, UpdatePublisher}
-use Rattle.iox2_store.specs.machine.Sends.{Send, Retry, GiveUp, Publish, DeliverAndConclude, ConcludeSend, SendResult, more_retries, with_mailboxes, published}
+use Rattle.iox2_store.specs.machine.Sends.{Send, SendToConnection, Retry, GiveUp, Publish, DeliverAndConclude, ConcludeSend, SendResult, more_retries, with_mailboxes, published}
 use Rattle.iox2_store.specs.machine.Waiting.{receives_from, waiting_from, waiting_for}
 use Rattle.iox2_store.specs.machine.WellFormed.{IsWellFormed}
 use Rattle.iox2_store.specs.declared.service_config.ServiceConfig.{ServiceConfig}
@@ -224,6 +224,16 @@ module _ {T U : Type 0} where
       → s.publishers p ≡ Some x → x.blocked ≡ Some b → GiveUp environment s p b s' result → (q : ℕ) → waiting_for s' q ≤ waiting_for s q + 1
   give_up_adds environment s p x b s' result w stands waits =
       goes_on_waits environment s p b.message b.channel 0 no_time (b.place + 1) (drop 1 b.ends) b.count b.has_failed s' result (once-behind 1 b.ends (remain_once s p x b w stands waits))
+
+  -- a send to one connection adds no more, and nothing at any other
+  pub send_to_connection_adds : (environment : Environment) (s : State T U) (n : ℕ) (l : Loan T U) (channel place : ℕ) (s' : State T U) (result : SendResult) → IsWellFormed s
+      → SendToConnection environment s n l channel place s' result → (q : ℕ) → waiting_for s' q ≤ waiting_for s q + 1
+  send_to_connection_adds environment s n l channel place s' result w h q =
+      by_option (waiting_for s' q ≤ waiting_for s q + 1) (s.publishers l.publisher) _ _ h
+      (λ _ k. let same : waiting_for s' q ≡ waiting_for s q = ap (λ (t : State T U). waiting_for t q) k.0 in omega arith)
+      (λ x here k.
+      goes_on_waits environment (with_loan s n None) l.publisher n channel 0 no_time place (take 1 (drop place x.ends)) 0 false s' result
+      (IsOnce-occupants (take 1 (drop place x.ends)) (injective_take 1 (drop place x.ends) (injective_drop place x.ends (w.publishers l.publisher x here).ends_apart))) k q)
 
 -- ---- which messages a send adds, where no history is kept
 

@@ -36,11 +36,11 @@ fn is_awaited(subscribers: &[Option<SubscriberState>], key: usize, connection: &
     }
 }
 
-// Whether some slot waits in a connection or is borrowed.
+// Whether some slot waits in a connection, in whatever channel, or is borrowed.
 fn holds_slots(connection: &Connection) -> bool
     ensures { result ≡ holds_slots connection.now }
 {
-    connection.has_data() || connection.has_borrowed()
+    connection.has_data() || connection.has_borrowed() || connection.has_other_data()
 }
 
 // Whether a connection of the publisher stands at a key.

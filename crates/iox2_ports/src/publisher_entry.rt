@@ -23,7 +23,7 @@ use crate::given_handlers::{box_in, keep_boxes, mark_of, reserve_for};
 use crate::segments::{Segment, SegmentOptions, add_segment, first_segment, room_for};
 use iox2_domain::{
     Boxes, DomainState, HandlerMark, PortAt, PortBoxes, PublisherOptions, PublisherState, Warnings,
-    free_place, make_all_due, put_at_place,
+    free_place, lists_wanted, make_all_due, put_at_place,
 };
 use iox2_store::{
     BackpressureAction, BackpressureFn, BackpressureHandler, ConnectionFailure, DegradationFn,
@@ -101,9 +101,9 @@ fn admit_publisher<T: Drop, U: Default + Drop>(
     let key = state.books.vacant_key();
     let room = room_for(&state.config, slots, given.initial_max_slice_len);
     let in_lists = !state.config.is_single_valued();
-    let lists_cells = state.config.lists_cells;
+    let lists = lists_wanted(&state.config, given.max_loaned_samples);
     let node = UniqueNodeId::new(state.config.node_id);
-    let Ok(segment) = Segment::new(state.alloc, node, id, slots, room, in_lists, lists_cells) else {
+    let Ok(segment) = Segment::new(state.alloc, node, id, slots, room, in_lists, lists) else {
         return Err(PublisherCreateError::UnableToCreateDataSegment);
     };
     let entering = PublisherState::new(

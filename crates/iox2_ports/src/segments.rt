@@ -66,7 +66,8 @@ pub(crate) struct Segment<T, U> {
 
 impl<T: Drop, U: Default + Drop> Segment<T, U> {
     /// So many slots of a publisher of this node without holders, each with room for so many elements, which lie
-    /// in lists where they are to be handed out as slices, with room for lists of cells where those are to be.
+    /// in lists where they are to be handed out as slices. Their cells can then be handed out for so many loans at
+    /// a time.
     pub(crate) fn new(
         alloc: Global,
         node: UniqueNodeId,
@@ -74,12 +75,12 @@ impl<T: Drop, U: Default + Drop> Segment<T, U> {
         slots: usize,
         room: usize,
         in_lists: bool,
-        lists_cells: bool,
+        lists: usize,
     ) -> Result<Self, AllocError>
-        ensures { IfOk result (λ segment. IsNewSegment segment.book segment.contents node publisher slots room in_lists lists_cells) }
+        ensures { IfOk result (λ segment. IsNewSegment segment.book segment.contents node publisher slots room in_lists lists) }
     {
         let book = SlotBook::new(alloc, node, publisher, slots)?;
-        let contents = Contents::new(alloc, slots, room, in_lists, lists_cells)?;
+        let contents = Contents::new(alloc, slots, room, in_lists, lists)?;
         Ok(Segment { book, contents })
     }
 }

@@ -222,12 +222,12 @@ module _ {T U : Type 0} where
 
   -- ---- blocked sends
 
-  goes-on-ends : (environment : Environment) (s : State T U) (p n channel retries : ℕ) (elapsed : Duration) (place : ℕ) (ends : List (Option ℕ)) (count : ℕ) (has_failed : Bool) (s' : State T U)
+  pub goes-on-ends : (environment : Environment) (s : State T U) (p n channel retries : ℕ) (elapsed : Duration) (place : ℕ) (ends : List (Option ℕ)) (count : ℕ) (has_failed : Bool) (s' : State T U)
       (result : SendResult) → DeliverAndConclude environment s p n channel retries elapsed place ends count has_failed s' result → EndsStay s s'
   goes-on-ends environment s p n channel retries elapsed place ends count has_failed s' result h =
       by_option (EndsStay s s') (s.publishers p) _ _ h (λ _ v. absurd v) (λ x _ k. concluded-ends s p n k.1 k.0 s' result k.3)
 
-  goes-on-channels : (environment : Environment) (s : State T U) (p n channel retries : ℕ) (elapsed : Duration) (place : ℕ) (ends : List (Option ℕ)) (count : ℕ) (has_failed : Bool) (s' : State T U)
+  pub goes-on-channels : (environment : Environment) (s : State T U) (p n channel retries : ℕ) (elapsed : Duration) (place : ℕ) (ends : List (Option ℕ)) (count : ℕ) (has_failed : Bool) (s' : State T U)
       (result : SendResult) → DeliverAndConclude environment s p n channel retries elapsed place ends count has_failed s' result → s'.channels ≡ s.channels
   goes-on-channels environment s p n channel retries elapsed place ends count has_failed s' result h =
       by_option (s'.channels ≡ s.channels) (s.publishers p) _ _ h (λ _ v. absurd v) (λ x _ k. concluded-channels s p n k.1 k.0 s' result k.3)

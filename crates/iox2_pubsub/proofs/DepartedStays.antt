@@ -69,7 +69,7 @@ module _ {T U : Type 0} where
   departed-less s s' stay same q =
       subst (λ (f : ℕ → Option Subscriber). option_map_or (departed_of s') (f q) 0 ≤ departed_at s q) (sym same) (record-less s s' stay (s.subscribers q))
 
-  ports-room : (s s' : State T U) → s'.config ≡ s.config → PublishersStay s s' → s'.subscribers ≡ s.subscribers → RoomStays s s'
+  pub ports-room : (s s' : State T U) → s'.config ≡ s.config → PublishersStay s s' → s'.subscribers ≡ s.subscribers → RoomStays s s'
   ports-room s s' config stay same = room-stays s s' config (departed-less s s' stay same)
 
   publishers-stay : (s s' : State T U) → PortsStay s s' → PublishersStay s s'

@@ -9,7 +9,7 @@ use Rattle.std.proofs.lemmas.Option.{none-some, same_Some}
 use Rattle.iox2_store.specs.machine.Limits.{expired_limit}
 use Rattle.iox2_store.specs.machine.Numbers.{put_at, contains, without, is_nil, IsOnce}
 use Rattle.iox2_store.specs.machine.Places.{occupant, occupants, is_port, set_place}
-use Rattle.iox2_store.specs.machine.Mailbox.{Mailbox, has_borrows, has_data, has_numbers}
+use Rattle.iox2_store.specs.machine.Mailbox.{Mailbox, has_borrows, has_data, has_numbers, has_waiting}
 use Rattle.iox2_store.specs.machine.Records.{Publisher, Subscriber, Handler, Environment}
 use Rattle.iox2_store.specs.machine.State.{State, connected_publishers, has_sender_end}
 use Rattle.iox2_store.specs.machine.Connections.{expired_buffer_full}
@@ -19,7 +19,7 @@ use Rattle.iox2_store.specs.machine.WellFormed.{LeadsTo, IsWellFormed}
 use Rattle.iox2_store.specs.declared.degradation.DegradationAction.{DegradationAction}
 use Rattle.iox2_store.specs.declared.errors.ConnectionFailure.{ConnectionFailure}
 use Rattle.iox2_laws.proofs.Cases.{by_option, by_bool}
-use Rattle.iox2_laws.proofs.MailboxLemmas.{has_numbers-data}
+use Rattle.iox2_laws.proofs.MailboxLemmas.{has_numbers-data, has_waiting-data}
 use Rattle.iox2_laws.proofs.NumberLemmas.{contains_left, contains_right, length-without}
 use Rattle.iox2_laws.proofs.PlaceLemmas.{contains-occupants, occupied_within}
 use Rattle.iox2_laws.proofs.Puts.{put_at-same, put_at-other}
@@ -251,7 +251,7 @@ module _ {T U : Type 0} (environment : Environment) (s : State T U) (w : IsWellF
       by : (o : Option Publisher) → s.publishers p ≡ o → (side.is_due ≡ true) ⊎ (contains (connected_publishers after) p ≡ true)
       by None gone = inr (⊎_elim
           (λ expired. contains_left side.expired (occupants side.ends) p expired) end-known
-          (reached.0.knows p (inr (gone, ap has_data (same-box p) ∙ waits-there))))
+          (reached.0.knows p (inr (gone, ap has_waiting (same-box p) ∙ has_waiting-data (s.mailboxes p q) waits-there))))
       by (Some x) stands =
           let at : occupant s.publisher_places x.place ≡ Some p = (w.publisher_places).stands p x.place (ap (option_map {T = Publisher} {U = ℕ} (λ v. v.place)) stands) in
           ⊎_elim (λ is. inl is) (λ end. inr (end-known (x.place, end)))

@@ -236,9 +236,9 @@ module _ {T U : Type 0} (f : Fields T U) (sound : IsDomain f) (p n key slot : �
     pub cells-lends : (cells : List (Option T)) → IsLent f (with_content f key slot (with_cells_in cells)) n at.loan (cells_changed cells)
     cells-lends cells = cells-lent f sound p n key slot at has.0 has.1 (is-unwritten f sound p n key slot at out) cells
 
-    pub cells-there : is_single_valued f.config ≡ false → (f.config).lists_cells ≡ true → HasContentIn f key slot (λ content. content.lists_cells ≡ true)
+    pub cells-there : is_single_valued f.config ≡ false → (f.config).lists_cells ≡ true → HasContentIn f key slot (λ content. 0 < content.lists)
     cells-there several lists =
-        (has.0, has.1, some-at f sound p n key slot at has.0 has.1 (λ content. content.lists_cells ≡ true) (cells-listed f sound p n key slot at has.0 has.1 several lists))
+        (has.0, has.1, some-at f sound p n key slot at has.0 has.1 (λ content. 0 < content.lists) (cells-listed f sound p n key slot at has.0 has.1 several lists))
 
     pub cells-known : (cells : List (Option T)) → cells_at (contents_at f.contents key) slot ≡ Some cells → HasCells (state_of (kept_of f)) n cells
     cells-known cells known =

@@ -51,6 +51,7 @@ pub mod ServedLists
 pub mod WaitingShown
 pub mod UpToDateShown
 pub mod KeptReceives
+pub mod ConnectionSendShown
 pub mod PublisherWaits
 pub mod CopiesServe
 pub mod SubscribersMade

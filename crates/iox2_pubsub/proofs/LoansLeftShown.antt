@@ -11,7 +11,8 @@ use Rattle.iox2_store.specs.machine.PublisherUpdate.{UpdatePublisher}
 use Rattle.iox2_store.specs.machine.Receives.{ReceiveResult, Receive}
 use Rattle.iox2_store.specs.machine.Records.{Environment, Loan, BlockedSend, Publisher as MachinePublisher, Subscriber as MachineSubscriber, PublisherSettings, SubscriberSettings}
 use Rattle.iox2_store.specs.machine.Releases.{released}
-use Rattle.iox2_store.specs.machine.Sends.{SendResult, Blocked_send, Delivered_to, Send_error, Send, Retry, GiveUp}
+use Rattle.iox2_store.specs.machine.Sends.{SendToConnection, SendResult, Blocked_send, Delivered_to, Send_error, Send, Retry, GiveUp}
+use Rattle.iox2_laws.proofs.ConnectionSendsLeave.{send_to_connection_blocked_kept, send_to_connection_ends}
 use Rattle.iox2_store.specs.machine.State.{State, Messages, with_loan, fresh, no_messages}
 use Rattle.iox2_store.specs.machine.SubscriberUpdate.{UpdateSubscriber}
 use Rattle.iox2_store.specs.declared.errors.ConnectionFailure.{ConnectionFailure}
@@ -259,6 +260,18 @@ module _ {T U F G : Type 0} (old new : Kept T U F G) (m m' : Messages T U) (s s'
   pub send-gives : (environment : Environment) (n : ℕ) (l : Loan T U) → s.loans n ≡ Some l → (p : ℕ) → l.publisher ≡ p → (result : SendResult) → (result ≡ Blocked_send → ⊥)
       → Send environment s n l s' result → HasOneMoreLeft p old new
   send-gives environment n l out p its result free h = ended-gives n l out p its (send_ends environment s n l s' result free h)
+
+  pub send-to-left : (environment : Environment) (n : ℕ) (l : Loan T U) → s.loans n ≡ Some l → (p : ℕ) → l.publisher ≡ p → (channel place : ℕ) (result : SendResult)
+      → SendToConnection environment s n l channel place s' result → LoansLeftStay old new
+  send-to-left environment n l out p its channel place Blocked_send h = all-left (send_to_connection_blocked_kept environment s n l channel place s' Blocked_send h refl)
+  send-to-left environment n l out p its channel place (Delivered_to count) h =
+      ended-left n l out p its (send_to_connection_ends environment s n l channel place s' (Delivered_to count) h (λ e. let clash : Delivered_to count ≡ Blocked_send = e in cc))
+  send-to-left environment n l out p its channel place (Send_error error) h =
+      ended-left n l out p its (send_to_connection_ends environment s n l channel place s' (Send_error error) h (λ e. let clash : Send_error error ≡ Blocked_send = e in cc))
+
+  pub send-to-gives : (environment : Environment) (n : ℕ) (l : Loan T U) → s.loans n ≡ Some l → (p : ℕ) → l.publisher ≡ p → (channel place : ℕ) (result : SendResult) → (result ≡ Blocked_send → ⊥)
+      → SendToConnection environment s n l channel place s' result → HasOneMoreLeft p old new
+  send-to-gives environment n l out p its channel place result free h = ended-gives n l out p its (send_to_connection_ends environment s n l channel place s' result h free)
 
   pub discard-left : (n : ℕ) (l : Loan T U) → s.loans n ≡ Some l → s' ≡ loan_discarded s n l → LoansLeftStay old new
   discard-left n l out is = ended-left n l out l.publisher refl (subst (LoanEnds l.publisher n s) (sym is) (discarded_ends s n l))

@@ -37,7 +37,7 @@ module _ (environment : Environment) (c : ServiceConfig) (p : ℕ) (strategy : B
   end-passes retries elapsed (Some q) boxes result boxes' h = put-passes q retries elapsed (buffers q) (boxes q) result h.0 h.1
 
   -- a delivery that had not failed reaches all receivers, and fails at none
-  delivery-ends : (retries : ℕ) (elapsed : Duration) (place : ℕ) (ends : List (Option ℕ)) (count : ℕ) (has_failed : Bool) (boxes : ℕ → Mailbox) (how : DeliveryEnd) (boxes' : ℕ → Mailbox)
+  pub delivery-ends : (retries : ℕ) (elapsed : Duration) (place : ℕ) (ends : List (Option ℕ)) (count : ℕ) (has_failed : Bool) (boxes : ℕ → Mailbox) (how : DeliveryEnd) (boxes' : ℕ → Mailbox)
       → has_failed ≡ false → DeliverIn environment c p strategy handler buffers n channel retries elapsed place ends count has_failed boxes how boxes' → (took : ℕ) × (how ≡ Complete took false)
   delivery-ends retries elapsed place [] count has_failed boxes how boxes' so_far h = (count, h.0 ∙ ap (Complete count) so_far)
   delivery-ends retries elapsed place (end ∷ rest) count has_failed boxes how boxes' so_far h =
@@ -51,11 +51,11 @@ module _ (environment : Environment) (c : ServiceConfig) (p : ℕ) (strategy : B
       neither false b e e' = e'
 
 -- Neither did the send wait, nor did a handler fail it.
-abbrev IsUnhindered : SendResult → Type 0
+abbrev pub IsUnhindered : SendResult → Type 0
 IsUnhindered result = (result ≡ Blocked_send → ⊥) × (result ≡ Send_error UnableToDeliver → ⊥)
 
 module _ {T U : Type 0} (environment : Environment) where
-  concludes-unhindered : (s : State T U) (p n : ℕ) (how : DeliveryEnd) (s' : State T U) (result : SendResult) → (took : ℕ) → how ≡ Complete took false → ConcludeSend s p n how s' result → IsUnhindered result
+  pub concludes-unhindered : (s : State T U) (p n : ℕ) (how : DeliveryEnd) (s' : State T U) (result : SendResult) → (took : ℕ) → how ≡ Complete took false → ConcludeSend s p n how s' result → IsUnhindered result
   concludes-unhindered s p n how s' result took is h =
       let done : result ≡ Delivered_to took = (subst (λ (d : DeliveryEnd). ConcludeSend s p n d s' result) is h).1 in (
         λ no. absurd (let clash : Delivered_to took ≡ Blocked_send = sym done ∙ no in cc),

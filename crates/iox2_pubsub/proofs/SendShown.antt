@@ -1,5 +1,5 @@
 -- A send of a loan, seen from outside.
-use Rattle.std.proofs.Common.{◌≡◌, ◌≢◌, ◌⊎◌, ℕ, ◌<◌, eqb, refl, ap, sym, subst, ◌∙◌, inl, inr, arith, true, false, Bool}
+use Rattle.std.proofs.Common.{◌≡◌, ◌≢◌, ◌⊎◌, ℕ, ◌<◌, ◌≤◌, eqb, refl, ap, sym, subst, ◌∙◌, inl, inr, arith, true, false, Bool}
 use Rattle.std.proofs.lemmas.Bool.{eqb-true, cases_eq, ne_eqb}
 use Rattle.std.specs.declared.option.Option.{Option}
 use Rattle.std.specs.declared.option.Option.TheVariants.{None, Some}
@@ -30,10 +30,12 @@ use Rattle.iox2_pubsub.specs.declared.publisher.Publisher.{Publisher as Handle}
 use Rattle.iox2_pubsub.specs.declared.send_outcome.SendOutcome.TheVariants.{Delivered, Blocked}
 use Rattle.iox2_store.specs.machine.State.{State, Messages, channel_buffer}
 use Rattle.iox2_laws.proofs.Puts.{put_at-same, put_at-other}
+use Rattle.iox2_laws.specs.Laws.{Advances}
 use Rattle.iox2_laws.proofs.SendLaws.{send_advances}
 use Rattle.iox2_domain.specs.Boxes.{DomainBoxes}
 use Rattle.iox2_domain.specs.Fields.{Fields, kept_of, keeping}
-use Rattle.iox2_domain.specs.Kept.{state_of}
+use Rattle.iox2_domain.specs.Invariant.{IsDomain}
+use Rattle.iox2_domain.specs.Kept.{state_of, entries_of}
 use Rattle.iox2_domain.specs.SentLoans.{SendsLoan}
 use Rattle.iox2_deliveries.specs.SendEnds.{IsKept, IsNotLost, end_result}
 use Rattle.iox2_deliveries.specs.declared.send_end.SendEnd.{SendEnd}
@@ -43,19 +45,23 @@ use Rattle.std.specs.declared.result.Result.TheVariants.{Ok, Err}
 use Rattle.iox2_pubsub.specs.SendCalls.{FailsCopy, FailsSend, IsDelivered, IsOfHandler, IfBlocked, messages_after, result_of_send}
 use Rattle.iox2_pubsub.specs.declared.send_outcome.SendOutcome.{SendOutcome}
 
-module _ {T U : Type 0} (environment : Environment) (f g : Fields T U) (n : ℕ) (result : SendResult) (sends : SendsLoan environment f g n result) (m : Messages T U) (s : State T U) (l : Loan T U)
+-- What a send of the loan n, in whichever way, leaves of the domain.
+pub record LeavesSent {T U : Type 0} (f g : Fields T U) (n : ℕ) (result : SendResult) : Type 0 where
+  pub loan : Loan T U
+  pub out : (state_of (kept_of f)).loans n ≡ Some loan
+  pub agrees : IsDomain g
+  pub advances : Advances (state_of (kept_of f)) (state_of (kept_of g))
+  pub loans : (state_of (kept_of g)).loans ≡ put_at (state_of (kept_of f)).loans n None
+  pub entries : (m : ℕ) (entry : Entry T U) → entries_of (kept_of g) m ≡ Some entry → ((m ≡ n) × (entry ≡ entry_of loan)) ⊎ (entries_of (kept_of f) m ≡ Some entry)
+  pub lost : (error : SendError) → error ≢ UnableToDeliver → result ≡ Send_error error → (m : ℕ) (entry : Entry T U) → entries_of (kept_of g) m ≡ Some entry → entries_of (kept_of f) m ≡ Some entry
+
+module _ {T U : Type 0} (f g : Fields T U) (n : ℕ) (result : SendResult) (sends : LeavesSent f g n result) (m : Messages T U) (s : State T U) (l : Loan T U)
     (shown : Shows (kept_of f) m s) (out : s.loans n ≡ Some l) where
   was-out : (state_of (kept_of f)).loans n ≡ Some l
   was-out = ap (λ (t : State T U). t.loans n) (sym shown.state) ∙ out
 
-  loan-is : sends.loan ≡ l
+  pub loan-is : sends.loan ≡ l
   loan-is = let both : Some sends.loan ≡ Some l = sym sends.out ∙ was-out in cc
-
-  -- the machine's step
-  pub machine-sends : Send environment s n l (state_of (kept_of g)) result
-  machine-sends =
-      subst (λ (t : State T U). Send environment t n l (state_of (kept_of g)) result) (sym shown.state)
-      (subst (λ (k : Loan T U). Send environment (state_of (kept_of f)) n k (state_of (kept_of g)) result) loan-is sends.sends)
 
   abbrev messages : Messages T U
   messages = put_at m n (Some (entry_of l))
@@ -67,14 +73,14 @@ module _ {T U : Type 0} (environment : Environment) (f g : Fields T U) (n : ℕ)
     by false e = refl
 
   -- what the domain shows after an error, where no handler failed the send
-  pub lost-shown : (error : SendError) → error ≢ UnableToDeliver → result ≡ Send_error error → Shows (kept_of g) m (state_of (kept_of g))
+  lost-shown : (error : SendError) → error ≢ UnableToDeliver → result ≡ Send_error error → Shows (kept_of g) m (state_of (kept_of g))
   lost-shown error other failed = record {
     state = refl;
     well_formed = sends.agrees.well_formed;
     entries = λ k entry e. shown.entries k entry (sends.lost error other failed k entry e);
     complete = sends.agrees.entries;
     below = λ k le.
-        let rises = (send_advances environment s n l (state_of (kept_of g)) result machine-sends).next_message in
+        let rises = (subst (λ (t : State T U). Advances t (state_of (kept_of g))) (sym shown.state) sends.advances).next_message in
         shown.below k (omega arith);
     unsent = λ k loan e. still k loan e;
   } where
@@ -86,7 +92,7 @@ module _ {T U : Type 0} (environment : Environment) (f g : Fields T U) (n : ℕ)
     ]
 
   -- what the domain shows afterwards
-  pub send-shown : Shows (kept_of g) messages (state_of (kept_of g))
+  send-shown : Shows (kept_of g) messages (state_of (kept_of g))
   send-shown = record {
     state = refl;
     well_formed = sends.agrees.well_formed;
@@ -96,7 +102,7 @@ module _ {T U : Type 0} (environment : Environment) (f g : Fields T U) (n : ℕ)
     ];
     complete = sends.agrees.entries;
     below = λ k le.
-        let rises = (send_advances environment s n l (state_of (kept_of g)) result machine-sends).next_message in
+        let rises = (subst (λ (t : State T U). Advances t (state_of (kept_of g))) (sym shown.state) sends.advances).next_message in
         let low : n < s.next_message = (shown.well_formed.loans n l out).below in
         others k (λ same. absurd (omega arith)) ∙ shown.below k (omega arith);
     unsent = λ k loan e. elim (cases_eq k n) [
@@ -116,12 +122,35 @@ module _ {T U : Type 0} (environment : Environment) (f g : Fields T U) (n : ℕ)
         by false e = refl
 
   -- either way
-  pub sent-shown : (outcome : Result SendOutcome SendError) → result ≡ result_of_send outcome → Shows (kept_of g) (messages_after m n l outcome) (state_of (kept_of g))
-  sent-shown (Ok delivered) is = send-shown
-  sent-shown (Err error) is = elim (after-error m n l error) [
+  pub leaves-shown : (outcome : Result SendOutcome SendError) → result ≡ result_of_send outcome → Shows (kept_of g) (messages_after m n l outcome) (state_of (kept_of g))
+  leaves-shown (Ok delivered) is = send-shown
+  leaves-shown (Err error) is = elim (after-error m n l error) [
     | inl sent ↦ subst (λ (k : Messages T U). Shows (kept_of g) k (state_of (kept_of g))) (sym sent.1) send-shown
     | inr lost ↦ subst (λ (k : Messages T U). Shows (kept_of g) k (state_of (kept_of g))) (sym lost.1) (lost-shown error lost.0 is)
   ]
+
+module _ {T U : Type 0} (environment : Environment) (f g : Fields T U) (n : ℕ) (result : SendResult) (sends : SendsLoan environment f g n result) (m : Messages T U) (s : State T U) (l : Loan T U)
+    (shown : Shows (kept_of f) m s) (out : s.loans n ≡ Some l) where
+  leaves-sent : LeavesSent f g n result
+  leaves-sent = record {
+    loan = sends.loan;
+    out = sends.out;
+    agrees = sends.agrees;
+    advances = send_advances environment (state_of (kept_of f)) n sends.loan (state_of (kept_of g)) result sends.sends;
+    loans = sends.loans;
+    entries = sends.entries;
+    lost = sends.lost;
+  }
+
+  -- the machine's step
+  pub machine-sends : Send environment s n l (state_of (kept_of g)) result
+  machine-sends =
+      subst (λ (t : State T U). Send environment t n l (state_of (kept_of g)) result) (sym shown.state)
+      (subst (λ (k : Loan T U). Send environment (state_of (kept_of f)) n k (state_of (kept_of g)) result) (loan-is f g n result leaves-sent m s l shown out) sends.sends)
+
+  -- either way
+  pub sent-shown : (outcome : Result SendOutcome SendError) → result ≡ result_of_send outcome → Shows (kept_of g) (messages_after m n l outcome) (state_of (kept_of g))
+  sent-shown = leaves-shown f g n result leaves-sent m s l shown out
 
 -- a send that hadn't failed succeeds
 pub only-ok : (end : SendEnd) → IsKept end → (end_result end ≡ Send_error UnableToDeliver → ⊥) → (outcome : Result SendOutcome SendError) → result_of_send outcome ≡ end_result end
@@ -212,7 +241,7 @@ never-blocked {T} {U} environment s n l s' low past h =
     ends mid x past whole (Complete count true) boxes concludes delivers = absurd (let no : Blocked_send ≡ Send_error UnableToDeliver = concludes.1 in cc)
     ends mid x past whole (Complete count false) boxes concludes delivers = absurd (let no : Blocked_send ≡ Delivered_to count = concludes.1 in cc)
     ends mid x past whole (Suspended b) boxes concludes delivers =
-        never-suspended environment mid.config l.publisher x.backpressure_strategy x.backpressure_handler (channel_buffer mid l.publisher 0) n past 0 no_time 0 whole 0 false (mid.mailboxes l.publisher)
+        never-suspended environment mid.config l.publisher x.backpressure_strategy x.backpressure_handler (channel_buffer mid l.publisher 0) n 0 past 0 no_time 0 whole 0 false (mid.mailboxes l.publisher)
         (Suspended b) boxes delivers b refl
 
 -- so its message reaches all receivers

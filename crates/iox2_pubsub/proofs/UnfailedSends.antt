@@ -65,7 +65,7 @@ module _ {T U : Type 0} where
   HasNotFailed s p = (x : Publisher) (b : BlockedSend) → s.publishers p ≡ Some x → x.blocked ≡ Some b → b.has_failed ≡ false
 
   -- After a step with this result no handler has failed the send.
-  abbrev IsUnfailed : State T U → (p : ℕ) → SendResult → Type 0
+  abbrev pub IsUnfailed : State T U → (p : ℕ) → SendResult → Type 0
   IsUnfailed s p result = HasNotFailed s p × (result ≡ Send_error UnableToDeliver → ⊥)
 
   concluded-unfailed : (s : State T U) (p n : ℕ) (x : Publisher) → s.publishers p ≡ Some x → (how : DeliveryEnd) (s' : State T U) (result : SendResult) → FailedAt how ≡ false
@@ -88,7 +88,7 @@ module _ {T U : Type 0} where
         λ failed. absurd (let clash : Blocked_send ≡ Send_error UnableToDeliver = sym h.1 ∙ failed in cc),
       )
 
-  delivered-unfailed : (environment : Environment) (s : State T U) (p n channel retries : ℕ) (elapsed : Duration) (place : ℕ) (ends : List (Option ℕ)) (count : ℕ) (has_failed : Bool) (s' : State T U) (result : SendResult)
+  pub delivered-unfailed : (environment : Environment) (s : State T U) (p n channel retries : ℕ) (elapsed : Duration) (place : ℕ) (ends : List (Option ℕ)) (count : ℕ) (has_failed : Bool) (s' : State T U) (result : SendResult)
       → IsMild s p → has_failed ≡ false → DeliverAndConclude environment s p n channel retries elapsed place ends count has_failed s' result → IsUnfailed s' p result
   delivered-unfailed environment s p n channel retries elapsed place ends count has_failed s' result mild none h =
       by_option (IsUnfailed s' p result) (s.publishers p) _ _ h (λ _ v. absurd v) (λ x present h.

@@ -63,7 +63,7 @@ module _ {T U F G : Type 0} (old new : Kept T U F G) (m m' : Messages T U) (s s'
   pub rooms-stay : MachineRoomStays s s' → RoomStays old new
   rooms-stay rooms subscriber closes has = room new m' s' shown' subscriber closes (rooms subscriber.id closes (room-in old m s shown subscriber closes has))
 
-  stay : UpdatedStay s s' → ConnectsStay s s' → MachineRoomStays s s' → UpToDateStay old new
+  pub stay : UpdatedStay s s' → ConnectsStay s s' → MachineRoomStays s s' → UpToDateStay old new
   stay each connects rooms = record {
     room = rooms-stay rooms;
     subscribers = λ subscriber is. up-to-date new m' s' shown' subscriber (each subscriber.id (up-to-date-in old m s shown subscriber is));

@@ -15,7 +15,7 @@ use Rattle.iox2_store.specs.machine.Receives.{ReceiveResult, Got_sample, No_samp
 use Rattle.std.specs.declared.time.Duration.{Duration}
 use Rattle.iox2_store.specs.machine.Records.{Entry, Environment, Loan, BlockedSend, PublisherSettings, SubscriberSettings, Publisher as MachinePublisher, Subscriber as MachineSubscriber}
 use Rattle.iox2_store.specs.machine.Releases.{released}
-use Rattle.iox2_store.specs.machine.Sends.{SendResult, Send, Retry, GiveUp}
+use Rattle.iox2_store.specs.machine.Sends.{SendToConnection, SendResult, Send, Retry, GiveUp}
 use Rattle.iox2_store.specs.machine.State.{State, Messages, with_loan}
 use Rattle.iox2_store.specs.machine.SubscriberUpdate.{UpdateSubscriber}
 use Rattle.iox2_store.specs.machine.Waiting.{waiting_from, waiting_for}
@@ -36,7 +36,7 @@ use Rattle.iox2_laws.proofs.WaitingLoans.{grant_loan_waits, loan_set_waits, loan
 use Rattle.iox2_laws.proofs.WaitingReceives.{UpdateWaits, update_subscriber_waits, update_subscriber_counts, update_subscriber_others, receive_fewer, receive_none, receive_no_more, receive_waited, receive_others, has_samples_says, released_waits}
 use Rattle.iox2_laws.proofs.WaitingPorts.{NewWaits, create_subscriber_waits}
 use Rattle.iox2_laws.proofs.WaitingPublishers.{create_publisher_waits}
-use Rattle.iox2_laws.proofs.WaitingSends.{update_publisher_waits, send_waits, send_among, retry_adds, give_up_adds}
+use Rattle.iox2_laws.proofs.WaitingSends.{update_publisher_waits, send_waits, send_to_connection_adds, send_among, retry_adds, give_up_adds}
 use Rattle.iox2_pubsub.specs.Live.{IsLiveSubscriber, AddAtMost, AreAllSlices, OthersWait, TakesOldest, WaitingStays, payloads, payloads_from, waiting, sample_key, subscriber_key, IsSubscriberKey}
 use Rattle.iox2_pubsub.specs.Slices.{HasValues, SampleHasValues}
 use Rattle.iox2_pubsub.specs.Payloads.{all_below, payload_of, payloads_for}
@@ -228,6 +228,10 @@ module _ {T U F G : Type 0} (old new : Kept T U F G) (m m' : Messages T U) (s s'
   send-adds environment n l result h =
       subst (λ (t : State T U). AddAtMost ((t.config).history_size + 1) old new) shown.state
       (adds ((s.config).history_size + 1) (send_waits environment s n l s' result shown.well_formed shown'.well_formed h))
+
+  -- a loan is sent to one connection
+  pub send-to-adds : (environment : Environment) (n : ℕ) (l : Loan T U) (channel place : ℕ) (result : SendResult) → SendToConnection environment s n l channel place s' result → AddAtMost 1 old new
+  send-to-adds environment n l channel place result h = adds 1 (send_to_connection_adds environment s n l channel place s' result shown.well_formed h)
 
   -- a blocked send goes on
   pub retry-adds : (environment : Environment) (p : ℕ) (x : MachinePublisher) (b : BlockedSend) (elapsed : Duration) (result : SendResult) → s.publishers p ≡ Some x → x.blocked ≡ Some b

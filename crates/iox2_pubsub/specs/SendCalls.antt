@@ -6,7 +6,7 @@ use Rattle.std.specs.declared.result.Result.TheVariants.{Ok, Err}
 use Rattle.iox2_store.specs.machine.Loans.{entry_of}
 use Rattle.iox2_store.specs.machine.Numbers.{put_at}
 use Rattle.iox2_store.specs.machine.Records.{Environment, Loan}
-use Rattle.iox2_store.specs.machine.Sends.{SendResult, Delivered_to, Blocked_send, Send_error, Send}
+use Rattle.iox2_store.specs.machine.Sends.{SendResult, Delivered_to, Blocked_send, Send_error, Send, SendToConnection}
 use Rattle.iox2_store.specs.machine.State.{State, Messages}
 use Rattle.iox2_store.specs.declared.errors.ConnectionFailure.{ConnectionFailure}
 use Rattle.iox2_store.specs.declared.errors.SendError.{SendError}
@@ -70,11 +70,20 @@ messages_after m n l (Err error) = m
 abbrev pub IsOfHandler : SendError → Type 0
 IsOfHandler error = (error ≡ UnableToDeliver) ⊎ ((failure : ConnectionFailure) × (error ≡ ConnectionError failure))
 
+-- The loan n was sent into the channel of the connection at that place where handlers answer so, with this outcome or error.
+abbrev pub SendsToConnection : {T U : Type 0} → Environment → State T U → (n : ℕ) → Loan T U → (channel connection : ℕ) → Result SendOutcome SendError → State T U → Type 0
+SendsToConnection environment s n l channel connection result s' = SendToConnection environment s n l channel connection s' (result_of_send result)
+
 module _ {T U F G : Type 0} (domain : Kept T U F G) where
   -- Why a send of the loan with this key fails: its publisher is gone, or a handler of it fails the send.
   unfoldable pub FailsSend : Key → SendError → Type 0
   FailsSend key error =
       ((error ≡ ConnectionBrokenSinceSenderNoLongerExists) × (HasLender domain key → ⊥)) ⊎ (IsOfHandler error × (NeverFails domain key.port → ⊥))
+
+  -- Why a send of the loan with this key to one connection fails: its publisher is gone, or a handler of it fails the send.
+  unfoldable pub FailsDelivery : Key → SendError → Type 0
+  FailsDelivery key error =
+      ((error ≡ ConnectionBrokenSinceSenderNoLongerExists) × (HasLender domain key → ⊥)) ⊎ ((error ≡ UnableToDeliver) × (NeverFails domain key.port → ⊥))
 
   -- Why the publisher's copy isn't sent: it isn't lent, for this reason, or a handler fails its send.
   unfoldable pub FailsCopy : Publisher → SendError → Type 0

@@ -1,6 +1,7 @@
 //! A loan that is written.
 ghost use Rattle.std.specs.Prelude.{◌≡◌};
 
+mod connection;
 mod discard;
 mod payload_mut;
 pub(crate) mod send;

@@ -6,7 +6,7 @@ use crate::fixtures::{
     assert_live, assert_ready, assert_sliced, lend_slice, receive_slice, send_slice,
     slice_publisher, slice_subscriber,
 };
-use iox2_fixtures::settings;
+use iox2_fixtures::{receiver_count, settings};
 use iox2_pubsub::slice::{Publisher, Subscriber};
 use iox2_pubsub::{Domain, UpdateConnections};
 use iox2_store::{ServiceConfig, TypeVariant};
@@ -42,6 +42,25 @@ fn sent(
     let loan = lend_slice(rt, domain, publisher, 1);
     let message = loan.write_from_fn(domain, |_| value);
     send_slice(rt, domain, message)
+}
+
+// Sends a slice with this value into a channel of a connection. Returns how many subscribers took it.
+fn sent_to(
+    rt: &impl Abort,
+    domain: &mut Domain<u64, u64>,
+    publisher: &Publisher,
+    value: u64,
+    channel: usize,
+    connection: usize,
+) -> usize {
+    assert_has_channel(rt, domain, channel);
+    let loan = lend_slice(rt, domain, publisher, 1);
+    let message = loan.write_from_fn(domain, |_| value);
+    assert!(rt; !message.is_blocked(domain));
+    let outcome = message
+        .deliver_offset_to_connection(domain, channel, connection)
+        .expect(rt, "an outcome");
+    receiver_count(outcome).expect(rt, "a send that isn't blocked")
 }
 
 // Whether no slice waits.
@@ -230,4 +249,38 @@ fn a_further_channel_of_slices_has_a_state_of_its_own(rt: HostRuntime) {
     assert!(rt; hinted == [[true, false], [true, true]]);
     assert!(rt; closed == [true, false]);
     assert!(rt; taken == 1);
+}
+
+// A slice reaches the one connection, in a further channel too, and takes the loan where there is no
+// connection. A receive looks at channel 0 alone.
+#[test]
+fn a_slice_goes_into_one_channel_of_one_connection(rt: HostRuntime) {
+    let config = ServiceConfig {
+        max_subscribers: 2,
+        ..two_channels()
+    };
+    let mut domain: Domain<u64, u64> = Domain::new(rt.alloc(), config).expect(&rt, "a domain");
+    let first = slice_subscriber(&rt, &mut domain);
+    let second = slice_subscriber(&rt, &mut domain);
+    let publisher = slice_publisher(&rt, &mut domain, 1);
+    let further = [
+        sent_to(&rt, &mut domain, &publisher, 1, 1, 0),
+        sent_to(&rt, &mut domain, &publisher, 2, 1, 0),
+    ];
+    let unconnected = [
+        sent_to(&rt, &mut domain, &publisher, 3, 0, 5),
+        sent_to(&rt, &mut domain, &publisher, 4, 1, 7),
+    ];
+    let nothing = gets_nothing(&rt, &mut domain, &first);
+    let taken = sent_to(&rt, &mut domain, &publisher, 5, 0, 1);
+    let still_nothing = gets_nothing(&rt, &mut domain, &first);
+    let is_fifth = gets(&rt, &mut domain, &second, 5);
+    publisher.disown();
+    first.disown();
+    second.disown();
+    drop(domain);
+    assert!(rt; further == [1, 1]);
+    assert!(rt; unconnected == [0, 0]);
+    assert!(rt; nothing && still_nothing);
+    assert!(rt; taken == 1 && is_fifth);
 }

@@ -1,12 +1,11 @@
 -- What a connection's calls are to the lists of its slots.
-use Rattle.std.proofs.Common.{◌≡◌, ℕ, zero, suc, ◌+◌, ◌<◌, ◌==◌, List, [], ◌∷◌, ◌++◌, ◌-◌, true, false, length, drop, refl, Option, Some, None, get_or, arith, ap, sym, ◌∙◌, cond, eqb, eq-eqb, Contains, ⊎_elim}
+use Rattle.std.proofs.Common.{◌≡◌, ℕ, zero, suc, ◌+◌, ◌<◌, ◌==◌, List, [], ◌∷◌, ◌++◌, true, false, not, length, map, drop, refl, Option, Some, None, get_or, arith, ap, sym, ◌∙◌, cond, eqb, eq-eqb, Contains, ⊎_elim}
 use Rattle.std.proofs.lemmas.Bool.{false≢true, or_cases, or_left, or_right, or_parts}
-use Rattle.std.proofs.lemmas.List.{length-append}
 use Rattle.std.proofs.lemmas.List.Sums.{sum_by-cons}
 use Rattle.std.specs.Prelude.{count_by, slice_get}
-use Rattle.iox2_slots.specs.Link.{Link, IsPut, IsTaken, IsDropped, IsReclaimed}
-use Rattle.iox2_store.specs.machine.Numbers.{contains, without}
-use Rattle.iox2_slots.specs.declared.connection.PutOutcome.TheVariants.{Overwrote}
+use Rattle.iox2_slots.specs.Link.{Link, has_other_slots, IsTaken, IsDropped, IsReclaimed}
+use Rattle.iox2_store.specs.machine.Mailbox.{ChannelNumber}
+use Rattle.iox2_store.specs.machine.Numbers.{contains, without, is_nil}
 
 -- the first waiting slot of a ring was borrowed
 pub taken_first : (c d : Link) (xs : List ℕ) (slot : ℕ) → c.waiting ≡ xs → Some slot ≡ slice_get xs 0 → d ≡ record c { waiting = drop 1 xs; borrowed = c.borrowed ++ slot ∷ [] } → IsTaken c (Some slot) d
@@ -23,13 +22,20 @@ pub reclaimed_first : (c d : Link) (xs : List ℕ) (o : Option ℕ) → c.return
 reclaimed_first c d [] o r e f = rw e (r, f ∙ ap (λ (ys : List ℕ). let l : Link = record c { returned = ys } in l) (sym r))
 reclaimed_first c d (x ∷ xs) o r e f = rw e (xs, r, f)
 
--- a slot went behind the waiting ones of a full ring
-pub put_over : (c d : Link) (xs : List ℕ) (slot oldest : ℕ) → c.waiting ≡ xs → 0 < c.buffer → length xs ≡ c.buffer → Some oldest ≡ slice_get (xs ++ slot ∷ []) 0 → d ≡ record c { waiting = drop (length (xs ++ slot ∷ []) - c.buffer) (xs ++ slot ∷ []) } → IsPut c slot true (Overwrote oldest) d
-put_over c d [] slot oldest w room full e f = absurd (omega arith)
-put_over c d (x ∷ xs) slot oldest w room full e f =
-    let first : oldest ≡ x = let g : Some oldest ≡ Some x = e in cc in
-    let one : length (x ∷ xs ++ slot ∷ []) - c.buffer ≡ 1 = omega (arith, length-append xs (slot ∷ [])) in
-    (refl, ap length w ∙ full, (xs, w ∙ ap (λ (y : ℕ). y ∷ xs) (sym first), rw one at f))
+-- ---- the other channels
+
+-- some slot waits there, or none does
+pub some-others : (c : Link) → has_other_slots c ≡ true → 0 < length c.others
+some-others c = by c.others where
+  by : (ms : List ChannelNumber) → not (is_nil (map (λ (m : ChannelNumber). m.number) ms)) ≡ true → 0 < length ms
+  by [] none = absurd (false≢true none)
+  by (m ∷ ms) some = omega arith
+
+pub no-others : (c : Link) → has_other_slots c ≡ false → length c.others ≡ 0
+no-others c = by c.others where
+  by : (ms : List ChannelNumber) → not (is_nil (map (λ (m : ChannelNumber). m.number) ms)) ≡ false → length ms ≡ 0
+  by [] none = refl
+  by (m ∷ ms) some = absurd (false≢true (sym some))
 
 -- ---- numbers in a list
 

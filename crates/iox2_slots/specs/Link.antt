@@ -1,9 +1,10 @@
 -- What a contract sees of a connection: the slots between one publisher and one subscriber.
-use Rattle.std.specs.Prelude.{◌≡◌, ℕ, ◌+◌, ◌<◌, ◌≤◌, ◌^◌, Bool, true, false, not, ◌&&◌, List, [], ◌∷◌, ◌++◌, length, cond, nat_lt, replicate, slice_index_or, slice_set}
+use Rattle.std.specs.Prelude.{◌≡◌, ℕ, zero, suc, ◌+◌, ◌<◌, ◌≤◌, ◌^◌, Bool, true, false, not, ◌&&◌, List, [], ◌∷◌, ◌++◌, length, map, cond, nat_lt, replicate, slice_index_or, slice_set}
 use Rattle.std.specs.declared.option.Option.{Option}
 use Rattle.std.specs.declared.option.Option.TheVariants.{None, Some}
 use Rattle.iox2_store.specs.machine.Numbers.{is_nil, without}
 use Rattle.iox2_store.specs.machine.Channel.{Channel, new_channel, is_in_state, is_closed, with_state, with_hint}
+use Rattle.iox2_store.specs.machine.Mailbox.{ChannelNumber, numbers_of, with_numbers_of, other_room}
 use Rattle.iox2_slots.specs.declared.connection.Home.{Home}
 use Rattle.iox2_slots.specs.declared.connection.PutOutcome.{PutOutcome}
 use Rattle.iox2_slots.specs.declared.connection.PutOutcome.TheVariants.{Taken, Overwrote, Full}
@@ -15,23 +16,37 @@ pub record Link : Type 0 where
   pub limit : ℕ  -- how many slots may be borrowed
   pub is_open : Bool  -- whether it is marked as open
   pub channels : List Channel  -- the state and the hint of each, by number
-  pub waiting : List ℕ  -- delivered and not yet received, oldest first
+  pub waiting : List ℕ  -- in channel 0: delivered and not yet received, oldest first
   pub borrowed : List ℕ  -- received and not yet released, in the order of receipt
   pub returned : List ℕ  -- released and not yet reclaimed, oldest first
+  pub others : List ChannelNumber  -- the slots that wait in the other channels, by rising channel, and in each oldest first
 
 -- A new connection with so many channels: no slot stands in it, its channels are open, and it isn't marked as open.
 abbrev pub empty_link : Home → (buffer limit count : ℕ) → Link
-empty_link home buffer limit count = record { home = home; buffer = buffer; limit = limit; is_open = false; channels = replicate count new_channel; waiting = []; borrowed = []; returned = [] }
+empty_link home buffer limit count = record { home = home; buffer = buffer; limit = limit; is_open = false; channels = replicate count new_channel; waiting = []; borrowed = []; returned = []; others = [] }
 
 -- ---- reading
 
 -- How many slots stand in the connection.
 abbrev pub load : Link → ℕ
-load c = length c.waiting + length c.borrowed + length c.returned
+load c = length c.waiting + length c.borrowed + length c.returned + length c.others
 
--- Some slot waits for the subscriber.
+-- The slots that wait in the channels other than 0.
+abbrev pub other_slots : Link → List ℕ
+other_slots c = map (λ (m : ChannelNumber). m.number) c.others
+
+-- The slots that wait in a channel, oldest first.
+abbrev pub slots_in : (channel : ℕ) → Link → List ℕ
+slots_in zero c = c.waiting
+slots_in (suc k) c = numbers_of (suc k) c.others
+
+-- Some slot waits for the subscriber, which receives from channel 0 alone.
 abbrev pub has_slots : Link → Bool
 has_slots c = not (is_nil c.waiting)
+
+-- Some slot waits in a channel other than 0.
+abbrev pub has_other_slots : Link → Bool
+has_other_slots c = not (is_nil (other_slots c))
 
 -- Some slot is borrowed.
 abbrev pub has_borrowed_slots : Link → Bool
@@ -49,35 +64,53 @@ can_borrow c = has_slots c && nat_lt (length c.borrowed) c.limit
 abbrev pub channel_at : List Channel → (number : ℕ) → Channel
 channel_at channels number = slice_index_or channels number new_channel
 
--- Channel 0, to which messages go, is closed: it takes no slot.
+-- The channel with that number is closed: it takes no slot.
+abbrev pub is_shut_in : (channel : ℕ) → Link → Bool
+is_shut_in channel c = is_closed (channel_at c.channels channel)
+
+-- Channel 0, to which messages go, is closed.
 abbrev pub is_shut : Link → Bool
-is_shut c = is_closed (channel_at c.channels 0)
+is_shut c = is_shut_in 0 c
 
 -- ---- changing
 
--- With room the slot waits as the last. A full connection lets its oldest slot go for it, or stays as it is.
-abbrev pub IsPut : Link → (slot : ℕ) → (overflow : Bool) → PutOutcome → Link → Type 0
-IsPut old slot overflow Taken new =
-    (length old.waiting < old.buffer) × (new ≡ record old { waiting = old.waiting ++ slot ∷ [] })
-IsPut old slot overflow (Overwrote oldest) new =
-    (overflow ≡ true) × (length old.waiting ≡ old.buffer)
-    × ((rest : List ℕ) × (old.waiting ≡ oldest ∷ rest) × (new ≡ record old { waiting = rest ++ slot ∷ [] }))
-IsPut old slot overflow Full new = (overflow ≡ false) × (length old.waiting ≡ old.buffer) × (new ≡ old)
+-- In the channel these slots wait, and no others.
+abbrev pub with_slots_in : (channel : ℕ) → List ℕ → Link → Link
+with_slots_in zero slots c = record c { waiting = slots }
+with_slots_in (suc k) slots c = record c { others = with_numbers_of (suc k) slots c.others }
 
--- The first slot that waits becomes borrowed, if there is one.
+-- With room the slot waits as the last in the channel. A full one lets its oldest slot go for it, or stays as it is.
+abbrev pub IsPut : (channel : ℕ) → Link → (slot : ℕ) → (overflow : Bool) → PutOutcome → Link → Type 0
+IsPut channel old slot overflow Taken new =
+    (length (slots_in channel old) < old.buffer) × (new ≡ with_slots_in channel (slots_in channel old ++ slot ∷ []) old)
+IsPut channel old slot overflow (Overwrote oldest) new =
+    (overflow ≡ true) × (length (slots_in channel old) ≡ old.buffer)
+    × ((rest : List ℕ) × (slots_in channel old ≡ oldest ∷ rest) × (new ≡ with_slots_in channel (rest ++ slot ∷ []) old))
+IsPut channel old slot overflow Full new = (overflow ≡ false) × (length (slots_in channel old) ≡ old.buffer) × (new ≡ old)
+
+-- The first slot that waits in channel 0 becomes borrowed, if there is one.
 abbrev pub IsTaken : Link → Option ℕ → Link → Type 0
 IsTaken old None new = (old.waiting ≡ []) × (new ≡ old)
 IsTaken old (Some slot) new =
     (rest : List ℕ) × (old.waiting ≡ slot ∷ rest) × (new ≡ record old { waiting = rest; borrowed = old.borrowed ++ slot ∷ [] })
 
--- The first slot that waits goes, if there is one.
+-- The first slot that waits in channel 0 goes, if there is one.
 abbrev pub IsDropped : Link → Option ℕ → Link → Type 0
 IsDropped old None new = (old.waiting ≡ []) × (new ≡ old)
 IsDropped old (Some slot) new = (rest : List ℕ) × (old.waiting ≡ slot ∷ rest) × (new ≡ record old { waiting = rest })
 
+-- The first of the slots that wait in these channels goes, if there is one.
+abbrev pub DropsFirst : List ChannelNumber → Option ℕ → List ChannelNumber → Type 0
+DropsFirst old None new = (old ≡ []) × (new ≡ old)
+DropsFirst old (Some slot) new = (channel : ℕ) × (old ≡ record { channel = channel; number = slot } ∷ new)
+
+-- The first slot that waits in the channels other than 0 goes, if there is one.
+abbrev pub IsOtherDropped : Link → Option ℕ → Link → Type 0
+IsOtherDropped old slot new = DropsFirst old.others slot new.others × (new ≡ record old { others = new.others })
+
 -- Nothing but what is borrowed stands in the connection.
 abbrev pub borrowed_alone : Link → Link
-borrowed_alone c = record c { waiting = []; returned = [] }
+borrowed_alone c = record c { waiting = []; returned = []; others = [] }
 
 -- A borrowed slot is given back.
 abbrev pub with_returned : (slot : ℕ) → Link → Link
@@ -119,12 +152,14 @@ hint_set number expected c = having_channels (channels_changed number expected w
 
 -- ---- bounds
 
--- Waiting and borrowed slots are within their limits, and all slots together within the two: what is given back takes no more than what was borrowed left.
+-- Waiting slots, of each channel, and borrowed slots are within their limits. The slots of the other three lists together
+-- are within the two: what is given back takes no more than what was borrowed left.
 -- A connection whose channel 0 is closed isn't marked as open.
 pub record IsBounded (c : Link) : Type 0 where
   pub some_room : 0 < c.buffer
   pub waiting : length c.waiting ≤ c.buffer
+  pub others : (channel : ℕ) → length (numbers_of channel c.others) ≤ other_room (length c.channels) c.buffer channel
   pub borrowed : length c.borrowed ≤ c.limit
-  pub load : load c ≤ c.buffer + c.limit
+  pub together : length c.waiting + length c.borrowed + length c.returned ≤ c.buffer + c.limit
   pub fits : c.buffer + c.limit + 1 < 2 ^ 64
   pub marked : c.is_open ≡ true → is_shut c ≡ false

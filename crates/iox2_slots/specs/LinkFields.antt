@@ -2,6 +2,7 @@
 use Rattle.std.specs.Prelude.{◌≡◌, ◌+◌, ◌∷◌}
 use Rattle.std.specs.Vec.{vec_capacity}
 use Rattle.iox2_slots.specs.Link.{Link, IsBounded}
+use Rattle.iox2_slots.specs.FurtherChannels.{slots_from, rings, statuses, HaveRoom}
 use Rattle.iox2_slots.specs.declared.connection.Connection.TheInside.{Inside}
 
 -- The connection that the fields stand for. As many slots may be borrowed as there was room for at first.
@@ -17,13 +18,15 @@ link_of a = record {
   buffer = a.waiting.capacity;
   limit = vec_capacity a.borrowed;
   is_open = a.is_open;
-  channels = a.status ∷ a.further.items;
+  channels = a.status ∷ statuses a.further.items;
   waiting = a.waiting.items;
   borrowed = a.borrowed.items;
   returned = a.returned.items;
+  others = slots_from 1 (rings a.further.items);
 }
 
 -- The slots are within their bounds, and the room for them is made.
 pub record IsConnection (a : Inside) : Type 0 where
   pub bounded : IsBounded (link_of a)
   pub return_room : a.returned.capacity ≡ a.waiting.capacity + vec_capacity a.borrowed + 1
+  pub further_room : HaveRoom a.waiting.capacity a.further.items

@@ -1,9 +1,10 @@
 //! What lies between one publisher and one subscriber: numbers of the publisher's slots.
 ghost use Rattle.std.specs.Prelude.{◌≡◌, ◌+◌, ◌<◌, ◌↔◌, length, Contains, IfOk, IsTrue};
-ghost use Rattle.iox2_slots.specs.Link.{load, empty_link, channel_at, has_slots, has_borrowed_slots, has_returned_slots, can_borrow, is_shut, with_mark, state_changed, hint_set, with_returned, without_borrowed, IsBounded};
+ghost use Rattle.iox2_slots.specs.Link.{load, is_shut_in, empty_link, channel_at, has_slots, has_other_slots, has_borrowed_slots, has_returned_slots, can_borrow, is_shut, with_mark, state_changed, hint_set, with_returned, without_borrowed, IsBounded};
 ghost use Rattle.iox2_store.specs.machine.Numbers.{IsOnce};
 
 use crate::channel_status::ChannelStatus;
+use crate::further_channel::{FurtherChannel, first_filled, new_channels, put_into};
 use crate::place::take_slot;
 use circular_buffer::HeapCircularBuffer;
 use std::alloc::{AllocError, Global};
@@ -37,19 +38,21 @@ pub enum PutOutcome {
 }
 
 /// A connection of one publisher and one subscriber. It holds numbers of the publisher's slots:
-/// those that wait to be received, those that the subscriber has borrowed, and those that it has
-/// given back and the publisher hasn't reclaimed yet. Only `new` allocates.
+/// those that wait in its channels, those that the subscriber has borrowed, and those that it has
+/// given back and the publisher hasn't reclaimed yet. A subscriber receives from channel 0 alone.
+/// Only `new` allocates.
 ///
 /// iceoryx2's `zero_copy_connection`, whose two ends are the `Sender` and the `Receiver` of
 /// `src/port/details`: a submission queue, a list of borrowed offsets and a completion queue.
 #[derive(Drop)]
 pub struct Connection {
+    // In channel 0.
     waiting: HeapCircularBuffer<usize>,
     // Its capacity is how many may be borrowed (docs/decisions/cost.md, "A connection takes 192 bytes").
     borrowed: Vec<usize>,
     returned: HeapCircularBuffer<usize>,
-    // Of the channels behind channel 0, by number.
-    further: Vec<ChannelStatus>,
+    // The channels behind channel 0, by number.
+    further: Vec<FurtherChannel>,
     // Of channel 0.
     status: ChannelStatus,
     // The fields of its `Home`, one by one: the mark behind them then needs no room of its own.
@@ -74,10 +77,10 @@ impl Model for Connection {
 }
 
 impl Connection {
-    ghost use Rattle.iox2_slots.specs.Link.{IsPut, IsTaken, IsDropped, IsReclaimed};
+    ghost use Rattle.iox2_slots.specs.Link.{IsPut, IsTaken, IsDropped, IsOtherDropped, IsReclaimed};
 
     /// A connection with so many channels, all of them open, in which no slot stands and which isn't
-    /// marked as open. At most `buffer` slots wait there and at most `limit` are borrowed.
+    /// marked as open. At most `buffer` slots wait in each channel and at most `limit` are borrowed.
     ///
     /// Returns `AllocError` where memory is refused, and where `buffer + limit + 1`, the room for
     /// slots that are given back, isn't a `usize`.
@@ -98,14 +101,13 @@ impl Connection {
         let waiting = HeapCircularBuffer::with_capacity(alloc, buffer)?;
         let borrowed = Vec::with_capacity(alloc, limit)?;
         let returned = HeapCircularBuffer::with_capacity(alloc, room)?;
-        let status = ChannelStatus::new();
-        let further = vec![in alloc; status; channels - 1]?;
+        let further = new_channels(alloc, buffer, channels - 1)?;
         Ok(Connection {
             waiting,
             borrowed,
             returned,
             further,
-            status,
+            status: ChannelStatus::new(),
             publisher: home.publisher,
             subscriber: home.subscriber,
             publisher_place: home.publisher_place,
@@ -153,7 +155,7 @@ impl Connection {
             return self.status;
         }
         match self.further.get(channel - 1) {
-            Some(status) => *status,
+            Some(further) => further.status,
             None => ChannelStatus::new(),
         }
     }
@@ -165,11 +167,11 @@ impl Connection {
         self.status_of(channel).state()
     }
 
-    /// Whether channel 0, to which messages go, is closed, and so takes no slots.
-    pub fn is_closed(&self) -> bool
-        ensures { result ≡ is_shut self.now }
+    /// Whether a channel is closed, and so takes no slots.
+    pub fn is_closed(&self, channel: usize) -> bool
+        ensures { result ≡ is_shut_in channel self.now }
     {
-        self.status.is_closed()
+        self.status_of(channel).is_closed()
     }
 
     /// Whether a disconnect was hinted since the channel came into its state.
@@ -190,7 +192,8 @@ impl Connection {
             self.status.change_state(expected, state);
             self.is_open = self.is_open && !self.status.is_closed();
         } else if channel - 1 < self.further.len() {
-            self.further[channel - 1].change_state(expected, state);
+            let further = &mut self.further[channel - 1].status;
+            further.change_state(expected, state);
         }
     }
 
@@ -202,37 +205,36 @@ impl Connection {
         if channel == 0 {
             self.status.set_hint(expected);
         } else if channel - 1 < self.further.len() {
-            self.further[channel - 1].set_hint(expected);
+            let further = &mut self.further[channel - 1].status;
+            further.set_hint(expected);
         }
     }
 
-    /// How many slots may wait.
+    /// How many slots may wait in a channel.
     pub fn buffer(&self) -> usize
         ensures { result ≡ self.now.buffer }
     {
         self.waiting.capacity()
     }
 
-    /// Puts a slot behind those that wait. Where there is no room, the oldest of them goes if
-    /// `overflow` is set, and else nothing changes. What was given back is reclaimed before.
-    pub fn put(&mut self, slot: usize, overflow: bool) -> PutOutcome
-        requires { length self.old.returned ≡ 0 }
-        ensures put { IsPut self.old slot overflow result self.new }
+    /// Puts a slot behind those that wait in a channel. Where there is no room, the oldest of them
+    /// goes if `overflow` is set, and else nothing changes. What was given back is reclaimed before,
+    /// and there is such a channel.
+    #[inline(always)]
+    pub fn put(&mut self, channel: usize, slot: usize, overflow: bool) -> PutOutcome
+        requires returned { length self.old.returned ≡ 0 }
+        requires channel { 0 < channel → channel < length self.old.channels }
+        ensures put { IsPut channel self.old slot overflow result self.new }
         ensures bounded { IsBounded self.new }
     {
-        if self.waiting.try_push_back(slot).is_ok() {
-            return PutOutcome::Taken;
-        }
-        if !overflow {
-            return PutOutcome::Full;
-        }
-        match self.waiting.push_back(slot) {
-            Some(oldest) => PutOutcome::Overwrote(oldest),
-            None => PutOutcome::Taken,
+        if channel == 0 {
+            put_into(&mut self.waiting, slot, overflow)
+        } else {
+            put_into(&mut self.further[channel - 1].waiting, slot, overflow)
         }
     }
 
-    /// Borrows the slot that has waited longest. `None` if none waits.
+    /// Borrows the slot that has waited longest in channel 0. `None` if none waits there.
     pub fn take(&mut self) -> Option<usize>
         requires { length self.old.borrowed < self.old.limit }
         ensures takes { IsTaken self.old result self.new }
@@ -243,12 +245,22 @@ impl Connection {
         Some(slot)
     }
 
-    /// Lets the slot go that has waited longest. `None` if none waits.
+    /// Lets the slot go that has waited longest in channel 0. `None` if none waits there.
     pub fn drop_first(&mut self) -> Option<usize>
         ensures drops { IsDropped self.old result self.new }
         ensures bounded { IsBounded self.new }
     {
         self.waiting.pop_front()
+    }
+
+    /// Lets the slot go that has waited longest in the first of the other channels in which some slot
+    /// waits. `None` if none waits there.
+    pub fn drop_other(&mut self) -> Option<usize>
+        ensures drops { IsOtherDropped self.old result self.new }
+        ensures bounded { IsBounded self.new }
+    {
+        let index = first_filled(&self.further)?;
+        self.further[index].waiting.pop_front()
     }
 
     /// Gives a slot back, which is borrowed once, for the publisher to reclaim.
@@ -282,11 +294,18 @@ impl Connection {
         self.returned.pop_front()
     }
 
-    /// Whether some slot waits.
+    /// Whether some slot waits in channel 0.
     pub fn has_data(&self) -> bool
         ensures { result ≡ has_slots self.now }
     {
         !self.waiting.is_empty()
+    }
+
+    /// Whether some slot waits in another channel.
+    pub fn has_other_data(&self) -> bool
+        ensures { result ≡ has_other_slots self.now }
+    {
+        first_filled(&self.further).is_some()
     }
 
     /// Whether some slot was given back and isn't reclaimed yet.
@@ -307,6 +326,9 @@ impl Connection {
     pub fn is_empty(&self) -> bool
         ensures { IsTrue result ↔ (load self.now ≡ 0) }
     {
+        if self.has_other_data() {
+            return false;
+        }
         self.waiting.is_empty() && self.borrowed.is_empty() && self.returned.is_empty()
     }
 

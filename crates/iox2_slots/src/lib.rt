@@ -3,6 +3,7 @@
 
 mod channel_status;
 mod connection;
+mod further_channel;
 mod place;
 mod slots;
 

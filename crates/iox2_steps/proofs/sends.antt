@@ -1,5 +1,6 @@
 -- A loan is sent, and its message is delivered.
 pub mod LoanAlone
+pub mod Reach
 pub mod DeliverySteps
 pub mod AskedBoxes
 pub mod AnySends
@@ -9,5 +10,7 @@ pub mod Trimmed
 pub mod Published
 pub mod GoneOn
 pub mod BlockedSteps
+pub mod Begun
+pub mod NobodyThere
 pub mod SendSteps
 pub mod FailedUpdates

@@ -1,4 +1,4 @@
-ghost use Rattle.std.specs.Prelude.{◌≡◌};
+ghost use Rattle.std.specs.Prelude.{◌≡◌, ◌<◌};
 ghost use Rattle.iox2_slots.specs.Link.{empty_link};
 
 use iox2_slots::{CHANNEL_STATE_CLOSED, CHANNEL_STATE_OPEN, Connection, Home, PutOutcome};
@@ -45,7 +45,7 @@ fn a_connection_has_the_mark_that_was_set_last(rt: HostRuntime) {
 fn a_slot_is_borrowed(rt: HostRuntime) {
     let mut connection = connection(&rt, rt.alloc());
     let empty = connection.has_data();
-    let put = connection.put(7, false);
+    let put = connection.put(0, 7, false);
     let ready = [connection.has_data(), connection.can_receive()];
     let taken = connection.take();
     let borrowed = [connection.is_borrowed(7), connection.is_borrowed(8)];
@@ -60,7 +60,7 @@ fn a_slot_is_borrowed(rt: HostRuntime) {
 #[test]
 fn a_borrowed_slot_goes_back(rt: HostRuntime) {
     let mut connection = connection(&rt, rt.alloc());
-    connection.put(7, false);
+    connection.put(0, 7, false);
     connection.take();
     assert!(rt; connection.borrowed() == [7].as_slice());
     connection.release(7);
@@ -73,7 +73,7 @@ fn a_borrowed_slot_goes_back(rt: HostRuntime) {
 #[test]
 fn a_borrowed_slot_is_let_go(rt: HostRuntime) {
     let mut connection = connection(&rt, rt.alloc());
-    connection.put(7, false);
+    connection.put(0, 7, false);
     connection.take();
     assert!(rt; connection.borrowed() == [7].as_slice());
     let held = connection.is_empty();
@@ -87,8 +87,8 @@ fn a_borrowed_slot_is_let_go(rt: HostRuntime) {
 #[test]
 fn waiting_slots_go(rt: HostRuntime) {
     let mut connection = connection(&rt, rt.alloc());
-    connection.put(7, false);
-    connection.put(8, false);
+    connection.put(0, 7, false);
+    connection.put(0, 8, false);
     let unused = connection.has_borrowed();
     let taken = connection.take();
     let gone = [connection.drop_first(), connection.drop_first()];
@@ -102,10 +102,10 @@ fn waiting_slots_go(rt: HostRuntime) {
 fn a_full_connection_overwrites_or_refuses(rt: HostRuntime) {
     let mut connection = connection(&rt, rt.alloc());
     let put = [
-        connection.put(7, false),
-        connection.put(8, true),
-        connection.put(9, false),
-        connection.put(9, true),
+        connection.put(0, 7, false),
+        connection.put(0, 8, true),
+        connection.put(0, 9, false),
+        connection.put(0, 9, true),
     ];
     let taken = connection.take();
     drop(connection);
@@ -145,11 +145,71 @@ fn each_channel_has_a_state_of_its_own(rt: HostRuntime) {
         connection.has_disconnect_hint(2),
         connection.has_disconnect_hint(3),
     ];
-    let marked = connection.is_open() && !connection.is_closed();
+    let marked = connection.is_open() && !connection.is_closed(0);
     connection.change_state(0, CHANNEL_STATE_OPEN, CHANNEL_STATE_CLOSED);
-    let unmarked = !connection.is_open() && connection.is_closed();
+    let unmarked = !connection.is_open() && connection.is_closed(0) && !connection.is_closed(1);
     drop(connection);
     assert!(rt; states == [0, 0, u64::MAX, 0]);
     assert!(rt; hints == [false, true, false, false]);
     assert!(rt; marked && unmarked);
+}
+
+// A connection with so many channels, in each of which two slots may wait.
+fn wide_connection(rt: &impl Abort, alloc: Global, channels: usize) -> Connection
+    requires { 0 < channels }
+    ensures { result ≡ empty_link result.home 2 1 channels }
+{
+    Connection::new(alloc, HOME, 2, 1, channels).expect(rt, "a connection")
+}
+
+#[test]
+fn each_channel_fills_by_itself(rt: HostRuntime) {
+    let mut connection = wide_connection(&rt, rt.alloc(), 2);
+    let put = [
+        connection.put(1, 5, false),
+        connection.put(1, 6, false),
+        connection.put(1, 7, false),
+        connection.put(0, 7, false),
+        connection.put(1, 8, true),
+    ];
+    let waits = [connection.has_data(), connection.has_other_data()];
+    let taken = connection.take();
+    let gone = [
+        connection.drop_other(),
+        connection.drop_other(),
+        connection.drop_other(),
+    ];
+    drop(connection);
+    let expected = [
+        PutOutcome::Taken,
+        PutOutcome::Taken,
+        PutOutcome::Full,
+        PutOutcome::Taken,
+        PutOutcome::Overwrote(5),
+    ];
+    assert!(rt; put == expected && waits == [true, true]);
+    assert!(rt; taken == Some(7) && gone == [Some(6), Some(8), None]);
+}
+
+#[test]
+fn channels_are_emptied_by_rising_number(rt: HostRuntime) {
+    let mut connection = wide_connection(&rt, rt.alloc(), 3);
+    let put = [
+        connection.put(2, 5, false),
+        connection.put(1, 6, false),
+        connection.put(2, 7, false),
+        connection.put(1, 8, false),
+    ];
+    let held = [connection.is_empty(), connection.has_data()];
+    let gone = [
+        connection.drop_other(),
+        connection.drop_other(),
+        connection.drop_other(),
+        connection.drop_other(),
+    ];
+    let left = [connection.is_empty(), connection.has_other_data()];
+    drop(connection);
+    assert!(rt; put == [PutOutcome::Taken; 4]);
+    assert!(rt; gone == [Some(6), Some(8), Some(5), Some(7)]);
+    assert!(rt; held == [false, false] && left == [true, false]);
 }

@@ -63,14 +63,14 @@ fn only_the_whole_sum_has_to_fit(rt: HostRuntime) {
 fn fill_subscriber(rt: &impl Abort, alloc: Global, book: &mut SlotBook) {
     let mut connection = connection(rt, alloc);
     let first = book.take(1, 1).expect(rt, "a first slot");
-    let borrowed = [connection.put(first, false)];
+    let borrowed = [connection.put(0, first, false)];
     let taken = connection.take();
     let second = book.take(2, 1).expect(rt, "a second slot");
     let third = book.take(3, 1).expect(rt, "a third slot");
     let waiting = [
-        connection.put(second, false),
-        connection.put(third, false),
-        connection.put(first, false),
+        connection.put(0, second, false),
+        connection.put(0, third, false),
+        connection.put(0, first, false),
     ];
     drop(connection);
     assert!(rt; borrowed == [PutOutcome::Taken] && taken == Some(first));

@@ -7,6 +7,8 @@ mod channels;
 #[cfg(test)]
 mod closes;
 #[cfg(test)]
+mod connection_sends;
+#[cfg(test)]
 mod copies;
 #[cfg(test)]
 mod degradation_boxes;

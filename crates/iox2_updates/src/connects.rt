@@ -256,7 +256,7 @@ fn connect_sender<T: Drop, U: Default + Drop, F: BackpressureFn, G: DegradationF
     }
     match make_sender_end(state, boxes, publisher_place, subscriber_place) {
         Ok(key) => {
-            if state.connections[key].is_closed() {
+            if state.connections[key].is_closed(0) {
                 return None;
             }
             hand_out_history(state, publisher_place, key);

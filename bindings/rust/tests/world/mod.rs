@@ -130,6 +130,12 @@ pub fn loan_is_refused(domain: &mut Domain, loan: &Loan, code: u32) {
         refused(code, |outs| {
             iox2ps_loan_send(domain, loan, &mut outs.count, &mut outs.blocked)
         });
+        for channel in 0..2 {
+            refused(code, |outs| {
+                let (count, blocked) = (&mut outs.count, &mut outs.blocked);
+                iox2ps_loan_deliver_offset_to_connection(domain, loan, channel, 0, count, blocked)
+            });
+        }
         refused(code, |_| iox2ps_loan_discard(domain, loan));
         refused(code, |outs| {
             iox2ps_loan_payload(domain, loan, &mut outs.written, &mut outs.len)

@@ -14,8 +14,8 @@ use crate::service::{BytesDomain, Service};
 use crate::status::{NO_CONNECTION, NO_SUCH_CHANNEL, NOT_LIVE, OK};
 use iox2_pubsub::{Publisher, slice};
 
-// Whether connections of the domain have a channel with this number.
-fn has_channel(domain: &BytesDomain, channel: usize) -> bool
+/// Whether connections of the domain have a channel with this number.
+pub fn has_channel(domain: &BytesDomain, channel: usize) -> bool
     ensures { IsTrue result ↔ (channel < channel_count domain.now.config) }
 {
     channel < domain.config().number_of_channels.max(1)

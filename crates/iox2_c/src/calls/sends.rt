@@ -44,10 +44,10 @@ fn tell(
     }
 }
 
-// The same of the loan with these numbers, which a send that waits has too: no number of its handle is
-// kept for that.
+/// The same of the loan with these numbers, which a send that waits has too: no number of its handle is
+/// kept for that.
 #[inline(always)]
-fn tell_of(
+pub(crate) fn tell_of(
     sent: Result<SendOutcome, SendError>,
     numbers: &LoanNumbers,
     receivers: &mut usize,

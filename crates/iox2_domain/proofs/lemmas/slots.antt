@@ -23,6 +23,7 @@ pub mod ConnectionSlots
 pub mod PublisherBooks
 pub mod NewBook
 pub mod NumbersInUse
+pub mod BoxNumbers
 pub mod SlotRoom
 pub mod SlotsInUse
 pub mod Renumbered

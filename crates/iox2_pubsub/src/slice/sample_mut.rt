@@ -28,6 +28,7 @@ pub struct SampleMut {
 
 impl SampleMut {
     ghost use Rattle.std.specs.Prelude.{IfErr, IfOk, IsOk, List, Some, [], false, length, ◌<◌, ◌++◌, ◌∷◌, ◌+◌, ◌↔◌};
+    ghost use Rattle.iox2_store.specs.machine.Limits.{channel_count};
     ghost use Rattle.iox2_store.specs.machine.Loans.{loan_discarded};
     ghost use Rattle.iox2_store.specs.machine.Records.{Loan};
     ghost use Rattle.iox2_store.specs.machine.State.{State, Messages};
@@ -37,7 +38,7 @@ impl SampleMut {
     ghost use Rattle.iox2_pubsub.specs.Leaves.{LeavesBut};
     ghost use Rattle.iox2_pubsub.specs.declared.subscriber.Subscriber.{Subscriber};
     ghost use Rattle.iox2_pubsub.specs.LoansLeft.{HasOneMoreLeft, LoansLeftStay};
-    ghost use Rattle.iox2_pubsub.specs.SendCalls.{FailsSend, IfBlocked, IsDelivered, Sends, messages_after, spent_by_send};
+    ghost use Rattle.iox2_pubsub.specs.SendCalls.{FailsDelivery, FailsSend, IfBlocked, IsDelivered, Sends, SendsToConnection, messages_after, spent_by_send};
     ghost use Rattle.iox2_pubsub.specs.Slices.{HasValues, HoldsSlices};
     ghost use Rattle.iox2_pubsub.specs.Handles.{as_written, buffer_size_of, written_lender, written_number};
 
@@ -89,6 +90,41 @@ impl SampleMut {
     {
         let SampleMut { sample } = self;
         sample.send(domain)
+    }
+
+    /// Sends the message into one channel of one connection, as the loan of a single value is sent
+    /// there.
+    pub fn deliver_offset_to_connection<
+        T: Drop,
+        U: Default + Drop,
+        F: BackpressureFn,
+        G: DegradationFn,
+    >(
+        self,
+        domain: &mut Domain<T, U, F, G>,
+        channel: usize,
+        connection: usize,
+    ) -> Result<SendOutcome, SendError>
+        requires live { IsWritten domain.old (as_written self) }
+        requires unblocked { IsUnblocked domain.old (written_key (as_written self)) }
+        requires channel { channel < channel_count domain.old.config }
+        ensures ok { HasLender domain.old (written_key (as_written self)) → NeverFails domain.old (written_lender (as_written self)) → IsOk result }
+        ensures errors { IfErr result (FailsDelivery domain.old (written_key (as_written self))) }
+        ensures sent { (m : Messages T U) (s : State T U) (l : Loan T U) → Shows domain.old m s → s.loans (written_number (as_written self)) ≡ Some l
+            → (s' : State T U) × Shows domain.new (messages_after m (written_number (as_written self)) l result) s'
+            × SendsToConnection (answers_of F.allows G.allows (domain.old.boxes).publishers) s (written_number (as_written self)) l channel connection result s' }
+        ensures delivered { NeverWaits domain.old (written_key (as_written self)) → IfOk result IsDelivered }
+        ensures blocked { IfOk result (λ outcome. IfBlocked outcome (λ blocked. IsBlockedSend domain.new blocked × (blocked_key blocked ≡ written_key (as_written self)))) }
+        ensures spent { IsLoanKey domain.new (written_key (as_written self)) → ⊥ }
+        ensures adds { AddAtMost 1 domain.old domain.new }
+        ensures others { OthersSend (written_lender (as_written self)) domain.old domain.new }
+        ensures up_to_date { UpToDateStay domain.old domain.new }
+        ensures loans_left { LoansLeftStay domain.old domain.new }
+        ensures given_back { IfOk result IsDelivered → HasOneMoreLeft (written_lender (as_written self)) domain.old domain.new }
+        ensures stays { StaysBut (spent_by_send (as_written self) result) domain.old domain.new }
+    {
+        let SampleMut { sample } = self;
+        sample.deliver_offset_to_connection(domain, channel, connection)
     }
 
     /// Gives the loan back unsent.

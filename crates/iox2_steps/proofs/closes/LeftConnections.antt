@@ -1,5 +1,5 @@
 -- The connections after a publisher left them.
-use Rattle.std.proofs.Common.{◌≡◌, ◌≢◌, ℕ, ◌≤◌, List, [], ◌∷◌, map, Bool, true, false, cond, not, ◌&&◌, eqb, get_or, refl, ap, sym, ◌∙◌, inl, inr, ◌⊎◌, arith}
+use Rattle.std.proofs.Common.{◌≡◌, ◌≢◌, ℕ, ◌≤◌, List, [], ◌∷◌, map, Bool, true, false, cond, ◌&&◌, eqb, get_or, refl, ap, sym, ◌∙◌, inl, inr, ◌⊎◌, arith}
 use Rattle.std.proofs.lemmas.Bool.{cases_eq, eqb-true, ne_eqb, eq-eqb}
 use Rattle.std.specs.declared.option.Option.{Option}
 use Rattle.std.specs.declared.option.Option.TheVariants.{None, Some}
@@ -8,13 +8,12 @@ use Rattle.std.specs.List.{sum_by}
 use Rattle.slab.specs.Slab.{Slab, get}
 use Rattle.iox2_slots.specs.Link.{Link}
 use Rattle.iox2_store.specs.machine.Channel.{Channel}
-use Rattle.iox2_store.specs.machine.Mailbox.{empty_mailbox, has_numbers}
-use Rattle.iox2_store.specs.machine.Numbers.{is_nil}
+use Rattle.iox2_store.specs.machine.Mailbox.{empty_mailbox, has_numbers, ChannelNumber}
 use Rattle.iox2_slots.specs.declared.connection.Home.{Home}
 use Rattle.iox2_ends.specs.LookUp.{look_up, IsOnly}
 use Rattle.iox2_ends.specs.Homes.{IsApart, fixed_of}
 use Rattle.iox2_ends.specs.Counters.{stands, stands_in}
-use Rattle.iox2_ends.specs.Mailboxes.{is_between, mailbox_of, mailbox_if_any, mailboxes_of}
+use Rattle.iox2_ends.specs.Mailboxes.{is_between, mailbox_of, mailbox_if_any, mailboxes_of, numbered}
 use Rattle.iox2_ends.proofs.LookUps.{look_up-there, look_up-none, look_up-found, look_up-nothing}
 use Rattle.iox2_ends.proofs.MailboxChanges.{both-true, is_between-own}
 use Rattle.iox2_ends.proofs.Counts.{stands-own}
@@ -42,12 +41,13 @@ only-fewer test xs ys before only = record {
 
 -- something is in a mailbox where some slot waits in its connection or is borrowed
 pub numbers-held : (number : ℕ → ℕ) (d : Link) → has_numbers (mailbox_of number d) ≡ holds_slots d
-numbers-held number d = by d.waiting d.borrowed where
-  by : (ws bs : List ℕ) → not (is_nil (map number ws) && is_nil (map number bs)) ≡ not (is_nil ws && is_nil bs)
-  by [] [] = refl
-  by [] (n ∷ ns) = refl
-  by (n ∷ ns) [] = refl
-  by (n ∷ ns) (k ∷ ks) = refl
+numbers-held number d = by d.others d.waiting d.borrowed where
+  by : (os : List ChannelNumber) (ws bs : List ℕ) → has_numbers (record { waiting = map number ws; borrowed = map number bs; others = numbered number os })
+      ≡ holds_slots (record d { waiting = ws; borrowed = bs; others = os })
+  by [] [] [] = refl
+  by [] [] (n ∷ ns) = refl
+  by [] (n ∷ ns) bs = refl
+  by (m ∷ ms) ws bs = refl
 
 module _ (p : ℕ) (subscribers : List (Option SubscriberFields)) (old new : Slab Link) (left : LeavesConnections p subscribers old new) where
   -- the connection as the publisher leaves it
@@ -202,10 +202,12 @@ module _ (p : ℕ) (subscribers : List (Option SubscriberFields)) (old new : Sla
     -- one that the publisher left has what waits for somebody, and what is borrowed
     pub left-boxes : (key : ℕ) (c : Link) → get old key ≡ Some c → c.home.publisher ≡ p → mailboxes_of number new p c.home.subscriber ≡ mailbox_of (number p) (left_at key c)
     left-boxes key c at mine = by (holds_slots (left_at key c)) refl where
-      drained : (w b : List ℕ) → not (is_nil w && is_nil b) ≡ false → mailbox_of (number p) (record c { waiting = w; borrowed = b; returned = [] }) ≡ empty_mailbox
-      drained [] [] e = refl
-      drained [] (n ∷ ns) e = absurd cc
-      drained (n ∷ ns) b e = absurd cc
+      drained : (os : List ChannelNumber) (w b : List ℕ) → holds_slots (record c { waiting = w; borrowed = b; others = os }) ≡ false
+          → mailbox_of (number p) (record c { waiting = w; borrowed = b; returned = []; others = os }) ≡ empty_mailbox
+      drained [] [] [] e = refl
+      drained [] [] (n ∷ ns) e = absurd cc
+      drained [] (n ∷ ns) b e = absurd cc
+      drained (m ∷ ms) w b e = absurd cc
 
       gone : get new key ≡ None → look_up (is_between p c.home.subscriber) new.slots ≡ None
       gone none = look_up-nothing (is_between p c.home.subscriber) new.slots (λ k d at_d. by_test k d at_d (is_between p c.home.subscriber d) refl) where
@@ -220,4 +222,4 @@ module _ (p : ℕ) (subscribers : List (Option SubscriberFields)) (old new : Sla
       by : (b : Bool) → holds_slots (left_at key c) ≡ b → mailboxes_of number new p c.home.subscriber ≡ mailbox_of (number p) (left_at key c)
       by true held = ap (mailbox_if_any (number p))
           (look_up-found (is_between p c.home.subscriber) new.slots key (left_at key c) ((left-apart apart).one p c.home.subscriber) (left-held key c at mine held) (is_between-own p c.home.subscriber (left_at key c) mine refl))
-      by false unheld = ap (mailbox_if_any (number p)) (gone (left-unheld key c at mine unheld)) ∙ sym (drained (left_at key c).waiting c.borrowed unheld)
+      by false unheld = ap (mailbox_if_any (number p)) (gone (left-unheld key c at mine unheld)) ∙ sym (drained (left_at key c).others (left_at key c).waiting c.borrowed unheld)

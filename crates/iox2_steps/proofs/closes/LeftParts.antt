@@ -458,7 +458,7 @@ module _ {T U : Type 0} (f : Fields T U) (sound : IsDomain f) (i : ℕ) (x : Pub
     shapes = shapes;
     forms = sound.parts.forms;
     open_loans = open-rebooked after.publishers f.books f.contents x.book b counted_book at refl
-        (open-published f.publishers after.publishers f.books f.contents (record { at = λ k y at_y. (k, y, (publisher-was k y at_y).1, refl, λ slot out. out) }) sound.parts.open_loans);
+        (open-published f.publishers after.publishers f.books f.contents (record { at = λ k y at_y. (k, y, (publisher-was k y at_y).1, refl, λ slot out. out, refl) }) sound.parts.open_loans);
     plain = plain;
   }
 

@@ -3,6 +3,7 @@ use Rattle.std.proofs.Common.{◌≡◌, ℕ, zero, suc, ◌+◌, ◌*◌, ◌<�
 use Rattle.std.specs.declared.option.Option.{Option}
 use Rattle.std.specs.declared.option.Option.TheVariants.{None, Some}
 use Rattle.std.specs.Option.{option_map}
+use Rattle.std.specs.List.{All}
 use Rattle.slab.specs.Slab.{Slab}
 use Rattle.iox2_store.specs.machine.Numbers.{put_at}
 use Rattle.iox2_store.specs.machine.Records.{PublisherSettings}
@@ -15,7 +16,7 @@ use Rattle.iox2_laws.proofs.PortLaws.{new_publisher_keeps}
 use Rattle.iox2_domain.specs.Ports.{PublisherFields, slot_length}
 use Rattle.iox2_domain.specs.Kept.{Named, state_of, ids}
 use Rattle.iox2_domain.specs.Fields.{Fields, kept_of, publisher_of}
-use Rattle.iox2_domain.specs.Invariant.{HasForms, IsDomain, HasPublisherRoom}
+use Rattle.iox2_domain.specs.Invariant.{HasForms, IsDomain, HasPublisherRoom, cell_lists}
 use Rattle.iox2_domain.specs.NewPublisher.{BookEnters}
 use Rattle.iox2_domain.specs.Reaches.{Reaches}
 use Rattle.iox2_steps.proofs.creations.SubscribersDue.{with_subscribers_due, subscribers_due-are, subscribers_due-agree}
@@ -33,10 +34,11 @@ module _ {T U : Type 0} (f : Fields T U) where
 
 module _ {T U : Type 0} (f : Fields T U) (sound : IsDomain f) (place : ℕ) (given : PublisherSettings) (loan_room key_room key : ℕ) (books : Slab Book) (contents : List (Option (List (ContentState T U))))
     (free : get_or f.publishers place None ≡ None)
-    (book : BookEnters (f.config).node_id f.next_port (slots_for f.config given) (slot_length given.initial_max_slice_len * (f.config).units_per_element) key f.books f.contents books contents) (forms : HasForms f.config contents) where
+    (book : BookEnters (f.config).node_id f.next_port (slots_for f.config given) (slot_length given.initial_max_slice_len * (f.config).units_per_element) key f.books f.contents books contents) (forms : HasForms f.config contents)
+    (lists : All (λ content. content.lists ≡ cell_lists f.config given.max_loaned_samples) book.slot_contents) where
   -- the new publisher among the fields whose subscribers are due
   abbrev pub enters : PublisherEnters (with_subscribers_due f) place given loan_room key_room key books contents
-  enters = record { sound = subscribers_due-agree f sound; free = free; book = book; forms = forms }
+  enters = record { sound = subscribers_due-agree f sound; free = free; book = book; forms = forms; lists = lists }
 
   -- the fields with every subscriber due, and with the new publisher
   abbrev pub with_admitted : Fields T U

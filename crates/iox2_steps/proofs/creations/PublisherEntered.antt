@@ -4,6 +4,7 @@ use Rattle.std.proofs.lemmas.Bool.{cases_eq, eqb-true}
 use Rattle.std.specs.declared.option.Option.{Option}
 use Rattle.std.specs.declared.option.Option.TheVariants.{None, Some}
 use Rattle.std.specs.Option.{option_map, option_and_then}
+use Rattle.std.specs.List.{All}
 use Rattle.slab.specs.Slab.{Slab}
 use Rattle.circular_buffer.specs.Buffer.{buffer}
 use Rattle.iox2_store.specs.machine.Numbers.{put_at}
@@ -19,7 +20,7 @@ use Rattle.iox2_domain.specs.Ports.{PublisherFields, slot_length}
 use Rattle.iox2_domain.specs.Kept.{Named, Between, state_of, port_named, ids, is_named, loan_in, stands_between, box_if_any, channels_if_between}
 use Rattle.iox2_store.specs.machine.Channel.{Channel}
 use Rattle.iox2_domain.specs.Fields.{Fields, kept_of, publisher_of}
-use Rattle.iox2_domain.specs.Invariant.{IsDomain, HasForms, is_publisher}
+use Rattle.iox2_domain.specs.Invariant.{IsDomain, HasForms, cell_lists, is_publisher}
 use Rattle.iox2_domain.specs.Placed.{placed}
 use Rattle.iox2_domain.specs.NewPublisher.{BookEnters, entering_publisher}
 use Rattle.iox2_domain.proofs.lemmas.containers.LookUps.{look_up-map, look_up-written, IsOnly-inserted}
@@ -34,6 +35,7 @@ pub record PublisherEnters {T U : Type 0} (f : Fields T U) (place : ℕ) (given 
   pub free : get_or f.publishers place None ≡ None
   pub book : BookEnters (f.config).node_id f.next_port (slots_for f.config given) (slot_length given.initial_max_slice_len * (f.config).units_per_element) key f.books f.contents books contents
   pub forms : HasForms f.config contents
+  pub lists : All (λ content. content.lists ≡ cell_lists f.config given.max_loaned_samples) book.slot_contents
 
 module _ {T U : Type 0} (f : Fields T U) (place : ℕ) (given : PublisherSettings) (loan_room key_room key : ℕ) (books : Slab Book) (contents : List (Option (List (ContentState T U))))
     (enters : PublisherEnters f place given loan_room key_room key books contents) where

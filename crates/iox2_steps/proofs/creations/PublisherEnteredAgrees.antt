@@ -1,7 +1,7 @@
 -- A domain's fields agree with a new publisher among them.
 use Rattle.std.proofs.Common.{◌≡◌, ℕ, le_refl, zero, suc, ◌+◌, ◌<◌, ◌≤◌, ◌*◌, [], Bool, true, false, cond, eqb, get_or, refl, ap, sym, subst, ◌∙◌, inl, inr, ◌⊎◌, arith, List, length, replicate}
 use Rattle.std.proofs.lemmas.Bool.{cases_eq, eqb-true}
-use Rattle.std.specs.List.{sum_by}
+use Rattle.std.specs.List.{All, sum_by}
 use Rattle.std.proofs.Math.Nat.{le-min, le-max_left}
 use Rattle.std.proofs.lemmas.Option.{get_or_from_slice_get, slice_get_within}
 use Rattle.std.specs.Prelude.{IsSomeAnd, min, max, slice_get}
@@ -26,7 +26,7 @@ use Rattle.iox2_ends.specs.Homes.{IsSenderLinked}
 use Rattle.iox2_domain.specs.Ports.{PublisherFields, slot_length}
 use Rattle.iox2_domain.specs.Kept.{state_of, entries_of, entry_in, KeptMessage}
 use Rattle.iox2_domain.specs.Fields.{Fields, kept_of, is_book_of, message_in, contents_at}
-use Rattle.iox2_domain.specs.Invariant.{IsDomain, IsBook, IsLinked, HasBook, HasBooks, KeepsBooks, HasShape, IsCounted, SenderHas, ReceiverHas, HasPublisherRoom, HasRoomFrom, is_publisher, is_loan_in, holders_of, own_holders, HasOpenLoans, cell_count}
+use Rattle.iox2_domain.specs.Invariant.{IsDomain, IsBook, IsLinked, HasBook, HasBooks, KeepsBooks, HasShape, IsCounted, SenderHas, ReceiverHas, HasPublisherRoom, HasRoomFrom, is_publisher, is_loan_in, holders_of, own_holders, HasOpenLoans, cell_count, cell_lists}
 use Rattle.iox2_domain.specs.Placed.{placed}
 use Rattle.iox2_store.specs.Stored.{IsHeldMessage, In_history, In_mailbox, In_blocked_send}
 use Rattle.iox2_domain.proofs.lemmas.fields.KeptBooks.{StoodOrEnters, kept-publishers}
@@ -272,7 +272,7 @@ module _ {T U : Type 0} (f : Fields T U) (place : ℕ) (given : PublisherSetting
         let is : get_or enters.book.slot_contents slot content ≡ content = get_or_from_slice_get enters.book.slot_contents slot content content there in
         read ∙ ap cells_if there ∙ ap (λ (c : ContentState T U). length c.cells) (sym is) ∙ ap (length {A = Option T}) closed
 
-  open_loans : HasOpenLoans (placed f.publishers place new) books contents
+  open_loans : HasOpenLoans f.config (placed f.publishers place new) books contents
   open_loans = record {
     at = λ i slot x at some. elim (was i x at) [
       | inl e ↦ absurd (let none : cell_count contents x.book slot ≡ 0 = ap (λ (z : PublisherFields). cell_count contents z.book slot) e.1 ∙ no-cells slot in omega arith)
@@ -281,6 +281,17 @@ module _ {T U : Type 0} (f : Fields T U) (place : ℕ) (given : PublisherSetting
           let away = away_from f enters.sound slots needed key books contents enters.book x.book has.book has.stands in
           let loan = enters.sound.parts.open_loans.at i slot x old (subst (λ (o : Option (List (ContentState T U))). 0 < cells_in o slot) (enters.book.contents_others x.book away) some) in
           record { out = loan.out; unwritten = ap (option_and_then (λ (b : Book). slice_get b.marks slot)) (enters.book.updates.others x.book away) ∙ loan.unwritten }
+    ];
+    lists = λ i x cs at has. elim (was i x at) [
+      | inl e ↦
+          let there : Some enters.book.slot_contents ≡ Some cs = sym enters.book.contents_here ∙ ap (λ (z : PublisherFields). get_or contents z.book None) (sym e.1) ∙ has in
+          let is : enters.book.slot_contents ≡ cs = cc in
+          subst (λ (z : PublisherFields). All (λ content. content.lists ≡ cell_lists f.config z.max_loaned_samples) cs) (sym e.1)
+          (subst (All (λ (content : ContentState T U). content.lists ≡ cell_lists f.config given.max_loaned_samples)) is enters.lists)
+      | inr old ↦
+          let its = enters.sound.parts.books.publishers i x old in
+          let away = away_from f enters.sound slots needed key books contents enters.book x.book its.book its.stands in
+          enters.sound.parts.open_loans.lists i x cs old (sym (enters.book.contents_others x.book away) ∙ has)
     ];
   }
 

@@ -1,6 +1,7 @@
 -- A publisher enters a domain at the place that it has, or it is refused.
-use Rattle.std.proofs.Common.{◌≡◌, ◌≢◌, ℕ, suc, ◌+◌, ◌*◌, ◌≤◌, ◌==◌, Bool, true, false, cond, nat_lt, List, [], length, map, get_or, replicate, refl, ap, sym, subst, ◌∙◌, inl, inr}
+use Rattle.std.proofs.Common.{◌≡◌, ◌≢◌, ℕ, suc, ◌+◌, ◌*◌, ◌<◌, ◌≤◌, ◌==◌, Bool, true, false, cond, nat_lt, List, [], length, map, get_or, replicate, refl, ap, sym, subst, ◌∙◌, inl, inr, arith}
 use Rattle.std.proofs.lemmas.Bool.{cases_eq, ltb-true, eq-eqb}
+use Rattle.std.proofs.lemmas.List.Elements.{All-weaker}
 use Rattle.std.specs.List.{All}
 use Rattle.std.specs.declared.option.Option.{Option}
 use Rattle.std.specs.declared.option.Option.TheVariants.{None, Some}
@@ -18,14 +19,14 @@ use Rattle.iox2_store.specs.declared.errors.PublisherCreateError.TheVariants.{Un
 use Rattle.iox2_domain.specs.Ports.{PublisherFields, slot_length}
 use Rattle.iox2_domain.specs.Kept.{state_of}
 use Rattle.iox2_domain.specs.Fields.{Fields, kept_of}
-use Rattle.iox2_domain.specs.Invariant.{IsDomain, IsLinked, HasBooks, HasNumber, IsNumbered, HasForms, HasPublisherRoom}
+use Rattle.iox2_domain.specs.Invariant.{IsDomain, IsLinked, HasBooks, HasNumber, IsNumbered, HasForms, HasPublisherRoom, cell_lists}
 use Rattle.iox2_domain.specs.NewPublisher.{BookEnters, entering_publisher, subscriber_due, place_for_publisher}
 use Rattle.iox2_domain.specs.Placed.{placed, lowest_empty}
 use Rattle.iox2_domain.specs.Reaches.{Reaches}
 use Rattle.iox2_domain.proofs.lemmas.fields.NamedBooks.{names-books}
 use Rattle.iox2_domain.proofs.lemmas.containers.FreePlaces.{lowest_empty-low, lowest_empty-free}
 use Rattle.iox2_domain.proofs.lemmas.containers.Placed.{placed-here, placed-others}
-use Rattle.iox2_domain.proofs.lemmas.slots.OpenLoans.{open-kept}
+use Rattle.iox2_domain.proofs.lemmas.slots.OpenLoans.{lists-some, same-lists, open-kept}
 use Rattle.iox2_steps.proofs.creations.PublisherAdmitted.{with_admitted, admitted-reaches}
 
 -- the tests of a place that a publisher has, in their order
@@ -68,7 +69,7 @@ module _ {T U : Type 0} (f : Fields T U) where
       warning_room = sound.parts.warning_room;
       shapes = record { at = sound.parts.shapes.at };
       forms = sound.parts.forms;
-      open_loans = open-kept f.publishers f.books _ f.contents f.contents (λ k slot some. some) (λ k slot some. refl) sound.parts.open_loans;
+      open_loans = open-kept f.publishers f.books _ f.contents f.contents (λ k slot some. some) (λ k slot some. refl) (same-lists f.contents) sound.parts.open_loans;
       plain = sound.parts.plain;
     };
     kept_books = record { at = sound.kept_books.at };
@@ -132,7 +133,7 @@ module _ {T U : Type 0} (f : Fields T U) where
     pub contents_room : All (λ content. slot_length given.initial_max_slice_len * (before.config).units_per_element ≤ content.room) slot_contents
     pub contents_closed : All (λ content. content.cells ≡ []) slot_contents
     pub contents_form : is_single_valued before.config ≡ false → All (λ content. content.is_in_place ≡ false) slot_contents
-    pub contents_cells : is_single_valued before.config ≡ false → (before.config).lists_cells ≡ true → All (λ content. content.lists_cells ≡ true) slot_contents
+    pub contents_lists : All (λ content. content.lists ≡ cell_lists before.config given.max_loaned_samples) slot_contents
     pub vacant : get before.books (before.books).vacant_key ≡ None
     pub updates : Updates before.books books (before.books).vacant_key (Some book)
     pub changed : new ≡ record before {
@@ -181,11 +182,13 @@ module _ {T U : Type 0} (f : Fields T U) where
           | inl here ↦
               let found : Some slot_contents ≡ Some zs = sym (placed-here slot_contents f.contents key) ∙ sym (ap (λ (j : ℕ). get_or contents j None) here) ∙ there in
               let is : slot_contents ≡ zs = cc in
-              subst (All (λ content. content.lists_cells ≡ true)) is (e.contents_cells several lists)
+              subst (All (λ content. 0 < content.lists)) is
+              (All-weaker (λ (content : ContentState T U). content.lists ≡ cell_lists f.config given.max_loaned_samples) (λ (content : ContentState T U). 0 < content.lists)
+              (λ content are. let some = lists-some f.config given.max_loaned_samples several lists in omega (arith, are, some)) slot_contents e.contents_lists)
           | inr away ↦ sound.parts.forms.cells several lists k zs (sym (placed-others slot_contents f.contents key k away) ∙ there)
         ];
       } in
-      let after : Fields T U = with_admitted f sound place given x.loan_room x.key_room key books contents free enters forms in
+      let after : Fields T U = with_admitted f sound place given x.loan_room x.key_room key books contents free enters forms e.contents_lists in
       let same : new ≡ after = e.changed ∙ ap (λ (z : PublisherFields). record f {
         next_port = f.next_port + 1;
         publishers = placed f.publishers place z;
@@ -194,7 +197,7 @@ module _ {T U : Type 0} (f : Fields T U) where
         contents = contents;
       }) is in
       subst (λ (g : Fields T U). Reaches f g (with_new_publisher (state_of (kept_of f)) given place)) (sym same)
-      (admitted-reaches f sound place given x.loan_room x.key_room key books contents free enters forms (subst (HasPublisherRoom f.config) is e.room)
+      (admitted-reaches f sound place given x.loan_room x.key_room key books contents free enters forms e.contents_lists (subst (HasPublisherRoom f.config) is e.room)
       (subst (λ (p : ℕ). suc p ≤ (f.config).max_publishers) has.lowest (ltb-true _ _ has.low)) next)
 
   -- the same, where the fields are known by another name

@@ -33,11 +33,11 @@ use Rattle.iox2_domain.proofs.lemmas.fields.Views.{KeepsHeld, held-before}
 use Rattle.iox2_domain.proofs.lemmas.loans.PublisherChanges.{KeepsSettings, other_slots, changed-kept_books}
 use Rattle.iox2_domain.proofs.lemmas.slots.BookContents.{contents-there}
 use Rattle.iox2_domain.proofs.lemmas.slots.FreeContents.{rewritten-kept, rewritten-lies}
-use Rattle.iox2_domain.proofs.lemmas.slots.OpenLoans.{mark-here, open-own}
+use Rattle.iox2_domain.proofs.lemmas.slots.OpenLoans.{HasItsLists, kept-lists, mark-here, open-own}
 use Rattle.iox2_domain.proofs.lemmas.slots.OwnSlots.{own-is, own-books, own-parts_with}
 use Rattle.iox2_domain.proofs.lemmas.slots.RewrittenContents.{rewritten-books, rewritten-others}
 use Rattle.iox2_domain.proofs.lemmas.slots.SlotCells.{cells-here, cells-elsewhere}
-use Rattle.iox2_domain.proofs.lemmas.slots.SlotChanges.{forms-changed}
+use Rattle.iox2_domain.proofs.lemmas.slots.SlotChanges.{forms-changed, lists-changed}
 use Rattle.iox2_steps.proofs.sends.LoanAlone.{loan-number, loan-is, loan-of, loan-slot, loan-once, blocked-other}
 use Rattle.iox2_steps.proofs.sends.SentSlots.{times-without-one, map-without}
 use Rattle.iox2_domain.proofs.lemmas.slots.HolderGone.{keeps_slots, free, fewer-holders, given-aligned, left-numbered, unnumbered, others-same, left-entries, left-loans, left-shapes, left-lone}
@@ -142,14 +142,18 @@ module _ {T U : Type 0} (f : Fields T U) (sound : IsDomain f) (i : ℕ) (x : Pub
       forms = forms-changed f.config f.contents x.book slot cs has ended_content (λ c. refl) (λ c. refl) parts.forms
 
       -- the slot has no cells, and the others are as they were
-      open_loans : HasOpenLoans returned.publishers returned.books returned.contents
-      open_loans = open-own f parts i x here (with_loan_out slot x) b given at returned.contents (rewritten-others f x.book cs has slot ended_content) refl (λ s some. elim (cases_eq s slot) [
+      open_loans : HasOpenLoans f.config returned.publishers returned.books returned.contents
+      open_loans = open-own f parts i x here (with_loan_out slot x) b given at returned.contents (rewritten-others f x.book cs has slot ended_content) refl refl (λ s some. elim (cases_eq s slot) [
         | inl same ↦ absurd (let none = cells-here f.contents x.book cs has slot ended_content (subst (λ (j : ℕ). 0 < cell_count returned.contents x.book j) same some) in let no : 0 < 0 = none.2 in omega arith)
         | inr away ↦
             let before : cell_count returned.contents x.book s ≡ cell_count f.contents x.book s = cells-elsewhere f.contents x.book cs has slot ended_content x.book s (λ both. away both.1) in
             let loan = parts.open_loans.at i s x here (subst (λ (k : ℕ). 0 < k) before some) in
             (omega (arith, loan.out, fewer-loans s, one_if_other s slot away), sym (mark-here f.books x.book b at s) ∙ loan.unwritten)
-      ])
+      ]) its-lists
+
+      its-lists : HasItsLists f parts i x here (with_loan_out slot x) b given at returned.contents (rewritten-others f x.book cs has slot ended_content)
+      its-lists = kept-lists f parts i x here (with_loan_out slot x) b given at returned.contents (rewritten-others f x.book cs has slot ended_content)
+          (lists-changed f.contents x.book slot cs has ended_content (λ c. refl))
 
       -- the slot of a blocked delivery is another
       lends : LendsBlocked x → LendsBlocked (with_loan_out slot x)

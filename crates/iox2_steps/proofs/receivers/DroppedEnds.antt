@@ -15,7 +15,7 @@ use Rattle.iox2_store.specs.machine.State.{State}
 use Rattle.iox2_store.specs.Stored.{IsHeldMessage, In_history, In_mailbox, In_blocked_send}
 use Rattle.iox2_laws.proofs.Puts.{at_each}
 use Rattle.iox2_ends.specs.Counters.{with_counters}
-use Rattle.iox2_ends.specs.Drops.{RemovesDropped}
+use Rattle.iox2_ends.specs.Drops.{RemovesDropped, without_waiting}
 use Rattle.iox2_ends.specs.Mailboxes.{mailbox_of, mailboxes_of, with_box, publisher_of_key, receiver_ends}
 use Rattle.iox2_ends.specs.Recounts.{Recounts}
 use Rattle.iox2_ends.proofs.DropSteps.{drops-recount}
@@ -76,7 +76,7 @@ module _ {T U : Type 0} (f : Fields T U) (sound : IsDomain f) (j : ℕ) (y : Sub
 
   -- the connection, in which nothing is left
   abbrev pub emptied : Link
-  emptied = record c { waiting = [] }
+  emptied = without_waiting c
 
   abbrev pub between : Slab Link
   between = with_value f.connections key emptied
@@ -185,11 +185,11 @@ module _ {T U : Type 0} (f : Fields T U) (sound : IsDomain f) (j : ℕ) (y : Sub
 
   -- it was the end at a place
   pub place-fits : (i : ℕ) → get_or y.keys i None ≡ Some key → contains y.expired key ≡ false → LeavesReceiver dropped_fields y (set_place y.keys i None) y.expired new
-  place-fits i has unexpired = end-goes dropped_fields dropped-parts j y at key emptied linked still-departed refl unborrowed returned new removes.goes i has unexpired
+  place-fits i has unexpired = end-goes dropped_fields dropped-parts j y at key emptied linked still-departed refl unborrowed returned refl new removes.goes i has unexpired
 
   -- it was among those that expired
   pub expired-fits : ((place : ℕ) → get_or y.keys place None ≢ Some key) → LeavesReceiver dropped_fields y y.keys (without key y.expired) new
-  expired-fits nowhere = expired-goes dropped_fields dropped-parts j y at key emptied linked still-departed refl unborrowed returned new removes.goes nowhere
+  expired-fits nowhere = expired-goes dropped_fields dropped-parts j y at key emptied linked still-departed refl unborrowed returned refl new removes.goes nowhere
 
   module _ (keys : List (Option ℕ)) (expired : List ℕ) (fits : LeavesReceiver dropped_fields y keys expired new) where
     -- the fields without it

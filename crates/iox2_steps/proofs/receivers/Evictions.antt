@@ -17,7 +17,7 @@ use Rattle.iox2_store.specs.machine.SubscriberUpdate.{ReceiverSide, Evict, with_
 use Rattle.iox2_store.specs.declared.warning.Warning.TheVariants.{ExpiredDataDiscarded}
 use Rattle.iox2_laws.proofs.ReceiverSides.{evicted_keeps}
 use Rattle.iox2_laws.proofs.SubscriberUpdates.{with_receiver_side_keeps}
-use Rattle.iox2_ends.specs.Drops.{RemovesDropped}
+use Rattle.iox2_ends.specs.Drops.{RemovesDropped, without_waiting}
 use Rattle.iox2_ends.specs.Finds.{IsReceivers}
 use Rattle.iox2_ends.specs.Mailboxes.{publisher_of_key, receiver_ends, with_box}
 use Rattle.iox2_ends.proofs.MailboxChanges.{Updates-with_value}
@@ -129,7 +129,7 @@ module _ {T U : Type 0} (f : Fields T U) (sound : IsDomain f) (j i : ℕ) (y : S
     stays : get new key ≡ Some c
     stays =
         removes.goes.others key apart
-        ∙ (Updates-with_value f.connections first d (record d { waiting = [] }) old.link).others key apart
+        ∙ (Updates-with_value f.connections first d (without_waiting d) old.link).others key apart
         ∙ end.link
 
     pub end-fits : LeavesReceiver evicted mid (set_place y.keys i None) (without first y.expired ++ key ∷ []) new

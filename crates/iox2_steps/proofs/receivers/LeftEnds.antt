@@ -74,9 +74,9 @@ module _ {T U : Type 0} (f : Fields T U) (parts : HasParts f) (j : ℕ) (y : Sub
   -- ---- a connection of a departed publisher, in which no slot stands, goes
 
   module _ (key : ℕ) (c : Link) (stands_there : get f.connections key ≡ Some c) (departed : IsDeparted f y c)
-      (waiting : c.waiting ≡ []) (borrowed : c.borrowed ≡ []) (returned : c.returned ≡ []) (new : Slab Link) (goes : Updates f.connections new key None) where
+      (waiting : c.waiting ≡ []) (borrowed : c.borrowed ≡ []) (returned : c.returned ≡ []) (others : c.others ≡ []) (new : Slab Link) (goes : Updates f.connections new key None) where
     empty : IsEmptyLink c
-    empty = record { waiting = waiting; borrowed = borrowed; returned = returned }
+    empty = record { waiting = waiting; borrowed = borrowed; returned = returned; others = others }
 
     loses : LosesEmpty f.connections new
     loses = loses-one f.connections new key c stands_there empty goes

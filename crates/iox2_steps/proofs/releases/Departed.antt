@@ -1,18 +1,18 @@
 -- A subscriber forgets a departed publisher of which it has no message any more.
-use Rattle.std.proofs.Common.{◌≡◌, ◌≢◌, ℕ, ◌+◌, Bool, true, false, ◌||◌, not, ◌&&◌, List, map, length, get_or, is_some, [], ◌∷◌, arith, Option, None, Some, refl, ap, sym, subst, ◌∙◌, inl, inr, ◌⊎◌}
+use Rattle.std.proofs.Common.{◌≡◌, ◌≢◌, ℕ, ◌+◌, Bool, true, false, ◌||◌, List, map, length, get_or, is_some, [], ◌∷◌, arith, Option, None, Some, refl, ap, sym, subst, ◌∙◌, inl, inr, ◌⊎◌}
 use Rattle.std.proofs.lemmas.Bool.{eq-eqb, or_right}
 use Rattle.std.specs.Option.{option_map}
 use Rattle.slab.specs.Slab.{Slab, Updates, get}
 use Rattle.iox2_slots.specs.Link.{Link, load}
-use Rattle.iox2_store.specs.machine.Mailbox.{has_numbers}
-use Rattle.iox2_store.specs.machine.Numbers.{put_at, is_nil}
+use Rattle.iox2_store.specs.machine.Mailbox.{has_numbers, ChannelNumber}
+use Rattle.iox2_store.specs.machine.Numbers.{put_at}
 use Rattle.iox2_store.specs.machine.Records.{Publisher, Subscriber}
 use Rattle.iox2_store.specs.machine.Releases.{is_connected, pruned, subscriber_pruned, unborrowed}
 use Rattle.iox2_store.specs.machine.State.{State, is_present}
 use Rattle.iox2_store.specs.machine.WellFormed.{IsWellFormed}
 use Rattle.iox2_ends.specs.Finds.{IsReceivers}
 use Rattle.iox2_ends.specs.LookUp.{look_up}
-use Rattle.iox2_ends.specs.Mailboxes.{publisher_of_key, mailbox_of}
+use Rattle.iox2_ends.specs.Mailboxes.{publisher_of_key, mailbox_of, numbered}
 use Rattle.iox2_ends.proofs.LookUps.{look_up-none}
 use Rattle.iox2_ends.proofs.MailboxChanges.{is_between-own, mailbox-there}
 use Rattle.iox2_domain.specs.Departures.{key_forgotten}
@@ -69,7 +69,7 @@ module _ {T U : Type 0} (s : State T U) (well : IsWellFormed s) (n : ℕ) (g : F
       ∙ none
     where
       none : has_numbers (mailbox_of (numbers_of g.books c.home.publisher) c) ≡ false
-      none = let is = unloaded c empty in rw (is.waiting, is.borrowed) refl
+      none = let is = unloaded c empty in rw (is.waiting, is.borrowed, is.others) refl
 
   -- another connection of it is with another publisher
   other-publisher : (k : ℕ) (d : Link) → k ≢ key → get g.connections k ≡ Some d → d.home.subscriber ≡ y.id → d.home.publisher ≢ c.home.publisher
@@ -120,11 +120,13 @@ module _ {T U : Type 0} (s : State T U) (well : IsWellFormed s) (n : ℕ) (g : F
       (forgetting-midway g parts j y at_y key c at_c mine (unloaded c empty) (nobody-has g key c gone) new goes old after book midway)
 
 -- some slot stands in a connection, and none was given back
-some-numbers : (number : ℕ → ℕ) (waiting borrowed returned : List ℕ) → returned ≡ [] → (length waiting + length borrowed + length returned ≡ 0 → ⊥)
-    → not (is_nil (map number waiting) && is_nil (map number borrowed)) ≡ true
-some-numbers number [] [] returned none full = absurd (full (omega (arith, ap (length {A = ℕ}) none)))
-some-numbers number [] (x ∷ borrowed) returned none full = refl
-some-numbers number (x ∷ waiting) borrowed returned none full = refl
+some-numbers : (number : ℕ → ℕ) (others : List ChannelNumber) (waiting borrowed returned : List ℕ) → returned ≡ []
+    → (length waiting + length borrowed + length returned + length others ≡ 0 → ⊥)
+    → has_numbers (record { waiting = map number waiting; borrowed = map number borrowed; others = numbered number others }) ≡ true
+some-numbers number [] [] [] returned none full = absurd (full (omega (arith, ap (length {A = ℕ}) none)))
+some-numbers number [] [] (x ∷ borrowed) returned none full = refl
+some-numbers number [] (x ∷ waiting) borrowed returned none full = refl
+some-numbers number (m ∷ others) waiting borrowed returned none full = refl
 
 module _ {T U : Type 0} (s : State T U) (well : IsWellFormed s) (n : ℕ) (g : Fields T U) (parts : HasParts g) (j : ℕ) (y : SubscriberFields) (at_y : get_or g.subscribers j None ≡ Some y)
     (key : ℕ) (c : Link) (at_c : get g.connections key ≡ Some c) (mine : c.home.subscriber ≡ y.id) (full : load c ≡ 0 → ⊥)
@@ -145,7 +147,7 @@ module _ {T U : Type 0} (s : State T U) (well : IsWellFormed s) (n : ℕ) (g : F
       some =
           ap has_numbers (ap (λ (t : State T U). t.mailboxes c.home.publisher y.id) (sym midway.state) ∙ mailboxes-are g c.home.publisher y.id
           ∙ mailbox-there (numbers_of g.books) g.connections key c.home.publisher y.id c parts.apart at_c refl mine)
-          ∙ some-numbers (numbers_of g.books c.home.publisher) c.waiting c.borrowed c.returned (returned (parts.linked.returned key c at_c)) full
+          ∙ some-numbers (numbers_of g.books c.home.publisher) c.others c.waiting c.borrowed c.returned (returned (parts.linked.returned key c at_c)) full
 
 -- the key of a departed publisher stands at its place alone
 pub key-place : {T U : Type 0} (g : Fields T U) → HasParts g → (j i key : ℕ) (y : SubscriberFields) (c : Link) → get_or g.subscribers j None ≡ Some y → get_or y.keys i None ≡ Some key

@@ -5,7 +5,7 @@ use Rattle.std.specs.List.{list_all}
 use Rattle.std.specs.Option.{option_map_or}
 use Rattle.slab.specs.Slab.{Slab, get}
 use Rattle.iox2_slots.specs.Link.{Link, load}
-use Rattle.iox2_store.specs.machine.Mailbox.{has_borrows, has_data}
+use Rattle.iox2_store.specs.machine.Mailbox.{has_borrows, ChannelNumber, has_waiting}
 use Rattle.iox2_store.specs.machine.Numbers.{contains, is_nil}
 use Rattle.iox2_store.specs.machine.Places.{occupants}
 use Rattle.iox2_store.specs.machine.Records.{Publisher, Subscriber}
@@ -13,11 +13,11 @@ use Rattle.iox2_store.specs.machine.Releases.{is_unused, place_freed, freed_if_u
 use Rattle.iox2_store.specs.machine.State.{State, connected_publishers}
 use Rattle.iox2_store.specs.machine.WellFormed.{MailboxIsWellFormed}
 use Rattle.iox2_ends.specs.LookUp.{look_up}
-use Rattle.iox2_ends.specs.Mailboxes.{is_between, mailbox_of, mailbox_if_any, receiver_ends}
+use Rattle.iox2_ends.specs.Mailboxes.{is_between, mailbox_of, mailbox_if_any, receiver_ends, numbered}
 use Rattle.iox2_ends.proofs.LookUps.{look_up-there}
 use Rattle.iox2_ends.proofs.MailboxChanges.{both-true, mailbox-there}
 use Rattle.iox2_laws.proofs.FilterLemmas.{passes_all}
-use Rattle.iox2_laws.proofs.MailboxLemmas.{has_numbers-data}
+use Rattle.iox2_laws.proofs.MailboxLemmas.{has_numbers-waiting}
 use Rattle.iox2_laws.proofs.NumberLemmas.{contains_left, contains_right, all_pass}
 use Rattle.iox2_laws.proofs.PlaceLemmas.{contains-occupants, leads_to}
 use Rattle.iox2_domain.specs.Departures.{BorrowsNothing, BorrowsSome, IsUnshared, KnowsKey}
@@ -33,9 +33,11 @@ use Rattle.iox2_domain.proofs.lemmas.slots.HeldMessages.{publisher-there}
 use Rattle.iox2_domain.proofs.lemmas.fields.ConnectionEnds.{subscriber-stands}
 
 -- a list whose numbers are none is none
-none-mapped : (number : ℕ → ℕ) (xs : List ℕ) → not (is_nil (map number xs)) ≡ false → xs ≡ []
-none-mapped number [] e = refl
-none-mapped number (x ∷ xs) e = absurd cc
+none-waiting : (number : ℕ → ℕ) (os : List ChannelNumber) (ws : List ℕ)
+    → has_waiting (record { waiting = map number ws; borrowed = []; others = numbered number os }) ≡ false → (os ≡ []) × (ws ≡ [])
+none-waiting number [] [] e = (refl, refl)
+none-waiting number [] (w ∷ ws) e = absurd cc
+none-waiting number (m ∷ ms) ws e = absurd cc
 
 nil-from : (xs : List ℕ) → is_nil xs ≡ true → xs ≡ []
 nil-from [] e = refl
@@ -133,7 +135,7 @@ module _ {T U : Type 0} (f : Fields T U) (parts : HasParts f) (j : ℕ) (y : Sub
     -- in a connection that it alone has no slot stands
     pub idle-load : y.is_open ≡ false → BorrowsNowhere f.connections y.id → (key : ℕ) (c : Link) → get f.connections key ≡ Some c → IsUnshared f.publishers y.id key c → load c ≡ 0
     idle-load closed nothing key c at_c alone =
-        rw (waiting, nothing key c at_c alone.subscriber_is, returned (parts.linked.returned key c at_c)) refl
+        rw (drained.1, nothing key c at_c alone.subscriber_is, returned (parts.linked.returned key c at_c), drained.0) refl
       where
         p : ℕ
         p = c.home.publisher
@@ -142,21 +144,21 @@ module _ {T U : Type 0} (f : Fields T U) (parts : HasParts f) (j : ℕ) (y : Sub
         returned (inl has) = absurd (alone.unshared has)
         returned (inr none) = none
 
-        waits : has_data (t.mailboxes c.home.publisher y.id) ≡ true → ⊥
+        waits : has_waiting (t.mailboxes c.home.publisher y.id) ≡ true → ⊥
         waits some = by (t.publishers c.home.publisher) refl where
           by : (o : Option Publisher) → t.publishers c.home.publisher ≡ o → ⊥
           by None e =
               let knows = (boxes c.home.publisher).departed e some in
               true≢false (sym knows.2 ∙ ap (λ (z : Subscriber). z.is_open) (same-port knows.0 knows.1) ∙ closed)
           by (Some x) e =
-              let leads = (boxes c.home.publisher).sender_end x e (has_numbers-data (t.mailboxes c.home.publisher y.id) some) in
+              let leads = (boxes c.home.publisher).sender_end x e (has_numbers-waiting (t.mailboxes c.home.publisher y.id) some) in
               let there = publisher-there f c.home.publisher x e in
               alone.unshared (leads-has f parts.linked parts.apart key c at_c there.0 there.1 there.2 there.3 (rw alone.subscriber_is (rw there.4 at leads)))
 
-        waiting : c.waiting ≡ []
-        waiting =
-            none-mapped (numbers_of f.books c.home.publisher) c.waiting
-            (sym (ap has_data (its-box key c at_c alone.subscriber_is)) ∙ false_from_ne_true (has_data (t.mailboxes c.home.publisher y.id)) waits)
+        drained : (c.others ≡ []) × (c.waiting ≡ [])
+        drained =
+            none-waiting (numbers_of f.books c.home.publisher) c.others c.waiting
+            (sym (ap has_waiting (its-box key c at_c alone.subscriber_is)) ∙ false_from_ne_true (has_waiting (t.mailboxes c.home.publisher y.id)) waits)
 
   -- ---- midway
 

@@ -1,6 +1,6 @@
 -- A publisher with a blocked delivery takes it up: what the delivery needs is there, and what it comes to is the machine's.
-use Rattle.std.proofs.Common.{◌≡◌, ℕ, ◌+◌, ◌<◌, ◌≤◌, List, drop-drop, length, get_or, refl, ap, sym, subst, ◌∙◌, arith}
-use Rattle.std.proofs.lemmas.List.{length-map}
+use Rattle.std.proofs.Common.{◌≡◌, ℕ, ◌+◌, ◌<◌, ◌≤◌, List, Bool, true, false, cond, drop, drop-drop, take, length, get_or, refl, ap, sym, subst, ◌∙◌, arith}
+use Rattle.std.proofs.lemmas.List.{length-map, length-take}
 use Rattle.std.proofs.lemmas.Option.{same_Some}
 use Rattle.std.specs.declared.option.Option.{Option}
 use Rattle.std.specs.declared.option.Option.TheVariants.{None, Some}
@@ -26,7 +26,7 @@ use Rattle.iox2_laws.proofs.PlaceLemmas.{occupied_within}
 use Rattle.iox2_domain.specs.declared.publisher_state.BlockedDelivery.{BlockedDelivery}
 use Rattle.iox2_domain.specs.Ports.{PublisherFields}
 use Rattle.iox2_domain.specs.Kept.{state_of}
-use Rattle.iox2_domain.specs.Fields.{Fields, kept_of, publisher_of, numbers_of, blocked_send}
+use Rattle.iox2_domain.specs.Fields.{Fields, kept_of, publisher_of, numbers_of, within_reach, blocked_send}
 use Rattle.iox2_domain.specs.Invariant.{IsDomain}
 use Rattle.iox2_domain.specs.Reaches.{Reaches}
 use Rattle.iox2_domain.specs.Deliveries.{result_of_send}
@@ -36,6 +36,7 @@ use Rattle.iox2_domain.proofs.lemmas.slots.PublisherBooks.{book-counts}
 use Rattle.iox2_steps.proofs.updates.HistoryBounds.{held-few}
 use Rattle.iox2_steps.proofs.sends.LoanAlone.{once-times}
 use Rattle.iox2_steps.proofs.sends.GoneOn.{goes-on}
+use Rattle.iox2_steps.proofs.sends.Reach.{reach-ends}
 
 module _ {T U : Type 0} (f : Fields T U) (sound : IsDomain f) (i : ℕ) (x : PublisherFields) (here : get_or f.publishers i None ≡ Some x)
     (w : BlockedDelivery) (waits : x.blocked ≡ Some w) where
@@ -53,11 +54,18 @@ module _ {T U : Type 0} (f : Fields T U) (sound : IsDomain f) (i : ℕ) (x : Pub
   waits-within =
       (omega (arith, occupied_within port.ends (w.progress).place well.waits.0 well.waits.1, length-map x.keys (subscriber_of_key f.connections)), well.count_bound)
 
+  -- so it may reach the place
+  waits-reached : (w.progress).place < length (within_reach w x.keys)
+  waits-reached = by w.is_alone where
+    by : (o : Bool) → (w.progress).place < length (cond o (take ((w.progress).place + 1) x.keys) x.keys)
+    by true = omega (arith, length-take ((w.progress).place + 1) x.keys, waits-within.0)
+    by false = waits-within.0
+
   -- it may be tried again
   pub can-retry : (start : Progress) → start.place ≡ (w.progress).place → start.count ≡ (w.progress).count → CanGoOn x w start
   can-retry start place count = record {
     later = omega (arith, place);
-    within = omega (arith, place, waits-within.0);
+    within = omega (arith, place, waits-reached);
     counted = omega (arith, place, count, waits-within.1);
   }
 
@@ -65,7 +73,7 @@ module _ {T U : Type 0} (f : Fields T U) (sound : IsDomain f) (i : ℕ) (x : Pub
   pub can-give_up : (start : Progress) → start.place ≡ (w.progress).place + 1 → start.count ≡ (w.progress).count → CanGoOn x w start
   can-give_up start place count = record {
     later = omega (arith, place);
-    within = omega (arith, place, waits-within.0);
+    within = omega (arith, place, waits-reached);
     counted = omega (arith, place, count, waits-within.1);
   }
 
@@ -109,10 +117,12 @@ module _ {T U : Type 0} (environment : Environment) (f0 f1 f2 : Fields T U) (sou
     retries-as elapsed start is goes = record {
       agrees = went.agrees;
       retries = subst (λ (c : BlockedSend). Retry environment (state_of (kept_of f0)) x.id c elapsed (state_of (kept_of f2)) (result_of_send outcome)) waiting-same
-          (subst (λ (s : State T U). Retry environment s x.id (waiting_send f1 x w) elapsed (state_of (kept_of f2)) (result_of_send outcome)) reclaimed.state went.concludes);
+          (subst (λ (s : State T U). Retry environment s x.id (waiting_send f1 x w) elapsed (state_of (kept_of f2)) (result_of_send outcome)) reclaimed.state
+          (subst (λ (ends : List (Option ℕ)). DeliverAndConclude environment (state_of (kept_of f1)) x.id (numbers_of f1.books x.id w.slot) w.channel (more_retries (w.progress).retries) elapsed (w.progress).place (drop (w.progress).place ends) (w.progress).count (w.progress).has_failed
+          (state_of (kept_of f2)) (result_of_send outcome)) (reach-ends f1.connections w x.keys) went.concludes));
       entries = λ m entry e. reclaimed.entries m entry (went.entries m entry e);
     } where
-      went : ConcludesAs environment f1 f2 x (numbers_of f1.books x.id w.slot) (record w.progress { retries = more_retries (w.progress).retries }) elapsed (result_of_send outcome)
+      went : ConcludesAs environment f1 f2 x (numbers_of f1.books x.id w.slot) w.channel (within_reach w x.keys) (record w.progress { retries = more_retries (w.progress).retries }) elapsed (result_of_send outcome)
       went = goes-on environment f1 reclaimed.agrees i x now w waits (record w.progress { retries = more_retries (w.progress).retries })
           (can-retry f1 reclaimed.agrees i x now w waits (record w.progress { retries = more_retries (w.progress).retries }) refl refl) elapsed outcome f2
           (subst (λ (v : Progress). GoesOn environment f1 i x w v elapsed outcome f2) is goes)
@@ -124,11 +134,11 @@ module _ {T U : Type 0} (environment : Environment) (f0 f1 f2 : Fields T U) (sou
       agrees = went.agrees;
       gives_up = subst (λ (c : BlockedSend). GiveUp environment (state_of (kept_of f0)) x.id c (state_of (kept_of f2)) (result_of_send outcome)) waiting-same
           (subst (λ (s : State T U). GiveUp environment s x.id (waiting_send f1 x w) (state_of (kept_of f2)) (result_of_send outcome)) reclaimed.state
-          (subst (λ (ends : List (Option ℕ)). DeliverAndConclude environment (state_of (kept_of f1)) x.id (numbers_of f1.books x.id w.slot) 0 0 no_time ((w.progress).place + 1) ends (w.progress).count (w.progress).has_failed (state_of (kept_of f2)) (result_of_send outcome))
-          (sym (drop-drop 1 (w.progress).place (sender_ends f1.connections x.keys))) went.concludes));
+          (subst (λ (ends : List (Option ℕ)). DeliverAndConclude environment (state_of (kept_of f1)) x.id (numbers_of f1.books x.id w.slot) w.channel 0 no_time ((w.progress).place + 1) ends (w.progress).count (w.progress).has_failed (state_of (kept_of f2)) (result_of_send outcome))
+          (ap (drop ((w.progress).place + 1)) (reach-ends f1.connections w x.keys) ∙ sym (drop-drop 1 (w.progress).place (within_reach w (sender_ends f1.connections x.keys)))) went.concludes));
       entries = λ m entry e. reclaimed.entries m entry (went.entries m entry e);
     } where
-      went : ConcludesAs environment f1 f2 x (numbers_of f1.books x.id w.slot) (record w.progress { place = (w.progress).place + 1; retries = 0 }) no_time (result_of_send outcome)
+      went : ConcludesAs environment f1 f2 x (numbers_of f1.books x.id w.slot) w.channel (within_reach w x.keys) (record w.progress { place = (w.progress).place + 1; retries = 0 }) no_time (result_of_send outcome)
       went = goes-on environment f1 reclaimed.agrees i x now w waits (record w.progress { place = (w.progress).place + 1; retries = 0 })
           (can-give_up f1 reclaimed.agrees i x now w waits (record w.progress { place = (w.progress).place + 1; retries = 0 }) refl refl) no_time outcome f2
           (subst (λ (v : Progress). GoesOn environment f1 i x w v no_time outcome f2) is goes)

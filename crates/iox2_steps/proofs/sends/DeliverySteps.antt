@@ -6,9 +6,9 @@ use Rattle.std.specs.declared.time.Duration.{Duration}
 use Rattle.std.specs.Option.{option_map}
 use Rattle.std.specs.Prelude.{slice_get, nat_lt}
 use Rattle.slab.specs.Slab.{Slab, get, with_value}
-use Rattle.iox2_store.specs.machine.Delivery.{PutResult, Complete, Suspended, Decides, Put, PutAtEnd, Deliver, by_strategy, by_action, is_blocking, is_failed, accepted_count, no_time}
+use Rattle.iox2_store.specs.machine.Delivery.{PutResult, Complete, Suspended, Decides, PutIn, PutAtEndIn, DeliverIn, by_strategy, by_action, is_blocking, is_failed, accepted_count, no_time}
 use Rattle.iox2_slots.specs.Link.{Link}
-use Rattle.iox2_store.specs.machine.Mailbox.{Mailbox, has_room}
+use Rattle.iox2_store.specs.machine.Mailbox.{Mailbox, has_room_in}
 use Rattle.iox2_store.specs.machine.Records.{Environment, Handler, Fixed, Custom}
 use Rattle.iox2_slots.specs.SlotBook.{Book, holders_at, IsInUse}
 use Rattle.iox2_store.specs.declared.backpressure.BackpressureAction.{BackpressureAction}
@@ -30,7 +30,7 @@ use Rattle.iox2_domain.specs.Handlers.{AsksFor, is_failing, may_fail}
 use Rattle.iox2_domain.specs.declared.boxes.PortBox.{PortBox}
 use Rattle.iox2_domain.specs.declared.handlers.AskedBox.{AskedBox}
 use Rattle.iox2_domain.specs.Ports.{PublisherFields}
-use Rattle.iox2_domain.specs.Fields.{Fields}
+use Rattle.iox2_domain.specs.Fields.{Fields, within_reach}
 use Rattle.iox2_domain.specs.Invariant.{IsDomain, IsCounted, details_of, is_subscriber, holders_of, HasParts}
 use Rattle.iox2_domain.specs.Deliveries.{CanSend, SendsSlot, leaving, DeliversFrom, sender_after, book_after, with_history_holder}
 use Rattle.iox2_domain.proofs.lemmas.containers.LookUps.{IsOnly-map}
@@ -52,6 +52,7 @@ use Rattle.iox2_ends.specs.declared.sender.Progress.{Progress}
 use Rattle.iox2_ends.specs.declared.sender.DeliveryOutcome.{DeliveryOutcome}
 use Rattle.iox2_domain.specs.declared.publisher_state.BlockedDelivery.{BlockedDelivery}
 use Rattle.iox2_domain.specs.BlockedSends.{with_outcome, counters_after, GoesOn}
+use Rattle.iox2_steps.proofs.sends.Reach.{reach-key}
 
 strategy-passes : (s : BackpressureStrategy) → is_failed (by_strategy s) ≡ false
 strategy-passes RetryUntilDelivered = refl
@@ -70,21 +71,21 @@ decides-passes e p strategy (Some (Fixed action)) none info result d = ap is_fai
 decides-passes e p strategy (Some Custom) none info result d = absurd (let no : true ≡ false = none in cc)
 
 module _ (e : Environment) (c : ServiceConfig) (p : ℕ) (strategy : BackpressureStrategy) (handler : Option (Handler BackpressureAction)) (passes : may_fail handler ≡ false)
-    (buffers : ℕ → Option ℕ) (n : ℕ) where
+    (buffers : ℕ → Option ℕ) (n channel : ℕ) where
   put-passes : (q retries : ℕ) (elapsed : Duration) (buffer : Option ℕ) (box : Mailbox) (result : PutResult) (box' : Mailbox)
-      → Put e c p strategy handler buffers n q retries elapsed buffer box result box' → is_failed result ≡ false
+      → PutIn e c p strategy handler buffers n channel q retries elapsed buffer box result box' → is_failed result ≡ false
   put-passes q retries elapsed None box result box' h = ap is_failed h.0
   put-passes q retries elapsed (Some buffer) box result box' h =
-      by_bool (is_failed result ≡ false) (has_room buffer box || c.enable_safe_overflow) _ _ h (λ _ k. ap is_failed k.0) (λ _ k. decides-passes e p strategy handler passes _ result k.0)
+      by_bool (is_failed result ≡ false) (has_room_in channel buffer box || c.enable_safe_overflow) _ _ h (λ _ k. ap is_failed k.0) (λ _ k. decides-passes e p strategy handler passes _ result k.0)
 
   put_at_end-passes : (retries : ℕ) (elapsed : Duration) (end : Option ℕ) (boxes : ℕ → Mailbox) (result : PutResult) (boxes' : ℕ → Mailbox)
-      → PutAtEnd e c p strategy handler buffers n retries elapsed end boxes result boxes' → is_failed result ≡ false
+      → PutAtEndIn e c p strategy handler buffers n channel retries elapsed end boxes result boxes' → is_failed result ≡ false
   put_at_end-passes retries elapsed None boxes result boxes' h = ap is_failed h.0
   put_at_end-passes retries elapsed (Some q) boxes result boxes' h = put-passes q retries elapsed (buffers q) (boxes q) result h.0 h.1
 
   -- where the handler fails no send, no receiver fails the delivery
   pub delivery-passes : (retries : ℕ) (elapsed : Duration) (place : ℕ) (ends : List (Option ℕ)) (count : ℕ) (has_failed : Bool) (boxes : ℕ → Mailbox) (boxes' : ℕ → Mailbox)
-      → has_failed ≡ false → (took : ℕ) (failed : Bool) → Deliver e c p strategy handler buffers n retries elapsed place ends count has_failed boxes (Complete took failed) boxes' → failed ≡ false
+      → has_failed ≡ false → (took : ℕ) (failed : Bool) → DeliverIn e c p strategy handler buffers n channel retries elapsed place ends count has_failed boxes (Complete took failed) boxes' → failed ≡ false
   delivery-passes retries elapsed place [] count has_failed boxes boxes' none took failed h =
       let same : Complete took failed ≡ Complete count has_failed = h.0 in
       let is : failed ≡ has_failed = cc in
@@ -96,16 +97,16 @@ module _ (e : Environment) (c : ServiceConfig) (p : ℕ) (strategy : Backpressur
       (λ _ k. delivery-passes 0 no_time (place + 1) rest (count + accepted_count h.0) (has_failed || is_failed h.0) h.1 boxes' (λ t. none t || passed t) took failed k)
 
 -- a delivery of a publisher whose handler fails no send, which hadn't failed so far, doesn't fail
-pub never-fails : {T U : Type 0} (environment : Environment) (f : Fields T U) (x : PublisherFields) (slot : ℕ) (start : Progress) (elapsed : Duration) (outcome : DeliveryOutcome) (new : Fields T U)
-    → DeliversFrom environment f x slot start elapsed outcome new → may_fail x.backpressure_handler ≡ false → start.has_failed ≡ false
+pub never-fails : {T U : Type 0} (environment : Environment) (f : Fields T U) (x : PublisherFields) (channel : ℕ) (keys : List (Option ℕ)) (slot : ℕ) (start : Progress) (elapsed : Duration) (outcome : DeliveryOutcome) (new : Fields T U)
+    → DeliversFrom environment f x channel keys slot start elapsed outcome new → may_fail x.backpressure_handler ≡ false → start.has_failed ≡ false
     → (count : ℕ) (has_failed : Bool) → outcome ≡ DeliveryOutcome.Complete count has_failed → has_failed ≡ false
-never-fails environment f x slot start elapsed outcome new d none so_far count has_failed is =
-    delivery-passes environment f.config x.id x.strategy x.backpressure_handler none (taking_buffers f.connections x.id (map (option_map details_of) f.subscribers)) 0
-    start.retries elapsed start.place (drop start.place (sender_ends f.connections x.keys)) start.count start.has_failed (mailboxes_of number f.connections x.id) (mailboxes_of number d.connections x.id)
+never-fails environment f x channel keys slot start elapsed outcome new d none so_far count has_failed is =
+    delivery-passes environment f.config x.id x.strategy x.backpressure_handler none (taking_buffers f.connections x.id channel (map (option_map details_of) f.subscribers)) 0 channel
+    start.retries elapsed start.place (drop start.place (sender_ends f.connections keys)) start.count start.has_failed (mailboxes_of number f.connections x.id) (mailboxes_of number d.connections x.id)
     so_far count has_failed
-    (subst (λ (o : DeliveryOutcome). Deliver environment f.config x.id x.strategy x.backpressure_handler (taking_buffers f.connections x.id (map (option_map details_of) f.subscribers)) 0
-    start.retries elapsed start.place (drop start.place (sender_ends f.connections x.keys)) start.count start.has_failed (mailboxes_of number f.connections x.id)
-    (end_of 0 (sender_ends f.connections x.keys) o) (mailboxes_of number d.connections x.id)) is (d.delivers number))
+    (subst (λ (o : DeliveryOutcome). DeliverIn environment f.config x.id x.strategy x.backpressure_handler (taking_buffers f.connections x.id channel (map (option_map details_of) f.subscribers)) 0
+    channel start.retries elapsed start.place (drop start.place (sender_ends f.connections keys)) start.count start.has_failed (mailboxes_of number f.connections x.id)
+    (end_of 0 channel (sender_ends f.connections keys) o) (mailboxes_of number d.connections x.id)) is (d.delivers number))
   where
     number : ℕ → ℕ → ℕ
     number p slot = 0
@@ -124,8 +125,8 @@ module _ {F G : Type 0} (allows : F → BackpressureInfo → BackpressureAction 
       subst (λ (p : ℕ). BoxAnswers allows (box_of p boxes) info action) asks.0
       (subst (λ (all : List (PortBox F G)). BoxAnswers allows (box_of a.id all) info action) asks.1 answers)
 
-module _ {T U : Type 0} (e e' : Environment) (old : Fields T U) (x : PublisherFields) (slot : ℕ) (outcome : DeliveryOutcome) (new : Fields T U) (allows : AllowsAsMuch e e' x.id x.backpressure_handler) where
-  delivers-alike : (start : Progress) (elapsed : Duration) → DeliversFrom e old x slot start elapsed outcome new → DeliversFrom e' old x slot start elapsed outcome new
+module _ {T U : Type 0} (e e' : Environment) (old : Fields T U) (x : PublisherFields) (channel : ℕ) (keys : List (Option ℕ)) (slot : ℕ) (outcome : DeliveryOutcome) (new : Fields T U) (allows : AllowsAsMuch e e' x.id x.backpressure_handler) where
+  delivers-alike : (start : Progress) (elapsed : Duration) → DeliversFrom e old x channel keys slot start elapsed outcome new → DeliversFrom e' old x channel keys slot start elapsed outcome new
   delivers-alike start elapsed d = record {
     book = d.book;
     stands = d.stands;
@@ -135,9 +136,9 @@ module _ {T U : Type 0} (e e' : Environment) (old : Fields T U) (x : PublisherFi
     recounts = d.recounts;
     alone = d.alone;
     delivers = λ number.
-        Deliver-any e e' old.config x.id x.strategy x.backpressure_handler (taking_buffers old.connections x.id (map (option_map details_of) old.subscribers)) (number x.id slot) 0 allows
-        start.retries elapsed start.place (drop start.place (sender_ends old.connections x.keys)) start.count start.has_failed (mailboxes_of number old.connections x.id)
-        (end_of (number x.id slot) (sender_ends old.connections x.keys) outcome) (mailboxes_of number d.connections x.id) (d.delivers number);
+        Deliver-any e e' old.config x.id x.strategy x.backpressure_handler (taking_buffers old.connections x.id channel (map (option_map details_of) old.subscribers)) (number x.id slot) channel allows
+        start.retries elapsed start.place (drop start.place (sender_ends old.connections keys)) start.count start.has_failed (mailboxes_of number old.connections x.id)
+        (end_of (number x.id slot) channel (sender_ends old.connections keys) outcome) (mailboxes_of number d.connections x.id) (d.delivers number);
   }
 
 module _ {T U : Type 0} (e e' : Environment) (old : Fields T U) (place : ℕ) (x : PublisherFields) (outcome : DeliveryOutcome) (new : Fields T U) (allows : AllowsAsMuch e e' x.id x.backpressure_handler) where
@@ -145,7 +146,7 @@ module _ {T U : Type 0} (e e' : Environment) (old : Fields T U) (place : ℕ) (x
   pub sends-alike : (slot : ℕ) → SendsSlot e old place x slot outcome new → SendsSlot e' old place x slot outcome new
   sends-alike slot s = record {
     delivered = s.delivered;
-    delivers = delivers-alike e e' old x slot outcome s.delivered allows begun no_time s.delivers;
+    delivers = delivers-alike e e' old x 0 x.keys slot outcome s.delivered allows begun no_time s.delivers;
     book = s.book;
     stands = s.stands;
     ended = s.ended;
@@ -155,19 +156,19 @@ module _ {T U : Type 0} (e e' : Environment) (old : Fields T U) (place : ℕ) (x
   pub goes-alike : (b : BlockedDelivery) (start : Progress) (elapsed : Duration) → GoesOn e old place x b start elapsed outcome new → GoesOn e' old place x b start elapsed outcome new
   goes-alike b start elapsed s = record {
     delivered = s.delivered;
-    delivers = delivers-alike e e' old x b.slot outcome s.delivered allows start elapsed s.delivers;
+    delivers = delivers-alike e e' old x b.channel (within_reach b x.keys) b.slot outcome s.delivered allows start elapsed s.delivers;
     book = s.book;
     stands = s.stands;
     ended = s.ended;
   }
 
-module _ {T U : Type 0} (f : Fields T U) (y : PublisherFields) (slot : ℕ) (start : Progress) (elapsed : Duration) (outcome : DeliveryOutcome) (new : Slab Link) where
+module _ {T U : Type 0} (f : Fields T U) (y : PublisherFields) (channel : ℕ) (keys : List (Option ℕ)) (slot : ℕ) (start : Progress) (elapsed : Duration) (outcome : DeliveryOutcome) (new : Slab Link) where
   -- the publisher's slot is delivered where this handler answers for it
   abbrev pub DeliversWith : Environment → Option (Handler BackpressureAction) → Type 0
   DeliversWith environment h = (number : ℕ → ℕ → ℕ)
-      → Deliver environment f.config y.id y.strategy h (taking_buffers f.connections y.id (map (option_map details_of) f.subscribers)) (number y.id slot)
-      start.retries elapsed start.place (drop start.place (sender_ends f.connections y.keys)) start.count start.has_failed (mailboxes_of number f.connections y.id)
-      (end_of (number y.id slot) (sender_ends f.connections y.keys) outcome) (mailboxes_of number new y.id)
+      → DeliverIn environment f.config y.id y.strategy h (taking_buffers f.connections y.id channel (map (option_map details_of) f.subscribers)) (number y.id slot)
+      channel start.retries elapsed start.place (drop start.place (sender_ends f.connections keys)) start.count start.has_failed (mailboxes_of number f.connections y.id)
+      (end_of (number y.id slot) channel (sender_ends f.connections keys) outcome) (mailboxes_of number new y.id)
 
 -- a slot in use is so with a holder more
 pub history-holder-used : (o : DeliveryOutcome) (slot : ℕ) (b : Book) → slot < length b.holders → (r : ℕ) → r < length b.holders → 0 < holders_at b r → IsInUse (with_history_holder o slot b) r
@@ -188,23 +189,36 @@ module _ {T U : Type 0} (f : Fields T U) (parts : HasParts f) (i : ℕ) (x : Pub
     one_id = λ q. IsOnly-map details_of (is_subscriber q) (has_id q) (λ y. refl) f.subscribers (parts.subscriber_ids q);
   }
 
+-- a blocked delivery may go on to the keys in its reach
+pub ready-to-go-on : {T U : Type 0} (f : Fields T U) (parts : HasParts f) (i : ℕ) (x : PublisherFields) (stands : get_or f.publishers i None ≡ Some x) (b : BlockedDelivery)
+    → IsReadyToDeliver x.id f.connections (within_reach b x.keys) (map (option_map details_of) f.subscribers)
+ready-to-go-on f parts i x stands b = record {
+  linked = record { at = λ place key e. all.linked.at place key (reach-key b x.keys place key e) };
+  apart = all.apart;
+  knows = all.knows;
+  marked = all.marked;
+  one_id = all.one_id;
+} where
+  all : IsReadyToDeliver x.id f.connections x.keys (map (option_map details_of) f.subscribers)
+  all = ready-to-deliver f parts i x stands
+
 module _ {T U : Type 0} (environment : Environment) (before f : Fields T U) (same : f ≡ before) (i : ℕ) (y : PublisherFields) (stands : get_or f.publishers i None ≡ Some y) where
   -- this handler is the publisher's own
-  pub delivers-own : (slot : ℕ) (start : Progress) (elapsed : Duration) (outcome : DeliveryOutcome) (new : Slab Link) (h : Option (Handler BackpressureAction)) → h ≡ y.backpressure_handler
-      → DeliversWith f y slot start elapsed outcome new environment h → DeliversWith f y slot start elapsed outcome new environment y.backpressure_handler
-  delivers-own slot start elapsed outcome new h own delivers = subst (λ (o : Option (Handler BackpressureAction)). DeliversWith f y slot start elapsed outcome new environment o) own delivers
+  pub delivers-own : (channel : ℕ) (keys : List (Option ℕ)) (slot : ℕ) (start : Progress) (elapsed : Duration) (outcome : DeliveryOutcome) (new : Slab Link) (h : Option (Handler BackpressureAction)) → h ≡ y.backpressure_handler
+      → DeliversWith f y channel keys slot start elapsed outcome new environment h → DeliversWith f y channel keys slot start elapsed outcome new environment y.backpressure_handler
+  delivers-own channel keys slot start elapsed outcome new h own delivers = subst (λ (o : Option (Handler BackpressureAction)). DeliversWith f y channel keys slot start elapsed outcome new environment o) own delivers
 
   -- the delivery of the publisher that stands at the place
   module _ (b book : Book) (at : get f.books y.book ≡ Some b) (new : Slab Link) (is : book ≡ with_counters b book.holders) (r : Recounts y.id b.holders f.connections book.holders new)
-      (slot : ℕ) (start : Progress) (elapsed : Duration) (outcome : DeliveryOutcome) (alone : GrowsAlone slot b.holders book.holders)
+      (channel : ℕ) (keys : List (Option ℕ)) (slot : ℕ) (start : Progress) (elapsed : Duration) (outcome : DeliveryOutcome) (alone : GrowsAlone slot b.holders book.holders)
       (delivers : (number : ℕ → ℕ → ℕ)
-      → Deliver environment f.config y.id y.strategy y.backpressure_handler (taking_buffers f.connections y.id (map (option_map details_of) f.subscribers)) (number y.id slot)
-      start.retries elapsed start.place (drop start.place (sender_ends f.connections y.keys)) start.count start.has_failed (mailboxes_of number f.connections y.id)
-      (end_of (number y.id slot) (sender_ends f.connections y.keys) outcome) (mailboxes_of number new y.id)) where
+      → DeliverIn environment f.config y.id y.strategy y.backpressure_handler (taking_buffers f.connections y.id channel (map (option_map details_of) f.subscribers)) (number y.id slot)
+      channel start.retries elapsed start.place (drop start.place (sender_ends f.connections keys)) start.count start.has_failed (mailboxes_of number f.connections y.id)
+      (end_of (number y.id slot) channel (sender_ends f.connections keys) outcome) (mailboxes_of number new y.id)) where
     abbrev delivered : Fields T U
     delivered = record f { connections = new; books = with_value f.books y.book book }
 
-    delivers-to : DeliversFrom environment f y slot start elapsed outcome (record f { connections = new; books = with_value f.books y.book book })
+    delivers-to : DeliversFrom environment f y channel keys slot start elapsed outcome (record f { connections = new; books = with_value f.books y.book book })
     delivers-to = record {
       book = b;
       stands = at;
@@ -226,22 +240,25 @@ module _ {T U : Type 0} (environment : Environment) (before f : Fields T U) (sam
     it : (x : PublisherFields) → get_or before.publishers i None ≡ Some x → y ≡ x
     it x there = let both : Some y ≡ Some x = sym stands ∙ ap (λ (h : Fields T U). get_or h.publishers i None) same ∙ there in cc
 
-    -- a blocked one goes on, and its end
-    pub goes-slot : (w : BlockedDelivery) → w.slot ≡ slot → (out : PublisherFields) → out ≡ with_outcome outcome slot y → (left : Book) → left ≡ with_counters book (counters_after outcome slot book.holders)
+  -- a blocked one that goes on, and its end
+  module _ (w : BlockedDelivery) (b book : Book) (at : get f.books y.book ≡ Some b) (new : Slab Link) (is : book ≡ with_counters b book.holders) (r : Recounts y.id b.holders f.connections book.holders new)
+      (start : Progress) (elapsed : Duration) (outcome : DeliveryOutcome) (alone : GrowsAlone w.slot b.holders book.holders)
+      (delivers : DeliversWith f y w.channel (within_reach w y.keys) w.slot start elapsed outcome new environment y.backpressure_handler) where
+    pub goes-slot : (out : PublisherFields) → out ≡ with_outcome outcome w y → (left : Book) → left ≡ with_counters book (counters_after outcome w.slot book.holders)
         → (x : PublisherFields) → get_or before.publishers i None ≡ Some x
         → GoesOn environment before i x w start elapsed outcome (record f { publishers = slice_set f.publishers i (Some out); connections = new; books = with_value f.books y.book left })
-    goes-slot w slot-is out is_out left is_left x there =
+    goes-slot out is_out left is_left x there =
         subst (λ (h : Fields T U). GoesOn environment h i x w start elapsed outcome made) same
-        (subst (λ (z : PublisherFields). GoesOn environment f i z w start elapsed outcome made) (it x there) (record {
-          delivered = delivered;
-          delivers = subst (λ (k : ℕ). DeliversFrom environment f y k start elapsed outcome delivered) (sym slot-is) delivers-to;
+        (subst (λ (z : PublisherFields). GoesOn environment f i z w start elapsed outcome made) (it b book at new is r w.channel (within_reach w y.keys) w.slot start elapsed outcome alone delivers x there) (record {
+          delivered = record f { connections = new; books = with_value f.books y.book book };
+          delivers = delivers-to b book at new is r w.channel (within_reach w y.keys) w.slot start elapsed outcome alone delivers;
           book = book;
-          stands = book-there;
-          ended = (λ j. record f { publishers = slice_set f.publishers i (Some (is_out j)); connections = new; books = twice left (with_counters book (counters_after outcome slot book.holders)) is_left j })
-              ∙ ap (λ (k : ℕ). record delivered {
-                publishers = slice_set f.publishers i (Some (with_outcome outcome k y));
-                books = with_value delivered.books y.book (with_counters book (counters_after outcome k book.holders));
-              }) (sym slot-is);
+          stands = book-there b book at new is r w.channel (within_reach w y.keys) w.slot start elapsed outcome alone delivers;
+          ended = λ j. record f {
+            publishers = slice_set f.publishers i (Some (is_out j));
+            connections = new;
+            books = twice b book at new is r w.channel (within_reach w y.keys) w.slot start elapsed outcome alone delivers left (with_counters book (counters_after outcome w.slot book.holders)) is_left j;
+          };
         }))
       where
         made : Fields T U
@@ -251,20 +268,20 @@ module _ {T U : Type 0} (environment : Environment) (before f : Fields T U) (sam
   module _ (b book : Book) (at : get f.books y.book ≡ Some b) (new : Slab Link) (is : book ≡ with_counters b book.holders) (r : Recounts y.id b.holders f.connections book.holders new)
       (slot : ℕ) (outcome : DeliveryOutcome) (alone : GrowsAlone slot b.holders book.holders)
       (delivers : (number : ℕ → ℕ → ℕ)
-      → Deliver environment f.config y.id y.strategy y.backpressure_handler (taking_buffers f.connections y.id (map (option_map details_of) f.subscribers)) (number y.id slot)
-      0 no_time 0 (sender_ends f.connections y.keys) 0 false (mailboxes_of number f.connections y.id)
-      (end_of (number y.id slot) (sender_ends f.connections y.keys) outcome) (mailboxes_of number new y.id)) where
+      → DeliverIn environment f.config y.id y.strategy y.backpressure_handler (taking_buffers f.connections y.id 0 (map (option_map details_of) f.subscribers)) (number y.id slot)
+      0 0 no_time 0 (sender_ends f.connections y.keys) 0 false (mailboxes_of number f.connections y.id)
+      (end_of (number y.id slot) 0 (sender_ends f.connections y.keys) outcome) (mailboxes_of number new y.id)) where
     pub sends-slot : (out : PublisherFields) → out ≡ sender_after outcome slot y → (sent : Book) → sent ≡ book_after outcome slot y book
         → (x : PublisherFields) → get_or before.publishers i None ≡ Some x
         → SendsSlot environment before i x slot outcome (record f { publishers = slice_set f.publishers i (Some out); connections = new; books = with_value f.books y.book sent })
     sends-slot out is_out sent is_sent x there =
         subst (λ (h : Fields T U). SendsSlot environment h i x slot outcome made) same
-        (subst (λ (z : PublisherFields). SendsSlot environment f i z slot outcome made) (it b book at new is r slot begun no_time outcome alone delivers x there) (record {
+        (subst (λ (z : PublisherFields). SendsSlot environment f i z slot outcome made) (it b book at new is r 0 y.keys slot begun no_time outcome alone delivers x there) (record {
           delivered = record f { connections = new; books = with_value f.books y.book book };
-          delivers = delivers-to b book at new is r slot begun no_time outcome alone delivers;
+          delivers = delivers-to b book at new is r 0 y.keys slot begun no_time outcome alone delivers;
           book = book;
-          stands = book-there b book at new is r slot begun no_time outcome alone delivers;
-          ended = λ j. record f { publishers = slice_set f.publishers i (Some (is_out j)); connections = new; books = twice b book at new is r slot begun no_time outcome alone delivers sent (book_after outcome slot y book) is_sent j };
+          stands = book-there b book at new is r 0 y.keys slot begun no_time outcome alone delivers;
+          ended = λ j. record f { publishers = slice_set f.publishers i (Some (is_out j)); connections = new; books = twice b book at new is r 0 y.keys slot begun no_time outcome alone delivers sent (book_after outcome slot y book) is_sent j };
         }))
       where
         made : Fields T U

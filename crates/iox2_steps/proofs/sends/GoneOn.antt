@@ -1,14 +1,14 @@
 -- A blocked send goes on: its message is delivered to the receivers that remain, and it ends or is blocked again.
-use Rattle.std.proofs.Common.{◌≡◌, ◌≢◌, ℕ, ◌+◌, ◌-◌, ◌<◌, ◌≤◌, true, false, List, drop, map, get_or, refl, ap, sym, subst, ◌∙◌, inl, inr, ⊎_elim, arith, set-set}
+use Rattle.std.proofs.Common.{◌≡◌, ◌≢◌, ℕ, ◌+◌, ◌-◌, ◌<◌, ◌≤◌, true, false, List, drop, length, map, get_or, refl, ap, sym, subst, ◌∙◌, inl, inr, ⊎_elim, arith, set-set}
 use Rattle.std.proofs.lemmas.Bool.{cases_eq, eq-eqb}
-use Rattle.std.proofs.lemmas.List.{length-set}
+use Rattle.std.proofs.lemmas.List.{length-map, length-set}
 use Rattle.std.specs.Prelude.{slice_index, slice_get, slice_set, nat_lt}
 use Rattle.std.specs.declared.option.Option.{Option}
 use Rattle.std.specs.declared.option.Option.TheVariants.{None, Some}
 use Rattle.std.specs.declared.time.Duration.{Duration}
 use Rattle.std.specs.Option.{option_map, option_map_or}
 use Rattle.slab.specs.Slab.{get, Slab, with_value}
-use Rattle.iox2_store.specs.machine.Delivery.{DeliveryEnd, Complete, Suspended, Deliver}
+use Rattle.iox2_store.specs.machine.Delivery.{DeliveryEnd, Complete, Suspended, DeliverIn}
 use Rattle.iox2_slots.specs.SlotBook.{Book, holders_at}
 use Rattle.iox2_slots.specs.declared.slots.mark.SlotMark.{SlotMark}
 use Rattle.iox2_slots.specs.declared.slots.mark.SlotMark.TheVariants.{Unwritten, Written, Sent}
@@ -25,17 +25,17 @@ use Rattle.iox2_ends.specs.Deliveries.{end_of}
 use Rattle.iox2_ends.specs.declared.sender.Progress.{Progress}
 use Rattle.iox2_ends.specs.declared.sender.DeliveryOutcome.{DeliveryOutcome}
 use Rattle.iox2_ends.proofs.Counts.{one_if, one_if_other, get_or-one_holder_less}
-use Rattle.iox2_ends.specs.Mailboxes.{mailboxes_of, sender_ends}
+use Rattle.iox2_ends.specs.Mailboxes.{mailboxes_of, sender_ends, subscriber_of_key}
 use Rattle.iox2_ends.proofs.MailboxChanges.{others-stay, one-put, both-true}
-use Rattle.iox2_laws.proofs.DeliveryLaws.{Delivered, deliver_is, all_from}
+use Rattle.iox2_laws.proofs.DeliveryLaws.{Delivered, AreFrom, deliver_is}
 use Rattle.iox2_laws.proofs.MailboxLemmas.{contains_in_appended}
 use Rattle.iox2_laws.proofs.PlaceLemmas.{occupant-drop}
 use Rattle.iox2_laws.proofs.Puts.{found_put}
-use Rattle.iox2_laws.proofs.SendLaws.{delivery_goes_on_keeps}
+use Rattle.iox2_laws.proofs.SendLaws.{delivery_goes_on_keeps, injective_take, injective_drop}
 use Rattle.iox2_domain.specs.declared.publisher_state.BlockedDelivery.{BlockedDelivery}
 use Rattle.iox2_domain.specs.Ports.{PublisherFields}
 use Rattle.iox2_domain.specs.Kept.{Lent_message, Sent_message, state_of, entries_of}
-use Rattle.iox2_domain.specs.Fields.{Fields, kept_of, publisher_of, numbers_of, message_of, blocked_send, contents_at}
+use Rattle.iox2_domain.specs.Fields.{Fields, kept_of, publisher_of, numbers_of, message_of, within_reach, blocked_send, contents_at}
 use Rattle.iox2_domain.specs.Invariant.{IsDomain, IsOwned, HasParts, HasNumber, is_lent, is_loan_in, HasLoneLoans}
 use Rattle.iox2_domain.specs.Deliveries.{DeliversFrom, result_of_send}
 use Rattle.iox2_domain.specs.BlockedSends.{with_outcome, counters_after, CanGoOn, GoesOn, ConcludesAs}
@@ -55,6 +55,7 @@ use Rattle.iox2_domain.proofs.lemmas.slots.Rebooked.{CanRebook, rebooked, rebook
 use Rattle.iox2_steps.proofs.sends.LoanAlone.{once-times}
 use Rattle.iox2_steps.proofs.sends.SentSlots.{times-without-one, map-without}
 use Rattle.iox2_steps.proofs.sends.Published.{taking-are}
+use Rattle.iox2_steps.proofs.sends.Reach.{reach-ends, reach-from, reach-stays, stops-within}
 use Rattle.iox2_domain.proofs.lemmas.loans.PublisherChanges.{other_slots}
 use Rattle.iox2_domain.proofs.lemmas.slots.Holders.{book-by_id}
 use mathlib.Core.Path.{fun_ext}
@@ -68,7 +69,7 @@ mark-sent p number header content n entry Sent e = refl
 
 module _ {T U : Type 0} (environment : Environment) (f : Fields T U) (sound : IsDomain f) (i : ℕ) (x : PublisherFields) (here : get_or f.publishers i None ≡ Some x)
     (w : BlockedDelivery) (waits : x.blocked ≡ Some w) (start : Progress) (can : CanGoOn x w start) (elapsed : Duration)
-    (outcome : DeliveryOutcome) (g : Fields T U) (d : DeliversFrom environment f x w.slot start elapsed outcome g) where
+    (outcome : DeliveryOutcome) (g : Fields T U) (d : DeliversFrom environment f x w.channel (within_reach w x.keys) w.slot start elapsed outcome g) where
   own : (d.book).publisher ≡ x.id
   own = book-own f sound.parts i x here d.book d.stands
 
@@ -177,7 +178,7 @@ module _ {T U : Type 0} (environment : Environment) (f : Fields T U) (sound : Is
     (message_in-parts book (contents_at f.contents x.book) r (Lent_message m l) (sym (message_at-slot f.contents mid.books x.book r book book-stands) ∙ lying)).in_use,
   )
 
-  can-conclude : (o : DeliveryOutcome) → CanRebook mid x (with_outcome o w.slot x) book (counters_after o w.slot book.holders)
+  can-conclude : (o : DeliveryOutcome) → CanRebook mid x (with_outcome o w x) book (counters_after o w.slot book.holders)
   can-conclude (DeliveryOutcome.Complete count has_failed) = record {
     settings = other_slots x (without w.slot x.loans) (x.history).items None;
     keys = refl;
@@ -192,7 +193,7 @@ module _ {T U : Type 0} (environment : Environment) (f : Fields T U) (sound : Is
     lent = λ r m l none lying. let other = lent-other r m l lying in absurd (omega (arith, less r, none, other.1, one_if_other r w.slot other.0));
   }
   can-conclude (DeliveryOutcome.Suspended progress) = record {
-    settings = other_slots x x.loans (x.history).items (Some (record { slot = w.slot; progress = progress }));
+    settings = other_slots x x.loans (x.history).items (Some (record w { progress = progress }));
     keys = refl;
     lends = λ had c e. subst (λ (slot : ℕ). 0 < times slot x.loans) (ap (λ (o : Option BlockedDelivery). option_map_or (λ (v : BlockedDelivery). v.slot) o 0) e) lent;
     unwritten = λ r marked_unwritten out. out;
@@ -205,7 +206,7 @@ module _ {T U : Type 0} (environment : Environment) (f : Fields T U) (sound : Is
   -- ---- the fields afterwards
 
   abbrev changed : PublisherFields
-  changed = with_outcome outcome w.slot x
+  changed = with_outcome outcome w x
 
   abbrev counters : List ℕ
   counters = counters_after outcome w.slot book.holders
@@ -234,6 +235,13 @@ module _ {T U : Type 0} (environment : Environment) (f : Fields T U) (sound : Is
 
   -- ---- the state afterwards
 
+  -- the ends that it may reach, which are those of its keys
+  abbrev reach : List (Option ℕ)
+  reach = within_reach w port.ends
+
+  reach-is : sender_ends f.connections (within_reach w x.keys) ≡ reach
+  reach-is = reach-ends f.connections w x.keys
+
   numbers-are : numbers_of mid.books ≡ numbers_of f.books
   numbers-are = same-numbers f sound.parts x.id x.book d.book d.stands own d.holders d.connections d.recounts
 
@@ -249,10 +257,14 @@ module _ {T U : Type 0} (environment : Environment) (f : Fields T U) (sound : Is
   change (Suspended waiting) v = record v { blocked = Some waiting }
 
   abbrev how : DeliveryEnd
-  how = end_of n port.ends outcome
+  how = end_of n w.channel reach outcome
 
-  sender-is : (o : DeliveryOutcome) → (publisher_of mid.books mid.connections (with_outcome o w.slot x)).port ≡ change (end_of n port.ends o) port
-  sender-is (DeliveryOutcome.Complete count has_failed) =
+  -- where it stops, what it may reach stays
+  abbrev ReachStays : DeliveryOutcome → Type 0
+  ReachStays o = (progress : Progress) → o ≡ DeliveryOutcome.Suspended progress → within_reach (record w { progress = progress }) port.ends ≡ reach
+
+  sender-is : (o : DeliveryOutcome) → ReachStays o → (publisher_of mid.books mid.connections (with_outcome o w x)).port ≡ change (end_of n w.channel reach o) port
+  sender-is (DeliveryOutcome.Complete count has_failed) stays =
       (λ t. record port {
         loans = map (numbers-are t x.id) (without w.slot x.loans);
         history = map (numbers-are t x.id) (x.history).items;
@@ -260,18 +272,52 @@ module _ {T U : Type 0} (environment : Environment) (f : Fields T U) (sound : Is
         blocked = None;
       })
       ∙ (λ t. record port { loans = map-without (numbers_of f.books x.id) w.slot n refl x.loans only t; blocked = None })
-  sender-is (DeliveryOutcome.Suspended progress) =
-      λ t. record port {
+  sender-is (DeliveryOutcome.Suspended progress) stays =
+      (λ t. record port {
         loans = map (numbers-are t x.id) x.loans;
         history = map (numbers-are t x.id) (x.history).items;
         ends = ends-are t;
-        blocked = Some (blocked_send (numbers-are t x.id) (ends-are t) (record { slot = w.slot; progress = progress }));
-      }
+        blocked = Some (blocked_send (numbers-are t x.id) (ends-are t) (record w { progress = progress }));
+      })
+      ∙ ap (λ (ends : List (Option ℕ)). record port {
+        blocked = Some (record {
+          message = n;
+          channel = w.channel;
+          place = progress.place;
+          ends = drop progress.place ends;
+          retries = progress.retries;
+          count = progress.count;
+          has_failed = progress.has_failed;
+        });
+      }) (stays progress refl)
+
+  module _ (row : ℕ → Mailbox) (ends : List (Option ℕ)) (buffers : ℕ → Option ℕ) where
+    -- the delivery, in these mailboxes, at these ends and with these buffers
+    abbrev DeliversSo : Type 0
+    DeliversSo =
+        DeliverIn environment f.config x.id x.strategy x.backpressure_handler buffers n w.channel start.retries elapsed start.place (drop start.place ends) start.count start.has_failed row (end_of n w.channel ends outcome) (boxes x.id)
+
+  delivers : DeliversSo (s.mailboxes x.id) reach (channel_buffer s x.id w.channel)
+  delivers =
+      subst (λ (row : ℕ → Mailbox). DeliversSo row reach (channel_buffer s x.id w.channel)) (fun_ext (λ r. sym (mailboxes-are f x.id r)))
+      (subst (λ (ends : List (Option ℕ)). DeliversSo (mailboxes_of (numbers_of f.books) f.connections x.id) ends (channel_buffer s x.id w.channel)) reach-is
+      (subst (DeliversSo (mailboxes_of (numbers_of f.books) f.connections x.id) (sender_ends f.connections (within_reach w x.keys))) (taking-are f x.id w.channel) (d.delivers (numbers_of f.books))))
+
+  -- it starts within its reach
+  within : start.place ≤ length reach
+  within = omega (arith, can.within, ap (length {A = Option ℕ}) reach-is, length-map (within_reach w x.keys) (subscriber_of_key f.connections))
+
+  stays : ReachStays outcome
+  stays progress is =
+      let stop : BlockedSend = record { message = n; channel = w.channel; place = progress.place; ends = drop progress.place reach; retries = progress.retries; count = progress.count; has_failed = progress.has_failed } in
+      let place = stops-within environment f.config x.id x.strategy x.backpressure_handler (channel_buffer s x.id w.channel) n w.channel start.retries elapsed start.place (drop start.place reach) start.count start.has_failed
+      (s.mailboxes x.id) (end_of n w.channel reach outcome) (boxes x.id) delivers stop (ap (end_of n w.channel reach) is) in
+      reach-stays w port.ends start.place progress can.later within place.0 place.1
 
   after-is : state_of (kept_of after) ≡ record s { mailboxes = boxes; publishers = put_at s.publishers x.id (Some (change how port)) }
   after-is =
       rebooked-is mid parts i x changed here book book-stands own counters (can-conclude outcome)
-      ∙ ap (λ (z : Publisher). record (state_of (kept_of mid)) { publishers = put_at (state_of (kept_of mid)).publishers x.id (Some z) }) (sender-is outcome)
+      ∙ ap (λ (z : Publisher). record (state_of (kept_of mid)) { publishers = put_at (state_of (kept_of mid)).publishers x.id (Some z) }) (sender-is outcome stays)
       ∙ ap (λ (t : State T U). record t { publishers = put_at t.publishers x.id (Some (change how port)) }) mid-is
 
   other-boxes : (q r : ℕ) → q ≢ x.id → boxes q r ≡ s.mailboxes q r
@@ -287,41 +333,46 @@ module _ {T U : Type 0} (environment : Environment) (f : Fields T U) (sound : Is
 
   -- ---- the machine's step
 
-  delivers : Deliver environment f.config x.id x.strategy x.backpressure_handler (channel_buffer s x.id 0) n start.retries elapsed start.place (drop start.place port.ends) start.count start.has_failed (s.mailboxes x.id) how (boxes x.id)
-  delivers =
-      subst (λ (row : ℕ → Mailbox). Deliver environment f.config x.id x.strategy x.backpressure_handler (channel_buffer s x.id 0) n start.retries elapsed start.place (drop start.place port.ends) start.count start.has_failed row how (boxes x.id))
-      (fun_ext (λ r. sym (mailboxes-are f x.id r)))
-      (subst (λ (buffers : ℕ → Option ℕ). Deliver environment f.config x.id x.strategy x.backpressure_handler buffers n start.retries elapsed start.place (drop start.place port.ends) start.count start.has_failed
-      (mailboxes_of (numbers_of f.books) f.connections x.id) how (boxes x.id)) (taking-are f x.id) (d.delivers (numbers_of f.books)))
-
-  ends-so : (o : DeliveryOutcome) → state_of (kept_of after) ≡ record s { mailboxes = put_at s.mailboxes x.id (boxes x.id); publishers = put_at s.publishers x.id (option_map (change (end_of n port.ends o)) (s.publishers x.id)) }
-      → ConcludeSend (with_mailboxes s x.id (boxes x.id)) x.id n (end_of n port.ends o) (state_of (kept_of after)) (result_of_send o)
+  ends-so : (o : DeliveryOutcome) → state_of (kept_of after) ≡ record s { mailboxes = put_at s.mailboxes x.id (boxes x.id); publishers = put_at s.publishers x.id (option_map (change (end_of n w.channel reach o)) (s.publishers x.id)) }
+      → ConcludeSend (with_mailboxes s x.id (boxes x.id)) x.id n (end_of n w.channel reach o) (state_of (kept_of after)) (result_of_send o)
   ends-so (DeliveryOutcome.Complete count has_failed) is = (is, refl)
   ends-so (DeliveryOutcome.Suspended progress) is = (is, refl)
 
-  concludes : DeliverAndConclude environment s x.id n 0 start.retries elapsed start.place (drop start.place port.ends) start.count start.has_failed (state_of (kept_of after)) (result_of_send outcome)
+  concludes : DeliverAndConclude environment s x.id n w.channel start.retries elapsed start.place (drop start.place reach) start.count start.has_failed (state_of (kept_of after)) (result_of_send outcome)
   concludes = match_some (s.publishers x.id) port ⊥ _ stands (how, boxes x.id, delivers, ends-so outcome after-shown)
 
+  -- the ends that remain are some of its publisher's from there on
+  from : AreFrom port.ends (drop start.place reach) start.place
+  from = reach-from w port.ends start.place within
+
   -- the ends that remain are among those that remained
-  remained : (q : ℕ) → LeadsTo (drop start.place port.ends) q → LeadsTo b.ends q
+  remained : (q : ℕ) → LeadsTo (drop start.place reach) q → LeadsTo b.ends q
   remained q leads =
       let more : (w.progress).place + (start.place - (w.progress).place) ≡ start.place = omega (arith, can.later) in
       let same : (w.progress).place + (start.place - (w.progress).place + leads.0) ≡ start.place + leads.0 = omega (arith, more) in (
         start.place - (w.progress).place + leads.0,
-        occupant-drop (w.progress).place port.ends (start.place - (w.progress).place + leads.0)
-            ∙ ap (occupant port.ends) same ∙ sym (occupant-drop start.place port.ends leads.0) ∙ leads.1,
+        occupant-drop (w.progress).place reach (start.place - (w.progress).place + leads.0)
+            ∙ ap (occupant reach) same ∙ sym (occupant-drop start.place reach leads.0) ∙ leads.1,
       )
 
   well : IsWellFormed (state_of (kept_of after))
-  well = delivery_goes_on_keeps environment s x.id port b start.retries elapsed start.place (drop start.place port.ends) start.count start.has_failed (state_of (kept_of after)) (result_of_send outcome)
-      sound.well_formed stands port-waits (all_from port.ends start.place) can.counted remained concludes
+  well = delivery_goes_on_keeps environment s x.id port b start.retries elapsed start.place (drop start.place reach) start.count start.has_failed (state_of (kept_of after)) (result_of_send outcome)
+      sound.well_formed stands port-waits from can.counted remained concludes
 
   -- ---- entries
 
-  held-waiting : (z : DeliveryEnd) (q : ℕ) (v : Publisher) (c : BlockedSend) → (o : DeliveryOutcome) → z ≡ end_of n port.ends o → v ≡ change z port → v.blocked ≡ Some c → c.message ≡ n
+  held-waiting : (z : DeliveryEnd) (q : ℕ) (v : Publisher) (c : BlockedSend) → (o : DeliveryOutcome) → z ≡ end_of n w.channel reach o → v ≡ change z port → v.blocked ≡ Some c → c.message ≡ n
   held-waiting z q v c (DeliveryOutcome.Complete count has_failed) e is waits_now = absurd (let no : None ≡ Some c = sym (ap (λ (u : Publisher). u.blocked) (is ∙ ap (λ y. change y port) e)) ∙ waits_now in cc)
   held-waiting z q v c (DeliveryOutcome.Suspended progress) e is waits_now =
-      let same : Some (blocked_send (numbers_of f.books x.id) port.ends (record { slot = w.slot; progress = progress })) ≡ Some c = sym (ap (λ (u : Publisher). u.blocked) (is ∙ ap (λ y. change y port) e)) ∙ waits_now in
+      let same : Some (record {
+        message = n;
+        channel = w.channel;
+        place = progress.place;
+        ends = drop progress.place reach;
+        retries = progress.retries;
+        count = progress.count;
+        has_failed = progress.has_failed;
+      }) ≡ Some c = sym (ap (λ (u : Publisher). u.blocked) (is ∙ ap (λ y. change y port) e)) ∙ waits_now in
       sym (ap (λ (o : Option BlockedSend). option_map_or (λ (u : BlockedSend). u.message) o 0) same)
 
   history-same : (z : DeliveryEnd) → (change z port).history ≡ port.history
@@ -337,13 +388,12 @@ module _ {T U : Type 0} (environment : Environment) (f : Fields T U) (sound : Is
   held-mid q m (In_blocked_send y c at waits_now is) = found_put s.publishers x.id (change how port) (λ j z. z.blocked ≡ Some c → IsHeldMessage (record s { mailboxes = boxes }) j m) q y at
       (λ _ h. In_blocked_send port b stands port-waits (sym (held-waiting how q (change how port) c outcome refl refl h) ∙ is)) (λ _ there h. In_blocked_send y c there h is) waits_now
 
-  injective-drop : IsInjective (drop start.place port.ends)
-  injective-drop i j id h e =
-      let same : start.place + i ≡ start.place + j = (sound.well_formed.publishers x.id port stands).ends_apart (start.place + i) (start.place + j) id (sym (occupant-drop start.place port.ends i) ∙ h) (sym (occupant-drop start.place port.ends j) ∙ e) in omega (arith, same)
+  injective-drop : IsInjective (drop start.place reach)
+  injective-drop = subst IsInjective (sym from.1) (injective_take from.0 (drop start.place port.ends) (injective_drop start.place port.ends (sound.well_formed.publishers x.id port stands).ends_apart))
 
-  delivered : Delivered (channel_buffer s x.id 0) n 0 port.ends (drop start.place port.ends) (s.mailboxes x.id) how (boxes x.id)
-  delivered = deliver_is environment f.config x.id x.strategy x.backpressure_handler (channel_buffer s x.id 0) n 0 start.retries elapsed start.place (drop start.place port.ends) start.count start.has_failed port.ends (s.mailboxes x.id) how (boxes x.id)
-      injective-drop (all_from port.ends start.place) can.counted delivers
+  delivered : Delivered (channel_buffer s x.id w.channel) n w.channel port.ends (drop start.place reach) (s.mailboxes x.id) how (boxes x.id)
+  delivered = deliver_is environment f.config x.id x.strategy x.backpressure_handler (channel_buffer s x.id w.channel) n w.channel start.retries elapsed start.place (drop start.place reach) start.count start.has_failed port.ends (s.mailboxes x.id) how (boxes x.id)
+      injective-drop from can.counted delivers
 
   -- and before it
   held-before-it : (q m : ℕ) → IsHeldMessage (record s { mailboxes = boxes }) q m → IsHeldMessage s q m
@@ -358,7 +408,7 @@ module _ {T U : Type 0} (environment : Environment) (f : Fields T U) (sound : Is
       row h = ⊎_elim
           (λ same. In_mailbox r (ap (λ box. contains (numbers_in box) m) (sym same) ∙ h))
           (λ put. ⊎_elim (λ is_n. In_blocked_send port b stands port-waits (sym is_n)) (λ was. In_mailbox r was)
-          (contains_in_appended 0 (put.1).0 n (s.mailboxes x.id r) m (ap (λ box. contains (numbers_in box) m) (sym (put.1).2) ∙ h)))
+          (contains_in_appended w.channel (put.1).0 n (s.mailboxes x.id r) m (ap (λ box. contains (numbers_in box) m) (sym (put.1).2) ∙ h)))
           (delivered.each r)
 
   entries-after : (q m : ℕ) → IsHeldMessage (state_of (kept_of after)) q m → (entry : Entry T U) × (entries_of (kept_of after) m ≡ Some entry) × ((entry.header).publisher_id ≡ q)
@@ -373,24 +423,24 @@ module _ {T U : Type 0} (environment : Environment) (f : Fields T U) (sound : Is
       )
 
   -- the machine's delivery goes on
-  gone-on : ConcludesAs environment f after x n start elapsed (result_of_send outcome)
+  gone-on : ConcludesAs environment f after x n w.channel (within_reach w x.keys) start elapsed (result_of_send outcome)
   gone-on = record {
     agrees = whole_of after parts-after lone-after
         (rebooked-kept mid parts i x changed here book book-stands own counters (can-conclude outcome) owned
         (recounted-kept f sound x.id x.book d.book d.stands own d.holders d.connections d.recounts owned))
         well entries-after;
-    concludes = concludes;
+    concludes = subst (λ (ends : List (Option ℕ)). DeliverAndConclude environment s x.id n w.channel start.retries elapsed start.place (drop start.place ends) start.count start.has_failed (state_of (kept_of after)) (result_of_send outcome)) (sym reach-is) concludes;
     entries = λ m entry e. recounted-entries f sound x.id x.book d.book d.stands own d.holders d.connections d.recounts m entry
         (rebooked-entries mid parts i x changed here book book-stands own counters (can-conclude outcome) m entry e);
   }
 
   -- with the fields that the code makes of those after the delivery
   made-goes-on : (h : Fields T U) (c : Book) → get g.books x.book ≡ Some c
-      → h ≡ record g { publishers = slice_set g.publishers i (Some (with_outcome outcome w.slot x)); books = with_value g.books x.book (with_counters c (counters_after outcome w.slot c.holders)) }
-      → ConcludesAs environment f h x n start elapsed (result_of_send outcome)
-  made-goes-on h c there is = subst (λ (k : Fields T U). ConcludesAs environment f k x n start elapsed (result_of_send outcome)) (sym (is
-      ∙ ap (λ (v : Book). record g { publishers = slice_set g.publishers i (Some (with_outcome outcome w.slot x)); books = with_value g.books x.book (with_counters v (counters_after outcome w.slot v.holders)) }) delivered-book
-      ∙ ap (λ (k : Fields T U). record k { publishers = slice_set k.publishers i (Some (with_outcome outcome w.slot x)); books = with_value k.books x.book (with_counters book (counters_after outcome w.slot book.holders)) }) d.delivered)) gone-on
+      → h ≡ record g { publishers = slice_set g.publishers i (Some (with_outcome outcome w x)); books = with_value g.books x.book (with_counters c (counters_after outcome w.slot c.holders)) }
+      → ConcludesAs environment f h x n w.channel (within_reach w x.keys) start elapsed (result_of_send outcome)
+  made-goes-on h c there is = subst (λ (k : Fields T U). ConcludesAs environment f k x n w.channel (within_reach w x.keys) start elapsed (result_of_send outcome)) (sym (is
+      ∙ ap (λ (v : Book). record g { publishers = slice_set g.publishers i (Some (with_outcome outcome w x)); books = with_value g.books x.book (with_counters v (counters_after outcome w.slot v.holders)) }) delivered-book
+      ∙ ap (λ (k : Fields T U). record k { publishers = slice_set k.publishers i (Some (with_outcome outcome w x)); books = with_value k.books x.book (with_counters book (counters_after outcome w.slot book.holders)) }) d.delivered)) gone-on
     where
       delivered-book : c ≡ book
       delivered-book = let both : Some c ≡ Some book = sym there ∙ ap (λ (k : Fields T U). get k.books x.book) d.delivered ∙ book-stands in cc
@@ -398,6 +448,6 @@ module _ {T U : Type 0} (environment : Environment) (f : Fields T U) (sound : Is
 -- a blocked delivery that is taken up is the machine's
 pub goes-on : {T U : Type 0} (environment : Environment) (f : Fields T U) (sound : IsDomain f) (i : ℕ) (x : PublisherFields) (here : get_or f.publishers i None ≡ Some x)
     (w : BlockedDelivery) (waits : x.blocked ≡ Some w) (start : Progress) (can : CanGoOn x w start) (elapsed : Duration) (outcome : DeliveryOutcome) (h : Fields T U)
-    → GoesOn environment f i x w start elapsed outcome h → ConcludesAs environment f h x (numbers_of f.books x.id w.slot) start elapsed (result_of_send outcome)
+    → GoesOn environment f i x w start elapsed outcome h → ConcludesAs environment f h x (numbers_of f.books x.id w.slot) w.channel (within_reach w x.keys) start elapsed (result_of_send outcome)
 goes-on environment f sound i x here w waits start can elapsed outcome h goes =
     made-goes-on environment f sound i x here w waits start can elapsed outcome goes.delivered goes.delivers h goes.book goes.stands goes.ended

@@ -94,14 +94,14 @@ module _ {T U : Type 0} (f : Fields T U) where
       by (Some y) = refl
 
   -- of those that take messages of a publisher too
-  pub taking-are : (p : ℕ) → taking_buffers f.connections p (map (option_map details_of) f.subscribers) ≡ channel_buffer (state_of (kept_of f)) p 0
-  taking-are p = fun_ext (λ q.
-      ap (λ (channels : ℕ → ℕ → ℕ → Channel). cond (is_closed (channels p q 0)) None (buffers_of (map (option_map details_of) f.subscribers) q)) (sym (channels-are f))
-      ∙ ap (λ (buffers : ℕ → Option ℕ). cond (is_closed ((state_of (kept_of f)).channels p q 0)) None (buffers q)) buffers-are)
+  pub taking-are : (p channel : ℕ) → taking_buffers f.connections p channel (map (option_map details_of) f.subscribers) ≡ channel_buffer (state_of (kept_of f)) p channel
+  taking-are p channel = fun_ext (λ q.
+      ap (λ (channels : ℕ → ℕ → ℕ → Channel). cond (is_closed (channels p q channel)) None (buffers_of (map (option_map details_of) f.subscribers) q)) (sym (channels-are f))
+      ∙ ap (λ (buffers : ℕ → Option ℕ). cond (is_closed ((state_of (kept_of f)).channels p q channel)) None (buffers q)) buffers-are)
 
 module _ {T U : Type 0} (environment : Environment) (f : Fields T U) (sound : IsDomain f) (i : ℕ) (x : PublisherFields) (here : get_or f.publishers i None ≡ Some x)
     (slot n : ℕ) (l : Loan T U) (lies : lies_at f x.book slot ≡ Some (Lent_message n l)) (is_written : l.is_written ≡ true)
-    (free : x.blocked ≡ None) (outcome : DeliveryOutcome) (g : Fields T U) (d : DeliversFrom environment f x slot begun no_time outcome g) where
+    (free : x.blocked ≡ None) (outcome : DeliveryOutcome) (g : Fields T U) (d : DeliversFrom environment f x 0 x.keys slot begun no_time outcome g) where
   -- the book is the publisher's
   pub own : (d.book).publisher ≡ x.id
   own = book-own f sound.parts i x here d.book d.stands
@@ -342,16 +342,16 @@ module _ {T U : Type 0} (environment : Environment) (f : Fields T U) (sound : Is
   -- ---- the machine's step
 
   abbrev how : DeliveryEnd
-  how = end_of n port.ends outcome
+  how = end_of n 0 port.ends outcome
 
   delivers : Deliver environment f.config x.id x.strategy x.backpressure_handler (channel_buffer s x.id 0) n 0 no_time 0 port.ends 0 false (s.mailboxes x.id) how (boxes x.id)
   delivers =
       subst (λ (row : ℕ → Mailbox). Deliver environment f.config x.id x.strategy x.backpressure_handler (channel_buffer s x.id 0) n 0 no_time 0 port.ends 0 false row how (boxes x.id))
       (fun_ext (λ r. sym (mailboxes-are f x.id r)))
       (subst (λ (m : ℕ). Deliver environment f.config x.id x.strategy x.backpressure_handler (channel_buffer s x.id 0) m 0 no_time 0 port.ends 0 false
-      (mailboxes_of (numbers_of f.books) f.connections x.id) (end_of m port.ends outcome) (boxes x.id)) (loan-number f sound i x here slot n l lies)
+      (mailboxes_of (numbers_of f.books) f.connections x.id) (end_of m 0 port.ends outcome) (boxes x.id)) (loan-number f sound i x here slot n l lies)
       (subst (λ (buffers : ℕ → Option ℕ). Deliver environment f.config x.id x.strategy x.backpressure_handler buffers (numbers_of f.books x.id slot) 0 no_time 0 port.ends 0 false
-      (mailboxes_of (numbers_of f.books) f.connections x.id) (end_of (numbers_of f.books x.id slot) port.ends outcome) (boxes x.id)) (taking-are f x.id) (d.delivers (numbers_of f.books))))
+      (mailboxes_of (numbers_of f.books) f.connections x.id) (end_of (numbers_of f.books x.id slot) 0 port.ends outcome) (boxes x.id)) (taking-are f x.id 0) (d.delivers (numbers_of f.books))))
 
   -- what the send concludes is published
   publishes-so : (h : State T U) (result : SendResult) → ConcludeSend (with_mailboxes (published s x.id n) x.id (boxes x.id)) x.id n how h result → Publish environment s x.id n h result
@@ -461,7 +461,7 @@ module _ {T U : Type 0} (environment : Environment) (f : Fields T U) (sound : Is
   module _ (count : ℕ) (has_failed : Bool) (is_complete : outcome ≡ DeliveryOutcome.Complete count has_failed) where
     publishes : Publish environment s x.id n (state_of (kept_of after)) (result_of_send (DeliveryOutcome.Complete count has_failed))
     publishes = publishes-so (state_of (kept_of after)) (result_of_send (DeliveryOutcome.Complete count has_failed))
-        (subst (λ (o : DeliveryOutcome). ConcludeSend (with_mailboxes (published s x.id n) x.id (boxes x.id)) x.id n (end_of n port.ends o) (state_of (kept_of after)) (result_of_send (DeliveryOutcome.Complete count has_failed)))
+        (subst (λ (o : DeliveryOutcome). ConcludeSend (with_mailboxes (published s x.id n) x.id (boxes x.id)) x.id n (end_of n 0 port.ends o) (state_of (kept_of after)) (result_of_send (DeliveryOutcome.Complete count has_failed)))
         (sym is_complete) (ended-state, refl))
 
     -- the loan is published
@@ -483,7 +483,7 @@ module _ {T U : Type 0} (environment : Environment) (f : Fields T U) (sound : Is
 
   module _ (progress : Progress) (is_suspended : outcome ≡ DeliveryOutcome.Suspended progress) where
     abbrev waiting : BlockedDelivery
-    waiting = record { slot = slot; progress = progress }
+    waiting = record { slot = slot; channel = 0; is_alone = false; progress = progress }
 
     -- the publisher that has the loan still, and remembers the message
     abbrev relender : PublisherFields
@@ -616,7 +616,7 @@ module _ {T U : Type 0} (environment : Environment) (f : Fields T U) (sound : Is
 
     publishes-blocked : Publish environment s x.id n (state_of (kept_of stopped)) Blocked_send
     publishes-blocked = publishes-so (state_of (kept_of stopped)) Blocked_send
-        (subst (λ (o : DeliveryOutcome). ConcludeSend (with_mailboxes (published s x.id n) x.id (boxes x.id)) x.id n (end_of n port.ends o) (state_of (kept_of stopped)) Blocked_send)
+        (subst (λ (o : DeliveryOutcome). ConcludeSend (with_mailboxes (published s x.id n) x.id (boxes x.id)) x.id n (end_of n 0 port.ends o) (state_of (kept_of stopped)) Blocked_send)
         (sym is_suspended) (blocked-state, refl))
 
     -- what lies in a slot lies there when the loan is out again

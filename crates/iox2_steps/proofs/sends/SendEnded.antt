@@ -63,7 +63,8 @@ module _ {T U : Type 0} (f : Fields T U) (parts : HasParts f) (i : ℕ) (x : Pub
   written : LiesWritten b slot (contents_at f.contents x.book) n l
   written = written-loan b slot (contents_at f.contents x.book) n l is_written lay
 
-  marked-written : slice_get b.marks slot ≡ Some Written
+  -- it was written
+  pub marked-written : slice_get b.marks slot ≡ Some Written
   marked-written =
       let parts = message_in-parts b (contents_at f.contents x.book) slot (Lent_message n l) lay in
       parts.marks ∙ ap Some (written-mark b (contents_at f.contents x.book) slot n l parts is_written)
@@ -138,7 +139,7 @@ module _ {T U : Type 0} (f : Fields T U) (parts : HasParts f) (i : ℕ) (x : Pub
   -- ---- the state
 
   -- the loan is out no more
-  ended-loans : (state_of (kept_of ended)).loans ≡ put_at (state_of (kept_of f)).loans n None
+  pub ended-loans : (state_of (kept_of ended)).loans ≡ put_at (state_of (kept_of f)).loans n None
   ended-loans = fun_ext (λ m. by m (eqb m n) refl) where
     found_loan : Option (KeptMessage T U) → Option (Loan T U)
     found_loan None = None
@@ -178,7 +179,7 @@ module _ {T U : Type 0} (f : Fields T U) (parts : HasParts f) (i : ℕ) (x : Pub
 
   -- ---- the parts
 
-  ended-shapes : HasShapes ended
+  pub ended-shapes : HasShapes ended
   ended-shapes = record { at = λ k s c m stands e. shape k s m (message_at-slot f.contents ended.books k s c stands ∙ e) } where
     old : (k s : ℕ) (m : KeptMessage T U) → lies_at f k s ≡ Some m → HasShape f.config m
     old k s m e = let there = message_at-book f.contents f.books k s m e in parts.shapes.at k s there.0 m there.1 there.2

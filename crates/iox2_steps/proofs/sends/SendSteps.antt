@@ -139,7 +139,7 @@ module _ {T U : Type 0} (environment : Environment) (f0 : Fields T U) (sound : I
         fails : (o : DeliveryOutcome) → outcome ≡ o → may_fail sender.backpressure_handler ≡ false → result_of_send o ≡ Send_error UnableToDeliver → ⊥
         fails (DeliveryOutcome.Suspended progress) is quiet failed = absurd (let no : Blocked_send ≡ Send_error UnableToDeliver = failed in cc)
         fails (DeliveryOutcome.Complete count has_failed) is quiet failed =
-            let none : has_failed ≡ false = never-fails environment f1 sender slot begun no_time outcome d.delivered d.delivers quiet refl count has_failed is in
+            let none : has_failed ≡ false = never-fails environment f1 sender 0 sender.keys slot begun no_time outcome d.delivered d.delivers quiet refl count has_failed is in
             absurd (let no : Delivered_to count ≡ Send_error UnableToDeliver = sym (ap (λ (t : Bool). cond t (Send_error UnableToDeliver) (Delivered_to count)) none) ∙ failed in cc)
 
         published : Publishes environment f1 f2 sender.id n holds.0 (result_of_send outcome)

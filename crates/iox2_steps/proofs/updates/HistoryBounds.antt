@@ -1,7 +1,6 @@
 -- How many holders a slot in a publisher's history has.
-use Rattle.std.proofs.Common.{◌≡◌, ℕ, ◌+◌, ◌<◌, ◌≤◌, ◌^◌, true, cond, List, [], ◌∷◌, ◌++◌, length, map, get_or, refl, ap, sym, subst, ◌∙◌, inl, inr, arith}
+use Rattle.std.proofs.Common.{◌≡◌, ℕ, ◌+◌, ◌<◌, ◌≤◌, ◌^◌, true, cond, length, map, get_or, refl, ap, sym, subst, ◌∙◌, inl, inr, arith}
 use Rattle.std.proofs.lemmas.Bool.{cases_eq, ne_eqb, eq-eqb}
-use Rattle.std.proofs.lemmas.List.{map-append}
 use Rattle.std.specs.declared.option.Option.{Option}
 use Rattle.std.specs.declared.option.Option.TheVariants.{None, Some}
 use Rattle.std.specs.Option.{option_map}
@@ -19,7 +18,6 @@ use Rattle.iox2_ends.specs.Homes.{IsSenders}
 use Rattle.iox2_ends.specs.Mailboxes.{mailbox_of, subscriber_of_key}
 use Rattle.iox2_ends.specs.Receivers.{HasReclaimed}
 use Rattle.iox2_ends.proofs.Empties.{sum-keys}
-use Rattle.iox2_ends.proofs.Histories.{times-append}
 use Rattle.iox2_ends.proofs.MailboxChanges.{mailbox-there, is_between-own}
 use Rattle.iox2_domain.specs.Ports.{PublisherFields}
 use Rattle.iox2_domain.specs.Kept.{state_of}
@@ -31,6 +29,8 @@ use Rattle.iox2_domain.proofs.lemmas.fields.Views.{mailboxes-are}
 use Rattle.iox2_domain.proofs.lemmas.slots.PublisherBooks.{book-counts}
 use Rattle.iox2_domain.proofs.lemmas.slots.SlotsInUse.{none_returned}
 use Rattle.iox2_steps.proofs.sends.LoanAlone.{once-times}
+use Rattle.iox2_domain.proofs.lemmas.slots.BoxNumbers.{kept_slots, times-kept, numbers-are_kept, number-of_slot}
+use Rattle.iox2_laws.proofs.MailboxLemmas.{has_numbers-contains}
 
 module _ {T U : Type 0} (f : Fields T U) (sound : IsDomain f) (i : ℕ) (x : PublisherFields) (here : get_or f.publishers i None ≡ Some x)
     (b : Book) (at : get f.books x.book ≡ Some b) where
@@ -54,13 +54,13 @@ module _ {T U : Type 0} (f : Fields T U) (sound : IsDomain f) (i : ℕ) (x : Pub
   box-is key c there its = mailboxes-are f x.id c.home.subscriber ∙ mailbox-there (numbers_of f.books) f.connections key x.id c.home.subscriber c sound.parts.apart there its refl
 
   module _ (reclaimed : HasReclaimed f.connections x.keys) where
-    stands-once : (slot key : ℕ) (c : Link) → get f.connections key ≡ Some c → c.home.publisher ≡ x.id → (times slot (c.waiting ++ c.borrowed) ≡ stands_in slot c) × (stands_in slot c ≤ 1)
+    stands-once : (slot key : ℕ) (c : Link) → get f.connections key ≡ Some c → c.home.publisher ≡ x.id → (times slot (kept_slots c) ≡ stands_in slot c) × (stands_in slot c ≤ 1)
     stands-once slot key c there its =
-        let all : times slot (c.waiting ++ c.borrowed) ≡ times slot c.waiting + times slot c.borrowed = times-append slot c.waiting c.borrowed in
+        let all : times slot (kept_slots c) + times slot c.returned ≡ stands_in slot c = times-kept slot c in
         let none : times slot c.returned ≡ 0 = ap (times slot) (none_returned f sound i x here reclaimed key c there its) in
-        let numbers : numbers_in (s.mailboxes x.id c.home.subscriber) ≡ map (numbers_of f.books x.id) (c.waiting ++ c.borrowed) =
-        ap numbers_in (box-is key c there its) ∙ sym (map-append (numbers_of f.books x.id) c.waiting c.borrowed) in
-        let once : times slot (c.waiting ++ c.borrowed) ≤ 1 = once-times (numbers_of f.books x.id) slot (c.waiting ++ c.borrowed) (subst IsOnce numbers (sound.well_formed.mailboxes x.id c.home.subscriber).within.once) in
+        let numbers : numbers_in (s.mailboxes x.id c.home.subscriber) ≡ map (numbers_of f.books x.id) (kept_slots c) =
+        ap numbers_in (box-is key c there its) ∙ numbers-are_kept (numbers_of f.books x.id) c in
+        let once : times slot (kept_slots c) ≤ 1 = once-times (numbers_of f.books x.id) slot (kept_slots c) (subst IsOnce numbers (sound.well_formed.mailboxes x.id c.home.subscriber).within.once) in
         (omega (arith, all, none), omega (arith, all, none, once))
 
     few : (slot key : ℕ) → stands x.id slot (get f.connections key) ≤ 1
@@ -77,11 +77,6 @@ module _ {T U : Type 0} (f : Fields T U) (sound : IsDomain f) (i : ℕ) (x : Pub
     -- where it stands, the publisher has the connection's key
     known : (slot key : ℕ) → 0 < stands x.id slot (get f.connections key) → (j : ℕ) × (get_or x.keys j None ≡ Some key)
     known slot key some = by (get f.connections key) refl some where
-      filled : (number : ℕ → ℕ) (ws bs : List ℕ) → 0 < times slot (ws ++ bs) → has_numbers (record { waiting = map number ws; borrowed = map number bs; others = [] }) ≡ true
-      filled number [] [] h = absurd (let no : times slot [] ≡ 0 = refl in omega (arith, h, no))
-      filled number [] (x ∷ bs) h = refl
-      filled number (x ∷ ws) bs h = refl
-
       leading : (c : Link) → get f.connections key ≡ Some c → c.home.publisher ≡ x.id → (j : ℕ) → (o : Option ℕ) → get_or x.keys j None ≡ o → subscriber_of_key f.connections o ≡ Some c.home.subscriber → get_or x.keys j None ≡ Some key
       leading c there its j None e to = absurd cc
       leading c there its j (Some k) e to =
@@ -96,8 +91,11 @@ module _ {T U : Type 0} (f : Fields T U) (sound : IsDomain f) (i : ℕ) (x : Pub
       by (Some c) e h = elim (cases_eq c.home.publisher x.id) [
         | inl its ↦
             let is : stands x.id slot (Some c) ≡ stands_in slot c = ap (λ t. cond {A = ℕ} t (stands_in slot c) 0) (eq-eqb c.home.publisher x.id its) in
-            let there : 0 < times slot (c.waiting ++ c.borrowed) = omega (arith, h, is, (stands-once slot key c e its).0) in
-            let numbers : has_numbers (s.mailboxes x.id c.home.subscriber) ≡ true = ap has_numbers (box-is key c e its) ∙ filled (numbers_of f.books x.id) c.waiting c.borrowed there in
+            let there : 0 < stands_in slot c = omega (arith, h, is) in
+            let numbers : has_numbers (s.mailboxes x.id c.home.subscriber) ≡ true =
+            ap has_numbers (box-is key c e its)
+            ∙ has_numbers-contains (mailbox_of (numbers_of f.books x.id) c) (numbers_of f.books x.id slot)
+            (number-of_slot (numbers_of f.books x.id) c slot (none_returned f sound i x here reclaimed key c e its) there) in
             let leads : LeadsTo P.ends c.home.subscriber = (sound.well_formed.mailboxes x.id c.home.subscriber).sender_end P present numbers in
             (leads.0, leading c e its leads.0 (get_or x.keys leads.0 None) refl (sym (occupant-sender_ends f.connections x.keys leads.0) ∙ leads.1))
         | inr away ↦ absurd (let is : stands x.id slot (Some c) ≡ 0 = ap (λ t. cond {A = ℕ} t (stands_in slot c) 0) (ne_eqb c.home.publisher x.id away) in omega (arith, h, is))

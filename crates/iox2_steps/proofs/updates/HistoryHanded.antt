@@ -17,7 +17,7 @@ use Rattle.iox2_store.specs.Stored.{IsHeldMessage, In_history, In_mailbox, In_bl
 use Rattle.iox2_slots.specs.declared.slots.mark.SlotMark.{SlotMark}
 use Rattle.iox2_slots.specs.declared.slots.mark.SlotMark.TheVariants.{Unwritten, Written, Sent}
 use Rattle.iox2_ends.specs.Counters.{times, stands_in, with_counters}
-use Rattle.iox2_ends.specs.Mailboxes.{mailbox_of, mailboxes_of, with_box}
+use Rattle.iox2_ends.specs.Mailboxes.{mailbox_of, mailboxes_of, with_box, numbered}
 use Rattle.iox2_ends.specs.Recounts.{Recounts}
 use Rattle.iox2_ends.proofs.Histories.{times-last}
 use Rattle.iox2_ends.proofs.MailboxChanges.{Updates-with_value, mailboxes-changed, mailbox-there, both-true}
@@ -30,7 +30,7 @@ use Rattle.iox2_domain.specs.Invariant.{IsDomain, IsOwned, HasLoneLoans, HasNumb
 use Rattle.iox2_domain.specs.Histories.{with_history_waiting, HandsOut}
 use Rattle.iox2_domain.proofs.lemmas.fields.ConnectionEnds.{publisher-stands}
 use Rattle.iox2_domain.proofs.lemmas.fields.Parts.{whole_of}
-use Rattle.iox2_domain.proofs.lemmas.fields.Views.{mailboxes-are, no-others}
+use Rattle.iox2_domain.proofs.lemmas.fields.Views.{mailboxes-are}
 use Rattle.iox2_domain.proofs.lemmas.loans.LoanSlots.{number-at}
 use Rattle.iox2_domain.proofs.lemmas.slots.LoneLoans.{IsLoneIn, lone-changed, lone-fewer}
 use Rattle.iox2_domain.proofs.lemmas.slots.Messages.{LiesIn, message_in-parts, lies_at, message_at-slot, has_number, entry-there}
@@ -40,6 +40,7 @@ use Rattle.iox2_domain.proofs.lemmas.slots.RecountedLoans.{recounted_fields, rec
 use Rattle.iox2_steps.proofs.updates.HistoryBounds.{remembered-in_use}
 use Rattle.iox2_ends.proofs.Recounts.{Recounts-one}
 use mathlib.Core.Path.{fun_ext}
+use Rattle.iox2_domain.proofs.lemmas.fields.LostConnections.{no-length}
 
 -- numbers of the last slots are the last numbers
 last-map : (number : ℕ → ℕ) (n : ℕ) (slots : List ℕ) → map number (last_n n slots) ≡ last_n n (map number slots)
@@ -121,6 +122,10 @@ module _ {T U : Type 0} (f : Fields T U) (sound : IsDomain f) (i : ℕ) (x : Pub
 
   -- ---- who holds messages
 
+  nothing-elsewhere : (s.mailboxes x.id c.home.subscriber).others ≡ []
+  nothing-elsewhere =
+      ap (λ (box : Mailbox). box.others) box-is ∙ ap (numbered (numbers_of f.books x.id)) (no-length c.others (omega (arith, empty)))
+
   nothing-lent : (s.mailboxes x.id c.home.subscriber).borrowed ≡ []
   nothing-lent = ap (λ (box : Mailbox). box.borrowed) box-is ∙ none-lent (numbers_of f.books x.id) c.borrowed (omega (arith, empty))
 
@@ -143,7 +148,7 @@ module _ {T U : Type 0} (f : Fields T U) (sound : IsDomain f) (i : ℕ) (x : Pub
       in_first : contains (numbers_in box) n ≡ true → contains (last_n c.buffer P.history ++ (s.mailboxes x.id c.home.subscriber).borrowed) n ≡ true
       in_first in_box =
           ap (λ (ms : List ChannelNumber). contains (map (λ (m : ChannelNumber). m.number) ms ++ (last_n c.buffer P.history ++ (s.mailboxes x.id c.home.subscriber).borrowed)) n)
-          (sym (no-others f x.id c.home.subscriber)) ∙ in_box
+          (sym nothing-elsewhere) ∙ in_box
 
   -- ---- loans
 

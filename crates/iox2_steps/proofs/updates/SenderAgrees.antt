@@ -240,8 +240,8 @@ module _ {T U : Type 0} (f : Fields T U) (sound : IsDomain f) (i : ℕ) (x : Pub
       forms = sound.parts.forms;
       open_loans = open-published f.publishers publishers f.books f.contents (record {
         at = λ k z at_z. elim (stood k z at_z) [
-          | inl here ↦ rw here.1 (i, x, at, refl, λ slot out. out)
-          | inr old ↦ (k, z, old, refl, λ slot out. out)
+          | inl here ↦ rw here.1 (i, x, at, refl, λ slot out. out, refl)
+          | inr old ↦ (k, z, old, refl, λ slot out. out, refl)
         ];
       }) sound.parts.open_loans;
       plain = λ k z at_z. elim (stood k z at_z) [

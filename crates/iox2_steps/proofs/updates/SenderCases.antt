@@ -13,7 +13,7 @@ use Rattle.iox2_store.specs.machine.Connections.{DegradationAnswers, failure_of,
 use Rattle.iox2_store.specs.machine.Channel.{new_channel}
 use Rattle.iox2_store.specs.machine.Limits.{channel_count, warning_limit}
 use Rattle.iox2_slots.specs.Link.{Link, empty_link, load}
-use Rattle.iox2_store.specs.machine.Mailbox.{Mailbox}
+use Rattle.iox2_store.specs.machine.Mailbox.{Mailbox, ChannelNumber, other_numbers}
 use Rattle.iox2_store.specs.machine.Places.{occupant, set_place, is_port}
 use Rattle.iox2_store.specs.machine.Records.{Publisher, Subscriber, Environment}
 use Rattle.iox2_store.specs.machine.State.{State, has_receiver_end}
@@ -21,7 +21,7 @@ use Rattle.iox2_store.specs.declared.degradation.DegradationAction.{DegradationA
 use Rattle.iox2_ends.specs.LookUp.{look_up}
 use Rattle.iox2_ends.specs.Homes.{IsSenderLinked}
 use Rattle.iox2_ends.proofs.LookUps.{look_up-found}
-use Rattle.iox2_ends.specs.Mailboxes.{mailbox_of, mailbox_if_any, is_between, sender_ends, subscriber_of_key, publisher_of_key}
+use Rattle.iox2_ends.specs.Mailboxes.{mailbox_of, mailbox_if_any, is_between, sender_ends, subscriber_of_key, publisher_of_key, numbered}
 use Rattle.iox2_domain.specs.WarningRing.{warning_ring}
 use Rattle.iox2_domain.specs.Ports.{PublisherFields, SubscriberFields}
 use Rattle.iox2_domain.specs.Kept.{state_of}
@@ -94,19 +94,24 @@ module _ {T U : Type 0} (environment : Environment) (f : Fields T U) (sound : Is
     nil-map number [] e = refl
     nil-map number (n ∷ ns) e = absurd cc
 
+    nil-numbered : (number : ℕ → ℕ) (ms : List ChannelNumber) → map (λ (m : ChannelNumber). m.number) (numbered number ms) ≡ [] → length ms ≡ 0
+    nil-numbered number [] e = refl
+    nil-numbered number (m ∷ ms) e = absurd cc
+
     -- no slot stands in a connection of which the publisher doesn't know
     nobody-in : (key : ℕ) (c : Link) → get f.connections key ≡ Some c → c.home.publisher ≡ x.id → c.home.subscriber ≡ y.id → c.home.subscriber_place ≡ j → load c ≡ 0
     nobody-in key c at its to place =
         let box : s.mailboxes x.id y.id ≡ mailbox_of (numbers_of f.books x.id) c =
         mailboxes-are f x.id y.id ∙ ap (mailbox_if_any (numbers_of f.books x.id)) (look_up-found (is_between x.id y.id) f.connections.slots key c (sound.parts.apart.one x.id y.id) at (and_from _ _ (eq-eqb c.home.publisher x.id its) (eq-eqb c.home.subscriber y.id to))) in
         let none_in = no-numbers environment f sound i j x y at_x at_y due free opened none in
-        let waits : length c.waiting ≡ 0 = nil-map (numbers_of f.books x.id) c.waiting (ap (λ (m : Mailbox). m.waiting) (sym box) ∙ none_in.0) in
-        let lent : length c.borrowed ≡ 0 = nil-map (numbers_of f.books x.id) c.borrowed (ap (λ (m : Mailbox). m.borrowed) (sym box) ∙ none_in.1) in
+        let waits : length c.waiting ≡ 0 = nil-map (numbers_of f.books x.id) c.waiting (ap (λ (m : Mailbox). m.waiting) (sym box) ∙ none_in.1) in
+        let lent : length c.borrowed ≡ 0 = nil-map (numbers_of f.books x.id) c.borrowed (ap (λ (m : Mailbox). m.borrowed) (sym box) ∙ none_in.2) in
+        let elsewhere : length c.others ≡ 0 = nil-numbered (numbers_of f.books x.id) c.others (ap other_numbers (sym box) ∙ none_in.0) in
         let back : length c.returned ≡ 0 = elim (sound.parts.linked.returned key c at) [
           | inl has ↦ absurd (unknown has)
           | inr none ↦ ap (length {A = ℕ}) none
         ] in
-        omega (arith, waits, lent, back)
+        omega (arith, waits, lent, elsewhere, back)
       where
         unknown : SenderHas f.publishers key c → ⊥
         unknown has =

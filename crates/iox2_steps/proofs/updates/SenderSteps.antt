@@ -7,7 +7,7 @@ use Rattle.std.specs.Option.{option_and_then}
 use Rattle.slab.specs.Slab.{Slab, get}
 use Rattle.iox2_store.specs.machine.Limits.{warning_limit}
 use Rattle.iox2_slots.specs.Link.{Link, load}
-use Rattle.iox2_store.specs.machine.Mailbox.{has_numbers, with_waiting}
+use Rattle.iox2_store.specs.machine.Mailbox.{has_numbers, with_waiting, other_numbers}
 use Rattle.iox2_store.specs.machine.Numbers.{put_at, last_n}
 use Rattle.iox2_store.specs.machine.Places.{occupant, set_place}
 use Rattle.iox2_store.specs.machine.Records.{Publisher, Subscriber, Environment}
@@ -135,8 +135,8 @@ module _ {T U : Type 0} (environment : Environment) (f : Fields T U) (sound : Is
   -- ---- the mailbox
 
   -- without an end there is nothing in the mailbox
-  pub no-numbers : get_or x.keys j None ≡ None → (s.mailboxes x.id y.id).waiting ≡ [] × (s.mailboxes x.id y.id).borrowed ≡ []
-  no-numbers none = let all = nothing_anywhere (s.mailboxes x.id y.id) (by (has_numbers (s.mailboxes x.id y.id)) refl) in (all.1, all.2) where
+  pub no-numbers : get_or x.keys j None ≡ None → (other_numbers (s.mailboxes x.id y.id) ≡ []) × ((s.mailboxes x.id y.id).waiting ≡ []) × ((s.mailboxes x.id y.id).borrowed ≡ [])
+  no-numbers none = nothing_anywhere (s.mailboxes x.id y.id) (by (has_numbers (s.mailboxes x.id y.id)) refl) where
     by : (b : Bool) → has_numbers (s.mailboxes x.id y.id) ≡ b → b ≡ false
     by false e = refl
     by true e =
@@ -152,7 +152,7 @@ module _ {T U : Type 0} (environment : Environment) (f : Fields T U) (sound : Is
   same_mailboxes : get_or x.keys j None ≡ None → s.mailboxes x.id ≡ put_at (s.mailboxes x.id) y.id (with_waiting (last_n y.buffer []) (s.mailboxes x.id y.id))
   same_mailboxes none =
       put_at-own (s.mailboxes x.id) y.id
-      ∙ ap (λ (ns : List ℕ). put_at (s.mailboxes x.id) y.id (with_waiting ns (s.mailboxes x.id y.id))) ((no-numbers none).0 ∙ sym (last_of_none y.buffer))
+      ∙ ap (λ (ns : List ℕ). put_at (s.mailboxes x.id) y.id (with_waiting ns (s.mailboxes x.id y.id))) ((no-numbers none).1 ∙ sym (last_of_none y.buffer))
 
   -- an end is made where the keys lead to it, and nothing waits there yet
   pub makes-empty : get_or x.keys j None ≡ None → (keys : List (Option ℕ)) (connections : Slab Link) → FitsSender f i x keys x.key_room connections

@@ -58,6 +58,10 @@ has_borrows box = not (is_nil box.borrowed)
 abbrev pub is_borrowed : ℕ → Mailbox → Bool
 is_borrowed n box = contains box.borrowed n
 
+-- Something waits, in whatever channel.
+abbrev pub has_waiting : Mailbox → Bool
+has_waiting box = not (is_nil (other_numbers box) && is_nil box.waiting)
+
 -- Something waits for the receiver.
 abbrev pub has_data : Mailbox → Bool
 has_data box = not (is_nil box.waiting)

@@ -6,7 +6,7 @@ use Rattle.std.specs.declared.option.Option.TheVariants.{None, Some}
 use Rattle.iox2_store.specs.machine.Limits.{buffer_limit, channel_count, expired_limit, worst_case, segment_limit}
 use Rattle.iox2_store.specs.machine.Numbers.{contains, size, IsOnce}
 use Rattle.iox2_store.specs.machine.Places.{occupant}
-use Rattle.iox2_store.specs.machine.Mailbox.{numbers_in, has_numbers, has_borrows, has_data, waiting_count, IsWithin, OthersWithin}
+use Rattle.iox2_store.specs.machine.Mailbox.{numbers_in, has_numbers, has_borrows, has_waiting, waiting_count, IsWithin, OthersWithin}
 use Rattle.iox2_store.specs.machine.Records.{Loan, Publisher, Subscriber, BlockedSend}
 use Rattle.iox2_store.specs.machine.State.{State, held}
 use Rattle.iox2_store.specs.machine.Loans.{is_static, is_initialized}
@@ -103,8 +103,8 @@ module _ {T U : Type 0} where
     pub sender_end : (x : Publisher) → s.publishers p ≡ Some x → has_numbers (s.mailboxes p q) ≡ true → LeadsTo x.ends q
     pub receiver_end : has_borrows (s.mailboxes p q) ≡ true
         → (y : Subscriber) × (s.subscribers q ≡ Some y) × ((contains y.expired p ≡ true) ⊎ LeadsTo y.ends p)
-    -- What waits from a departed publisher waits for an open subscriber that knows it.
-    pub departed : s.publishers p ≡ None → has_data (s.mailboxes p q) ≡ true
+    -- What waits from a departed publisher, in whatever channel, waits for an open subscriber that knows it.
+    pub departed : s.publishers p ≡ None → has_waiting (s.mailboxes p q) ≡ true
         → (y : Subscriber) × (s.subscribers q ≡ Some y) × (y.is_open ≡ true) × ((contains y.expired p ≡ true) ⊎ LeadsTo y.ends p)
 
   -- A loan's number was given out, and its publisher has sent no message under it. Its header names its publisher and

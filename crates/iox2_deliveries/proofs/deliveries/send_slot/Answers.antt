@@ -8,6 +8,7 @@ use Rattle.iox2_domain.specs.Fields.{Fields}
 use Rattle.iox2_domain.specs.Invariant.{IsDomain}
 use Rattle.iox2_domain.proofs.lemmas.slots.PublisherBooks.{read-there, book-covers}
 use Rattle.iox2_steps.proofs.sends.DeliverySteps.{ready-to-deliver, delivers-own, sends-slot, sent-once, sent-alone, sent-own, sent-in_use, leaves-in_use, history-holder-used}
+use Rattle.iox2_deliveries.proofs.WaitingChannels.{have-channel-0}
 use Rattle.iox2_deliveries.proofs.deliveries.send_slot.Goals as goal
 
 pub deliver-outcome-requires-clause-ready : goal.deliver-outcome-requires-clause-ready
@@ -75,10 +76,13 @@ returns-clause-sends g c = (
       sends-slot (asked g.X.BackpressureFn.allows c.args.handler.now) _ _ c.state.view_is c.args.place _ (read-there _ c.args.place _ _ (ap (λ (f : Fields g.row.T.Denot g.row.U.Denot). slice_index_or f.publishers c.args.place None) c.state.view_is ∙ c.requires.can.1) c.index_mut.ensures.value ∙ c.in-Some.is ∙ ap Some (sym c.publisher.view_is)) _ _ c.index_mut-book.ensures.value _ c.deliver-outcome.ensures.book
       (rw c.value.ensures at c.deliver-outcome.ensures.recounts) c.args.slot c.deliver-outcome.result c.deliver-outcome.ensures.alone
       (delivers-own (asked g.X.BackpressureFn.allows c.args.handler.now) _ _ c.state.view_is c.args.place _ (read-there _ c.args.place _ _ (ap (λ (f : Fields g.row.T.Denot g.row.U.Denot). slice_index_or f.publishers c.args.place None) c.state.view_is ∙ c.requires.can.1) c.index_mut.ensures.value ∙ c.in-Some.is ∙ ap Some (sym c.publisher.view_is))
-      c.args.slot begun no_time c.deliver-outcome.result c.deliver-outcome.new.connections (marks_of c.args.handler.now)
+      0 c.publisher.inside.keys.items c.args.slot begun no_time c.deliver-outcome.result c.deliver-outcome.new.connections (marks_of c.args.handler.now)
       (c.requires.handler _ (sym (ap (λ (f : Fields g.row.T.Denot g.row.U.Denot). slice_index_or f.publishers c.args.place None) c.state.view_is) ∙ (read-there _ c.args.place _ _ (ap (λ (f : Fields g.row.T.Denot g.row.U.Denot). slice_index_or f.publishers c.args.place None) c.state.view_is ∙ c.requires.can.1) c.index_mut.ensures.value ∙ c.in-Some.is ∙ ap Some (sym c.publisher.view_is))))
       (rw (c.value.ensures, c.deref.ensures.value, c.begun.ensures) at c.deliver-outcome.ensures.delivers))
       _ (c.conclude.ensures.publisher ∙ ap (sender_after c.deliver-outcome.result c.args.slot) (sym c.publisher.view_is))
       _ (c.conclude.ensures.book ∙ ap (λ (y : PublisherFields). book_after c.deliver-outcome.result c.args.slot y c.deliver-outcome.new.book) (sym c.publisher.view_is))
       x at,
 )
+
+pub deliver-outcome-requires-clause-known : goal.deliver-outcome-requires-clause-known
+deliver-outcome-requires-clause-known g c = have-channel-0 _

@@ -72,7 +72,7 @@ channels-still old new same = fun_ext (λ p. fun_ext (λ q.
   where
     -- a connection that has these
     link_at : Home × ℕ × ℕ × Bool × List Channel → Link
-    link_at t = record { home = t.0; buffer = 0; limit = 0; is_open = false; channels = t.4; waiting = []; borrowed = []; returned = [] }
+    link_at t = record { home = t.0; buffer = 0; limit = 0; is_open = false; channels = t.4; waiting = []; borrowed = []; returned = []; others = [] }
 
     of_fixed : Option (Home × ℕ × ℕ × Bool × List Channel) → ℕ → Channel
     of_fixed None = new_channels

@@ -18,9 +18,10 @@ pub record IsEmptyLink (c : Link) : Type 0 where
   pub waiting : c.waiting ≡ []
   pub borrowed : c.borrowed ≡ []
   pub returned : c.returned ≡ []
+  pub others : c.others ≡ []
 
 -- a list of no length
-pub no-length : (xs : List ℕ) → length xs ≡ 0 → xs ≡ []
+pub no-length : {A : Type 0} (xs : List A) → length xs ≡ 0 → xs ≡ []
 no-length [] e = refl
 no-length (x ∷ xs) e = absurd (omega arith)
 
@@ -30,6 +31,7 @@ unloaded c none = record {
   waiting = no-length c.waiting (omega (arith, none));
   borrowed = no-length c.borrowed (omega (arith, none));
   returned = no-length c.returned (omega (arith, none));
+  others = no-length c.others (omega (arith, none));
 }
 
 -- Some connections have gone, in which no slot stood.
@@ -58,7 +60,7 @@ module _ (old new : Slab Link) (loses : LosesEmpty old new) where
   lost-apart apart = record { one = λ p r. record { one = λ i j x y at_i at_j. (apart.one p r).one i j x y (loses.fewer i x at_i) (loses.fewer j y at_j) } }
 
   stands-none : (p slot : ℕ) (c : Link) → IsEmptyLink c → stands p slot (Some c) ≡ 0
-  stands-none p slot c empty = rw (empty.waiting, empty.borrowed, empty.returned) (grind arith)
+  stands-none p slot c empty = rw (empty.waiting, empty.borrowed, empty.returned, empty.others) (grind arith)
 
   -- each slot stands as often as before
   pub lost-sums : (p slot : ℕ) → sum_by (stands p slot) new.slots ≡ sum_by (stands p slot) old.slots
@@ -83,7 +85,7 @@ module _ (old new : Slab Link) (loses : LosesEmpty old new) where
       at_key key at is None here =
           let empty : IsEmptyLink c = loses.gone key c at here in
           ap (mailbox_if_any (number p)) (look_up-nothing (is_between p q) new.slots (λ i d at_d. other i d at_d (is_between p q d) refl))
-          ∙ rw (e, empty.waiting, empty.borrowed) refl
+          ∙ rw (e, empty.waiting, empty.borrowed, empty.others) refl
         where
           other : (i : ℕ) (d : Link) → get new i ≡ Some d → (b : Bool) → is_between p q d ≡ b → is_between p q d ≡ false
           other i d at_d false is_d = is_d

@@ -1,5 +1,5 @@
 -- What a domain's fields show of the machine.
-use Rattle.std.proofs.Common.{◌≡◌, ℕ, ◌≤◌, Bool, true, false, ◌&&◌, refl, ap, sym, ◌∙◌, arith, []}
+use Rattle.std.proofs.Common.{◌≡◌, ℕ, ◌≤◌, Bool, true, false, ◌&&◌, refl, ap, sym, ◌∙◌, arith}
 use Rattle.std.proofs.lemmas.Bool.{eqb-true}
 use Rattle.std.specs.declared.option.Option.{Option}
 use Rattle.std.specs.declared.option.Option.TheVariants.{None, Some}
@@ -8,7 +8,7 @@ use Rattle.slab.specs.Slab.{Slab}
 use Rattle.iox2_slots.specs.Link.{Link}
 use Rattle.iox2_slots.specs.SlotBook.{Book}
 use Rattle.iox2_store.specs.machine.Numbers.{contains}
-use Rattle.iox2_store.specs.machine.Mailbox.{numbers_in, Mailbox}
+use Rattle.iox2_store.specs.machine.Mailbox.{numbers_in}
 use Rattle.iox2_store.specs.machine.Records.{Entry, Loan, Publisher, BlockedSend}
 use Rattle.iox2_store.specs.machine.State.{State, Messages}
 use Rattle.iox2_store.specs.machine.WellFormed.{IsWellFormed}
@@ -41,13 +41,6 @@ module _ {T U : Type 0} (f : Fields T U) where
           let there = look_up-there (is_between p q) f.connections.slots c e in
           let here : c.home.publisher ≡ p = eqb-true c.home.publisher p (both _ _ there.2) in
           ap (λ r. mailbox_if_any (numbers_of f.books r) (Some c)) here
-
-  -- nothing waits in a channel but 0
-  pub no-others : (p q : ℕ) → ((state_of (kept_of f)).mailboxes p q).others ≡ []
-  no-others p q = ap (λ (box : Mailbox). box.others) (mailboxes-are p q) ∙ by (look_up (is_between p q) f.connections.slots) where
-    by : (o : Option Link) → (mailbox_if_any (numbers_of f.books p) o).others ≡ []
-    by None = refl
-    by (Some c) = refl
 
 -- where nothing is blocked, no number and no end tells
 pub nothing-blocked : (g h : BlockedDelivery → BlockedSend) (o : Option BlockedDelivery) → o ≡ None → option_map g o ≡ option_map h o

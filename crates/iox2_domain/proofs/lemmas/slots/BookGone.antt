@@ -14,7 +14,7 @@ use Rattle.iox2_slots.specs.SlotBook.{Book, holders_at}
 use Rattle.iox2_contents.specs.SlotContents.{ContentState}
 use Rattle.iox2_ends.specs.LookUp.{look_up}
 use Rattle.iox2_ends.specs.Counters.{times, stands}
-use Rattle.iox2_ends.specs.Mailboxes.{sender_ends}
+use Rattle.iox2_ends.specs.Mailboxes.{sender_ends, mailbox_of}
 use Rattle.iox2_ends.proofs.LookUps.{look_up-found, look_up-nothing}
 use Rattle.iox2_ends.proofs.MailboxChanges.{within_if_some}
 use Rattle.iox2_domain.specs.Ports.{PublisherFields}
@@ -126,7 +126,7 @@ module _ {T U : Type 0} (f : Fields T U) (parts : HasParts f) (key : ℕ) (b : B
 
   connections-shown : map (option_map (between_of after.books f.connections)) f.connections.slots ≡ map (option_map (between_of f.books f.connections)) f.connections.slots
   connections-shown = map-alike (between_of after.books f.connections) (between_of f.books f.connections) f.connections.slots (λ k c there.
-      ap (λ (number : ℕ → ℕ). record (between_of f.books f.connections c) { box = record { waiting = map number c.waiting; borrowed = map number c.borrowed; others = [] } })
+      ap (λ (number : ℕ → ℕ). record (between_of f.books f.connections c) { box = mailbox_of number c })
       (numbers-same c.home.publisher (unnamed k c there)))
 
   -- the machine sees nothing of it

@@ -20,7 +20,7 @@ use Rattle.iox2_ends.specs.Mailboxes.{is_between, mailbox_if_any, sender_ends}
 use Rattle.iox2_ends.proofs.LookUps.{look_up-there}
 use Rattle.iox2_ends.proofs.MailboxChanges.{within_if_some, both-true}
 use Rattle.iox2_ends.proofs.Counts.{times-cons, one_if_same, stands-own}
-use Rattle.iox2_laws.proofs.NumberLemmas.{contains_in_append, contains_in_cons}
+use Rattle.iox2_laws.proofs.NumberLemmas.{contains_in_cons}
 use Rattle.iox2_domain.specs.Ports.{PublisherFields}
 use Rattle.iox2_domain.specs.declared.publisher_state.BlockedDelivery.{BlockedDelivery}
 use Rattle.iox2_domain.specs.Kept.{Named, state_of, is_named}
@@ -28,6 +28,7 @@ use Rattle.iox2_domain.specs.Fields.{Fields, kept_of, publisher_of, is_book_of, 
 use Rattle.iox2_domain.specs.Invariant.{IsCounted, HasNumber, is_publisher, holders_of, IsPlain}
 use Rattle.iox2_domain.proofs.lemmas.containers.LookUps.{look_up-map}
 use Rattle.iox2_domain.proofs.lemmas.fields.Views.{mailboxes-are}
+use Rattle.iox2_domain.proofs.lemmas.slots.BoxNumbers.{slot-of_number}
 use Rattle.iox2_domain.proofs.lemmas.slots.Holders.{own-slots}
 
 -- a number of a list of slots belongs to one that stands there
@@ -98,21 +99,13 @@ module _ {T U : Type 0} (f : Fields T U) where
         (moved x.id p there.3 slot.0 (own-in_use there.0 slot.0 x there.2 (omega (arith, slot.1))))
         (ap (λ (q : ℕ). numbers_of f.books q slot.0) (sym there.3) ∙ slot.2)
     held-message-slot plain p n (In_mailbox q is) = by (look_up (is_between p q) f.connections.slots) refl (ap (λ box. contains (numbers_in box) n) (sym (mailboxes-are f p q)) ∙ is) where
-      at_link : (key : ℕ) (c : Link) → get f.connections key ≡ Some c → c.home.publisher ≡ p → (slots : List ℕ) → ((slot : ℕ) → times slot slots ≤ stands_in slot c)
-          → contains (map (numbers_of f.books p) slots) n ≡ true → LiesWith p n
-      at_link key c at mine slots part h =
-          let slot = slot_numbered (numbers_of f.books p) n slots h in
-          lies_with p slot.0 n (moved c.home.publisher p mine slot.0 (standing-in_use key slot.0 c at (omega (arith, slot.1, part slot.0)))) slot.2
-
       by : (o : Option Link) → look_up (is_between p q) f.connections.slots ≡ o → contains (numbers_in (mailbox_if_any (numbers_of f.books p) o)) n ≡ true → LiesWith p n
       by None e h = absurd cc
       by (Some c) e h =
           let there = look_up-there (is_between p q) f.connections.slots c e in
           let mine : c.home.publisher ≡ p = eqb-true c.home.publisher p (both-true (eqb c.home.publisher p) (eqb c.home.subscriber q) there.2).0 in
-          elim (contains_in_append (map (numbers_of f.books p) c.waiting) (map (numbers_of f.books p) c.borrowed) n h) [
-            | inl waits ↦ at_link there.0 c there.1 mine c.waiting (λ slot. omega arith) waits
-            | inr borrowed ↦ at_link there.0 c there.1 mine c.borrowed (λ slot. omega arith) borrowed
-          ]
+          let slot = slot-of_number (numbers_of f.books p) c n h in
+          lies_with p slot.0 n (moved c.home.publisher p mine slot.0 (standing-in_use there.0 slot.0 c there.1 slot.1)) slot.2
     held-message-slot plain p n (In_blocked_send y b at blocked is) =
         let there = publisher-there p y at in
         let x = there.1 in

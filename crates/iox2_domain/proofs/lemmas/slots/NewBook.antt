@@ -10,7 +10,7 @@ use Rattle.iox2_slots.specs.SlotBook.{Book, holders_at}
 use Rattle.iox2_contents.specs.SlotContents.{ContentState}
 use Rattle.iox2_ends.specs.LookUp.{look_up, IsOnly}
 use Rattle.iox2_ends.proofs.LookUps.{look_up-nothing}
-use Rattle.iox2_ends.specs.Mailboxes.{sender_ends}
+use Rattle.iox2_ends.specs.Mailboxes.{sender_ends, mailbox_of}
 use Rattle.iox2_domain.specs.Ports.{PublisherFields}
 use Rattle.iox2_domain.specs.Kept.{message_numbered}
 use Rattle.iox2_domain.specs.Fields.{Fields, kept_book, map_from, is_book_of, numbers_of, message_in, messages_in, contents_at, publisher_of, between_of, blocked_send}
@@ -171,5 +171,5 @@ module _ {T U : Type 0} (f : Fields T U) (sound : IsDomain f) (slots room key : 
 
   pub connections-shown : map (option_map (between_of books f.connections)) f.connections.slots ≡ map (option_map (between_of f.books f.connections)) f.connections.slots
   connections-shown = map-alike (between_of books f.connections) (between_of f.books f.connections) f.connections.slots (λ k c at.
-      ap (λ (number : ℕ → ℕ). record (between_of f.books f.connections c) { box = record { waiting = map number c.waiting; borrowed = map number c.borrowed; others = [] } })
+      ap (λ (number : ℕ → ℕ). record (between_of f.books f.connections c) { box = mailbox_of number c })
       (numbers-same c.home.publisher (sender_before k c at)))

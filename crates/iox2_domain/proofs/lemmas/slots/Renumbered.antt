@@ -4,13 +4,14 @@ use Rattle.std.specs.declared.option.Option.{Option}
 use Rattle.std.specs.declared.option.Option.TheVariants.{None, Some}
 use Rattle.std.specs.Option.{option_map}
 use Rattle.slab.specs.Slab.{Slab, get}
-use Rattle.iox2_slots.specs.Link.{Link}
+use Rattle.iox2_slots.specs.Link.{Link, other_slots}
 use Rattle.iox2_store.specs.machine.Numbers.{contains}
+use Rattle.iox2_store.specs.machine.Mailbox.{ChannelNumber}
 use Rattle.iox2_slots.specs.SlotBook.{Book}
 use Rattle.iox2_contents.specs.SlotContents.{ContentState}
 use Rattle.iox2_ends.specs.LookUp.{look_up}
 use Rattle.iox2_ends.specs.Counters.{times}
-use Rattle.iox2_ends.specs.Mailboxes.{sender_ends}
+use Rattle.iox2_ends.specs.Mailboxes.{sender_ends, numbered}
 use Rattle.iox2_laws.proofs.NumberLemmas.{contains_first, contains_later}
 use Rattle.iox2_domain.specs.Ports.{PublisherFields}
 use Rattle.iox2_domain.specs.declared.publisher_state.BlockedDelivery.{BlockedDelivery}
@@ -34,6 +35,14 @@ module _ {T U : Type 0} (f : Fields T U) (sound : IsDomain f) (new : Slab Book)
       → map (numbers_of new p) xs ≡ map (numbers_of f.books p) xs
   map-numbers p [] in_use = refl
   map-numbers p (x ∷ xs) in_use = λ t. keeps p x (in_use x (contains_first x xs)) t ∷ map-numbers p xs (λ slot e. in_use slot (contains_later x slot xs e)) t
+
+  -- and so have those in other channels
+  map-numbered : (p : ℕ) (ms : List ChannelNumber) → ((slot : ℕ) → contains (map (λ (m : ChannelNumber). m.number) ms) slot ≡ true → 0 < holders_of f.books p slot)
+      → numbered (numbers_of new p) ms ≡ numbered (numbers_of f.books p) ms
+  map-numbered p [] in_use = refl
+  map-numbered p (m ∷ ms) in_use = λ t.
+      record m { number = keeps p m.number (in_use m.number (contains_first m.number (map (λ (k : ChannelNumber). k.number) ms))) t }
+      ∷ map-numbered p ms (λ slot e. in_use slot (contains_later m.number slot (map (λ (k : ChannelNumber). k.number) ms) e)) t
 
   -- a blocked delivery has its number, since its slot is a loan that is out
   pub blocked-same : (i : ℕ) (x : PublisherFields) → get_or f.publishers i None ≡ Some x
@@ -64,12 +73,15 @@ module _ {T U : Type 0} (f : Fields T U) (sound : IsDomain f) (new : Slab Book)
 
   -- in a connection lies what lay there
   between-same : (key : ℕ) (c : Link) → get f.connections key ≡ Some c → between_of new f.connections c ≡ between_of f.books f.connections c
-  between-same key c at = λ t. record (between_of f.books f.connections c) { box = record { waiting = waiting t; borrowed = borrowed t; others = [] } } where
+  between-same key c at = λ t. record (between_of f.books f.connections c) { box = record { waiting = waiting t; borrowed = borrowed t; others = others t } } where
     waiting : map (numbers_of new c.home.publisher) c.waiting ≡ map (numbers_of f.books c.home.publisher) c.waiting
     waiting = map-numbers c.home.publisher c.waiting (λ slot e. standing-in_use f sound.parts.counted sound.parts.publisher_ids key slot c at (omega (arith, times-there slot c.waiting e)))
 
     borrowed : map (numbers_of new c.home.publisher) c.borrowed ≡ map (numbers_of f.books c.home.publisher) c.borrowed
     borrowed = map-numbers c.home.publisher c.borrowed (λ slot e. standing-in_use f sound.parts.counted sound.parts.publisher_ids key slot c at (omega (arith, times-there slot c.borrowed e)))
+
+    others : numbered (numbers_of new c.home.publisher) c.others ≡ numbered (numbers_of f.books c.home.publisher) c.others
+    others = map-numbered c.home.publisher c.others (λ slot e. standing-in_use f sound.parts.counted sound.parts.publisher_ids key slot c at (omega (arith, times-there slot (other_slots c) e)))
 
   module _ (contents : List (Option (List (ContentState T U)))) (next : ℕ) where
     -- the fields with these books

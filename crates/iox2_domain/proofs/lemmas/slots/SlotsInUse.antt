@@ -1,5 +1,5 @@
 -- The slots of a publisher that have a holder lie in its loans, its history and its mailboxes, and nowhere else.
-use Rattle.std.proofs.Common.{◌≡◌, ℕ, zero, suc, ◌+◌, ◌<◌, ◌≤◌, List, [], map, Bool, true, false, ◌&&◌, cond, length, get_or, refl, ap, sym, subst, ◌∙◌, inl, inr, ◌⊎◌, arith, eqb, drop}
+use Rattle.std.proofs.Common.{◌≡◌, ℕ, zero, suc, ◌+◌, ◌<◌, ◌≤◌, List, [], map, Bool, true, false, ◌&&◌, cond, length, get_or, refl, ap, sym, subst, ◌∙◌, inl, inr, arith, eqb, drop}
 use Rattle.std.proofs.lemmas.Bool.{eqb-true, eq-eqb, and_from}
 use Rattle.std.specs.declared.option.Option.{Option}
 use Rattle.std.specs.declared.option.Option.TheVariants.{None, Some}
@@ -21,7 +21,7 @@ use Rattle.iox2_ends.specs.Receivers.{HasReclaimed}
 use Rattle.iox2_ends.proofs.LookUps.{look_up-found, look_up-there}
 use Rattle.iox2_laws.proofs.Altered.{in_three, in_first, in_second, in_third}
 use Rattle.iox2_laws.proofs.MailboxLemmas.{has_numbers-contains}
-use Rattle.iox2_laws.proofs.NumberLemmas.{contains_in_append, contains_left, contains_right, contains_in_flat_map, contains-flat_map}
+use Rattle.iox2_laws.proofs.NumberLemmas.{contains_in_flat_map, contains-flat_map}
 use Rattle.iox2_laws.proofs.PlaceLemmas.{contains-occupants}
 use Rattle.iox2_laws.proofs.Sizes.{size_is, size_le}
 use Rattle.iox2_domain.specs.Ports.{PublisherFields}
@@ -31,6 +31,7 @@ use Rattle.iox2_domain.specs.Invariant.{IsDomain, HasBook, is_publisher, holders
 use Rattle.iox2_domain.proofs.lemmas.fields.ConnectionEnds.{publisher-stands}
 use Rattle.iox2_domain.proofs.lemmas.fields.Views.{mailboxes-are}
 use Rattle.iox2_domain.proofs.lemmas.slots.NumbersInUse.{used, used-there, used-has, used-once, HasApart, length-used_free, length-used_all, length-used_from, times-there, times-stands, contains-map, contains-map_there, sum_by-positive}
+use Rattle.iox2_domain.proofs.lemmas.slots.BoxNumbers.{slot-of_number, number-of_slot}
 use Rattle.iox2_domain.proofs.lemmas.slots.Holders.{book-by_id, book-holders}
 use Rattle.iox2_domain.proofs.lemmas.slots.PublisherBooks.{book-counts}
 use Rattle.iox2_domain.proofs.lemmas.slots.HeldMessages.{standing-in_use}
@@ -97,14 +98,7 @@ module _ {T U : Type 0} (f : Fields T U) (sound : IsDomain f) where
 
       by : (o : Option Link) → look_up (is_between x.id q) f.connections.slots ≡ o → contains (numbers_in (mailbox_if_any number o)) n ≡ true → HasSlot n
       by None here e = absurd cc
-      by (Some c) here e = elim (contains_in_append (map number c.waiting) (map number c.borrowed) n e) [
-        | inl waits ↦
-            let slot = contains-map_there number c.waiting n waits in
-            found c slot.0 here (omega (arith, times-there slot.0 c.waiting slot.1)) slot.2
-        | inr borrowed ↦
-            let slot = contains-map_there number c.borrowed n borrowed in
-            found c slot.0 here (omega (arith, times-there slot.0 c.borrowed slot.1)) slot.2
-      ]
+      by (Some c) here e = let slot = slot-of_number number c n e in found c slot.0 here slot.1 slot.2
 
     -- what the publisher holds is the number of a slot with a holder
     held-there : (n : ℕ) → contains (held state x.id machine) n ≡ true → HasSlot n
@@ -153,25 +147,16 @@ module _ {T U : Type 0} (f : Fields T U) (sound : IsDomain f) where
       connection-in_use : (key slot : ℕ) (c : Link) → get f.connections key ≡ Some c → c.home.publisher ≡ x.id → 0 < stands_in slot c
           → contains (flat_map (λ q. numbers_in (state.mailboxes x.id q)) (occupants machine.ends)) (number slot) ≡ true
       connection-in_use key slot c at_c its some =
-          let none : times slot c.returned ≡ 0 = ap (times slot) (none_returned key c at_c its) in
-          let waits_or_not : (0 < times slot c.waiting) ⊎ (0 < times slot c.borrowed) = either (times slot c.waiting) (times slot c.borrowed) (omega (arith, some, none)) in
           let here : look_up (is_between x.id c.home.subscriber) f.connections.slots ≡ Some c =
           look_up-found (is_between x.id c.home.subscriber) f.connections.slots key c (sound.parts.apart.one x.id c.home.subscriber) at_c
           (and_from (eqb c.home.publisher x.id) (eqb c.home.subscriber c.home.subscriber) (eq-eqb c.home.publisher x.id its) (eq-eqb c.home.subscriber c.home.subscriber refl)) in
           let box_is : state.mailboxes x.id c.home.subscriber ≡ mailbox_of number c = mailboxes-are f x.id c.home.subscriber ∙ ap (mailbox_if_any number) here in
-          let in_box : contains (numbers_in (mailbox_of number c)) (number slot) ≡ true = elim waits_or_not [
-            | inl waits ↦ contains_left (map number c.waiting) (map number c.borrowed) (number slot) (contains-map number c.waiting slot (times-stands slot c.waiting waits))
-            | inr borrowed ↦ contains_right (map number c.waiting) (map number c.borrowed) (number slot) (contains-map number c.borrowed slot (times-stands slot c.borrowed borrowed))
-          ] in
-          let in_its : contains (numbers_in (state.mailboxes x.id c.home.subscriber)) (number slot) ≡ true = ap (λ (box : Mailbox). contains (numbers_in box) (number slot)) box_is ∙ in_box in
+          let in_its : contains (numbers_in (state.mailboxes x.id c.home.subscriber)) (number slot) ≡ true =
+          ap (λ (box : Mailbox). contains (numbers_in box) (number slot)) box_is ∙ number-of_slot number c slot (none_returned key c at_c its) some in
           let leads = (sound.well_formed.mailboxes x.id c.home.subscriber).sender_end machine (publisher-stands f sound.parts i x at)
           (has_numbers-contains (state.mailboxes x.id c.home.subscriber) (number slot) in_its) in
           contains-flat_map (λ q. numbers_in (state.mailboxes x.id q)) (occupants machine.ends) c.home.subscriber (number slot)
           (contains-occupants machine.ends c.home.subscriber leads) in_its
-        where
-          either : (a b : ℕ) → 0 < a + b → (0 < a) ⊎ (0 < b)
-          either zero b some = inr (omega arith)
-          either (suc a) b some = inl (omega arith)
 
       -- a slot with a holder has its number in what the publisher holds
       held-has : (slot : ℕ) → 0 < holders_at its_book.book slot → contains (held state x.id machine) (number slot) ≡ true

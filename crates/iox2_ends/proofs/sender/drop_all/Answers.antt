@@ -8,4 +8,4 @@ returns-clause-drops c =
     (drops-reclaims c.args.book.now.holders c.drop_waiting.new.book.holders c.reclaim_from.new.book.holders c.index_mut-emptied.result.now c.drop_waiting.new.connection c.reclaim_from.new.connection
     c.drop_waiting.ensures.drops c.reclaim_from.ensures.reclaims)
     (all-dropped c.args.book.now.holders c.drop_waiting.new.book.holders c.reclaim_from.new.book.holders c.index_mut-emptied.result.now c.drop_waiting.new.connection c.reclaim_from.new.connection
-    c.drop_waiting.ensures.drops c.drop_waiting.ensures.all c.reclaim_from.ensures.reclaims c.reclaim_from.ensures.all)
+    c.drop_waiting.ensures.drops c.drop_waiting.ensures.all c.drop_waiting.ensures.others c.reclaim_from.ensures.reclaims c.reclaim_from.ensures.all)

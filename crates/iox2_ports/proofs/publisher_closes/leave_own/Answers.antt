@@ -6,7 +6,7 @@ use Rattle.std.proofs.lemmas.Bool.{eq-eqb}
 use Rattle.std.proofs.lemmas.List.Sums.{sum_by-set}
 use Rattle.slab.specs.Slab.{Slab, get, Updates, with_value}
 use Rattle.iox2_store.specs.machine.Numbers.{is_nil}
-use Rattle.iox2_slots.specs.Link.{Link}
+use Rattle.iox2_slots.specs.Link.{Link, other_slots}
 use Rattle.iox2_ends.specs.Counters.{times, stands_in, stands, CountersFollow}
 use Rattle.iox2_ends.specs.Leaves.{left_link, holds_slots, ReleasesFrom}
 use Rattle.iox2_ends.proofs.MailboxChanges.{Updates-with_value, within_if_some}
@@ -17,10 +17,12 @@ use Rattle.iox2_domain.specs.Closes.{is_awaited, after_close, if_holding}
 use Rattle.iox2_ports.proofs.publisher_closes.leave_own.Goals as goal
 
 -- no slot stands where none waits, is borrowed or was given back
-nothing-stands : (n : ℕ) (waiting borrowed returned : List ℕ) → not (is_nil waiting && is_nil borrowed) ≡ false → returned ≡ [] → times n waiting + times n borrowed + times n returned ≡ 0
-nothing-stands n [] [] returned none clear = rw clear refl
-nothing-stands n [] (x ∷ borrowed) returned none clear = absurd cc
-nothing-stands n (x ∷ waiting) borrowed returned none clear = absurd cc
+nothing-stands : (n : ℕ) (others waiting borrowed returned : List ℕ) → not (is_nil others && (is_nil waiting && is_nil borrowed)) ≡ false → returned ≡ []
+    → times n waiting + times n borrowed + times n returned + times n others ≡ 0
+nothing-stands n [] [] [] returned none clear = rw clear refl
+nothing-stands n [] [] (x ∷ borrowed) returned none clear = absurd cc
+nothing-stands n [] (x ∷ waiting) borrowed returned none clear = absurd cc
+nothing-stands n (x ∷ others) waiting borrowed returned none clear = absurd cc
 
 -- the connection c of the publisher p at a key, which is d once p has left it
 module _ (p : ℕ) (subscribers : List (Option SubscriberFields)) (slab : Slab Link) (key : ℕ) (c d : Link) (own : IsSomeAnd (get slab key) (λ (x : Link). x.home.publisher ≡ p)) (at : get slab key ≡ Some c)
@@ -49,7 +51,7 @@ module _ (p : ℕ) (subscribers : List (Option SubscriberFields)) (slab : Slab L
       at = λ n.
           let changed : sum_by (stands p n) (set (set slab.slots key (Some d)) key None) + stands p n (Some d) ≡ sum_by (stands p n) (set slab.slots key (Some d)) + stands p n None =
           rw updated.changed at (sum_by-set (stands p n) (set slab.slots key (Some d)) key None None (within_if_some (set slab.slots key (Some d)) key d updated.changed)) in
-          let empty : stands_in n d ≡ 0 = nothing-stands n d.waiting d.borrowed d.returned none (ap (λ (l : Link). l.returned) left) in
+          let empty : stands_in n d ≡ 0 = nothing-stands n (other_slots d) d.waiting d.borrowed d.returned none (ap (λ (l : Link). l.returned) left) in
           omega (arith, changed, follows.at n, stands-own p n d (ap (λ (l : Link). l.home.publisher) left ∙ mine), empty);
     })
 

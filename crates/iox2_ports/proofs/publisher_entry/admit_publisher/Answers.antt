@@ -1,9 +1,10 @@
-use Rattle.std.proofs.Common.{rules, ◌≡◌, ◌≢◌, ◌∙◌, ◌+◌, ◌≤◌, length, vec_len, ap, map, arith, refl, [], get_or, inl, inr}
+use Rattle.std.proofs.Common.{rules, ◌≡◌, ◌≢◌, ◌∙◌, ◌+◌, ◌≤◌, ℕ, All, length, vec_len, ap, map, not, subst, arith, refl, [], get_or, inl, inr}
 use Rattle.std.proofs.lemmas.List.{with_items_is}
 use Rattle.std.specs.Option.{option_map}
 use Rattle.std.specs.declared.option.Option.TheVariants.{None}
 use Rattle.circular_buffer.specs.Buffer.{buffer}
 use Rattle.iox2_store.specs.machine.Limits.{last_number, segment_fits}
+use Rattle.iox2_contents.specs.SlotContents.{ContentState, lists_for}
 use Rattle.iox2_domain.specs.Handlers.{handler_if_any}
 use Rattle.iox2_domain.specs.NewPublisher.{entering_publisher, subscriber_due}
 use Rattle.iox2_ports.specs.Settings.{settings_with}
@@ -76,7 +77,9 @@ returns-clause-step g c =
           omega (arith, is, needed);
       contents_closed = c.in-Ok.ensures.contents_closed;
       contents_form = λ several. c.in-Ok.ensures.contents_form (let single = c.is_single_valued-in_lists.ensures ∙ several in search rules);
-      contents_cells = λ several lists. c.in-Ok.ensures.contents_cells (let single = c.is_single_valued-in_lists.ensures ∙ several in search rules) lists;
+      contents_lists =
+          subst (λ (n : ℕ). All (λ (content : ContentState g.row.T.Denot g.row.U.Denot). content.lists ≡ n) c.in-Ok.segment.contents)
+          (λ i. lists_for (not (c.is_single_valued-in_lists.ensures i)) (c.lists_wanted-lists.ensures i)) c.in-Ok.ensures.contents_lists;
       vacant = c.in-Ok-add_segment.ensures.vacant;
       updates = c.in-Ok-add_segment.ensures.updates;
       changed = λ i. record {

@@ -17,7 +17,5 @@ returns g c = record {
   contents_form = λ listed.
       All-weaker (λ (content : ContentState g.row.T.Denot g.row.U.Denot). c.args.in_lists ≡ true → content.is_in_place ≡ false) (λ (content : ContentState g.row.T.Denot g.row.U.Denot). content.is_in_place ≡ false)
       (λ content form. form listed) c.in_ok-contents.contents c.in_ok-contents.ensures.in_lists;
-  contents_cells = λ listed cells.
-      All-weaker (λ (content : ContentState g.row.T.Denot g.row.U.Denot). c.args.in_lists ≡ true → c.args.lists_cells ≡ true → content.lists_cells ≡ true) (λ (content : ContentState g.row.T.Denot g.row.U.Denot). content.lists_cells ≡ true)
-      (λ content lists. lists listed cells) c.in_ok-contents.contents c.in_ok-contents.ensures.lists_cells;
+  contents_lists = c.in_ok-contents.ensures.lists;
 }
