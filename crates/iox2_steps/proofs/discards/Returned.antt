@@ -141,6 +141,10 @@ module _ {T U : Type 0} (f : Fields T U) (sound : IsDomain f) (i : ℕ) (x : Pub
       forms : HasForms f.config returned.contents
       forms = forms-changed f.config f.contents x.book slot cs has ended_content (λ c. refl) (λ c. refl) parts.forms
 
+      its-lists : HasItsLists f parts i x here (with_loan_out slot x) b given at returned.contents (rewritten-others f x.book cs has slot ended_content)
+      its-lists = kept-lists f parts i x here (with_loan_out slot x) b given at returned.contents (rewritten-others f x.book cs has slot ended_content)
+          (lists-changed f.contents x.book slot cs has ended_content (λ c. refl))
+
       -- the slot has no cells, and the others are as they were
       open_loans : HasOpenLoans f.config returned.publishers returned.books returned.contents
       open_loans = open-own f parts i x here (with_loan_out slot x) b given at returned.contents (rewritten-others f x.book cs has slot ended_content) refl refl (λ s some. elim (cases_eq s slot) [
@@ -150,10 +154,6 @@ module _ {T U : Type 0} (f : Fields T U) (sound : IsDomain f) (i : ℕ) (x : Pub
             let loan = parts.open_loans.at i s x here (subst (λ (k : ℕ). 0 < k) before some) in
             (omega (arith, loan.out, fewer-loans s, one_if_other s slot away), sym (mark-here f.books x.book b at s) ∙ loan.unwritten)
       ]) its-lists
-
-      its-lists : HasItsLists f parts i x here (with_loan_out slot x) b given at returned.contents (rewritten-others f x.book cs has slot ended_content)
-      its-lists = kept-lists f parts i x here (with_loan_out slot x) b given at returned.contents (rewritten-others f x.book cs has slot ended_content)
-          (lists-changed f.contents x.book slot cs has ended_content (λ c. refl))
 
       -- the slot of a blocked delivery is another
       lends : LendsBlocked x → LendsBlocked (with_loan_out slot x)
