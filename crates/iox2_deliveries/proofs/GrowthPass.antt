@@ -72,13 +72,12 @@ module _ {T U : Type 0} (before f : Fields T U) (same : f ≡ before) (agrees : 
           let count : length book.holders ≡ x.segment_start + x.slots = ap (λ (b : Book). length b.holders) (sym is) ∙ has.slots in
           omega (arith, some, count, growth-shaped o read cs there)
 
-      pub growth-lists : (in_lists : Bool) (lists : ℕ) → in_lists ≡ not (is_single_valued f.config) → lists ≡ lists_wanted f.config z.max_loaned_samples → All (λ content. content.lists ≡ lists_for in_lists lists) cs
+      pub growth-lists : (in_lists : Bool) (lists : ℕ) → in_lists ≡ not (is_single_valued f.config) → lists ≡ lists_wanted f.config x.max_loaned_samples → All (λ content. content.lists ≡ lists_for in_lists lists) cs
       growth-lists in_lists lists listed wanted =
           let found = contents-of f sound i x at book its in
           let same_cs : Some found.0 ≡ Some cs = sym found.1 ∙ read-there f.contents x.book found.0 o found.1 read ∙ there in
           let stood : get_or f.contents x.book None ≡ Some cs = found.1 ∙ same_cs in
-          let wants : lists ≡ lists_wanted f.config x.max_loaned_samples = wanted ∙ ap (λ (y : PublisherFields). lists_wanted f.config y.max_loaned_samples) (sym view) in
-          subst (λ (n : ℕ). All (λ content. content.lists ≡ n) cs) (ap (λ (b : Bool). lists_for b (lists_wanted f.config x.max_loaned_samples)) (sym listed) ∙ ap (lists_for in_lists) (sym wants))
+          subst (λ (n : ℕ). All (λ content. content.lists ≡ n) cs) (ap (λ (b : Bool). lists_for b (lists_wanted f.config x.max_loaned_samples)) (sym listed) ∙ ap (lists_for in_lists) (sym wanted))
           (sound.parts.open_loans.lists i x cs at stood)
 
   -- so many elements fit a machine word
@@ -103,7 +102,7 @@ module _ {T U : Type 0} (before f : Fields T U) (same : f ≡ before) (agrees : 
 
   pub grew : (x0 : PublisherFields) → get_or before.publishers i None ≡ Some x0 → (start longest : ℕ) (book book' : Book) (cs cs' : List (ContentState T U)) (units : ℕ) (in_lists : Bool) (lists : ℕ)
       → get f.books x.book ≡ Some book → book' ≡ with_more_slots x.slots book → (o : Option (List (ContentState T U))) → o ≡ get_or f.contents x.book o → o ≡ Some cs
-      → GrowsContents book x.slots units in_lists lists cs cs' → units ≡ max 1 longest * (f.config).units_per_element → in_lists ≡ not (is_single_valued f.config) → lists ≡ lists_wanted f.config z.max_loaned_samples
+      → GrowsContents book x.slots units in_lists lists cs cs' → units ≡ max 1 longest * (f.config).units_per_element → in_lists ≡ not (is_single_valued f.config) → lists ≡ lists_wanted f.config x.max_loaned_samples
       → start ≡ length book.holders → segment_fits f.config z.slots longest ≡ true → z.segment_length ≤ longest
       → Grows before i x0 longest (record f { books = with_value f.books x.book book'; contents = slice_set f.contents x.book (Some cs'); publishers = slice_set f.publishers i (Some (with_segment start longest x)) })
   grew x0 at0 start longest book book' cs cs' units in_lists lists its is o read there grows units-are listed wanted first fits longer =
@@ -126,7 +125,7 @@ module _ {T U : Type 0} (before f : Fields T U) (same : f ≡ before) (agrees : 
         grown = cs';
         grows = subst (λ (b : Bool). GrowsContents book x.slots (slot_length longest * (f.config).units_per_element) b (lists_wanted f.config x.max_loaned_samples) cs cs') listed
             (subst (λ (n : ℕ). GrowsContents book x.slots (slot_length longest * (f.config).units_per_element) in_lists n cs cs')
-            (wanted ∙ ap (λ (y : PublisherFields). lists_wanted f.config y.max_loaned_samples) (sym view))
+            wanted
             (subst (λ (n : ℕ). GrowsContents book x.slots n in_lists lists cs cs') units-are grows));
         fits = subst (λ (y : PublisherFields). segment_fits f.config y.slots longest ≡ true) (sym view) fits;
         longer = subst (λ (y : PublisherFields). y.segment_length ≤ longest) (sym view) longer;
