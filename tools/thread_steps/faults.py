@@ -1,9 +1,9 @@
 """Faults that are planted in the crate of Rust and in the headers of C++, and that tests have to see."""
+import json
 import shutil
-import subprocess
-import time
 
 from .base import ARCHIVE, BINDINGS, WORK, env, sh, step, there
+from .endings import how_it_ends
 
 # What each does, in which file, what is replaced by what there, and the test that sees it, whatever else the machine does.
 IN_RUST = [
@@ -135,47 +135,43 @@ def plant(fault):
     return crates / "rust"
 
 
-# Within how many seconds a test ends that doesn't wait for good. Without a fault each of them takes a part of one.
-MOST_SECONDS = 20
-
-
-def ends(crate, tests, seconds, *names):
-    """The status with which these tests of a file end, after this time at the latest: most faults let a thread wait for good."""
+def compiled(crate, tests):
+    """The program of these tests."""
     target = env(CARGO_TARGET_DIR=str(WORK / "target_faults"), RUSTFLAGS="-Awarnings")
-    command = ["cargo", "test", "--offline", "--quiet", "--test", tests]
-    sh(*command, "--no-run", cwd=crate, env=target)
-    command = ["timeout", "-k", "1", str(seconds), *command, "--", *names]
-    return subprocess.run(command, cwd=crate, env=target, capture_output=True).returncode
+    said = sh("cargo", "test", "--offline", "--quiet", "--no-run", "--message-format=json", "--test", tests, cwd=crate, env=target)
+    made = [json.loads(line) for line in said.splitlines() if line.startswith("{")]
+    return next(it["executable"] for it in made if it.get("executable") and it["target"]["name"] == tests)
 
 
 def see_fault(fault):
     """Its test fails, or waits for good."""
     tests, name = fault[4].split("::", 1)
-    status = ends(plant(fault), tests, MOST_SECONDS, "--exact", name)
-    if status == 0:
+    ending = how_it_ends(compiled(plant(fault), tests), "--exact", name, seconds=20)
+    if ending == "passes":
         raise RuntimeError(f"tests/{tests}.rs: {name} passes")
-    return f"{name} " + ("waits for good" if status in (124, 137) else "fails")
+    return f"{name} {ending}"
 
 
 def pass_without(faults):
     """The tests pass where nothing is planted, also those that see these faults, each by itself."""
-    crate = plant(None)
-    for tests in sorted({fault[4].split("::")[0] for fault in faults}):
-        if ends(crate, tests, 600) != 0:
-            raise RuntimeError(f"tests/{tests}.rs fail")
-    for tests, name in sorted({tuple(fault[4].split("::", 1)) for fault in faults}):
-        if ends(crate, tests, MOST_SECONDS, "--exact", name) != 0:
-            raise RuntimeError(f"tests/{tests}.rs: {name} fails")
+    crate, all_names = plant(None), {}
+    for fault in faults:
+        tests, name = fault[4].split("::", 1)
+        all_names.setdefault(tests, set()).add(name)
+    for tests, names in all_names.items():
+        program = compiled(crate, tests)
+        for words in ([], *(["--exact", name] for name in sorted(names))):
+            ending = how_it_ends(program, *words)
+            if ending != "passes":
+                raise RuntimeError(f"tests/{tests}.rs {ending}: {words or 'all'}")
     return "all tests pass"
 
 
-def ends_cpp(include, seconds):
-    """The status with which cpp/threads.cpp ends over these headers, after this time at the latest, and how long it took."""
+def compiled_cpp(include):
+    """cpp/threads.cpp over these headers."""
     program = WORK / "faulty_threads"
     sh("g++", "-std=c++17", "-O1", "-w", "-I", include, BINDINGS / "cpp/threads.cpp", ARCHIVE / "libiox2_pubsub.a", "-pthread", "-o", program)
-    started = time.monotonic()
-    status = subprocess.run(["timeout", "-k", "1", str(seconds), program], capture_output=True).returncode
-    return status, time.monotonic() - started
+    return program
 
 
 def see_fault_cpp(fault):
@@ -183,21 +179,17 @@ def see_fault_cpp(fault):
     _, header, old, new = fault
     include = copied("include") / "include"
     replace(include / f"iox2_pubsub{'_' if header else ''}{header}.hpp", old, new)
-    status, _ = ends_cpp(include, 10 + 5 * seconds_of.get("cpp", 2))
-    if status == 0:
+    ending = how_it_ends(compiled_cpp(include))
+    if ending == "passes":
         raise RuntimeError("cpp/threads.cpp passes")
-    return "cpp/threads.cpp " + ("waits for good" if status in (124, 137) else "fails")
-
-
-# How long it takes without a fault.
-seconds_of = {}
+    return f"cpp/threads.cpp {ending}"
 
 
 def pass_without_cpp():
     """It passes where nothing is planted."""
-    status, seconds_of["cpp"] = ends_cpp(BINDINGS / "include", 300)
-    if status != 0:
-        raise RuntimeError("cpp/threads.cpp fails")
+    ending = how_it_ends(compiled_cpp(BINDINGS / "include"))
+    if ending != "passes":
+        raise RuntimeError(f"cpp/threads.cpp {ending}")
     return "cpp/threads.cpp passes"
 
 

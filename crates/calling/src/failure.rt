@@ -1,48 +1,24 @@
 use iox2_pubsub::{
     ConnectionFailure, PublisherCreateError, ReceiveError, SendError, SubscriberCreateError,
 };
+use thiserror::Error;
 
 /// Why a function of this crate ends early.
-#[derive(Debug, Drop)]
+#[derive(Debug, Drop, Error)]
 pub enum Failure {
-    /// There is no publisher.
-    Publisher(PublisherCreateError),
     /// There is no subscriber.
-    Subscriber(SubscriberCreateError),
-    /// A reading isn't sent.
-    Send(SendError),
-    /// Nothing is received.
-    Receive(ReceiveError),
+    #[error("no subscriber: {0}")]
+    Subscriber(#[from] SubscriberCreateError),
+    /// There is no publisher.
+    #[error("no publisher: {0}")]
+    Publisher(#[from] PublisherCreateError),
     /// A port's connections aren't updated.
-    Update(ConnectionFailure),
-}
-
-impl From<SubscriberCreateError> for Failure {
-    fn from(error: SubscriberCreateError) -> Self {
-        Failure::Subscriber(error)
-    }
-}
-
-impl From<PublisherCreateError> for Failure {
-    fn from(error: PublisherCreateError) -> Self {
-        Failure::Publisher(error)
-    }
-}
-
-impl From<SendError> for Failure {
-    fn from(error: SendError) -> Self {
-        Failure::Send(error)
-    }
-}
-
-impl From<ReceiveError> for Failure {
-    fn from(error: ReceiveError) -> Self {
-        Failure::Receive(error)
-    }
-}
-
-impl From<ConnectionFailure> for Failure {
-    fn from(failure: ConnectionFailure) -> Self {
-        Failure::Update(failure)
-    }
+    #[error("not connected: {0}")]
+    Update(#[from] ConnectionFailure),
+    /// Nothing is received.
+    #[error("no reading received: {0}")]
+    Receive(#[from] ReceiveError),
+    /// A reading isn't sent.
+    #[error("a reading isn't sent: {0}")]
+    Send(#[from] SendError),
 }

@@ -3,20 +3,4 @@
 #![tactic(auto)]
 
 #[cfg(test)]
-mod blocked_publishers;
-#[cfg(test)]
-mod blocked_sends;
-#[cfg(test)]
-mod blocked_slices;
-#[cfg(test)]
-mod boxes;
-#[cfg(test)]
-mod connection_sends;
-#[cfg(test)]
-mod fickle;
-#[cfg(test)]
-mod handlers;
-#[cfg(test)]
-mod two_domains;
-#[cfg(test)]
-mod waiting_publishers;
+mod tests;

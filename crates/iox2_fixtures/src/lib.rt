@@ -5,11 +5,14 @@ ghost use Rattle.std.specs.Prelude.{◌≡◌, None, false};
 ghost use Rattle.iox2_store.specs.Defaults.{default_config};
 ghost use Rattle.iox2_store.specs.declared.degradation.DegradationAction.TheVariants.{Warn};
 ghost use Rattle.iox2_store.specs.machine.Records.{Fixed};
+ghost use Rattle.iox2_store.specs.declared.service_config.TypeVariant.TheVariants.{Dynamic};
 ghost use Rattle.iox2_pubsub.specs.Live.{IsLivePublisher, IsLiveSubscriber, IsSingleValued, Stays};
+ghost use Rattle.iox2_pubsub.specs.Slices.{HoldsSlices, IsSliced};
 
 use iox2_pubsub::{Domain, PortFactoryPublisher, Publisher, SendOutcome, Subscriber};
-use iox2_store::{BackpressureStrategy, ReceiveError, ServiceConfig};
+use iox2_store::{BackpressureStrategy, Key, ReceiveError, ServiceConfig, TypeVariant};
 use std::io;
+use std::process::Abort;
 use std::time::{CpuClock, Duration};
 
 /// A payload that is neither `Copy` nor `Clone`.
@@ -25,6 +28,12 @@ pub struct Station {
     /// Which station it is.
     pub number: u32,
 }
+
+/// A domain of readings.
+pub type Weather = Domain<Reading, Station>;
+
+/// A domain of numbers, whose user headers are numbers too.
+pub type Numbers = Domain<u64, u64>;
 
 /// A payload whose default value takes a while to make, for calls that are to make none: a value
 /// that is made and thrown away shows in the processor's time alone.
@@ -75,6 +84,25 @@ pub fn settings() -> ServiceConfig
     }
 }
 
+/// The same, with a buffer of one message, of which the subscriber may borrow one.
+pub fn smallest() -> ServiceConfig
+    ensures { result ≡ record (default_config 7) { node_id = 3; max_publishers = 1; max_subscribers = 1; subscriber_max_buffer_size = 1; subscriber_max_borrowed_samples = 1; enable_safe_overflow = false } }
+{
+    ServiceConfig {
+        subscriber_max_buffer_size: 1,
+        subscriber_max_borrowed_samples: 1,
+        ..settings()
+    }
+}
+
+/// The same key in another service.
+pub fn elsewhere(key: Key) -> Key {
+    Key {
+        service_id: 8,
+        ..key
+    }
+}
+
 /// A factory of publishers that discard what a full subscriber doesn't take.
 pub fn factory_for<T: Drop, U: Default + Drop>(domain: &Domain<T, U>) -> PortFactoryPublisher
     ensures strategy { result.settings.backpressure_strategy ≡ BackpressureStrategy.DiscardData }
@@ -88,11 +116,7 @@ pub fn factory_for<T: Drop, U: Default + Drop>(domain: &Domain<T, U>) -> PortFac
 
 /// Lends, writes and sends a message, and returns how many subscribers took it. `None` where the
 /// publisher may not lend.
-pub fn publish(
-    domain: &mut Domain<Reading, Station>,
-    publisher: &Publisher,
-    celsius: u64,
-) -> Option<usize>
+pub fn publish(domain: &mut Weather, publisher: &Publisher, celsius: u64) -> Option<usize>
     requires single_valued { IsSingleValued domain.old }
     requires publisher { IsLivePublisher domain.old publisher.now }
     ensures { Stays domain.old domain.new }
@@ -106,7 +130,7 @@ pub fn publish(
 ///
 /// Fails where the receive does.
 pub fn next_reading(
-    domain: &mut Domain<Reading, Station>,
+    domain: &mut Weather,
     subscriber: &Subscriber,
 ) -> Result<Option<u64>, ReceiveError>
     requires single_valued { IsSingleValued domain.old }
@@ -130,4 +154,25 @@ pub fn receiver_count(outcome: SendOutcome) -> Option<usize> {
             None
         }
     }
+}
+
+/// Asserts that messages are slices of elements of one unit.
+pub fn assert_held<T: Drop, U: Default + Drop>(rt: &impl Abort, domain: &Domain<T, U>)
+    ensures holds { HoldsSlices domain.now }
+    ensures dynamic { (domain.now.config).variant ≡ Dynamic }
+    ensures one_unit { (domain.now.config).units_per_element ≡ 1 }
+{
+    let config = domain.config();
+    assert!(rt; matches!(config.variant, TypeVariant::Dynamic));
+    assert!(rt; config.units_per_element == 1);
+}
+
+/// The same, and that the domain hands out cells.
+pub fn assert_sliced<T: Drop, U: Default + Drop>(rt: &impl Abort, domain: &Domain<T, U>)
+    ensures sliced { IsSliced domain.now }
+    ensures dynamic { (domain.now.config).variant ≡ Dynamic }
+    ensures one_unit { (domain.now.config).units_per_element ≡ 1 }
+{
+    assert_held(rt, domain);
+    assert!(rt; domain.config().lists_cells);
 }

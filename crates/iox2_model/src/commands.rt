@@ -2,7 +2,8 @@
 use crate::error::ModelError;
 use crate::model::{Model, Outcome};
 use crate::ports::when_full;
-use crate::records::{Made, Wanted};
+use crate::records::Wanted;
+use crate::views::Thing;
 use iox2_commands::{Command, Reply};
 
 impl Model {
@@ -58,7 +59,7 @@ impl Model {
             Command::Send { of } => self.send_loan(of),
             Command::SendCopy { of, value } => self.send_copy(of, value),
             Command::Receive { of } => self.receive(of, given),
-            _ => Ok((self.reply_of(command)?, Made::Nothing)),
+            _ => Ok((self.reply_of(command)?, Thing::Nothing)),
         }
     }
 

@@ -2,8 +2,9 @@
 use crate::error::ModelError;
 use crate::model::{Model, Outcome};
 use crate::places::occupant;
-use crate::records::{Delivery, Entry, Loan, Made, Put};
+use crate::records::{Delivery, Entry, Loan, Put};
 use crate::sender::last;
+use crate::views::Thing;
 use iox2_commands::Reply;
 use iox2_store::SendError;
 use std::alloc::Global;
@@ -11,7 +12,7 @@ use std::alloc::Global;
 impl Model {
     // The written loan at the position, whose publisher waits for no receiver.
     fn sendable_at(&self, of: usize) -> Option<usize> {
-        let Made::Loan(message) = self.made_at(of) else {
+        let Thing::Loan(message) = self.thing_at(of) else {
             return None;
         };
         match self.loan(message) {
@@ -23,7 +24,7 @@ impl Model {
     pub(crate) fn send_loan(&mut self, of: usize) -> Result<Outcome, ModelError> {
         match self.sendable_at(of) {
             Some(message) => self.send(message),
-            None => Ok((Reply::Skipped, Made::Nothing)),
+            None => Ok((Reply::Skipped, Thing::Nothing)),
         }
     }
 
@@ -36,12 +37,12 @@ impl Model {
         let publisher = loan.publisher;
         if !self.is_present(publisher) {
             let error = SendError::ConnectionBrokenSinceSenderNoLongerExists;
-            return Ok((Reply::SendRefused(error), Made::Nothing));
+            return Ok((Reply::SendRefused(error), Thing::Nothing));
         }
         if let Some(failure) = self.update_publisher(publisher)? {
             self.return_loan(publisher, message);
             let error = SendError::ConnectionError(failure);
-            return Ok((Reply::SendRefused(error), Made::Nothing));
+            return Ok((Reply::SendRefused(error), Thing::Nothing));
         }
         self.publish(message, loan)?;
         let delivery = Delivery {
@@ -52,8 +53,8 @@ impl Model {
         };
         let reply = self.deliver(publisher, delivery)?;
         let made = match reply {
-            Reply::Blocked => Made::BlockedSend { publisher, message },
-            _ => Made::Nothing,
+            Reply::Blocked => Thing::BlockedSend { publisher, message },
+            _ => Thing::Nothing,
         };
         Ok((reply, made))
     }

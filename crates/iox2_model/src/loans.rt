@@ -1,7 +1,8 @@
 //! A loan is granted, changed and given back.
 use crate::error::ModelError;
 use crate::model::{Model, Outcome};
-use crate::records::{Loan, Made};
+use crate::records::Loan;
+use crate::views::Thing;
 use iox2_commands::Reply;
 use iox2_store::{AllocationStrategy, LoanError, SendError, TypeVariant};
 
@@ -77,23 +78,23 @@ impl Model {
         cell: Option<u64>,
     ) -> Result<Outcome, ModelError> {
         let Some(p) = lender else {
-            return Ok((Reply::Skipped, Made::Nothing));
+            return Ok((Reply::Skipped, Thing::Nothing));
         };
         match self.grant_loan(p, len, cell)? {
-            Err(refusal) => Ok((Reply::LoanRefused(refusal), Made::Nothing)),
-            Ok(message) => Ok((Reply::Loaned, Made::Loan(message))),
+            Err(refusal) => Ok((Reply::LoanRefused(refusal), Thing::Nothing)),
+            Ok(message) => Ok((Reply::Loaned, Thing::Loan(message))),
         }
     }
 
     // A loan with this value is asked for and sent.
     pub(crate) fn send_copy(&mut self, of: usize, value: u64) -> Result<Outcome, ModelError> {
         let Some(p) = self.lender_at(of, TypeVariant::FixedSize) else {
-            return Ok((Reply::Skipped, Made::Nothing));
+            return Ok((Reply::Skipped, Thing::Nothing));
         };
         match self.grant_loan(p, 1, Some(value))? {
             Err(refusal) => {
                 let reply = Reply::SendRefused(SendError::LoanError(refusal));
-                Ok((reply, Made::Nothing))
+                Ok((reply, Thing::Nothing))
             }
             Ok(message) => self.send(message),
         }

@@ -1,7 +1,8 @@
 use crate::error::ModelError;
 use crate::mailboxes::Mailboxes;
 use crate::memory::Memory;
-use crate::records::{Delivery, Entry, Loan, Made, Publisher, Subscriber};
+use crate::records::{Delivery, Entry, Loan, Publisher, Subscriber};
+use crate::views::Thing;
 use iox2_commands::Reply;
 use iox2_store::{ConnectionFailure, DegradationAction, ServiceConfig, ZeroCopyCreationError};
 use std::alloc::Global;
@@ -26,7 +27,7 @@ pub struct Model {
     pub(crate) publisher_places: Vec<Option<usize>>,
     pub(crate) subscriber_places: Vec<Option<usize>>,
     // By the position of the command.
-    pub(crate) made: Vec<Made>,
+    pub(crate) made: Vec<Thing>,
 }
 
 /// What a command may be on.
@@ -41,7 +42,7 @@ pub enum Kind {
 }
 
 // The reply of a command, and what it made.
-pub(crate) type Outcome = (Reply<u64, u64>, Made);
+pub(crate) type Outcome = (Reply<u64, u64>, Thing);
 
 impl Model {
     /// A new domain with these settings.
@@ -133,13 +134,9 @@ impl Model {
 
     // ---- what a position names, where it is live
 
-    pub(crate) fn made_at(&self, of: usize) -> Made {
-        self.made.get(of).copied().unwrap_or(Made::Nothing)
-    }
-
     pub(crate) fn publisher_at(&self, of: usize) -> Option<usize> {
-        match self.made_at(of) {
-            Made::Publisher(id) if self.is_present(id) => Some(id),
+        match self.thing_at(of) {
+            Thing::Publisher(id) if self.is_present(id) => Some(id),
             _ => None,
         }
     }
@@ -150,22 +147,22 @@ impl Model {
     }
 
     pub(crate) fn subscriber_at(&self, of: usize) -> Option<usize> {
-        match self.made_at(of) {
-            Made::Subscriber(id) if self.receiving_buffer(id).is_some() => Some(id),
+        match self.thing_at(of) {
+            Thing::Subscriber(id) if self.receiving_buffer(id).is_some() => Some(id),
             _ => None,
         }
     }
 
     // The number of the loan.
     pub(crate) fn any_loan_at(&self, of: usize) -> Option<usize> {
-        match self.made_at(of) {
-            Made::Loan(message) if self.loan(message).is_some() => Some(message),
+        match self.thing_at(of) {
+            Thing::Loan(message) if self.loan(message).is_some() => Some(message),
             _ => None,
         }
     }
 
     pub(crate) fn loan_at(&self, of: usize, is_written: bool) -> Option<usize> {
-        let Made::Loan(message) = self.made_at(of) else {
+        let Thing::Loan(message) = self.thing_at(of) else {
             return None;
         };
         match self.loan(message) {
@@ -176,7 +173,7 @@ impl Model {
 
     // The publisher, and how far its send has come.
     pub(crate) fn blocked_at(&self, of: usize) -> Option<(usize, Delivery)> {
-        let Made::BlockedSend { publisher, message } = self.made_at(of) else {
+        let Thing::BlockedSend { publisher, message } = self.thing_at(of) else {
             return None;
         };
         match self.blocked_delivery(publisher) {
@@ -187,8 +184,8 @@ impl Model {
 
     // The publisher, the subscriber and the message.
     pub(crate) fn sample_at(&self, of: usize) -> Option<(usize, usize, usize)> {
-        match self.made_at(of) {
-            Made::Sample {
+        match self.thing_at(of) {
+            Thing::Sample {
                 publisher,
                 subscriber,
                 message,
@@ -202,54 +199,33 @@ impl Model {
     // ---- loans and messages
 
     pub(crate) fn loan(&self, message: usize) -> Option<&Loan> {
-        let Some(loan) = self.loans.get(message) else {
-            return None;
-        };
-        loan.as_ref()
+        self.loans.get(message)?.as_ref()
     }
 
     pub(crate) fn loan_mut(&mut self, message: usize) -> Option<&mut Loan> {
-        let Some(loan) = self.loans.get_mut(message) else {
-            return None;
-        };
-        loan.as_mut()
+        self.loans.get_mut(message)?.as_mut()
     }
 
     pub(crate) fn entry(&self, message: usize) -> Option<&Entry> {
-        let Some(entry) = self.entries.get(message) else {
-            return None;
-        };
-        entry.as_ref()
+        self.entries.get(message)?.as_ref()
     }
 
     // ---- ports
 
     pub(crate) fn publisher(&self, id: usize) -> Option<&Publisher> {
-        let Some(publisher) = self.publishers.get(id) else {
-            return None;
-        };
-        publisher.as_ref()
+        self.publishers.get(id)?.as_ref()
     }
 
     pub(crate) fn publisher_mut(&mut self, id: usize) -> Option<&mut Publisher> {
-        let Some(publisher) = self.publishers.get_mut(id) else {
-            return None;
-        };
-        publisher.as_mut()
+        self.publishers.get_mut(id)?.as_mut()
     }
 
     pub(crate) fn subscriber(&self, id: usize) -> Option<&Subscriber> {
-        let Some(subscriber) = self.subscribers.get(id) else {
-            return None;
-        };
-        subscriber.as_ref()
+        self.subscribers.get(id)?.as_ref()
     }
 
     pub(crate) fn subscriber_mut(&mut self, id: usize) -> Option<&mut Subscriber> {
-        let Some(subscriber) = self.subscribers.get_mut(id) else {
-            return None;
-        };
-        subscriber.as_mut()
+        self.subscribers.get_mut(id)?.as_mut()
     }
 
     pub(crate) fn is_present(&self, publisher: usize) -> bool {

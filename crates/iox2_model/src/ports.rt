@@ -2,7 +2,8 @@
 use crate::error::ModelError;
 use crate::model::{Model, Outcome};
 use crate::places::{free_place, set_place};
-use crate::records::{Made, Publisher, Put, Subscriber, Wanted};
+use crate::records::{Publisher, Put, Subscriber, Wanted};
+use crate::views::Thing;
 use iox2_commands::Reply;
 use iox2_store::{
     BackpressureAction, BackpressureStrategy, DegradationAction, PublisherCreateError,
@@ -83,7 +84,7 @@ impl Model {
         self.make_subscribers_due();
         self.update_publisher(id)?;
         let reply = Reply::PublisherMade(UniquePublisherId::new(id as u128));
-        Ok((reply, Made::Publisher(id)))
+        Ok((reply, Thing::Publisher(id)))
     }
 
     // A subscriber is made at the lowest free place.
@@ -114,7 +115,7 @@ impl Model {
         self.make_publishers_due();
         self.update_subscriber(id)?;
         let reply = Reply::SubscriberMade(UniqueSubscriberId::new(id as u128));
-        Ok((reply, Made::Subscriber(id)))
+        Ok((reply, Thing::Subscriber(id)))
     }
 }
 
@@ -140,11 +141,11 @@ pub(crate) fn when_full(
 }
 
 fn publisher_refused(error: PublisherCreateError) -> Outcome {
-    (Reply::PublisherRefused(error), Made::Nothing)
+    (Reply::PublisherRefused(error), Thing::Nothing)
 }
 
 fn subscriber_refused(error: SubscriberCreateError) -> Outcome {
-    (Reply::SubscriberRefused(error), Made::Nothing)
+    (Reply::SubscriberRefused(error), Thing::Nothing)
 }
 
 // With which error memory is refused to a publisher: for its segment or for its state.

@@ -1,7 +1,8 @@
 //! A subscriber receives, and messages are read.
 use crate::error::ModelError;
 use crate::model::{Model, Outcome};
-use crate::records::{Entry, Made};
+use crate::records::Entry;
+use crate::views::Thing;
 use iox2_commands::Reply;
 use iox2_store::{
     ConnectionFailure, Header, ReceiveError, UniqueNodeId, UniquePublisherId, ZeroCopyCreationError,
@@ -23,28 +24,28 @@ impl Model {
         given: Option<Reply<u64, u64>>,
     ) -> Result<Outcome, ModelError> {
         if self.config.units_per_element != 1 {
-            return Ok((Reply::Skipped, Made::Nothing));
+            return Ok((Reply::Skipped, Thing::Nothing));
         }
         let Some(q) = self.subscriber_at(of) else {
-            return Ok((Reply::Skipped, Made::Nothing));
+            return Ok((Reply::Skipped, Thing::Nothing));
         };
         if let Some(failure) = self.update_subscriber(q)? {
             let error = ReceiveError::ConnectionFailure(failure);
-            return Ok((Reply::ReceiveRefused(error), Made::Nothing));
+            return Ok((Reply::ReceiveRefused(error), Thing::Nothing));
         }
         match self.choose_publisher(q, given) {
             Some(p) => self.take_sample(p, q),
             None if self.has_any_data(q) => Ok((
                 Reply::ReceiveRefused(ReceiveError::ExceedsMaxBorrows),
-                Made::Nothing,
+                Thing::Nothing,
             )),
-            None => Ok((Reply::NoSample, Made::Nothing)),
+            None => Ok((Reply::NoSample, Thing::Nothing)),
         }
     }
 
     fn take_sample(&mut self, p: usize, q: usize) -> Result<Outcome, ModelError> {
         let message = self.mailboxes.made(p, q)?.borrow_first()?;
-        let sample = Made::Sample {
+        let sample = Thing::Sample {
             publisher: p,
             subscriber: q,
             message,

@@ -140,21 +140,3 @@ pub(crate) struct Entry {
     pub(crate) user_header: u64,
     pub(crate) values: Vec<u64>,
 }
-
-// What a command made, which later commands name by its position in the list.
-#[derive(Clone, Copy)]
-pub(crate) enum Made {
-    Nothing,
-    Publisher(usize),
-    Subscriber(usize),
-    Loan(usize),
-    BlockedSend {
-        publisher: usize,
-        message: usize,
-    },
-    Sample {
-        publisher: usize,
-        subscriber: usize,
-        message: usize,
-    },
-}

@@ -1,8 +1,7 @@
 //! What a picture of the state shows.
 use crate::model::Model;
-use crate::records::Made;
 
-/// What a command made, by its numbers.
+/// What a command made, by its numbers. Later commands name it by the command's position in the list.
 #[derive(Debug, Clone, Copy, PartialEq, Eq)]
 pub enum Thing {
     /// Nothing.
@@ -29,22 +28,7 @@ pub enum Thing {
 impl Model {
     /// What the command at the position made, also where it isn't live any more.
     pub fn thing_at(&self, of: usize) -> Thing {
-        match self.made_at(of) {
-            Made::Nothing => Thing::Nothing,
-            Made::Publisher(id) => Thing::Publisher(id),
-            Made::Subscriber(id) => Thing::Subscriber(id),
-            Made::Loan(message) => Thing::Loan(message),
-            Made::BlockedSend { publisher, message } => Thing::BlockedSend { publisher, message },
-            Made::Sample {
-                publisher,
-                subscriber,
-                message,
-            } => Thing::Sample {
-                publisher,
-                subscriber,
-                message,
-            },
-        }
+        self.made.get(of).copied().unwrap_or(Thing::Nothing)
     }
 
     /// One more than the greatest id that a port has had: ids are counted from 1.

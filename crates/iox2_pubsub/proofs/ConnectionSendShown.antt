@@ -1,9 +1,8 @@
 -- A send to one connection, seen from outside.
-use Rattle.std.proofs.Common.{◌≡◌, ◌≢◌, ◌⊎◌, ℕ, List, Bool, true, false, drop, take, refl, ap, sym, subst, ◌∙◌, inl, inr, Option, None, Some, Result, Ok, Err}
+use Rattle.std.proofs.Common.{◌≡◌, ◌≢◌, ◌⊎◌, ℕ, List, [], Bool, true, false, drop, take, refl, ap, sym, subst, ◌∙◌, inl, inr, Option, None, Some, Result, Ok, Err}
 use Rattle.std.specs.Prelude.{IsOk, IfErr}
 use Rattle.std.proofs.lemmas.Bool.{cases_eq, ne_eqb}
 use Rattle.iox2_store.specs.machine.Delivery.{DeliverIn, DeliveryEnd, Complete, Suspended, no_time}
-use Rattle.iox2_store.specs.machine.Loans.{entry_of}
 use Rattle.iox2_store.specs.machine.Mailbox.{Mailbox, is_borrowed}
 use Rattle.iox2_store.specs.machine.Numbers.{put_at}
 use Rattle.iox2_store.specs.machine.Records.{Entry, Environment, Loan, Publisher, Subscriber as MachineSubscriber}
@@ -15,7 +14,7 @@ use Rattle.iox2_store.specs.declared.errors.SendError.TheVariants.{ConnectionBro
 use Rattle.iox2_store.specs.declared.key.Key.{Key}
 use Rattle.iox2_laws.proofs.Cases.{by_option}
 use Rattle.iox2_laws.proofs.ConnectionSends.{send_to_connection_advances}
-use Rattle.iox2_laws.proofs.ConnectionSendsLeave.{send_to_connection_loans, send_to_connection_ends, send_to_connection_blocked_kept, send_to_connection_remains, send_to_connection_stays, send_to_connection_subscribers, send_to_connection_waits}
+use Rattle.iox2_laws.proofs.ConnectionSendsLeave.{send_to_connection_loans, send_to_connection_remains, send_to_connection_stays, send_to_connection_subscribers, send_to_connection_waits}
 use Rattle.iox2_laws.proofs.Puts.{put_at-other, put_at-same}
 use Rattle.iox2_laws.proofs.SendsRemain.{PortsRemain}
 use Rattle.iox2_laws.proofs.UpToDate.{goes_on_subscribers, same_subscribers}
@@ -26,7 +25,7 @@ use Rattle.iox2_domain.specs.Fields.{Fields, kept_of}
 use Rattle.iox2_domain.specs.Kept.{Kept, state_of}
 use Rattle.iox2_domain.specs.Shows.{Shows}
 use Rattle.iox2_pubsub.specs.Handlers.{may_wait}
-use Rattle.iox2_pubsub.specs.Live.{A_sent_loan, HasLender, IsLoanKey, IsOtherLoan, NeverFails, NeverWaits, OthersSend, StaysBut, UpToDateStay}
+use Rattle.iox2_pubsub.specs.Live.{A_sent_loan, HasLender, IsLoanKey, NeverFails, NeverWaits, OthersSend, StaysBut, UpToDateStay}
 use Rattle.iox2_pubsub.specs.SendCalls.{FailsDelivery, SendsToConnection, messages_after, result_of_send, spent_by_send}
 use Rattle.iox2_pubsub.specs.declared.sample_mut.SampleMut.{SampleMut}
 use Rattle.iox2_pubsub.specs.declared.send_outcome.SendOutcome.{SendOutcome}
@@ -37,10 +36,10 @@ use Rattle.iox2_pubsub.proofs.LiveParts.{loan-parts, passes-parts, publisher-par
 use Rattle.iox2_pubsub.proofs.OverflowSends.{IsUnhindered, concludes-unhindered, delivery-ends}
 use Rattle.iox2_pubsub.proofs.PassingSends.{never-suspended}
 use Rattle.iox2_pubsub.proofs.SendShown.{LeavesSent, leaves-shown, loan-is}
-use Rattle.iox2_pubsub.proofs.SendsServe.{EndsStay, same-connections}
-use Rattle.iox2_pubsub.proofs.SentMessages.{after-error, sent-before-stays}
+use Rattle.iox2_pubsub.proofs.SendsServe.{same-connections}
+use Rattle.iox2_pubsub.proofs.SentMessages.{sent-before-stays}
 use Rattle.iox2_pubsub.proofs.StaysBut.{BoxesStayBut, IsSpared, SparedPublishers, none-spared, stays-between}
-use Rattle.iox2_pubsub.proofs.UnfailedSends.{IsMild, IsUnfailed, delivered-unfailed}
+use Rattle.iox2_pubsub.proofs.UnfailedSends.{HasNotFailed, IsMild, IsUnfailed, delivered-unfailed}
 use Rattle.iox2_pubsub.proofs.UpToDateShown.{stay}
 use Rattle.iox2_pubsub.proofs.WaitingShown.{payloads-stay-from}
 use mathlib.Core.Path.{fun_ext}
@@ -142,7 +141,7 @@ module _ {T U : Type 0} (environment : Environment) (s : State T U) (n : ℕ) (l
 
 module _ {T U : Type 0} (environment : Environment) (f g : Fields T U) (n channel connection : ℕ) (result : SendResult) (sends : SendsLoanTo environment f g n channel connection result)
     (m : Messages T U) (s : State T U) (l : Loan T U) (shown : Shows (kept_of f) m s) (out : s.loans n ≡ Some l) where
-  leaves : LeavesSent f g n result
+  abbrev leaves : LeavesSent f g n result
   leaves = record {
     loan = sends.loan;
     out = sends.out;
@@ -247,7 +246,7 @@ module _ {T U F G : Type 0} (old new : Kept T U F G) (m : Messages T U) (s : Sta
       keeps true boxes (send_to_connection_waits environment s n l channel place s' result h (IsSpared (A_sent_loan n l.publisher true)) (λ other. other refl)) (record {
         unfailed = λ p spared low mild none. elim (cases_eq p l.publisher) [
           | inr away ↦ absurd (spared away)
-          | inl same ↦ subst _ (sym same) ((to-unfailed environment s n l channel place s' result h (subst (IsMild s) same mild)).0)
+          | inl same ↦ subst (HasNotFailed s') (sym same) ((to-unfailed environment s n l channel place s' result h (subst (IsMild s) same mild)).0)
         ];
         waits = λ key spared never. elim (cases_eq key.port l.publisher) [
           | inr away ↦ absurd (spared away)
@@ -292,10 +291,13 @@ module _ {T U F G : Type 0} (old new : Kept T U F G) (m : Messages T U) (s : Sta
   unfolding FailsDelivery
   fails-delivery key same (Ok came) h = tt
   fails-delivery key same (Err error) h = elim (to-error environment s loan.loan.number l channel place s' (Send_error error) h error refl) [
-    | inl gone ↦ inl (gone.0, λ lent.
-        let has = (publisher-parts old _ lent).2 in
-        let clash : None ≡ Some has.0 = sym gone.1 ∙ ap s.publishers (sym same) ∙ ap (λ (t : State T U). t.publishers key.port) shown.state ∙ has.1 in
-        absurd cc)
+    | inl gone ↦ inl (
+      gone.0,
+      λ lent.
+          let has = (publisher-parts old _ lent).2 in
+          let clash : None ≡ Some has.0 = sym gone.1 ∙ ap s.publishers (sym same) ∙ ap (λ (t : State T U). t.publishers key.port) shown.state ∙ has.1 in
+          absurd cc,
+    )
     | inr failed ↦ inr (failed, λ never. to-never-fails old new m s shown environment loan.loan.number l out channel place (Send_error error) s' h key.port never same (ap Send_error failed))
   ]
 

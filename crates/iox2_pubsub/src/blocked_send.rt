@@ -4,10 +4,8 @@ ghost use Rattle.iox2_pubsub.specs.Live.{blocked_key};
 
 mod retry;
 
-use crate::domain::Domain;
-use iox2_deliveries::has_blocked_send;
 use iox2_domain::LoanAt;
-use iox2_store::{BackpressureFn, DegradationFn, Key, UniquePublisherId};
+use iox2_store::Key;
 
 /// A send that waits for a subscriber whose buffer is full. It is a value to be spent: until then
 /// the domain keeps the send, and its publisher lends, sends and updates nothing and can't be closed.
@@ -46,22 +44,5 @@ impl BlockedSend {
             service_id: _,
             loan: _,
         } = self;
-    }
-}
-
-impl<T: Drop, U: Default + Drop, F: BackpressureFn, G: DegradationFn> Domain<T, U, F, G> {
-    ghost use Rattle.std.specs.Prelude.{IsTrue, ◌↔◌};
-    ghost use Rattle.iox2_pubsub.specs.Live.{IsBlockedKey};
-
-    /// Whether the key is that of a send of this domain that is blocked, so that it may be tried again
-    /// or given up. This library's own.
-    #[tactic(auto, unfolding(crate::specs::Live::IsBlockedKey))]
-    pub fn holds_blocked(&self, key: Key) -> bool
-        ensures { IsTrue result ↔ IsBlockedKey self.now key }
-    {
-        if key.service_id != self.state.config().service_id {
-            return false;
-        }
-        has_blocked_send(&self.state, UniquePublisherId::new(key.port), key.message)
     }
 }

@@ -3,7 +3,7 @@
 /// A byte of a custom payload, of which each element has as many as the domain's settings say
 /// (`units_per_element`).
 ///
-/// Example (`crates/iox2_slice_tests/src/custom_payloads.rt`):
+/// Example (`crates/iox2_slice_tests/src/tests/custom_payloads.rt`):
 ///
 /// ```rust
 /// let loan = publisher.loan_custom_payload(&mut domain, 3);

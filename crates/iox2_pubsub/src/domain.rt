@@ -12,6 +12,8 @@ ghost use Rattle.iox2_pubsub.specs.Live.{IsSingleValued};
 ghost use Rattle.iox2_pubsub.specs.LoansLeft.{HasNumbersLeft};
 ghost use Rattle.iox2_pubsub.specs.Slices.{HoldsSlices, IsSliced};
 
+mod holds;
+
 use circular_buffer::HeapCircularBuffer;
 use iox2_domain::{Boxes, DomainState};
 use iox2_store::{

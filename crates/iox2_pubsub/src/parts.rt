@@ -6,18 +6,16 @@
 //! `into_inner`), and has that one's numbers.
 
 mod at_hint;
-mod blocked_send;
 pub(crate) mod hints;
-mod loan;
-mod publisher;
+mod loans;
+mod ports;
 mod sample;
-mod subscriber;
 
 use iox2_store::BackpressureStrategy;
 
 /// The numbers of a publisher. This library's own.
 ///
-/// Example (`crates/iox2_tests/src/parts.rt`):
+/// Example (`crates/iox2_tests/src/tests/parts.rt`):
 ///
 /// ```rust
 /// let publisher = domain.publisher_of(parts).expect(rt, "a publisher");
@@ -40,7 +38,7 @@ pub struct PublisherParts {
 
 /// The numbers of a subscriber. This library's own.
 ///
-/// Example (`crates/iox2_tests/src/parts.rt`):
+/// Example (`crates/iox2_tests/src/tests/parts.rt`):
 ///
 /// ```rust
 /// let subscriber = domain.subscriber_of(&again).expect(&rt, "a subscriber");

@@ -114,20 +114,3 @@ impl Publisher {
         is_waiting(&domain.state, self.id, self.place)
     }
 }
-
-impl<T: Drop, U: Default + Drop, F: BackpressureFn, G: DegradationFn> Domain<T, U, F, G> {
-    ghost use Rattle.std.specs.Prelude.{IsTrue, ◌↔◌};
-    ghost use Rattle.iox2_pubsub.specs.Live.{IsPublisherKey};
-
-    /// Whether the key is that of a publisher of this domain that wasn't closed. This library's
-    /// own.
-    #[tactic(auto, unfolding(crate::specs::Live::IsPublisherKey))]
-    pub fn holds_publisher(&self, key: Key) -> bool
-        ensures { IsTrue result ↔ IsPublisherKey self.now key }
-    {
-        if key.service_id != self.state.config().service_id || key.message != 0 {
-            return false;
-        }
-        self.state.has_publisher(UniquePublisherId::new(key.port))
-    }
-}

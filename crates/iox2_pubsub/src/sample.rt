@@ -6,9 +6,7 @@ mod release;
 use crate::domain::Domain;
 use iox2_deliveries::{sample_header, sample_payload, sample_user_header};
 use iox2_domain::SampleAt;
-use iox2_store::{
-    BackpressureFn, DegradationFn, Header, Key, UniquePublisherId, UniqueSubscriberId,
-};
+use iox2_store::{BackpressureFn, DegradationFn, Header, Key, UniquePublisherId};
 
 /// A message that a subscriber has received and not yet released. It is a value to be spent: until
 /// it is released the message counts among those that the subscriber has borrowed.
@@ -120,26 +118,5 @@ impl Sample {
             origin: _,
             sample: _,
         } = self;
-    }
-}
-
-impl<T: Drop, U: Default + Drop, F: BackpressureFn, G: DegradationFn> Domain<T, U, F, G> {
-    ghost use Rattle.std.specs.Prelude.{IsTrue, ◌↔◌};
-    ghost use Rattle.iox2_pubsub.specs.Live.{IsSampleKey};
-    ghost use Rattle.iox2_domain.specs.Shows.{KeepsEntries};
-
-    /// Whether the key is that of a sample of this domain that wasn't released, so that the sample's
-    /// calls may be made. From which publisher the message is borrowed, its header says. This
-    /// library's own.
-    #[tactic(auto, unfolding(crate::specs::Live::IsSampleKey))]
-    pub fn holds_sample(&self, key: Key) -> bool
-        ensures live { IsTrue result ↔ IsSampleKey self.now key }
-        ensures entries { KeepsEntries self.now }
-    {
-        if key.service_id != self.state.config().service_id {
-            return false;
-        }
-        self.state
-            .has_sample(UniqueSubscriberId::new(key.port), key.message)
     }
 }

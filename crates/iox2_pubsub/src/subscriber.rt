@@ -98,21 +98,3 @@ impl Subscriber {
         }
     }
 }
-
-impl<T: Drop, U: Default + Drop, F: BackpressureFn, G: DegradationFn> Domain<T, U, F, G> {
-    ghost use Rattle.std.specs.Prelude.{IsTrue, ◌↔◌};
-    ghost use Rattle.iox2_pubsub.specs.Live.{IsSubscriberKey};
-
-    /// Whether the key is that of a subscriber of this domain that wasn't closed. This library's
-    /// own.
-    #[tactic(auto, unfolding(crate::specs::Live::IsSubscriberKey))]
-    pub fn holds_subscriber(&self, key: Key) -> bool
-        ensures { IsTrue result ↔ IsSubscriberKey self.now key }
-    {
-        if key.service_id != self.state.config().service_id || key.message != 0 {
-            return false;
-        }
-        self.state
-            .has_open_subscriber(UniqueSubscriberId::new(key.port))
-    }
-}

@@ -3,26 +3,4 @@
 #![tactic(auto)]
 
 #[cfg(test)]
-mod blocked_sends;
-#[cfg(test)]
-mod closing_orders;
-#[cfg(test)]
-mod commands;
-#[cfg(test)]
-mod comparisons;
-#[cfg(test)]
-mod degradations;
-#[cfg(test)]
-mod departures;
-#[cfg(test)]
-mod laws;
-#[cfg(test)]
-mod many_units;
-#[cfg(test)]
-mod runs;
-#[cfg(test)]
-mod steps;
-#[cfg(test)]
-mod warnings;
-#[cfg(test)]
-mod worst_cases;
+mod tests;

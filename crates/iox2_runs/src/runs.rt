@@ -14,22 +14,17 @@ ghost use Rattle.iox2_commands.specs.Runs.{Run, only_defaults};
 ghost use Rattle.iox2_runs.specs.DomainRuns.{RunsOnDomain};
 ghost use Rattle.iox2_runs.specs.declared.runs.made.Made.TheVariants.{Nothing};
 
-mod blocked_sends;
 mod cells;
 mod changes;
-mod closes;
-mod copies;
-mod discards;
-mod headers;
-mod loans;
+mod lends;
 mod made;
 mod ports;
 mod publishers;
-mod questions;
-mod samples;
+mod reads;
+mod receives;
 mod send_replies;
 mod services;
-mod slices;
+mod spends;
 mod updates;
 
 use iox2_commands::{Command, Reply};
@@ -97,15 +92,15 @@ pub fn carry_out<
             buffer,
             degradation,
         } => ports::create_subscriber(domain, table, buffer, degradation),
-        Command::LoanUninit { of } => loans::loan_uninit(domain, table, of),
-        Command::Loan { of } => copies::loan(domain, table, of),
-        Command::LoanSlice { of, len } => slices::loan_slice(domain, table, of, len),
+        Command::LoanUninit { of } => lends::loan_uninit(domain, table, of),
+        Command::Loan { of } => lends::loan(domain, table, of),
+        Command::LoanSlice { of, len } => lends::loan_slice(domain, table, of, len),
         Command::WriteCell { of, at, value } => (
             changes::write_cell(domain, table, of, at, value),
             Made::Nothing,
         ),
         Command::WriteAll { of, value } => {
-            (loans::write_all(domain, table, of, value), Made::Nothing)
+            (changes::write_all(domain, table, of, value), Made::Nothing)
         }
         Command::AssumeInit { of } => { (changes::assume_init(domain, table, of), Made::Nothing) }
         Command::WriteHeader { of, value } => {
@@ -118,24 +113,24 @@ pub fn carry_out<
             changes::set_payload(domain, table, of, at, value),
             Made::Nothing,
         ),
-        Command::Send { of } => loans::send(domain, table, of),
-        Command::SendCopy { of, value } => copies::send_copy(domain, table, of, value),
-        Command::Discard { of } => (discards::discard(domain, table, of), Made::Nothing),
+        Command::Send { of } => spends::send(domain, table, of),
+        Command::SendCopy { of, value } => lends::send_copy(domain, table, of, value),
+        Command::Discard { of } => (spends::discard(domain, table, of), Made::Nothing),
         Command::Retry { of, elapsed } => (
-            blocked_sends::retry(domain, table, of, elapsed),
+            spends::retry(domain, table, of, elapsed),
             Made::Nothing,
         ),
-        Command::GiveUp { of } => (blocked_sends::give_up(domain, table, of), Made::Nothing),
+        Command::GiveUp { of } => (spends::give_up(domain, table, of), Made::Nothing),
         Command::Update { of } => (updates::update(domain, table, of), Made::Nothing),
-        Command::Receive { of } => samples::receive(domain, table, of),
-        Command::HasSamples { of } => (questions::has_samples(domain, table, of), Made::Nothing),
-        Command::Read { of, at } => (samples::read(domain, table, of, at), Made::Nothing),
-        Command::ReadHeader { of } => (headers::read_header(domain, table, of), Made::Nothing),
+        Command::Receive { of } => receives::receive(domain, table, of),
+        Command::HasSamples { of } => (receives::has_samples(domain, table, of), Made::Nothing),
+        Command::Read { of, at } => (reads::read(domain, table, of, at), Made::Nothing),
+        Command::ReadHeader { of } => (reads::read_header(domain, table, of), Made::Nothing),
         Command::ReadUserHeader { of } => {
-            (headers::read_user_header(domain, table, of), Made::Nothing)
+            (reads::read_user_header(domain, table, of), Made::Nothing)
         }
-        Command::Release { of } => (samples::release(domain, table, of), Made::Nothing),
-        Command::Close { of } => (closes::close(domain, table, of), Made::Nothing),
+        Command::Release { of } => (spends::release(domain, table, of), Made::Nothing),
+        Command::Close { of } => (spends::close(domain, table, of), Made::Nothing),
         Command::Nothing => (Reply::Done, Made::Nothing),
     }
 }

@@ -3,24 +3,4 @@
 #![tactic(auto)]
 
 #[cfg(test)]
-mod allocations;
-#[cfg(test)]
-mod channels;
-#[cfg(test)]
-mod custom_payloads;
-#[cfg(test)]
-mod drops;
-#[cfg(test)]
-mod fixtures;
-#[cfg(test)]
-mod growing_publishers;
-#[cfg(test)]
-mod located;
-#[cfg(test)]
-mod overrides;
-#[cfg(test)]
-mod slices;
-#[cfg(test)]
-mod unspecified;
-#[cfg(test)]
-mod without_cells;
+mod tests;

@@ -3,28 +3,4 @@
 #![tactic(auto)]
 
 #[cfg(test)]
-mod cell_lists;
-#[cfg(test)]
-mod connections;
-#[cfg(test)]
-mod contents;
-#[cfg(test)]
-mod error_texts;
-#[cfg(test)]
-mod errors;
-#[cfg(test)]
-mod handlers;
-#[cfg(test)]
-mod places;
-#[cfg(test)]
-mod plain_types;
-#[cfg(test)]
-mod settings;
-#[cfg(test)]
-mod slots;
-#[cfg(test)]
-mod starts;
-#[cfg(test)]
-mod unspecified;
-#[cfg(test)]
-mod worst_cases;
+mod tests;

@@ -3,7 +3,7 @@ use crate::failure::Failure;
 use crate::sizes::Sizes;
 use iox2_pubsub::{Domain, worst_case_slots};
 use iox2_runs::{Command, Reply, compare_runs, run, worst_case_commands};
-use std::alloc::Global;
+use std::alloc::{AllocError, Global};
 use std::io;
 
 type End = (Domain<u64, ()>, Vec<Reply<u64, ()>>);
@@ -67,10 +67,10 @@ fn outcome_of(
     commands: Vec<Command<u64, ()>>,
 ) -> Result<(Vec<Reply<u64, ()>>, u64), Failure> {
     let Ok(mut domain) = Domain::<u64, ()>::new(alloc, sizes.config) else {
-        return Err(Failure::OutOfMemory);
+        return Err(Failure::OutOfMemory(AllocError));
     };
     let Ok(replies) = run(alloc, &mut domain, commands) else {
-        return Err(Failure::OutOfMemory);
+        return Err(Failure::OutOfMemory(AllocError));
     };
     Ok((replies, domain.refused_connections()))
 }

@@ -6,26 +6,19 @@ mod failure;
 mod lists;
 mod sizes;
 
+use command_line::run_task;
 use failure::Failure;
 use lists::{compare, fill};
 use sizes::Sizes;
-use std::env;
 use std::process::ExitCode;
 
 fn main(rt: HostRuntime) -> ExitCode {
-    match carry_out(&rt) {
-        Ok(()) => ExitCode::SUCCESS,
-        Err(failure) => {
-            let _ = eprintln!(rt; "{}", failure.text());
-            ExitCode::from(failure.status())
-        }
-    }
+    run_task(&rt, carry_out)
 }
 
 // Does what the arguments ask for.
-fn carry_out(rt: &HostRuntime) -> Result<(), Failure> {
-    let words: Vec<String> = env::args(rt)?.collect(rt.alloc())?;
-    match words.as_slice() {
+fn carry_out(rt: &HostRuntime, words: &[String]) -> Result<(), Failure> {
+    match words {
         [_, task, words @ ..] if task.as_str() == "fill" => fill(rt, &Sizes::parse(words)?),
         [_, task, words @ ..] if task.as_str() == "compare" => compare(rt, &Sizes::parse(words)?),
         _ => Err(Failure::Usage),

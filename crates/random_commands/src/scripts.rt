@@ -51,7 +51,7 @@ fn draw_commands(
         match model.carry_out(command, None) {
             Ok(_) => {}
             Err(ModelError::NoRule) => break,
-            Err(ModelError::OutOfMemory) => return Err(ModelError::OutOfMemory),
+            Err(refused) => return Err(refused),
         }
     }
     Ok(commands)

@@ -4,7 +4,7 @@ use crate::failure::Failure;
 use iox2_model::{Memory, Model, ModelError};
 use iox2_pubsub::{Domain, ServiceConfig};
 use iox2_runs::{Command, Reply, run};
-use std::alloc::Global;
+use std::alloc::{AllocError, Global};
 
 /// What became of the commands of a script.
 #[derive(Drop)]
@@ -22,7 +22,7 @@ pub(crate) fn carry_out_all(
 ) -> Result<Ran, Failure> {
     let list = Vec::from_slice(alloc, commands)?;
     let Ok(mut domain) = Domain::<u64, u64>::new(alloc, config) else {
-        return Err(Failure::OutOfMemory);
+        return Err(Failure::OutOfMemory(AllocError));
     };
     match run(alloc, &mut domain, list) {
         Ok(replies) => Ok(Ran {
@@ -36,7 +36,7 @@ pub(crate) fn carry_out_all(
 // Why `run` hands commands back: it was refused memory, and these are the commands that it was given.
 fn why_handed_back(given: &[Command<u64, u64>], commands: &[Command<u64, u64>]) -> Failure {
     if given == commands {
-        Failure::OutOfMemory
+        Failure::OutOfMemory(AllocError)
     } else {
         Failure::OtherCommands
     }
@@ -92,7 +92,7 @@ fn different_reply(
                     }));
                 }
                 Err(ModelError::NoRule) => return Ok(Some(Difference::NoRule { position })),
-                Err(ModelError::OutOfMemory) => return Err(Failure::OutOfMemory),
+                Err(refused) => return Err(Failure::Model(refused)),
             }
         }
     }

@@ -59,7 +59,7 @@ impl Limit {
         match self {
             Limit::Port(position) => {
                 if let Some(command) = commands.get_mut(position) {
-                    *command = with_own_limit(*command, value);
+                    set_own_limit(command, value);
                 }
             }
             Limit::Slots(position) => {
@@ -125,33 +125,14 @@ fn set_own_slots(command: &mut Command<u64, u64>, value: usize) {
     }
 }
 
-// The command with this limit of the port that it makes.
-fn with_own_limit(command: Command<u64, u64>, value: usize) -> Command<u64, u64> {
+// The port that the command makes gets this limit.
+fn set_own_limit(command: &mut Command<u64, u64>, value: usize) {
     match command {
-        Command::CreatePublisher {
-            loans: _,
-            strategy,
-            allocation,
-            initial_max_slice_len,
-            override_slots,
-            degradation,
-            backpressure,
-        } => Command::CreatePublisher {
-            loans: value,
-            strategy,
-            allocation,
-            initial_max_slice_len,
-            override_slots,
-            degradation,
-            backpressure,
-        },
+        Command::CreatePublisher { loans, .. } => *loans = value,
         Command::CreateSubscriber {
-            buffer: Some(_),
-            degradation,
-        } => Command::CreateSubscriber {
-            buffer: Some(value),
-            degradation,
-        },
-        other => other,
+            buffer: Some(size),
+            ..
+        } => *size = value,
+        _ => {}
     }
 }

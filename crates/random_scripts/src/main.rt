@@ -12,26 +12,19 @@ mod shortest;
 mod tally;
 mod word_tally;
 
+use command_line::run_task;
 use failure::Failure;
 use refusals::{only_draw, only_run, run_refused};
 use rounds::{run_one, run_scripts};
-use std::env;
 use std::process::ExitCode;
 
 fn main(rt: HostRuntime) -> ExitCode {
-    match carry_out(&rt) {
-        Ok(()) => ExitCode::SUCCESS,
-        Err(failure) => {
-            let _ = eprintln!(rt; "{}", failure.text());
-            ExitCode::from(failure.status())
-        }
-    }
+    run_task(&rt, carry_out)
 }
 
 // Does what the arguments ask for.
-fn carry_out(rt: &HostRuntime) -> Result<(), Failure> {
-    let words: Vec<String> = env::args(rt)?.collect(rt.alloc())?;
-    match words.as_slice() {
+fn carry_out(rt: &HostRuntime, words: &[String]) -> Result<(), Failure> {
+    match words {
         [_, count, seed] => run_scripts(rt, number(count)?, number(seed)?),
         [_, task, script, seed] if task.as_str() == "one" => {
             run_one(rt, number(script)?, number(seed)?)

@@ -37,7 +37,7 @@ pub(crate) fn run_refused(
     allocate(rt.alloc(), allocations)?;
     match carry_out_all(rt.alloc(), script.config, script.commands.as_slice()) {
         Ok(ran) => explain(rt, &script, &ran),
-        Err(Failure::OutOfMemory) => {
+        Err(Failure::OutOfMemory(_)) => {
             println!(rt; "no run")?;
             Ok(())
         }

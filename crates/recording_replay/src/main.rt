@@ -8,29 +8,22 @@ mod record;
 mod replay;
 mod shortest;
 
+use command_line::run_task;
 use damage::try_damages;
 use failure::Failure;
 use random_lists::{print_list, try_random_lists};
 use record::record;
 use replay::replay;
-use std::env;
 use std::io::Read;
 use std::process::ExitCode;
 
 fn main(rt: HostRuntime) -> ExitCode {
-    match carry_out(&rt) {
-        Ok(()) => ExitCode::SUCCESS,
-        Err(failure) => {
-            let _ = eprintln!(rt; "{failure}");
-            ExitCode::from(failure.status())
-        }
-    }
+    run_task(&rt, carry_out)
 }
 
 // Does what the arguments ask for.
-fn carry_out(rt: &HostRuntime) -> Result<(), Failure> {
-    let words: Vec<String> = env::args(rt)?.collect(rt.alloc())?;
-    match words.as_slice() {
+fn carry_out(rt: &HostRuntime, words: &[String]) -> Result<(), Failure> {
+    match words {
         [_, task] => match task.as_str() {
             "replay" => replay(rt, input(rt)?.as_slice()),
             "record" => record(rt, input(rt)?.as_slice()),

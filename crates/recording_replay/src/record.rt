@@ -5,7 +5,7 @@ use iox2_runs::{Command, run};
 use iox2_store::ServiceConfig;
 use recordings::{Recording, save};
 use script_text::Script;
-use std::alloc::Global;
+use std::alloc::{AllocError, Global};
 
 /// Runs the script that the text is, and prints the recording of it.
 pub(crate) fn record(rt: &HostRuntime, text: &[u8]) -> Result<(), Failure> {
@@ -24,10 +24,10 @@ pub(crate) fn recorded(
 ) -> Result<Recording, Failure> {
     let list = Vec::from_slice(alloc, commands)?;
     let Ok(mut domain) = Domain::<u64, u64>::new(alloc, config) else {
-        return Err(Failure::OutOfMemory);
+        return Err(Failure::OutOfMemory(AllocError));
     };
     let Ok(replies) = run(alloc, &mut domain, list) else {
-        return Err(Failure::OutOfMemory);
+        return Err(Failure::OutOfMemory(AllocError));
     };
     Ok(Recording::of(alloc, config, commands, replies.as_slice())?)
 }

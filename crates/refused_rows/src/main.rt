@@ -16,29 +16,22 @@ mod rows;
 mod warnings;
 
 use answer::{Answer, Handler, Service};
+use command_line::run_task;
 use failure::Failure;
 use growth::growing_publisher;
 use iox2_pubsub::{AllocationStrategy, Domain, DomainCreateError, ServiceConfig, TypeVariant};
 use rows::{later_publisher, later_subscriber};
 use std::alloc::Global;
-use std::env;
 use std::process::ExitCode;
 use warnings::print_warnings;
 
 fn main(rt: HostRuntime) -> ExitCode {
-    match carry_out(&rt) {
-        Ok(()) => ExitCode::SUCCESS,
-        Err(failure) => {
-            let _ = eprintln!(rt; "{}", failure.text());
-            ExitCode::from(failure.status())
-        }
-    }
+    run_task(&rt, carry_out)
 }
 
 // Does what the arguments ask for.
-fn carry_out(rt: &HostRuntime) -> Result<(), Failure> {
-    let words: Vec<String> = env::args(rt)?.collect(rt.alloc())?;
-    let [_, row, answer] = words.as_slice() else {
+fn carry_out(rt: &HostRuntime, words: &[String]) -> Result<(), Failure> {
+    let [_, row, answer] = words else {
         return Err(Failure::Usage);
     };
     let answer = answer.as_str();

@@ -18,29 +18,22 @@ mod picture;
 mod rows;
 mod story;
 
+use command_line::run_task;
 use failure::Failure;
 use follow::story_of;
 use page::page;
 use picture::picture;
 use recordings::load;
-use std::env;
 use std::io::Read;
 use std::process::ExitCode;
 
 fn main(rt: HostRuntime) -> ExitCode {
-    match carry_out(&rt) {
-        Ok(()) => ExitCode::SUCCESS,
-        Err(failure) => {
-            let _ = eprintln!(rt; "{failure}");
-            ExitCode::from(failure.status())
-        }
-    }
+    run_task(&rt, carry_out)
 }
 
 // Draws the recording on standard input, as a picture or as a page around it.
-fn carry_out(rt: &HostRuntime) -> Result<(), Failure> {
-    let words: Vec<String> = env::args(rt)?.collect(rt.alloc())?;
-    let [_, form] = words.as_slice() else {
+fn carry_out(rt: &HostRuntime, words: &[String]) -> Result<(), Failure> {
+    let [_, form] = words else {
         return Err(Failure::Usage);
     };
     let is_page = match form.as_str() {

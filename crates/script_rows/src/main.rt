@@ -7,25 +7,19 @@ mod row;
 mod rows;
 mod tally;
 
+use command_line::run_task;
 use failure::Failure;
 use rows::run_rows;
+use std::fs;
 use std::process::ExitCode;
-use std::{env, fs};
 use tally::Tally;
 
 fn main(rt: HostRuntime) -> ExitCode {
-    match carry_out(&rt) {
-        Ok(()) => ExitCode::SUCCESS,
-        Err(failure) => {
-            let _ = eprintln!(rt; "{failure}");
-            ExitCode::from(failure.status())
-        }
-    }
+    run_task(&rt, carry_out)
 }
 
 // Runs the rows of each file that the arguments name.
-fn carry_out(rt: &HostRuntime) -> Result<(), Failure> {
-    let words: Vec<String> = env::args(rt)?.collect(rt.alloc())?;
+fn carry_out(rt: &HostRuntime, words: &[String]) -> Result<(), Failure> {
     let mut tally = Tally::new();
     for file in words.iter().skip(1) {
         println!(rt; "{file}")?;

@@ -1,66 +1,32 @@
 use iox2_pubsub::{
     DomainCreateError, PublisherCreateError, ReceiveError, SendError, SubscriberCreateError,
 };
-use std::alloc::AllocFailed;
+use std::alloc::AllocError;
 use std::io;
+use thiserror::Error;
 
 /// Why the program ends early.
-#[derive(Debug, Drop)]
+#[derive(Debug, Drop, Error)]
 pub enum Failure {
-    /// There is no domain.
-    Domain(DomainCreateError),
     /// There is no memory for a handler.
-    Memory,
-    /// There is no publisher.
-    Publisher(PublisherCreateError),
+    #[error("no memory for a handler")]
+    Memory(#[from(alloc)] AllocError),
+    /// There is no domain.
+    #[error("no domain: {0}")]
+    Domain(#[from] DomainCreateError),
     /// There is no subscriber.
-    Subscriber(SubscriberCreateError),
+    #[error("no subscriber: {0}")]
+    Subscriber(#[from] SubscriberCreateError),
+    /// There is no publisher.
+    #[error("no publisher: {0}")]
+    Publisher(#[from] PublisherCreateError),
     /// A reading isn't sent.
-    Send(SendError),
+    #[error("a reading isn't sent: {0}")]
+    Send(#[from] SendError),
     /// Nothing is received.
-    Receive(ReceiveError),
+    #[error("no reading received: {0}")]
+    Receive(#[from] ReceiveError),
     /// A line isn't printed.
-    Output(io::Error),
-}
-
-impl From<DomainCreateError> for Failure {
-    fn from(error: DomainCreateError) -> Self {
-        Failure::Domain(error)
-    }
-}
-
-impl<T: Drop> From<AllocFailed<T>> for Failure {
-    fn from(_error: AllocFailed<T>) -> Self {
-        Failure::Memory
-    }
-}
-
-impl From<PublisherCreateError> for Failure {
-    fn from(error: PublisherCreateError) -> Self {
-        Failure::Publisher(error)
-    }
-}
-
-impl From<SubscriberCreateError> for Failure {
-    fn from(error: SubscriberCreateError) -> Self {
-        Failure::Subscriber(error)
-    }
-}
-
-impl From<SendError> for Failure {
-    fn from(error: SendError) -> Self {
-        Failure::Send(error)
-    }
-}
-
-impl From<ReceiveError> for Failure {
-    fn from(error: ReceiveError) -> Self {
-        Failure::Receive(error)
-    }
-}
-
-impl From<io::Error> for Failure {
-    fn from(error: io::Error) -> Self {
-        Failure::Output(error)
-    }
+    #[error("a line isn't printed: {0}")]
+    Output(#[from] io::Error),
 }

@@ -3,72 +3,33 @@ use iox2_pubsub::{
     SubscriberCreateError,
 };
 use std::io;
+use thiserror::Error;
 
 /// Why the program ends early.
-#[derive(Debug, Drop)]
+#[derive(Debug, Drop, Error)]
 pub enum Failure {
     /// There is no domain.
-    Domain(DomainCreateError),
+    #[error("no domain: {0}")]
+    Domain(#[from] DomainCreateError),
     /// There is no publisher.
-    Publisher(PublisherCreateError),
+    #[error("no publisher: {0}")]
+    Publisher(#[from] PublisherCreateError),
     /// There is no subscriber.
-    Subscriber(SubscriberCreateError),
+    #[error("no subscriber: {0}")]
+    Subscriber(#[from] SubscriberCreateError),
     /// A port isn't connected.
-    Connection(ConnectionFailure),
+    #[error("not connected: {0}")]
+    Connection(#[from] ConnectionFailure),
     /// A message isn't lent.
-    Loan(LoanError),
+    #[error("not lent: {0}")]
+    Loan(#[from] LoanError),
     /// A message isn't sent.
-    Send(SendError),
+    #[error("not sent: {0}")]
+    Send(#[from] SendError),
     /// Nothing is received.
-    Receive(ReceiveError),
+    #[error("nothing received: {0}")]
+    Receive(#[from] ReceiveError),
     /// A line isn't printed.
-    Output(io::Error),
-}
-
-impl From<DomainCreateError> for Failure {
-    fn from(error: DomainCreateError) -> Self {
-        Failure::Domain(error)
-    }
-}
-
-impl From<PublisherCreateError> for Failure {
-    fn from(error: PublisherCreateError) -> Self {
-        Failure::Publisher(error)
-    }
-}
-
-impl From<SubscriberCreateError> for Failure {
-    fn from(error: SubscriberCreateError) -> Self {
-        Failure::Subscriber(error)
-    }
-}
-
-impl From<ConnectionFailure> for Failure {
-    fn from(failure: ConnectionFailure) -> Self {
-        Failure::Connection(failure)
-    }
-}
-
-impl From<LoanError> for Failure {
-    fn from(error: LoanError) -> Self {
-        Failure::Loan(error)
-    }
-}
-
-impl From<SendError> for Failure {
-    fn from(error: SendError) -> Self {
-        Failure::Send(error)
-    }
-}
-
-impl From<ReceiveError> for Failure {
-    fn from(error: ReceiveError) -> Self {
-        Failure::Receive(error)
-    }
-}
-
-impl From<io::Error> for Failure {
-    fn from(error: io::Error) -> Self {
-        Failure::Output(error)
-    }
+    #[error("not printed: {0}")]
+    Output(#[from] io::Error),
 }

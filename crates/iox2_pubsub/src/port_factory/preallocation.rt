@@ -12,7 +12,7 @@ pub struct NoOverride;
 
 /// What says how many slots a publisher is to have: a closure, which is given the worst case.
 ///
-/// Example (`crates/iox2_tests/src/growing_publishers.rt`):
+/// Example (`crates/iox2_tests/src/tests/growing_publishers.rt`):
 ///
 /// ```rust
 /// let factory = factory_for(domain)

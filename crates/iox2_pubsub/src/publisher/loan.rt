@@ -5,7 +5,7 @@ use crate::domain::Domain;
 use crate::publisher::Publisher;
 use crate::sample_mut_uninit::SampleMutUninit;
 use iox2_deliveries::loan;
-use iox2_store::{BackpressureFn, DegradationFn, Key, LoanError, UniquePublisherId};
+use iox2_store::{BackpressureFn, DegradationFn, LoanError};
 
 impl Publisher {
     ghost use Rattle.iox2_store.specs.machine.State.{State, Messages};
@@ -99,23 +99,5 @@ impl Publisher {
             service_id: self.service_id,
             loan,
         })
-    }
-}
-
-impl<T: Drop, U: Default + Drop, F: BackpressureFn, G: DegradationFn> Domain<T, U, F, G> {
-    ghost use Rattle.std.specs.Prelude.{IsTrue, ◌↔◌};
-    ghost use Rattle.iox2_pubsub.specs.Live.{IsLoanKey};
-
-    /// Whether the key is that of a loan of this domain that is out: its message wasn't sent, nor
-    /// was it given back. This library's own.
-    #[tactic(auto, unfolding(crate::specs::Live::IsLoanKey))]
-    pub fn holds_loan(&self, key: Key) -> bool
-        ensures { IsTrue result ↔ IsLoanKey self.now key }
-    {
-        if key.service_id != self.state.config().service_id {
-            return false;
-        }
-        self.state
-            .has_loan(UniquePublisherId::new(key.port), key.message)
     }
 }

@@ -3,10 +3,8 @@ ghost use Rattle.std.specs.Prelude.{◌≡◌};
 
 mod channels;
 mod close;
-mod loan_custom_payload;
 mod loan_located;
-mod loan_slice;
-mod loan_slice_uninit;
+mod loans;
 mod update_connections;
 
 use crate::domain::Domain;

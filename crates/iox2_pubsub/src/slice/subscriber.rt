@@ -3,9 +3,7 @@ ghost use Rattle.std.specs.Prelude.{◌≡◌};
 
 mod channels;
 mod close;
-mod has_samples;
-mod receive;
-mod receive_custom_payload;
+mod receives;
 mod update_connections;
 
 use crate::domain::Domain;

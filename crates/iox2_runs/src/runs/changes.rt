@@ -4,11 +4,11 @@ ghost use Rattle.iox2_store.specs.machine.Environments.{fixed_handlers};
 ghost use Rattle.iox2_runs.specs.Rooms.{SameRoom};
 ghost use Rattle.iox2_runs.specs.Leaves.{Leaves};
 ghost use Rattle.iox2_runs.specs.Carries.{IsLiveTable, Carries, defaults_of};
-ghost use Rattle.iox2_commands.specs.declared.command.Command.TheVariants.{AssumeInit, SetPayload, WriteCell, WriteHeader};
+ghost use Rattle.iox2_commands.specs.declared.command.Command.TheVariants.{AssumeInit, SetPayload, WriteCell, WriteHeader, WriteAll};
 ghost use Rattle.iox2_commands.specs.declared.reply.Reply.TheVariants.{Done, Skipped};
 ghost use Rattle.iox2_runs.specs.declared.runs.made.Made.TheVariants.{Nothing};
 
-use super::cells::{set_value_at, write_cell_at};
+use super::cells::{set_value_at, write_cell_at, write_cells};
 use super::made::{Made, put, take};
 use iox2_commands::Reply;
 use iox2_pubsub::{Domain, SampleMut, SampleMutUninit};
@@ -79,6 +79,31 @@ fn done_if<T, U>(is_there: bool) -> Reply<T, U>
         Reply::Done
     } else {
         Reply::Skipped
+    }
+}
+
+/// Writes each cell of the loan that the command at the position made.
+pub(crate) fn write_all<
+    T: Copy + Default + Drop,
+    U: Default + Drop,
+    F: BackpressureFn,
+    G: DegradationFn,
+>(domain: &mut Domain<T, U, F, G>, table: &mut Vec<Made>, of: usize, value: T) -> Reply<T, U>
+    requires { IsLiveTable domain.old table.old.items }
+    ensures carries { Carries fixed_handlers (defaults_of T.is_default U.is_default) domain.old domain.new table.old.items (WriteAll of value) result table.new.items Nothing }
+    ensures leaves { Leaves domain.old domain.new table.old.items table.new.items Nothing }
+    ensures room { SameRoom table.old table.new }
+{
+    match take(table, of) {
+        Made::Unwritten(loan) => {
+            let loan = write_cells(domain, loan, value);
+            put(table, of, Made::Written(loan));
+            Reply::Done
+        }
+        other => {
+            put(table, of, other);
+            Reply::Skipped
+        }
     }
 }
 

@@ -11,7 +11,7 @@ use std::ptr::NonNull;
 
 /// A written loan of a slice, and where its values begin. This library's own.
 ///
-/// Example (`crates/iox2_slice_tests/src/located.rt`):
+/// Example (`crates/iox2_slice_tests/src/tests/located.rt`):
 ///
 /// ```rust
 /// let lent = publisher.loan_slice_located(&mut domain, 3);

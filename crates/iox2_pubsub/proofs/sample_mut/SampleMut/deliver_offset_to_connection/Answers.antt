@@ -75,7 +75,7 @@ returns-clause-ok g c = λ lent never.
     let has = (written-parts c.args.domain.now c.args.self c.requires.live).1 in
     let out = ap (λ (t : State g.row.T.Denot g.row.U.Denot). t.loans c.args.self.loan.number) (it.2).state ∙ has.1 in
     let step = returns-clause-sent g c it.0 it.1 has.0 it.2 out in
-    sent-to-ok {T = g.row.T.Denot} {U = g.row.U.Denot} c.args.domain.now (keeping _ c.send_to_connection-end.new.state) it.0 it.1 it.2 (answers_of g.F.BackpressureFn.allows g.G.DegradationFn.allows c.args.domain.now.boxes.publishers) c.args.self has.0 out has.2 c.args.channel c.args.connection step.0 (written_key c.args.self) (sym has.2) lent never c.outcome_of.result step.2
+    sent-to-ok {T = g.row.T.Denot} {U = g.row.U.Denot} c.args.domain.now (keeping c.args.domain.now.boxes c.send_to_connection-end.new.state) it.0 it.1 it.2 (answers_of g.F.BackpressureFn.allows g.G.DegradationFn.allows c.args.domain.now.boxes.publishers) c.args.self has.0 out has.2 c.args.channel c.args.connection step.0 (written_key c.args.self) (sym has.2) lent never c.outcome_of.result step.2
 
 pub returns-clause-errors : goal.returns-clause-errors
 returns-clause-errors g c =
@@ -83,7 +83,7 @@ returns-clause-errors g c =
     let has = (written-parts c.args.domain.now c.args.self c.requires.live).1 in
     let out = ap (λ (t : State g.row.T.Denot g.row.U.Denot). t.loans c.args.self.loan.number) (it.2).state ∙ has.1 in
     let step = returns-clause-sent g c it.0 it.1 has.0 it.2 out in
-    fails-delivery {T = g.row.T.Denot} {U = g.row.U.Denot} c.args.domain.now (keeping _ c.send_to_connection-end.new.state) it.0 it.1 it.2 (answers_of g.F.BackpressureFn.allows g.G.DegradationFn.allows c.args.domain.now.boxes.publishers) c.args.self has.0 out has.2 c.args.channel c.args.connection step.0 (written_key c.args.self) (sym has.2) c.outcome_of.result step.2
+    fails-delivery {T = g.row.T.Denot} {U = g.row.U.Denot} c.args.domain.now (keeping c.args.domain.now.boxes c.send_to_connection-end.new.state) it.0 it.1 it.2 (answers_of g.F.BackpressureFn.allows g.G.DegradationFn.allows c.args.domain.now.boxes.publishers) c.args.self has.0 out has.2 c.args.channel c.args.connection step.0 (written_key c.args.self) (sym has.2) c.outcome_of.result step.2
 
 pub returns-clause-delivered : goal.returns-clause-delivered
 returns-clause-delivered g c = λ never.
@@ -92,7 +92,7 @@ returns-clause-delivered g c = λ never.
     let out = ap (λ (t : State g.row.T.Denot g.row.U.Denot). t.loans c.args.self.loan.number) (it.2).state ∙ has.1 in
     let step = returns-clause-sent g c it.0 it.1 has.0 it.2 out in
     is-delivered c.outcome_of.result (λ blocked.
-    to-never-waits {T = g.row.T.Denot} {U = g.row.U.Denot} c.args.domain.now (keeping _ c.send_to_connection-end.new.state) it.0 it.1 it.2 (answers_of g.F.BackpressureFn.allows g.G.DegradationFn.allows c.args.domain.now.boxes.publishers) c.args.self.loan.number has.0 out c.args.channel c.args.connection (result_of_send c.outcome_of.result) step.0 step.2 (written_key c.args.self) never (sym has.2) blocked)
+    to-never-waits {T = g.row.T.Denot} {U = g.row.U.Denot} c.args.domain.now (keeping c.args.domain.now.boxes c.send_to_connection-end.new.state) it.0 it.1 it.2 (answers_of g.F.BackpressureFn.allows g.G.DegradationFn.allows c.args.domain.now.boxes.publishers) c.args.self.loan.number has.0 out c.args.channel c.args.connection (result_of_send c.outcome_of.result) step.0 step.2 (written_key c.args.self) never (sym has.2) blocked)
 
 pub returns-clause-blocked : goal.returns-clause-blocked
 returns-clause-blocked g c =

@@ -1,0 +1,121 @@
+//! Sends to one connection that wait for its subscriber.
+ghost use Rattle.std.specs.Prelude.{◌<◌};
+ghost use Rattle.iox2_store.specs.machine.Limits.{channel_count};
+
+use crate::tests::waiting_publishers::{
+    assert_ready, assert_single_valued, blocked, blocked_again, close_publisher, close_subscriber,
+    deliver, delivered, delivered_at_last, given_up, has_blocked_send, next_reading, subscriber_of,
+    waiting_domain, waiting_publisher,
+};
+use iox2_fixtures::{Reading, Weather, settings};
+use iox2_pubsub::{Domain, Publisher, SendError, SendOutcome};
+use iox2_store::ServiceConfig;
+use std::process::Abort;
+
+// The settings of a domain whose connections have two channels.
+fn two_channels() -> ServiceConfig {
+    ServiceConfig {
+        number_of_channels: 2,
+        ..settings()
+    }
+}
+
+// Lends and writes a message, and sends it into a channel of a connection.
+fn send_to(
+    rt: &impl Abort,
+    domain: &mut Weather,
+    publisher: &Publisher,
+    celsius: u64,
+    channel: usize,
+    connection: usize,
+) -> Result<SendOutcome, SendError> {
+    assert_single_valued(rt, domain);
+    assert_ready(rt, domain, publisher);
+    let loan = publisher.loan_uninit(domain).expect(rt, "a loan");
+    let message = loan.write_payload(domain, Reading { celsius });
+    assert!(rt; !message.is_blocked(domain));
+    assert!(rt; channel < domain.config().number_of_channels.max(1));
+    message.deliver_offset_to_connection(domain, channel, connection)
+}
+
+// The second of three subscribers is full. Neither the first nor the third hears of the message that
+// waits for it.
+#[test]
+fn a_send_to_one_connection_waits_for_its_subscriber_alone(rt: HostRuntime) {
+    let mut domain = waiting_domain(&rt, rt.alloc());
+    let first = subscriber_of(&rt, &mut domain, 2);
+    let second = subscriber_of(&rt, &mut domain, 1);
+    let third = subscriber_of(&rt, &mut domain, 2);
+    let publisher = waiting_publisher(&rt, &mut domain);
+    let all = deliver(&rt, &mut domain, &publisher, 20);
+    let waiting = blocked(&rt, send_to(&rt, &mut domain, &publisher, 21, 0, 1));
+    let meanwhile = has_blocked_send(&rt, &domain, &publisher);
+    let waiting = blocked_again(&rt, &mut domain, waiting);
+    let read = next_reading(&rt, &mut domain, &second);
+    let one = delivered_at_last(&rt, &mut domain, waiting);
+    let after = has_blocked_send(&rt, &domain, &publisher);
+    let seen = [
+        next_reading(&rt, &mut domain, &first),
+        next_reading(&rt, &mut domain, &first),
+        next_reading(&rt, &mut domain, &second),
+        next_reading(&rt, &mut domain, &third),
+        next_reading(&rt, &mut domain, &third),
+    ];
+    close_publisher(&rt, &mut domain, publisher);
+    close_subscriber(&rt, &mut domain, first);
+    close_subscriber(&rt, &mut domain, second);
+    close_subscriber(&rt, &mut domain, third);
+    drop(domain);
+    assert!(rt; [all, one] == [3, 1]);
+    assert!(rt; [meanwhile, after] == [true, false]);
+    assert!(rt; read == Some(20));
+    assert!(rt; seen == [Some(20), None, Some(21), Some(20), None]);
+}
+
+// Giving it up ends the send, and the third subscriber, which has room, doesn't get it either.
+#[test]
+fn a_send_to_one_connection_is_given_up(rt: HostRuntime) {
+    let mut domain = waiting_domain(&rt, rt.alloc());
+    let first = subscriber_of(&rt, &mut domain, 1);
+    let second = subscriber_of(&rt, &mut domain, 2);
+    let publisher = waiting_publisher(&rt, &mut domain);
+    let all = deliver(&rt, &mut domain, &publisher, 20);
+    let waiting = blocked(&rt, send_to(&rt, &mut domain, &publisher, 21, 0, 0));
+    let none = given_up(&rt, &mut domain, waiting);
+    let after = has_blocked_send(&rt, &domain, &publisher);
+    let other = delivered(&rt, send_to(&rt, &mut domain, &publisher, 22, 0, 1));
+    let seen = [
+        next_reading(&rt, &mut domain, &first),
+        next_reading(&rt, &mut domain, &first),
+        next_reading(&rt, &mut domain, &second),
+        next_reading(&rt, &mut domain, &second),
+        next_reading(&rt, &mut domain, &second),
+    ];
+    close_publisher(&rt, &mut domain, publisher);
+    close_subscriber(&rt, &mut domain, first);
+    close_subscriber(&rt, &mut domain, second);
+    drop(domain);
+    assert!(rt; [all, none, other] == [2, 0, 1]);
+    assert!(rt; !after);
+    assert!(rt; seen == [Some(20), None, Some(20), Some(22), None]);
+}
+
+// A message waits for room in channel 1, while channel 0 of the same connection has some.
+#[test]
+fn a_send_waits_for_room_in_its_channel(rt: HostRuntime) {
+    let mut domain: Weather = Domain::new(rt.alloc(), two_channels()).expect(&rt, "a domain");
+    let subscriber = subscriber_of(&rt, &mut domain, 1);
+    let publisher = waiting_publisher(&rt, &mut domain);
+    let first = delivered(&rt, send_to(&rt, &mut domain, &publisher, 20, 1, 0));
+    let waiting = blocked(&rt, send_to(&rt, &mut domain, &publisher, 21, 1, 0));
+    let nothing = next_reading(&rt, &mut domain, &subscriber);
+    let waiting = blocked_again(&rt, &mut domain, waiting);
+    let none = given_up(&rt, &mut domain, waiting);
+    let other = delivered(&rt, send_to(&rt, &mut domain, &publisher, 22, 0, 0));
+    let read = next_reading(&rt, &mut domain, &subscriber);
+    close_publisher(&rt, &mut domain, publisher);
+    close_subscriber(&rt, &mut domain, subscriber);
+    drop(domain);
+    assert!(rt; [first, none, other] == [1, 0, 1]);
+    assert!(rt; nothing.is_none() && read == Some(22));
+}

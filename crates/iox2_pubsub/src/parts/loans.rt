@@ -1,0 +1,162 @@
+//! A loan and a blocked send as numbers.
+ghost use Rattle.std.specs.Prelude.{◌↔◌, ◌≡◌, IfNone, IfSome, IsTrue, false, true};
+
+use crate::blocked_send::BlockedSend;
+use crate::domain::Domain;
+use crate::parts::LoanParts;
+use crate::parts::hints::{has_unwritten, has_written};
+use crate::sample_mut::SampleMut;
+use crate::sample_mut_uninit::SampleMutUninit;
+use iox2_domain::LoanAt;
+use iox2_store::{BackpressureFn, DegradationFn, Key, UniquePublisherId};
+
+impl LoanParts {
+    // The numbers of a handle's private part.
+    pub(crate) fn of(service_id: u128, loan: LoanAt) -> LoanParts
+        ensures { result ≡ record { service_id = service_id; publisher = loan.publisher; number = loan.number; place = loan.place; book = loan.book; slot = loan.slot } }
+    {
+        LoanParts {
+            service_id,
+            publisher: loan.publisher.value(),
+            number: loan.number,
+            place: loan.place,
+            book: loan.book,
+            slot: loan.slot,
+        }
+    }
+
+    // The private part of a handle with these numbers.
+    pub(crate) fn loan(&self) -> LoanAt
+        ensures { result ≡ record { publisher = self.now.publisher; number = self.now.number; place = self.now.place; book = self.now.book; slot = self.now.slot } }
+    {
+        LoanAt {
+            publisher: UniquePublisherId::new(self.publisher),
+            number: self.number,
+            place: self.place,
+            book: self.book,
+            slot: self.slot,
+        }
+    }
+}
+
+impl SampleMutUninit {
+    ghost use Rattle.iox2_pubsub.specs.Parts.{unwritten_parts};
+
+    /// The loan's numbers. Its handle is spent, and the loan is out still. This library's own.
+    pub fn into_parts(self) -> LoanParts
+        ensures { result ≡ unwritten_parts self }
+    {
+        let SampleMutUninit { service_id, loan } = self;
+        LoanParts::of(service_id, loan)
+    }
+}
+
+impl SampleMut {
+    ghost use Rattle.iox2_pubsub.specs.Parts.{written_parts};
+
+    /// The loan's numbers. Its handle is spent, and the loan is out still. This library's own.
+    pub fn into_parts(self) -> LoanParts
+        ensures { result ≡ written_parts self }
+    {
+        let SampleMut { service_id, loan } = self;
+        LoanParts::of(service_id, loan)
+    }
+}
+
+impl<T: Drop, U: Default + Drop, F: BackpressureFn, G: DegradationFn> Domain<T, U, F, G> {
+    ghost use Rattle.iox2_pubsub.specs.Live.{HasMark, IsLoanKey, IsUnwritten, IsWritten};
+    ghost use Rattle.iox2_pubsub.specs.Parts.{loan_named, unwritten_parts, written_parts};
+
+    // Whether the numbers are those of a loan of this domain that is out and written.
+    #[tactic(auto, unfolding(crate::specs::Live::IsLoanKey))]
+    fn has_written_of(&self, parts: &LoanParts) -> bool
+        ensures { IsTrue result ↔ (IsLoanKey self.now (loan_named parts.now) × HasMark self.now (parts.now).number true) }
+    {
+        if parts.service_id != self.state.config().service_id {
+            return false;
+        }
+        has_written(&self.state, &parts.loan())
+    }
+
+    // Whether the numbers are those of a loan of this domain that is out and isn't written.
+    #[tactic(auto, unfolding(crate::specs::Live::IsLoanKey))]
+    fn has_unwritten_of(&self, parts: &LoanParts) -> bool
+        ensures { IsTrue result ↔ (IsLoanKey self.now (loan_named parts.now) × HasMark self.now (parts.now).number false) }
+    {
+        if parts.service_id != self.state.config().service_id {
+            return false;
+        }
+        has_unwritten(&self.state, &parts.loan())
+    }
+
+    /// A handle of the written loan with these numbers, and `None` where this domain has none that
+    /// is out and written. This library's own.
+    pub fn written_of(&self, parts: &LoanParts) -> Option<SampleMut>
+        ensures out { IfSome result (λ loan. IsWritten self.now loan) }
+        ensures named { IfSome result (λ loan. written_parts loan ≡ parts.now) }
+        ensures none { IfNone result (IsLoanKey self.now (loan_named parts.now) → HasMark self.now (parts.now).number true → ⊥) }
+    {
+        if !self.has_written_of(parts) {
+            return None;
+        }
+        Some(SampleMut {
+            service_id: parts.service_id,
+            loan: parts.loan(),
+        })
+    }
+
+    /// A handle of the unwritten loan with these numbers, and `None` where this domain has none that
+    /// is out and not written. This library's own.
+    pub fn unwritten_of(&self, parts: &LoanParts) -> Option<SampleMutUninit>
+        ensures out { IfSome result (λ loan. IsUnwritten self.now loan) }
+        ensures named { IfSome result (λ loan. unwritten_parts loan ≡ parts.now) }
+        ensures none { IfNone result (IsLoanKey self.now (loan_named parts.now) → HasMark self.now (parts.now).number false → ⊥) }
+    {
+        if !self.has_unwritten_of(parts) {
+            return None;
+        }
+        Some(SampleMutUninit {
+            service_id: parts.service_id,
+            loan: parts.loan(),
+        })
+    }
+}
+
+impl BlockedSend {
+    ghost use Rattle.iox2_pubsub.specs.Parts.{blocked_parts};
+
+    /// The numbers of the blocked send. Its handle is spent, and the send is blocked still. This
+    /// library's own.
+    pub fn into_parts(self) -> LoanParts
+        ensures { result ≡ blocked_parts self }
+    {
+        let BlockedSend { service_id, loan } = self;
+        LoanParts::of(service_id, loan)
+    }
+}
+
+impl<T: Drop, U: Default + Drop, F: BackpressureFn, G: DegradationFn> Domain<T, U, F, G> {
+    ghost use Rattle.iox2_pubsub.specs.Live.{IsBlockedKey, IsBlockedSend};
+    ghost use Rattle.iox2_pubsub.specs.Parts.{blocked_parts, loan_named};
+
+    /// A handle of the blocked send with these numbers, and `None` where this domain has none that
+    /// is blocked. This library's own.
+    pub fn blocked_of(&self, parts: &LoanParts) -> Option<BlockedSend>
+        ensures live { IfSome result (λ blocked. IsBlockedSend self.now blocked) }
+        ensures named { IfSome result (λ blocked. blocked_parts blocked ≡ parts.now) }
+        ensures none { IfNone result (IsBlockedKey self.now (loan_named parts.now) → ⊥) }
+    {
+        let key = Key {
+            service_id: parts.service_id,
+            port: parts.publisher,
+            message: parts.number,
+        };
+        if !self.holds_blocked(key) {
+            return None;
+        }
+        Some(BlockedSend {
+            service_id: parts.service_id,
+            loan: parts.loan(),
+        })
+    }
+}

@@ -1,0 +1,12 @@
+mod blocked_sends;
+mod closing_orders;
+mod commands;
+mod comparisons;
+mod degradations;
+mod departures;
+mod laws;
+mod many_units;
+mod runs;
+mod steps;
+mod warnings;
+mod worst_cases;

@@ -1,0 +1,11 @@
+mod allocations;
+mod channels;
+mod custom_payloads;
+mod drops;
+mod fixtures;
+mod growing_publishers;
+mod located;
+mod overrides;
+mod slices;
+mod unspecified;
+mod without_cells;

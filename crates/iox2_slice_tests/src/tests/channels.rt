@@ -1,0 +1,269 @@
+//! The channels of connections that carry slices.
+ghost use Rattle.std.specs.Prelude.{◌<◌};
+ghost use Rattle.iox2_store.specs.machine.Limits.{channel_count};
+
+use crate::tests::fixtures::{
+    assert_live, assert_ready, lend_slice, receive_slice, send_slice, slice_publisher,
+    slice_subscriber,
+};
+use iox2_fixtures::{Numbers, assert_sliced, receiver_count, smallest};
+use iox2_pubsub::slice::{Publisher, Subscriber};
+use iox2_pubsub::{Domain, UpdateConnections};
+use iox2_store::{ServiceConfig, TypeVariant};
+use std::process::Abort;
+
+// The settings of a domain of slices whose connections have two channels.
+fn two_channels() -> ServiceConfig {
+    ServiceConfig {
+        variant: TypeVariant::Dynamic,
+        number_of_channels: 2,
+        publisher_max_loaned_samples: 2,
+        ..smallest()
+    }
+}
+
+// Asserts that the connections of the domain have the channel.
+fn assert_has_channel(rt: &impl Abort, domain: &Numbers, channel: usize)
+    ensures { channel < channel_count domain.now.config }
+{
+    assert!(rt; channel < domain.config().number_of_channels.max(1));
+}
+
+// Sends a slice with this value. Returns how many subscribers took it.
+fn sent(rt: &impl Abort, domain: &mut Numbers, publisher: &Publisher, value: u64) -> usize {
+    let loan = lend_slice(rt, domain, publisher, 1);
+    let message = loan.write_from_fn(domain, |_| value);
+    send_slice(rt, domain, message)
+}
+
+// Sends a slice with this value into a channel of a connection. Returns how many subscribers took it.
+fn sent_to(
+    rt: &impl Abort,
+    domain: &mut Numbers,
+    publisher: &Publisher,
+    value: u64,
+    channel: usize,
+    connection: usize,
+) -> usize {
+    assert_has_channel(rt, domain, channel);
+    let loan = lend_slice(rt, domain, publisher, 1);
+    let message = loan.write_from_fn(domain, |_| value);
+    assert!(rt; !message.is_blocked(domain));
+    let outcome = message
+        .deliver_offset_to_connection(domain, channel, connection)
+        .expect(rt, "an outcome");
+    receiver_count(outcome).expect(rt, "a send that isn't blocked")
+}
+
+// Whether no slice waits.
+fn gets_nothing(rt: &impl Abort, domain: &mut Numbers, subscriber: &Subscriber) -> bool {
+    assert_sliced(rt, domain);
+    assert_live(rt, domain, subscriber);
+    match subscriber.receive(domain).expect(rt, "an answer") {
+        Some(sample) => {
+            sample.disown();
+            false
+        }
+        None => true,
+    }
+}
+
+// Whether the next slice has this value.
+fn gets(rt: &impl Abort, domain: &mut Numbers, subscriber: &Subscriber, value: u64) -> bool {
+    let sample = receive_slice(rt, domain, subscriber);
+    let is_it = sample.payload(domain) == [value].as_slice();
+    sample.release(domain);
+    is_it
+}
+
+// Whether the channel was closed at each of the subscriber's connections. Where it was, it has the
+// state afterwards.
+fn set(
+    rt: &impl Abort,
+    domain: &mut Numbers,
+    subscriber: &Subscriber,
+    channel: usize,
+    state: u64,
+) -> bool {
+    assert_live(rt, domain, subscriber);
+    assert_has_channel(rt, domain, channel);
+    subscriber.set_channel_state(domain, channel, state)
+}
+
+// Closes the subscriber's channels that are in the state.
+fn close(
+    rt: &impl Abort,
+    domain: &mut Numbers,
+    subscriber: &Subscriber,
+    channel: usize,
+    expected: u64,
+) {
+    assert_live(rt, domain, subscriber);
+    assert_has_channel(rt, domain, channel);
+    subscriber.close_channel(domain, channel, expected);
+}
+
+// Hints a disconnect in the subscriber's channels that are in the state.
+fn hint(
+    rt: &impl Abort,
+    domain: &mut Numbers,
+    subscriber: &Subscriber,
+    channel: usize,
+    expected: u64,
+) {
+    assert_live(rt, domain, subscriber);
+    assert_has_channel(rt, domain, channel);
+    subscriber.set_disconnect_hint(domain, channel, expected);
+}
+
+// Whether a channel of the subscriber is in the state.
+fn is_any(
+    rt: &impl Abort,
+    domain: &Numbers,
+    subscriber: &Subscriber,
+    channel: usize,
+    state: u64,
+) -> bool {
+    assert_live(rt, domain, subscriber);
+    assert_has_channel(rt, domain, channel);
+    subscriber.at_least_one_channel_has_state(domain, channel, state)
+}
+
+// Whether the channel of the publisher's first connection is in the state, and whether it has a hint
+// too.
+fn is_first(
+    rt: &impl Abort,
+    domain: &Numbers,
+    publisher: &Publisher,
+    channel: usize,
+    state: u64,
+) -> [bool; 2] {
+    assert_ready(rt, domain, publisher);
+    assert_has_channel(rt, domain, channel);
+    [
+        publisher.has_channel_state(domain, channel, 0, state),
+        publisher.has_disconnect_hint(domain, channel, 0, state),
+    ]
+}
+
+// Closes the channel of the publisher's first connection, where it is in the state.
+fn close_first(
+    rt: &impl Abort,
+    domain: &mut Numbers,
+    publisher: &Publisher,
+    channel: usize,
+    expected: u64,
+) {
+    assert_ready(rt, domain, publisher);
+    assert_has_channel(rt, domain, channel);
+    publisher.close_channel(domain, channel, 0, expected);
+}
+
+#[test]
+fn a_closed_channel_takes_no_slice(rt: HostRuntime) {
+    let mut domain: Numbers = Domain::new(rt.alloc(), two_channels()).expect(&rt, "a domain");
+    let subscriber = slice_subscriber(&rt, &mut domain);
+    let publisher = slice_publisher(&rt, &mut domain, 1);
+    let unconnected = [
+        set(&rt, &mut domain, &subscriber, 0, 9),
+        is_any(&rt, &domain, &subscriber, 0, 0),
+    ];
+    assert_live(&rt, &domain, &subscriber);
+    let updated = subscriber.update_connections(&mut domain).is_ok();
+    assert_ready(&rt, &domain, &publisher);
+    let places = [
+        publisher.get_connection_id_of(&domain, 1),
+        publisher.get_connection_id_of(&domain, 7),
+    ];
+    let further = is_any(&rt, &domain, &subscriber, 1, 0);
+    close(&rt, &mut domain, &subscriber, 0, 5);
+    close(&rt, &mut domain, &subscriber, 0, 0);
+    let closed = is_first(&rt, &domain, &publisher, 0, u64::MAX);
+    let passed = sent(&rt, &mut domain, &publisher, 1);
+    let nothing = gets_nothing(&rt, &mut domain, &subscriber);
+    let was_closed = set(&rt, &mut domain, &subscriber, 0, 7);
+    let taken = sent(&rt, &mut domain, &publisher, 2);
+    hint(&rt, &mut domain, &subscriber, 0, 0);
+    let unhinted = is_first(&rt, &domain, &publisher, 0, 7);
+    hint(&rt, &mut domain, &subscriber, 0, 7);
+    let hinted = is_first(&rt, &domain, &publisher, 0, 7);
+    let was_open = set(&rt, &mut domain, &subscriber, 0, 3);
+    let still = is_first(&rt, &domain, &publisher, 0, 7);
+    close_first(&rt, &mut domain, &publisher, 0, 7);
+    let closed_again = is_first(&rt, &domain, &publisher, 0, u64::MAX);
+    let second = gets(&rt, &mut domain, &subscriber, 2);
+    publisher.disown();
+    subscriber.disown();
+    drop(domain);
+    assert!(rt; unconnected == [true, false]);
+    assert!(rt; updated && places == [Some(0), None]);
+    assert!(rt; further && closed == [true, false]);
+    assert!(rt; [passed, taken] == [0, 1]);
+    assert!(rt; nothing && second);
+    assert!(rt; [was_closed, was_open] == [true, false]);
+    assert!(rt; unhinted == [true, false]);
+    assert!(rt; [hinted, still] == [[true, true], [true, true]]);
+    assert!(rt; closed_again == [true, false]);
+}
+
+// A send goes to channel 0 alone, and no call on one channel changes another.
+#[test]
+fn a_further_channel_of_slices_has_a_state_of_its_own(rt: HostRuntime) {
+    let mut domain: Numbers = Domain::new(rt.alloc(), two_channels()).expect(&rt, "a domain");
+    let subscriber = slice_subscriber(&rt, &mut domain);
+    let publisher = slice_publisher(&rt, &mut domain, 1);
+    assert_live(&rt, &domain, &subscriber);
+    let updated = subscriber.update_connections(&mut domain).is_ok();
+    hint(&rt, &mut domain, &subscriber, 1, 0);
+    let hinted = [
+        is_first(&rt, &domain, &publisher, 0, 0),
+        is_first(&rt, &domain, &publisher, 1, 0),
+    ];
+    close(&rt, &mut domain, &subscriber, 1, 0);
+    let closed = is_first(&rt, &domain, &publisher, 1, u64::MAX);
+    let taken = sent(&rt, &mut domain, &publisher, 1);
+    let was_closed = set(&rt, &mut domain, &subscriber, 1, 4);
+    close_first(&rt, &mut domain, &publisher, 1, 4);
+    let open = is_any(&rt, &domain, &subscriber, 0, 0);
+    publisher.disown();
+    subscriber.disown();
+    drop(domain);
+    assert!(rt; updated && open && was_closed);
+    assert!(rt; hinted == [[true, false], [true, true]]);
+    assert!(rt; closed == [true, false]);
+    assert!(rt; taken == 1);
+}
+
+// A slice reaches the one connection, in a further channel too until that is full, and nobody where
+// there is no connection. A receive looks at channel 0 alone.
+#[test]
+fn a_slice_goes_into_one_channel_of_one_connection(rt: HostRuntime) {
+    let config = ServiceConfig {
+        max_subscribers: 2,
+        ..two_channels()
+    };
+    let mut domain: Numbers = Domain::new(rt.alloc(), config).expect(&rt, "a domain");
+    let first = slice_subscriber(&rt, &mut domain);
+    let second = slice_subscriber(&rt, &mut domain);
+    let publisher = slice_publisher(&rt, &mut domain, 1);
+    let further = [
+        sent_to(&rt, &mut domain, &publisher, 1, 1, 0),
+        sent_to(&rt, &mut domain, &publisher, 2, 1, 0),
+    ];
+    let unconnected = [
+        sent_to(&rt, &mut domain, &publisher, 3, 0, 5),
+        sent_to(&rt, &mut domain, &publisher, 4, 1, 7),
+    ];
+    let nothing = gets_nothing(&rt, &mut domain, &first);
+    let taken = sent_to(&rt, &mut domain, &publisher, 5, 0, 1);
+    let still_nothing = gets_nothing(&rt, &mut domain, &first);
+    let is_fifth = gets(&rt, &mut domain, &second, 5);
+    publisher.disown();
+    first.disown();
+    second.disown();
+    drop(domain);
+    assert!(rt; further == [1, 0]);
+    assert!(rt; unconnected == [0, 0]);
+    assert!(rt; nothing && still_nothing);
+    assert!(rt; taken == 1 && is_fifth);
+}

@@ -1,0 +1,156 @@
+//! When the values of a slice are dropped, told by the shares of a value that are left.
+ghost use Rattle.iox2_pubsub.specs.Live.{IsLiveSample, IsWritten};
+
+use crate::tests::fixtures::{
+    close_publisher, lend_slice, receive_slice, send_slice, slice_factory, slice_subscriber,
+};
+use iox2_fixtures::settings;
+use iox2_pubsub::Domain;
+use iox2_pubsub::slice::{Publisher, Sample, SampleMut, SampleMutUninit, Subscriber};
+use iox2_store::{ServiceConfig, TypeVariant};
+use std::alloc::Global;
+use std::process::Abort;
+use std::rc::Rc;
+
+// A domain of slices of shares.
+type Shares = Domain<Rc<u8>, u64>;
+
+fn value(rt: &impl Abort, alloc: Global) -> Rc<u8> {
+    Rc::new(alloc, 7_u8).expect(rt, "a value")
+}
+
+fn domain(rt: &impl Abort, alloc: Global) -> Shares {
+    let slices = ServiceConfig {
+        variant: TypeVariant::Dynamic,
+        ..settings()
+    };
+    Domain::new(alloc, slices).expect(rt, "a domain")
+}
+
+// A publisher with one slot, in which each of its messages lies.
+fn publisher(rt: &impl Abort, domain: &mut Shares) -> Publisher {
+    let factory = slice_factory(domain)
+        .override_sample_preallocation(|_| 1)
+        .initial_max_slice_len(3);
+    factory.create(domain).expect(rt, "a publisher")
+}
+
+// Lends a slice of so many shares.
+fn lend_shares(
+    rt: &impl Abort,
+    domain: &mut Shares,
+    publisher: &Publisher,
+    value: &Rc<u8>,
+    len: usize,
+) -> SampleMut
+    ensures { IsWritten domain.new result.sample }
+{
+    let loan = lend_slice(rt, domain, publisher, len);
+    loan.write_from_fn(domain, |_| value.clone().expect(rt, "a share"))
+}
+
+// Sends a slice of three shares, which the subscriber receives.
+fn pass(
+    rt: &impl Abort,
+    domain: &mut Shares,
+    publisher: &Publisher,
+    subscriber: &Subscriber,
+    value: &Rc<u8>,
+) -> Sample
+    ensures { IsLiveSample domain.new result.sample }
+{
+    let message = lend_shares(rt, domain, publisher, value, 3);
+    let takers = send_slice(rt, domain, message);
+    assert!(rt; takers == 1);
+    receive_slice(rt, domain, subscriber)
+}
+
+// How many shares are left when a sample of three is released, a loan starts in its slot, two shares are
+// written there, and the loan is given back.
+fn left_by_calls(
+    rt: &impl Abort,
+    domain: &mut Shares,
+    publisher: &Publisher,
+    subscriber: &Subscriber,
+    value: &Rc<u8>,
+) -> [usize; 4] {
+    pass(rt, domain, publisher, subscriber, value).release(domain);
+    let released = Rc::strong_count(value);
+    lend_slice(rt, domain, publisher, 2).discard(domain);
+    let lent = Rc::strong_count(value);
+    let message = lend_shares(rt, domain, publisher, value, 2);
+    let written = Rc::strong_count(value);
+    message.discard(domain);
+    [released, lent, written, Rc::strong_count(value)]
+}
+
+#[test]
+fn a_slice_stays_until_another_is_written_in_its_slot(rt: HostRuntime) {
+    let value = value(&rt, rt.alloc());
+    let mut domain = domain(&rt, rt.alloc());
+    let subscriber = slice_subscriber(&rt, &mut domain);
+    let publisher = publisher(&rt, &mut domain);
+    let left = left_by_calls(&rt, &mut domain, &publisher, &subscriber, &value);
+    publisher.disown();
+    subscriber.disown();
+    drop(domain);
+    let gone = Rc::strong_count(&value);
+    assert!(rt; left == [4, 4, 3, 3]);
+    assert!(rt; gone == 1);
+}
+
+// How many shares are left when the publisher of a sample of three is closed, and when the sample is
+// released.
+fn left_by_close(
+    rt: &impl Abort,
+    domain: &mut Shares,
+    publisher: Publisher,
+    subscriber: &Subscriber,
+    value: &Rc<u8>,
+) -> [usize; 2] {
+    let sample = pass(rt, domain, &publisher, subscriber, value);
+    close_publisher(rt, domain, publisher);
+    let closed = Rc::strong_count(value);
+    assert!(rt; domain.holds_sample(sample.key()));
+    sample.release(domain);
+    [closed, Rc::strong_count(value)]
+}
+
+#[test]
+fn slices_of_a_closed_publisher_go_with_its_last_message(rt: HostRuntime) {
+    let value = value(&rt, rt.alloc());
+    let mut domain = domain(&rt, rt.alloc());
+    let subscriber = slice_subscriber(&rt, &mut domain);
+    let publisher = publisher(&rt, &mut domain);
+    let left = left_by_close(&rt, &mut domain, publisher, &subscriber, &value);
+    subscriber.disown();
+    drop(domain);
+    assert!(rt; left == [4, 1]);
+}
+
+// How many shares there are when two are put into cells of a loan, and when the loan is given back.
+fn left_by_discard(
+    rt: &impl Abort,
+    domain: &mut Shares,
+    publisher: &Publisher,
+    value: &Rc<u8>,
+) -> [usize; 2] {
+    let mut loan = lend_slice(rt, domain, publisher, 2);
+    for cell in SampleMutUninit::payload_mut(domain, &mut loan).iter_mut() {
+        *cell = Some(value.clone().expect(rt, "a share"));
+    }
+    let put = Rc::strong_count(value);
+    loan.discard(domain);
+    [put, Rc::strong_count(value)]
+}
+
+#[test]
+fn what_was_put_into_cells_goes_with_their_loan(rt: HostRuntime) {
+    let value = value(&rt, rt.alloc());
+    let mut domain = domain(&rt, rt.alloc());
+    let publisher = publisher(&rt, &mut domain);
+    let left = left_by_discard(&rt, &mut domain, &publisher, &value);
+    publisher.disown();
+    drop(domain);
+    assert!(rt; left == [3, 1]);
+}

@@ -1,0 +1,156 @@
+//! What tests of slices start from, and the calls that they make. Those below the line test at run time
+//! what they ask of their handles.
+
+ghost use Rattle.std.specs.Prelude.{◌≡◌, List, Option, None, length};
+ghost use Rattle.iox2_store.specs.declared.degradation.DegradationAction.TheVariants.{Warn};
+ghost use Rattle.iox2_store.specs.machine.Records.{Fixed};
+ghost use Rattle.iox2_pubsub.specs.Live.{IsLivePublisher, IsLiveSample, IsLiveSubscriber, IsReadyPublisher, IsUnwritten, IsWritten, Stays};
+ghost use Rattle.iox2_pubsub.specs.Slices.{HasUnwrittenCells, IsSliced};
+
+use iox2_fixtures::{assert_sliced, receiver_count};
+use iox2_pubsub::{Domain, slice};
+use iox2_store::BackpressureStrategy;
+use std::process::Abort;
+
+/// A factory of publishers of slices that discard what a full subscriber doesn't take.
+pub(crate) fn slice_factory<T: Drop, U: Default + Drop>(
+    domain: &Domain<T, U>,
+) -> slice::PortFactoryPublisher
+    ensures strategy { result.settings.backpressure_strategy ≡ BackpressureStrategy.DiscardData }
+    ensures handler { result.settings.backpressure_handler ≡ None }
+    ensures degradation { result.settings.degradation_handler ≡ Fixed Warn }
+{
+    domain
+        .slice_publisher_builder()
+        .backpressure_strategy(BackpressureStrategy::DiscardData)
+}
+
+/// A publisher of slices as long as that, which discards what a full subscriber doesn't take.
+pub(crate) fn slice_publisher<T: Drop, U: Default + Drop>(
+    rt: &impl Abort,
+    domain: &mut Domain<T, U>,
+    longest: usize,
+) -> slice::Publisher
+    ensures publisher { IsLivePublisher domain.new result.publisher }
+    ensures stays { Stays domain.old domain.new }
+{
+    let factory = slice_factory(domain).initial_max_slice_len(longest);
+    factory.create(domain).expect(rt, "a publisher")
+}
+
+/// A subscriber to slices, with the largest buffer.
+pub(crate) fn slice_subscriber<T: Drop, U: Default + Drop>(
+    rt: &impl Abort,
+    domain: &mut Domain<T, U>,
+) -> slice::Subscriber
+    ensures stays { Stays domain.old domain.new }
+{
+    let factory = domain.slice_subscriber_builder();
+    factory.create(domain).expect(rt, "a subscriber")
+}
+
+// ---- what a call asks for is tested
+
+/// Asserts that the publisher is one of the domain's that has no blocked send.
+pub(crate) fn assert_ready<T: Drop, U: Default + Drop>(
+    rt: &impl Abort,
+    domain: &Domain<T, U>,
+    publisher: &slice::Publisher,
+)
+    ensures { IsReadyPublisher domain.now publisher.now.publisher }
+{
+    assert!(rt; publisher.is_in(domain));
+    assert!(rt; !publisher.is_blocked(domain));
+}
+
+/// Asserts that the subscriber is one of the domain's.
+pub(crate) fn assert_live<T: Drop, U: Default + Drop>(
+    rt: &impl Abort,
+    domain: &Domain<T, U>,
+    subscriber: &slice::Subscriber,
+)
+    ensures { IsLiveSubscriber domain.now subscriber.now.subscriber }
+{
+    assert!(rt; subscriber.is_in(domain));
+}
+
+/// An unwritten loan of a slice of that length.
+pub(crate) fn lend_slice<T: Drop, U: Default + Drop>(
+    rt: &impl Abort,
+    domain: &mut Domain<T, U>,
+    publisher: &slice::Publisher,
+    len: usize,
+) -> slice::SampleMutUninit
+    ensures loan { IsUnwritten domain.new result.sample }
+    ensures lengths { (cells : List (Option T)) → HasUnwrittenCells domain.new result.sample.loan.number cells → length cells ≡ len }
+    ensures sliced { IsSliced domain.new }
+{
+    assert_sliced(rt, domain);
+    assert_ready(rt, domain, publisher);
+    let loan = publisher.loan_slice_uninit(domain, len);
+    loan.expect(rt, "a loan")
+}
+
+/// A loan of that many default values.
+pub(crate) fn lend_defaults<T: Default + Drop, U: Default + Drop>(
+    rt: &impl Abort,
+    domain: &mut Domain<T, U>,
+    publisher: &slice::Publisher,
+    len: usize,
+) -> slice::SampleMut
+    ensures loan { IsWritten domain.new result.sample }
+    ensures sliced { IsSliced domain.new }
+{
+    assert_sliced(rt, domain);
+    assert_ready(rt, domain, publisher);
+    let loan = publisher.loan_slice(domain, len);
+    loan.expect(rt, "a loan")
+}
+
+/// Sends a slice. Returns how many subscribers took it.
+pub(crate) fn send_slice<T: Drop, U: Default + Drop>(
+    rt: &impl Abort,
+    domain: &mut Domain<T, U>,
+    message: slice::SampleMut,
+) -> usize
+    requires { IsWritten domain.old message.sample }
+{
+    assert!(rt; !message.is_blocked(domain));
+    let outcome = message.send(domain).expect(rt, "an outcome");
+    receiver_count(outcome).expect(rt, "a send that isn't blocked")
+}
+
+/// Closes a publisher of slices.
+pub(crate) fn close_publisher<T: Drop, U: Default + Drop>(
+    rt: &impl Abort,
+    domain: &mut Domain<T, U>,
+    publisher: slice::Publisher,
+) {
+    assert_ready(rt, domain, &publisher);
+    publisher.close(domain);
+}
+
+/// Closes a subscriber to slices.
+pub(crate) fn close_subscriber<T: Drop, U: Default + Drop>(
+    rt: &impl Abort,
+    domain: &mut Domain<T, U>,
+    subscriber: slice::Subscriber,
+) {
+    assert_live(rt, domain, &subscriber);
+    subscriber.close(domain);
+}
+
+/// Receives a slice, which waits.
+pub(crate) fn receive_slice<T: Drop, U: Default + Drop>(
+    rt: &impl Abort,
+    domain: &mut Domain<T, U>,
+    subscriber: &slice::Subscriber,
+) -> slice::Sample
+    ensures sample { IsLiveSample domain.new result.sample }
+    ensures sliced { IsSliced domain.new }
+{
+    assert_sliced(rt, domain);
+    assert_live(rt, domain, subscriber);
+    let received = subscriber.receive(domain).expect(rt, "an answer");
+    received.expect(rt, "a sample")
+}

@@ -1,0 +1,13 @@
+mod cell_lists;
+mod connections;
+mod contents;
+mod error_texts;
+mod errors;
+mod handlers;
+mod places;
+mod plain_types;
+mod settings;
+mod slots;
+mod starts;
+mod unspecified;
+mod worst_cases;

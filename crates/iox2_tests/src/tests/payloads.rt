@@ -1,0 +1,92 @@
+ghost use Rattle.std.specs.Prelude.{◌≡◌, ℕ, [], ◌∷◌};
+ghost use Rattle.iox2_pubsub.specs.Live.{IsLiveSample, IsLiveSubscriber, IsSingleValued, IsUnwrittenLoan, StaysBut, Stays, unwritten_loan};
+
+use crate::tests::fixtures::{domain, lend, publisher_of, subscriber_of};
+use iox2_fixtures::{Reading, Weather, publish};
+use iox2_pubsub::{Sample, SampleMutUninit, Subscriber};
+
+// Writes into the loan, and returns what is read of it then: what was written.
+fn written_back(domain: &mut Weather, loan: SampleMutUninit, celsius: u64) -> u64
+    requires single_valued { IsSingleValued domain.old }
+    requires loan { IsUnwrittenLoan domain.old loan }
+    ensures written { result ≡ celsius }
+    ensures stays { StaysBut (unwritten_loan loan) domain.old domain.new }
+{
+    let message = loan.write_payload(domain, Reading { celsius });
+    let Reading { celsius } = message.payload(domain);
+    let read = *celsius;
+    message.disown();
+    read
+}
+
+// What is read of the sample before and after another receive: the same.
+fn read_around_a_receive(domain: &mut Weather, subscriber: &Subscriber, sample: &Sample) -> [u64; 2]
+    requires single_valued { IsSingleValued domain.old }
+    requires subscriber { IsLiveSubscriber domain.old subscriber.now }
+    requires sample { IsLiveSample domain.old sample.now }
+    ensures same { (celsius : ℕ) × (result ≡ celsius ∷ celsius ∷ []) }
+    ensures stays { Stays domain.old domain.new }
+{
+    let before = sample.payload(domain).celsius;
+    if let Ok(Some(next)) = subscriber.receive(domain) {
+        next.disown();
+    }
+    [before, sample.payload(domain).celsius]
+}
+
+#[test]
+fn a_loan_has_no_payload_until_it_is_written(rt: HostRuntime) {
+    let mut domain = domain(&rt, rt.alloc());
+    let loan = lend(&rt, &mut domain);
+    let is_empty = loan.payload(&domain).is_none();
+    let header = *loan.header(&domain);
+    loan.disown();
+    drop(domain);
+    assert!(rt; is_empty);
+    assert!(rt; header.publisher_id.value() == 1);
+    assert!(rt; header.number_of_elements == 1);
+}
+
+#[test]
+fn a_written_loan_has_its_payload(rt: HostRuntime) {
+    let mut domain = domain(&rt, rt.alloc());
+    let loan = lend(&rt, &mut domain);
+    let key = loan.key();
+    let message = loan.write_payload(&mut domain, Reading { celsius: 21 });
+    let celsius = message.payload(&domain).celsius;
+    let origin = message.header(&domain).publisher_id.value();
+    let written = message.key();
+    message.disown();
+    let is_live = domain.holds_loan(key);
+    drop(domain);
+    assert!(rt; celsius == 21);
+    assert!(rt; origin == 1);
+    assert!(rt; written == key);
+    assert!(rt; is_live);
+}
+
+#[test]
+fn what_is_written_is_read(rt: HostRuntime) {
+    let mut domain = domain(&rt, rt.alloc());
+    let loan = lend(&rt, &mut domain);
+    let celsius = written_back(&mut domain, loan, 23);
+    drop(domain);
+    assert!(rt; celsius == 23);
+}
+
+#[test]
+fn a_sample_reads_the_same_after_another_receive(rt: HostRuntime) {
+    let mut domain = domain(&rt, rt.alloc());
+    let subscriber = subscriber_of(&rt, &mut domain);
+    let publisher = publisher_of(&rt, &mut domain);
+    publish(&mut domain, &publisher, 21);
+    publish(&mut domain, &publisher, 22);
+    publisher.disown();
+    let received = subscriber.receive(&mut domain).expect(&rt, "an answer");
+    let sample = received.expect(&rt, "a sample");
+    let celsius = read_around_a_receive(&mut domain, &subscriber, &sample);
+    subscriber.disown();
+    sample.disown();
+    drop(domain);
+    assert!(rt; celsius == [21, 21]);
+}
