@@ -100,7 +100,7 @@ module _ {T U : Type 0} (config : ServiceConfig) (v c v' c' : ℕ) where
       warning_room = refl;
       shapes = record { at = λ key slot b m at _. absurd (nothing_at key b at) };
       forms = record { at = λ several key cs at. absurd cc; cells = λ several lists key cs at. absurd cc };
-      open_loans = record { at = λ i slot x at _. absurd (nothing_at i x at) };
+      open_loans = record { at = λ i slot x at _. absurd (nothing_at i x at); lists = λ i x cs at _. absurd (nothing_at i x at) };
       plain = λ i x at. absurd (nothing_at i x at);
     };
     kept_books = record { at = λ key b at. absurd (nothing_at key b at) };
