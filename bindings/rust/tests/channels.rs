@@ -229,7 +229,9 @@ fn a_further_channel_has_its_own_state<M: Threads>(domain: &Domain<u64, M>) {
     assert!(is(0, CHANNEL_STATE_OPEN) && is(1, CHANNEL_STATE_OPEN) && is(2, CHANNEL_STATE_CLOSED));
     assert_eq!(publisher.send_copy(1).unwrap().delivered(), Some(1));
 
-    subscriber.set_disconnect_hint(1, CHANNEL_STATE_OPEN).unwrap();
+    subscriber
+        .set_disconnect_hint(1, CHANNEL_STATE_OPEN)
+        .unwrap();
     let is_hinted = |channel| publisher.has_disconnect_hint(channel, 0, CHANNEL_STATE_OPEN);
     assert_eq!([is_hinted(0), is_hinted(1)], [Ok(false), Ok(true)]);
     publisher.close_channel(1, 0, CHANNEL_STATE_OPEN).unwrap();
