@@ -1,7 +1,7 @@
 //! What tests of `iox2_pubsub` and of runs start from. No crate but those of tests stands on it.
 #![tactic(auto)]
 
-ghost use Rattle.std.specs.Prelude.{◌≡◌, None, false};
+ghost use Rattle.std.specs.Prelude.{◌≡◌, IsTrue, None, false};
 ghost use Rattle.iox2_store.specs.Defaults.{default_config};
 ghost use Rattle.iox2_store.specs.declared.degradation.DegradationAction.TheVariants.{Warn};
 ghost use Rattle.iox2_store.specs.machine.Records.{Fixed};
@@ -12,7 +12,6 @@ ghost use Rattle.iox2_pubsub.specs.Slices.{HoldsSlices, IsSliced};
 use iox2_pubsub::{Domain, PortFactoryPublisher, Publisher, SendOutcome, Subscriber};
 use iox2_store::{BackpressureStrategy, Key, ReceiveError, ServiceConfig, TypeVariant};
 use std::io;
-use std::process::Abort;
 use std::time::{CpuClock, Duration};
 
 /// A payload that is neither `Copy` nor `Clone`.
@@ -156,23 +155,21 @@ pub fn receiver_count(outcome: SendOutcome) -> Option<usize> {
     }
 }
 
-/// Asserts that messages are slices of elements of one unit.
-pub fn assert_held<T: Drop, U: Default + Drop>(rt: &impl Abort, domain: &Domain<T, U>)
-    ensures holds { HoldsSlices domain.now }
-    ensures dynamic { (domain.now.config).variant ≡ Dynamic }
-    ensures one_unit { (domain.now.config).units_per_element ≡ 1 }
+/// Whether messages are slices of elements of one unit.
+pub fn holds_slices<T: Drop, U: Default + Drop>(domain: &Domain<T, U>) -> bool
+    ensures holds { IsTrue result → HoldsSlices domain.now }
+    ensures dynamic { IsTrue result → (domain.now.config).variant ≡ Dynamic }
+    ensures one_unit { IsTrue result → (domain.now.config).units_per_element ≡ 1 }
 {
     let config = domain.config();
-    assert!(rt; matches!(config.variant, TypeVariant::Dynamic));
-    assert!(rt; config.units_per_element == 1);
+    matches!(config.variant, TypeVariant::Dynamic) && config.units_per_element == 1
 }
 
-/// The same, and that the domain hands out cells.
-pub fn assert_sliced<T: Drop, U: Default + Drop>(rt: &impl Abort, domain: &Domain<T, U>)
-    ensures sliced { IsSliced domain.now }
-    ensures dynamic { (domain.now.config).variant ≡ Dynamic }
-    ensures one_unit { (domain.now.config).units_per_element ≡ 1 }
+/// Whether they are, and the domain hands out cells.
+pub fn is_sliced<T: Drop, U: Default + Drop>(domain: &Domain<T, U>) -> bool
+    ensures sliced { IsTrue result → IsSliced domain.now }
+    ensures dynamic { IsTrue result → (domain.now.config).variant ≡ Dynamic }
+    ensures one_unit { IsTrue result → (domain.now.config).units_per_element ≡ 1 }
 {
-    assert_held(rt, domain);
-    assert!(rt; domain.config().lists_cells);
+    holds_slices(domain) && domain.config().lists_cells
 }

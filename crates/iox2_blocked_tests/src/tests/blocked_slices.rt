@@ -5,7 +5,7 @@ ghost use Rattle.iox2_store.specs.declared.service_config.TypeVariant.TheVariant
 ghost use Rattle.iox2_pubsub.specs.Live.{IsReadyPublisher};
 
 use crate::tests::waiting_publishers::{blocked, delivered};
-use iox2_fixtures::{Numbers, assert_sliced, settings};
+use iox2_fixtures::{Numbers, is_sliced, settings};
 use iox2_pubsub::slice::{Publisher, SampleMut, Subscriber};
 use iox2_pubsub::{BackpressureHandler, BackpressureStrategy, BlockedSend, Domain, SendOutcome};
 use iox2_store::{BackpressureAction, SendError, ServiceConfig, TypeVariant};
@@ -49,7 +49,7 @@ fn send(
     publisher: &Publisher,
     values: &[u64],
 ) -> Result<SendOutcome, SendError> {
-    assert_sliced(rt, domain);
+    assert!(rt; is_sliced(domain));
     assert_ready(rt, domain, publisher);
     let loan = publisher.loan_slice_uninit(domain, values.len());
     let loan = loan.expect(rt, "a loan");
@@ -72,7 +72,7 @@ fn retry(
 
 // The sum of the slice that the subscriber receives next.
 fn next_sum(rt: &impl Abort, domain: &mut Numbers, subscriber: &Subscriber) -> Option<u64> {
-    assert_sliced(rt, domain);
+    assert!(rt; is_sliced(domain));
     assert!(rt; subscriber.is_in(domain));
     let sample = subscriber.receive(domain).expect(rt, "an answer")?;
     let sum = sample

@@ -1,7 +1,7 @@
 //! By which strategy a publisher's memory grows: its factory's, or else the settings'.
 
 use crate::tests::fixtures::{assert_ready, slice_factory};
-use iox2_fixtures::{Numbers, assert_sliced, settings};
+use iox2_fixtures::{Numbers, is_sliced, settings};
 use iox2_pubsub::{Domain, slice};
 use iox2_store::{AllocationStrategy, LoanError, ServiceConfig, TypeVariant};
 use std::process::Abort;
@@ -22,7 +22,7 @@ fn longer_loan(
     factory: slice::PortFactoryPublisher,
 ) -> Result<(), LoanError> {
     let publisher = factory.create(domain).expect(rt, "a publisher");
-    assert_sliced(rt, domain);
+    assert!(rt; is_sliced(domain));
     assert_ready(rt, domain, &publisher);
     let loan = publisher.loan_slice_uninit(domain, 2);
     let lent = loan.map(|loan| loan.disown());

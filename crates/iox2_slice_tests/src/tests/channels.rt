@@ -6,7 +6,7 @@ use crate::tests::fixtures::{
     assert_live, assert_ready, lend_slice, receive_slice, send_slice, slice_publisher,
     slice_subscriber,
 };
-use iox2_fixtures::{Numbers, assert_sliced, receiver_count, smallest};
+use iox2_fixtures::{Numbers, is_sliced, receiver_count, smallest};
 use iox2_pubsub::slice::{Publisher, Subscriber};
 use iox2_pubsub::{Domain, UpdateConnections};
 use iox2_store::{ServiceConfig, TypeVariant};
@@ -57,7 +57,7 @@ fn sent_to(
 
 // Whether no slice waits.
 fn gets_nothing(rt: &impl Abort, domain: &mut Numbers, subscriber: &Subscriber) -> bool {
-    assert_sliced(rt, domain);
+    assert!(rt; is_sliced(domain));
     assert_live(rt, domain, subscriber);
     match subscriber.receive(domain).expect(rt, "an answer") {
         Some(sample) => {

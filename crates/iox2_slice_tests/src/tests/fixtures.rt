@@ -7,7 +7,7 @@ ghost use Rattle.iox2_store.specs.machine.Records.{Fixed};
 ghost use Rattle.iox2_pubsub.specs.Live.{IsLivePublisher, IsLiveSample, IsLiveSubscriber, IsReadyPublisher, IsUnwritten, IsWritten, Stays};
 ghost use Rattle.iox2_pubsub.specs.Slices.{HasUnwrittenCells, IsSliced};
 
-use iox2_fixtures::{assert_sliced, receiver_count};
+use iox2_fixtures::{is_sliced, receiver_count};
 use iox2_pubsub::{Domain, slice};
 use iox2_store::BackpressureStrategy;
 use std::process::Abort;
@@ -85,7 +85,7 @@ pub(crate) fn lend_slice<T: Drop, U: Default + Drop>(
     ensures lengths { (cells : List (Option T)) → HasUnwrittenCells domain.new result.sample.loan.number cells → length cells ≡ len }
     ensures sliced { IsSliced domain.new }
 {
-    assert_sliced(rt, domain);
+    assert!(rt; is_sliced(domain));
     assert_ready(rt, domain, publisher);
     let loan = publisher.loan_slice_uninit(domain, len);
     loan.expect(rt, "a loan")
@@ -101,7 +101,7 @@ pub(crate) fn lend_defaults<T: Default + Drop, U: Default + Drop>(
     ensures loan { IsWritten domain.new result.sample }
     ensures sliced { IsSliced domain.new }
 {
-    assert_sliced(rt, domain);
+    assert!(rt; is_sliced(domain));
     assert_ready(rt, domain, publisher);
     let loan = publisher.loan_slice(domain, len);
     loan.expect(rt, "a loan")
@@ -149,7 +149,7 @@ pub(crate) fn receive_slice<T: Drop, U: Default + Drop>(
     ensures sample { IsLiveSample domain.new result.sample }
     ensures sliced { IsSliced domain.new }
 {
-    assert_sliced(rt, domain);
+    assert!(rt; is_sliced(domain));
     assert_live(rt, domain, subscriber);
     let received = subscriber.receive(domain).expect(rt, "an answer");
     received.expect(rt, "a sample")

@@ -8,7 +8,7 @@ use crate::tests::fixtures::{
     assert_live, assert_ready, close_publisher, close_subscriber, receive_slice, send_slice,
     slice_factory, slice_subscriber,
 };
-use iox2_fixtures::{Numbers, assert_sliced, smallest};
+use iox2_fixtures::{Numbers, is_sliced, smallest};
 use iox2_pubsub::slice::{Publisher, Sample, SampleMutUninit};
 use iox2_pubsub::{CustomHeaderMarker, CustomPayloadMarker, Domain};
 use iox2_store::{AllocationStrategy, LoanError, ServiceConfig, TypeVariant};
@@ -48,7 +48,7 @@ fn lend(
     ensures loan { IfOk result (λ loan. IsUnwritten domain.new loan.sample) }
     ensures stays { Stays domain.old domain.new }
 {
-    assert_sliced(rt, domain);
+    assert!(rt; is_sliced(domain));
     assert_ready(rt, domain, publisher);
     publisher.loan_slice_uninit(domain, len)
 }
@@ -76,7 +76,7 @@ fn send(rt: &impl Abort, domain: &mut Numbers, publisher: &Publisher, len: usize
 
 // Whether the sample is that many times this value.
 fn reads(rt: &impl Abort, domain: &Numbers, sample: &Sample, len: usize, value: u64) -> bool {
-    assert_sliced(rt, domain);
+    assert!(rt; is_sliced(domain));
     assert!(rt; domain.holds_sample(sample.key()));
     let payload = sample.payload(domain);
     payload.len() == len && payload.iter().all(|read| *read == value)
@@ -193,7 +193,7 @@ fn kept_below(rt: &impl Abort, alloc: Global, strategy: AllocationStrategy, end:
         .allocation_strategy(strategy);
     let publisher = factory.create(&mut domain).expect(rt, "a publisher");
     for len in 2..end {
-        assert_sliced(rt, &domain);
+        assert!(rt; is_sliced(&domain));
         assert_ready(rt, &domain, &publisher);
         let loan = publisher
             .loan_slice_uninit(&mut domain, len)

@@ -1,7 +1,7 @@
 //! Loans of slices that are written, and say where their values begin.
 
 use crate::tests::fixtures::{receive_slice, send_slice, slice_publisher, slice_subscriber};
-use iox2_fixtures::{Numbers, assert_sliced, settings};
+use iox2_fixtures::{Numbers, is_sliced, settings};
 use iox2_pubsub::Domain;
 use iox2_pubsub::slice::LocatedLoan;
 use iox2_store::{ServiceConfig, TypeVariant};
@@ -18,7 +18,7 @@ fn slices() -> ServiceConfig {
 fn a_loan_of_default_values_says_where_they_begin(rt: HostRuntime) {
     let mut domain: Numbers = Domain::new(rt.alloc(), slices()).expect(&rt, "a domain");
     let publisher = slice_publisher(&rt, &mut domain, 16);
-    assert_sliced(&rt, &domain);
+    assert!(rt; is_sliced(&domain));
     let lent = publisher.loan_slice_located(&mut domain, 3);
     let LocatedLoan { loan, start } = lent.expect(&rt, "a loan");
     let is_read = loan.payload(&domain) == [0, 0, 0].as_slice();
@@ -40,7 +40,7 @@ fn a_loan_that_nobody_wrote_says_where_its_values_begin(rt: HostRuntime) {
     let mut domain: Numbers = Domain::new(rt.alloc(), slices()).expect(&rt, "a domain");
     let subscriber = slice_subscriber(&rt, &mut domain);
     let publisher = slice_publisher(&rt, &mut domain, 16);
-    assert_sliced(&rt, &domain);
+    assert!(rt; is_sliced(&domain));
     let lent = publisher.loan_unspecified_located(&mut domain, 5);
     publisher.disown();
     let LocatedLoan { loan, start } = lent.expect(&rt, "a loan");

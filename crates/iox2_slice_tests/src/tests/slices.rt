@@ -9,7 +9,7 @@ use crate::tests::fixtures::{
     assert_live, assert_ready, close_publisher, close_subscriber, lend_defaults, lend_slice,
     receive_slice, send_slice, slice_factory, slice_publisher, slice_subscriber,
 };
-use iox2_fixtures::{Costly, Numbers, assert_sliced, costly_time, micros_since, settings};
+use iox2_fixtures::{Costly, Numbers, costly_time, is_sliced, micros_since, settings};
 use iox2_pubsub::slice::{Publisher, SampleMut, SampleMutUninit, Subscriber};
 use iox2_pubsub::{DegradationHandler, Domain, UpdateConnections};
 use iox2_store::{DegradationAction, LoanError, PublisherCreateError, ServiceConfig, TypeVariant};
@@ -161,7 +161,7 @@ fn lent_length(
 ) -> Result<u64, LoanError>
     ensures { Stays domain.old domain.new }
 {
-    assert_sliced(rt, domain);
+    assert!(rt; is_sliced(domain));
     assert_ready(rt, domain, publisher);
     let loan = publisher.loan_slice_uninit(domain, slice_len)?;
     let elements = loan.header(domain).number_of_elements();

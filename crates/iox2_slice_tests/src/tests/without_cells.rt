@@ -5,7 +5,7 @@ ghost use Rattle.iox2_pubsub.specs.Slices.{HoldsSlices};
 use crate::tests::fixtures::{
     assert_live, assert_ready, send_slice, slice_publisher, slice_subscriber,
 };
-use iox2_fixtures::{Numbers, assert_held, settings};
+use iox2_fixtures::{Numbers, holds_slices, settings};
 use iox2_pubsub::Domain;
 use iox2_pubsub::slice::{Publisher, Sample, SampleMutUninit, Subscriber};
 use iox2_store::{ServiceConfig, TypeVariant};
@@ -25,7 +25,7 @@ fn lend(rt: &impl Abort, domain: &mut Numbers, publisher: &Publisher, len: usize
     ensures loan { IsUnwritten domain.new result.sample }
     ensures holds { HoldsSlices domain.new }
 {
-    assert_held(rt, domain);
+    assert!(rt; holds_slices(domain));
     assert_ready(rt, domain, publisher);
     let loan = publisher.loan_slice_uninit(domain, len);
     loan.expect(rt, "a loan")
@@ -36,7 +36,7 @@ fn receive(rt: &impl Abort, domain: &mut Numbers, subscriber: &Subscriber) -> Sa
     ensures sample { IsLiveSample domain.new result.sample }
     ensures holds { HoldsSlices domain.new }
 {
-    assert_held(rt, domain);
+    assert!(rt; holds_slices(domain));
     assert_live(rt, domain, subscriber);
     let received = subscriber.receive(domain).expect(rt, "an answer");
     received.expect(rt, "a sample")
