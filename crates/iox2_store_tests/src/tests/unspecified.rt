@@ -42,6 +42,16 @@ fn what_nobody_writes_lay_there_before(rt: HostRuntime) {
     assert!(rt; first && longer && shorter && as_before);
 }
 
+// Whether the loan in the first slot ends, and the next one there has three cells that aren't written.
+fn starts_anew(contents: &mut Contents<u64, u64>) -> bool
+    requires slots { length contents.old ≡ 2 }
+    requires room { SomeAt contents.old 0 (λ content. (content.is_in_place ≡ false) × (content.lists ≡ 3) × (content.room ≡ 5)) }
+{
+    contents.end(0);
+    start(contents, 0, 3);
+    contents.cells(0) == [None, None, None].as_slice()
+}
+
 #[test]
 fn cells_of_one_loan_are_no_other_s(rt: HostRuntime) {
     let mut contents = five(&rt, rt.alloc());
@@ -52,9 +62,7 @@ fn cells_of_one_loan_are_no_other_s(rt: HostRuntime) {
     }
     let written = contents.cells(0) == [None, Some(3), None, None, None].as_slice();
     let beside = contents.cells(1) == [None, None].as_slice();
-    contents.end(0);
-    start(&mut contents, 0, 3);
-    let again = contents.cells(0) == [None, None, None].as_slice();
+    let again = starts_anew(&mut contents);
     drop(contents);
     assert!(rt; written && beside && again);
 }
