@@ -45,10 +45,10 @@ fn sent_to(
     channel: usize,
     connection: usize,
 ) -> usize {
-    assert_has_channel(rt, domain, channel);
     let loan = lend_slice(rt, domain, publisher, 1);
     let message = loan.write_from_fn(domain, |_| value);
     assert!(rt; !message.is_blocked(domain));
+    assert_has_channel(rt, domain, channel);
     let outcome = message
         .deliver_offset_to_connection(domain, channel, connection)
         .expect(rt, "an outcome");
