@@ -51,15 +51,7 @@ pub(crate) fn grow<T: Drop, U: Default + Drop>(
     let in_lists = !state.config.is_single_valued();
     let lists = lists_wanted(&state.config, publisher.max_loaned_samples);
     let book = &mut state.books[key];
-    let Ok(start) = add_slots(
-        state.alloc,
-        book,
-        contents,
-        slots,
-        room,
-        in_lists,
-        lists,
-    ) else {
+    let Ok(start) = add_slots(state.alloc, book, contents, slots, room, in_lists, lists) else {
         return Err(LoanError::InternalFailure);
     };
     publisher.segment_start = start;

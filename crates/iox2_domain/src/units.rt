@@ -28,5 +28,9 @@ pub fn segment_size(slots: usize, len: usize, units: usize) -> Option<usize>
 pub fn lists_wanted(config: &ServiceConfig, max_loaned_samples: usize) -> usize
     ensures { result ≡ lists_wanted config.now max_loaned_samples }
 {
-    if config.lists_cells { max_loaned_samples.max(1) } else { 0 }
+    if config.lists_cells {
+        max_loaned_samples.max(1)
+    } else {
+        0
+    }
 }

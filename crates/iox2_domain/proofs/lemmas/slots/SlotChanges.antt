@@ -80,10 +80,13 @@ lists-changed {T} {U} contents key slot cs at_c g listed = record {
     | inl here ↦
         let found : Some (with_changed cs slot g) ≡ Some zs =
         sym (set-here contents key cs (with_changed cs slot g) at_c) ∙ sym (ap (λ (j : ℕ). get_or (slice_set contents key (Some (with_changed cs slot g))) j None) here) ∙ there in
-        let is : with_changed cs slot g ≡ zs = cc in
-        (cs, ap (λ (j : ℕ). get_or contents j None) here ∙ at_c, λ n all.
-            subst (All (λ (content : ContentState T U). content.lists ≡ n)) is
-            (all-changed (λ (content : ContentState T U). content.lists ≡ n) g (λ content had. listed content ∙ had) cs slot all))
+        let is : with_changed cs slot g ≡ zs = cc in (
+          cs,
+          ap (λ (j : ℕ). get_or contents j None) here ∙ at_c,
+          λ n all.
+              subst (All (λ (content : ContentState T U). content.lists ≡ n)) is
+              (all-changed (λ (content : ContentState T U). content.lists ≡ n) g (λ content had. listed content ∙ had) cs slot all),
+        )
     | inr away ↦ (zs, sym (set-others contents key cs (with_changed cs slot g) at_c k away) ∙ there, λ n all. all)
   ];
 }
