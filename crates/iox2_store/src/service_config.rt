@@ -36,9 +36,9 @@ pub struct ServiceConfig {
     /// size of an element in bytes.
     pub units_per_element: usize,
     /// Whether the cells of an unwritten slice are handed out, by `payload` and `payload_mut` of
-    /// `slice::SampleMutUninit`. They take room for an `Option` of each element in each slot, beside
-    /// the room for the values, and once more in each segment: for bytes two thirds of the memory. A
-    /// domain whose loans are written by other calls can do without.
+    /// `slice::SampleMutUninit`. A publisher then has lists of cells, each with an `Option` for each
+    /// element of its longest slice: one list for each loan that may be out, and one for all loans
+    /// whose cells nobody changed. A domain whose loans are written by other calls can do without.
     pub lists_cells: bool,
     /// How many publishers may be open at a time.
     pub max_publishers: usize,
@@ -52,8 +52,9 @@ pub struct ServiceConfig {
     pub subscriber_max_borrowed_samples: usize,
     /// How many of its last messages a publisher keeps for subscribers that connect later.
     pub history_size: usize,
-    /// How many channels each connection has, numbered from 0. Here 0 counts as 1. Each has a state and
-    /// a hint of its own. So far messages go through channel 0 alone.
+    /// How many channels each connection has, numbered from 0. Here 0 counts as 1. Each has a state, a
+    /// hint and a buffer of its own. A send goes through channel 0, and a loan that is sent to one
+    /// connection through the channel that its call names.
     pub number_of_channels: usize,
     /// Whether a message that finds a full buffer pushes the oldest waiting one out. If not, the
     /// publisher's handler or strategy decides.
