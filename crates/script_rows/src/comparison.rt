@@ -1,5 +1,6 @@
 //! What a row says beside what is printed for its script.
 use crate::failure::Failure;
+use crate::no_channels::replies_without_channels;
 use crate::row::Row;
 use script_runner::{Ending, script};
 use std::io;
@@ -52,7 +53,8 @@ impl Comparison {
     }
 }
 
-/// Runs the script of a row, and prints each difference.
+/// Runs the script of a row, and prints each difference. The replies have to be the same where the service
+/// asks for no channels.
 pub(crate) fn compare(rt: &HostRuntime, row: &Row) -> Result<Comparison, Failure> {
     let mut input = row.script.as_bytes();
     let mut replies = Vec::new(rt.alloc());
@@ -66,6 +68,11 @@ pub(crate) fn compare(rt: &HostRuntime, row: &Row) -> Result<Comparison, Failure
     };
     comparison.add(rt, &row.script, &row.replies, text_of(&replies))?;
     comparison.add(rt, "", &row.warnings, text_of(&warnings))?;
+    let without_channels = replies_without_channels(rt.alloc(), &row.script);
+    if comparison.is_run && without_channels.as_deref() != Some(text_of(&replies)) {
+        comparison.further = comparison.further.saturating_add(1);
+        println!(rt; "    got other replies with 0 channels")?;
+    }
     Ok(comparison)
 }
 

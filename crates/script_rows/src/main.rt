@@ -3,6 +3,7 @@
 
 mod comparison;
 mod failure;
+mod no_channels;
 mod row;
 mod rows;
 mod tally;
