@@ -48,7 +48,8 @@ impl Sample {
         sample_payloads(&domain.state, &self.sample.sample)
     }
 
-    /// The same, where the message lies in the slot that its handle names. This library's own.
+    /// The same, where the message lies in the slot that its handle names, and `None` elsewhere: so
+    /// nothing is searched. This library's own.
     #[inline(always)]
     pub fn payload_at_hint<'a, T: Drop, U: Default + Drop, F: BackpressureFn, G: DegradationFn>(
         &self,
@@ -62,7 +63,9 @@ impl Sample {
         sample_values_at_hint(&domain.state, &self.sample.sample)
     }
 
-    /// Gives the message back.
+    /// Gives the message back, as a sample of a single value is. Takes no memory.
+    ///
+    /// iceoryx2's `Sample`, when it is dropped (`src/sample.rs`).
     #[inline(always)]
     pub fn release<T: Drop, U: Default + Drop, F: BackpressureFn, G: DegradationFn>(
         self,

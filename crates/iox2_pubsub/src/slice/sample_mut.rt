@@ -57,7 +57,10 @@ impl SampleMut {
         loan_values(&domain.state, &self.sample.loan)
     }
 
-    /// Sends the message, as the loan of a single value is sent. Its payload isn't touched.
+    /// Sends the message, as the loan of a single value is sent, and fails as that does. Its payload
+    /// isn't touched.
+    ///
+    /// iceoryx2's `SampleMut::send` (`src/sample_mut.rs`).
     #[inline(always)]
     pub fn send<T: Drop, U: Default + Drop, F: BackpressureFn, G: DegradationFn>(
         self,
@@ -92,8 +95,13 @@ impl SampleMut {
         sample.send(domain)
     }
 
-    /// Sends the message into one channel of one connection, as the loan of a single value is sent
-    /// there.
+    /// Sends the message into one channel of one of its publisher's connections, as the loan of a
+    /// single value is sent there, and fails as that does. `channel` is the number of the channel, below
+    /// `number_of_channels` of the settings, and `connection` the place of the connection, as
+    /// `get_connection_id_of` of the publisher tells it. Takes no memory.
+    ///
+    /// iceoryx2's `Sender::deliver_offset_to_connection` (`src/port/details/sender.rs`), which is
+    /// internal.
     pub fn deliver_offset_to_connection<
         T: Drop,
         U: Default + Drop,
@@ -127,7 +135,9 @@ impl SampleMut {
         sample.deliver_offset_to_connection(domain, channel, connection)
     }
 
-    /// Gives the loan back unsent.
+    /// Gives the loan back unsent, as that of a single value is. Takes no memory.
+    ///
+    /// iceoryx2's `SampleMut`, when it is dropped (`src/sample_mut.rs`).
     pub fn discard<T: Drop, U: Default + Drop, F: BackpressureFn, G: DegradationFn>(
         self,
         domain: &mut Domain<T, U, F, G>,

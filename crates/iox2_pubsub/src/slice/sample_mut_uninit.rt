@@ -159,7 +159,9 @@ impl SampleMutUninit {
         }
     }
 
-    /// Gives the loan back without a payload.
+    /// Gives the loan back without a payload, as that of a single value is. Takes no memory.
+    ///
+    /// iceoryx2's `SampleMutUninit`, when it is dropped (`src/sample_mut_uninit.rs`).
     pub fn discard<T: Drop, U: Default + Drop, F: BackpressureFn, G: DegradationFn>(
         self,
         domain: &mut Domain<T, U, F, G>,

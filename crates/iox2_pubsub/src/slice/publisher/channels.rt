@@ -16,8 +16,11 @@ impl Publisher {
     ghost use Rattle.iox2_pubsub.specs.Handles.{as_publisher, publisher_id, subscriber_id};
     ghost use Rattle.iox2_domain.specs.Shows.{Shows};
 
-    /// Names the publisher's connection to a subscriber, where it has one: by the subscriber's
-    /// place.
+    /// Names the publisher's connection to a subscriber, by the subscriber's place: for the calls on
+    /// its channels, and for `SampleMut::deliver_offset_to_connection`. `receiver_port_id` is the
+    /// number of the subscriber's id. `None` where the publisher has no connection to it: that to a
+    /// new subscriber comes with the publisher's next send or update, and that to a closed one goes
+    /// with a later one.
     ///
     /// iceoryx2's `Sender::get_connection_id_of` (`src/port/details/sender.rs`), which is internal.
     pub fn get_connection_id_of<T: Drop, U: Default + Drop, F: BackpressureFn, G: DegradationFn>(
@@ -33,8 +36,10 @@ impl Publisher {
             .get_connection_id_of(domain, receiver_port_id)
     }
 
-    /// Whether a channel is in a state at a connection. `channel` is its number, below
-    /// `number_of_channels` of the settings. It isn't, where there is no such connection.
+    /// Whether a channel is in a state at a connection: 0 is that of a new channel, `u64::MAX` that of
+    /// a closed one, and any other the caller's. `channel` is its number, below `number_of_channels`
+    /// of the settings, and `connection` the place that `get_connection_id_of` tells. It isn't, where
+    /// there is no such connection.
     ///
     /// iceoryx2's `Sender::has_channel_state` (`src/port/details/sender.rs`), which is internal.
     pub fn has_channel_state<T: Drop, U: Default + Drop, F: BackpressureFn, G: DegradationFn>(
@@ -53,8 +58,9 @@ impl Publisher {
             .has_channel_state(domain, channel, connection, state)
     }
 
-    /// Whether a channel is in a state at a connection, and a disconnect was hinted since it came
-    /// into that. None was, where there is no such connection.
+    /// Whether a channel is in a state at a connection, and the subscriber has hinted there that it is
+    /// about to disconnect. A change of the state takes the hint away. Both are numbered as for
+    /// `has_channel_state`; `false` where there is no such connection.
     ///
     /// iceoryx2's `Sender::has_disconnect_hint` (`src/port/details/sender.rs`), which is internal.
     pub fn has_disconnect_hint<T: Drop, U: Default + Drop, F: BackpressureFn, G: DegradationFn>(
@@ -74,8 +80,7 @@ impl Publisher {
     }
 
     /// Closes a channel at a connection, where it is in the state `expected`, as a publisher of single
-    /// values does. `channel` is its number, below `number_of_channels` of the settings. Takes no
-    /// memory.
+    /// values does. Both are numbered as for `has_channel_state`. Takes no memory.
     ///
     /// iceoryx2's `Sender::close_channel` (`src/port/details/sender.rs`), which is internal.
     pub fn close_channel<T: Drop, U: Default + Drop, F: BackpressureFn, G: DegradationFn>(

@@ -16,9 +16,9 @@ impl Subscriber {
     ghost use Rattle.iox2_pubsub.specs.Handles.{as_subscriber, subscriber_id};
     ghost use Rattle.iox2_domain.specs.Shows.{Shows};
 
-    /// Whether a channel is in a state at some connection of the subscriber. `channel` is its
-    /// number, below `number_of_channels` of the settings. It isn't, where the subscriber has no
-    /// connection.
+    /// Whether a channel is in a state at some connection of the subscriber: 0 is that of a new
+    /// channel, `u64::MAX` that of a closed one, and any other the caller's. `channel` is its number,
+    /// below `number_of_channels` of the settings. It isn't, where the subscriber has no connection.
     ///
     /// iceoryx2's `Receiver::at_least_one_channel_has_state` (`src/port/details/receiver.rs`), which
     /// is internal.
