@@ -19,10 +19,10 @@ returns-then-not-assume_init g c =
       ap contents_of (set-same c.self.inside.slots.items c.args.slot _ _ read.0 (c.assume_init.ensures.refused c.if-not-assume_init.true)) ∙ c.self.view_is,
     )
 
-pub settle-requires-clause-lists : goal.settle-requires-clause-lists
-settle-requires-clause-lists g c =
+pub settle-requires : goal.settle-requires
+settle-requires g c =
     let read = content_read c.self.inside.slots.items _ c.args.slot (λ content. content.is_in_place ≡ true → length content.cells ≡ 1) _ c.self.view_is c.requires c.index_mut.ensures.value in
-    written-lists _ _ _ _ c.args.slot _ read.0 c.self.invariant.2 _ _ (c.assume_init.ensures.written c.if-not-assume_init.false)
+    rw c.deref_mut.ensures.value (written-lists _ _ _ _ c.args.slot _ read.0 c.self.invariant _ _ (c.assume_init.ensures.written c.if-not-assume_init.false))
 
 pub returns : goal.returns
 returns g c =

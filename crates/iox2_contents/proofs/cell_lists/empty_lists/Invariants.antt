@@ -1,5 +1,5 @@
 use Rattle.std.proofs.Common.{◌≡◌, ◌≤◌, [], length, vec_capacity, All}
-use Rattle.iox2_contents.proofs.lists.cell_lists.Given as goal
+use Rattle.iox2_contents.proofs.cell_lists.empty_lists.Given as goal
 
 abbrev pub invariant-loop : goal.invariant-loop
 invariant-loop g l = record {
