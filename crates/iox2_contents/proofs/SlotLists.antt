@@ -247,6 +247,22 @@ module _ {T U : Type 0} where
     pub ended-lists : HasLists most spare spare_room xs → (t : SlotState T U) → t ≡ with_content ended_content s → HasListsBut i most spare spare_room (slice_set xs i t)
     ended-lists has t is = rw is (ended (with_content ended_content s) has (of-all (ShowsAtMost most) has.shown) refl refl refl)
 
+    -- the slot has a list then where it had one before
+    still-has : (y : SlotState T U) → y ≡ get_or xs i y → (had : Bool) → had ≡ has_list y → (f : ContentState T U → ContentState T U) → (f s.content).lists ≡ s.content.lists
+        → (t : SlotState T U) → t ≡ with_content f s → IsSomeAnd (slice_get (slice_set xs i t) i) (λ z. has_list z ≡ had)
+    still-has y read had known f same t is =
+        let there : y ≡ s = read ∙ reads xs i s y at in
+        let has : has_list t ≡ had = rw (is, same, known, there) refl in
+        subst (λ o. IsSomeAnd o (λ z. has_list z ≡ had)) (sym (set-here xs i s t at)) has
+
+    pub written-has : (y : SlotState T U) → y ≡ get_or xs i y → (had : Bool) → had ≡ has_list y → (values : List T) (t : SlotState T U) → t ≡ with_content (written_content values) s
+        → IsSomeAnd (slice_get (slice_set xs i t) i) (λ z. has_list z ≡ had)
+    written-has y read had known values t is = still-has y read had known (written_content values) refl t is
+
+    pub ended-has : (y : SlotState T U) → y ≡ get_or xs i y → (had : Bool) → had ≡ has_list y → (t : SlotState T U) → t ≡ with_content ended_content s
+        → IsSomeAnd (slice_get (slice_set xs i t) i) (λ z. has_list z ≡ had)
+    ended-has y read had known t is = still-has y read had known ended_content refl t is
+
     -- a loan starts in a slot whose last one has no cells any more
     pub started-lists : HasLists most spare spare_room xs → (header : U) (len : ℕ) (t : SlotState T U) → t ≡ with_content (unwritten_content header len) s
         → (0 < s.content.lists → s.content.cells ≡ []) → (0 < s.content.lists → open_count (contents_of xs) < s.content.lists) → HasLists most spare spare_room (slice_set xs i t)

@@ -1,6 +1,5 @@
 //! The lists that a publisher keeps for the cells of its loans.
 ghost use Rattle.std.specs.Prelude.{◌≡◌, ◌<◌, ◌≤◌, ◌+◌, [], length, replicate, vec_capacity, None, IfOk};
-ghost use Rattle.std.specs.List.{All};
 
 use crate::cells::push_unwritten;
 use std::alloc::{AllocError, Global};
@@ -9,28 +8,26 @@ use std::marker::Model;
 /// Cells for each loan to show, and lists for those that have to be listed.
 #[derive(Drop)]
 pub(crate) struct CellLists<T> {
-    // Unwritten cells for each loan to show that hasn't listed its own.
-    unwritten: Vec<Option<T>>,
-    // As many lists as loans may be out, but for those that loans have.
-    spare: Vec<Vec<Option<T>>>,
+    // The first has unwritten cells for each loan to show that hasn't listed its own, and is never
+    // handed out. The others are spare: as many as loans may be out, but for those that loans have.
+    lists: Vec<Vec<Option<T>>>,
 }
 
 impl<T> Model for CellLists<T> {
-    ghost use Rattle.std.specs.Prelude.{◌≡◌, ◌≤◌, [], None, length, replicate, vec_capacity};
-    ghost use Rattle.std.specs.List.{All};
-    ghost use Rattle.iox2_contents.specs.SpareLists.{SpareLists};
+    ghost use Rattle.std.specs.Prelude.{◌≡◌, ◌≤◌, ◌-◌, [], None, length, replicate, vec_capacity};
+    ghost use Rattle.iox2_contents.specs.SpareLists.{SpareLists, FirstAnd, of_first};
 
     ghost Value = { SpareLists };
 
-    ghost view = { λ lists. record {
-      most = length lists.unwritten.items;
-      spare = length lists.spare.items;
-      room = vec_capacity lists.spare;
+    ghost view = { λ kept. record {
+      most = of_first (λ list. length list.items) kept.lists.items;
+      spare = length kept.lists.items - 1;
+      room = vec_capacity kept.lists - 1;
     } };
 
-    // Each list is empty, and long enough for the longest loan.
-    ghost invariant = { λ lists. (lists.unwritten.items ≡ replicate (length lists.unwritten.items) None)
-        × All (λ list. (list.items ≡ []) × (length lists.unwritten.items ≤ vec_capacity list)) lists.spare.items };
+    // The cells to show are unwritten, and each other list is empty and has room for as many.
+    ghost invariant = { λ kept. FirstAnd (λ shown. shown.items ≡ replicate (length shown.items) None)
+        (λ shown list. (list.items ≡ []) × (length shown.items ≤ vec_capacity list)) kept.lists.items };
 }
 
 impl<T: Drop> CellLists<T> {
@@ -40,9 +37,15 @@ impl<T: Drop> CellLists<T> {
         ensures spare { IfOk result (λ lists. lists.spare ≡ count) }
         ensures room { IfOk result (λ lists. lists.room ≡ count) }
     {
-        let unwritten = unwritten_cells(alloc, longest)?;
-        let spare = empty_lists(alloc, count, longest)?;
-        Ok(CellLists { unwritten, spare })
+        let Some(all) = count.checked_add(1) else {
+            return Err(AllocError);
+        };
+        let mut lists = Vec::with_capacity(alloc, all)?;
+        lists.push_reserved(unwritten_cells(alloc, longest)?);
+        for _ in 0..count {
+            lists.push_reserved(Vec::with_capacity(alloc, longest)?);
+        }
+        Ok(CellLists { lists })
     }
 
     /// Takes back a list of a loan. One is long enough that has room for as many cells as can be
@@ -54,8 +57,8 @@ impl<T: Drop> CellLists<T> {
         ensures kept { self.old.spare ≤ self.new.spare }
         ensures back { self.old.most ≤ vec_capacity list → self.old.spare < self.old.room → self.new.spare ≡ self.old.spare + 1 }
     {
-        if list.capacity() >= self.unwritten.len() && self.spare.len() < self.spare.capacity() {
-            self.spare.push_reserved(list);
+        if list.capacity() >= self.lists[0].len() && self.lists.len() < self.lists.capacity() {
+            self.lists.push_reserved(list);
         }
     }
 
@@ -68,7 +71,7 @@ impl<T: Drop> CellLists<T> {
         ensures room { self.new.room ≡ self.old.room }
         ensures less { self.new.spare + 1 ≡ self.old.spare }
     {
-        let Some(list) = self.spare.pop() else {
+        let Some(list) = self.lists.pop() else {
             unreachable!()
         };
         list
@@ -80,14 +83,14 @@ impl<T> CellLists<T> {
     pub(crate) fn unwritten(&self) -> &[Option<T>]
         ensures { result.now ≡ replicate self.now.most None }
     {
-        self.unwritten.as_slice()
+        self.lists[0].as_slice()
     }
 
     /// How many cells a loan may have to show.
     pub(crate) fn longest(&self) -> usize
         ensures { result ≡ self.now.most }
     {
-        self.unwritten.len()
+        self.lists[0].len()
     }
 }
 
@@ -98,21 +101,4 @@ fn unwritten_cells<T: Drop>(alloc: Global, count: usize) -> Result<Vec<Option<T>
     let mut cells = Vec::with_capacity(alloc, count)?;
     push_unwritten(&mut cells, count);
     Ok(cells)
-}
-
-// So many empty lists, each with room for so many cells.
-fn empty_lists<T: Drop>(
-    alloc: Global,
-    count: usize,
-    room: usize,
-) -> Result<Vec<Vec<Option<T>>>, AllocError>
-    ensures count { IfOk result (λ lists. length lists.items ≡ count) }
-    ensures capacity { IfOk result (λ lists. vec_capacity lists ≡ count) }
-    ensures empty { IfOk result (λ lists. All (λ list. (list.items ≡ []) × (room ≤ vec_capacity list)) lists.items) }
-{
-    let mut lists = Vec::with_capacity(alloc, count)?;
-    for _ in 0..count {
-        lists.push_reserved(Vec::with_capacity(alloc, room)?);
-    }
-    Ok(lists)
 }

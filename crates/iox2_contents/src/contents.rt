@@ -1,5 +1,5 @@
 //! The contents of a publisher's slots.
-ghost use Rattle.std.specs.Prelude.{◌≡◌, ◌<◌, ◌≤◌, List, [], ◌∷◌, length, replicate, true, false, None, Some, IfOk, OnOk, OnErr};
+ghost use Rattle.std.specs.Prelude.{◌≡◌, ◌<◌, ◌≤◌, List, [], ◌∷◌, length, true, false, Some, IfOk, OnOk, OnErr};
 ghost use Rattle.std.specs.Borrow.{sem};
 ghost use Rattle.std.specs.List.{All};
 ghost use Rattle.iox2_contents.specs.SlotCalls.{AnswersInOrder};
@@ -21,9 +21,9 @@ use std::marker::Model;
 #[derive(Drop)]
 pub struct Contents<T, U> {
     slots: Vec<Content<T, U>>,
-    // In a box, so that the contents take no more memory than a slot of a slab finds by one step
-    // (docs/decisions/cost.md, "The contents of a publisher take 40 bytes").
-    lists: Box<CellLists<T>>,
+    // One vector more, and no third: the contents take 48 bytes, so that an entry of a slab is found by
+    // one multiplication (docs/decisions/cost.md, "The contents of a publisher take 48 bytes").
+    lists: CellLists<T>,
 }
 
 impl<T, U> Model for Contents<T, U> {
@@ -37,7 +37,7 @@ impl<T, U> Model for Contents<T, U> {
     ghost view = { λ contents. contents_of contents.slots.items };
 
     // The longest loan may show unwritten cells, and each loan that may be out finds a list for its own.
-    ghost invariant = { λ contents. HasLists contents.lists.value.most contents.lists.value.spare contents.lists.value.room contents.slots.items };
+    ghost invariant = { λ contents. HasLists contents.lists.most contents.lists.spare contents.lists.room contents.slots.items };
 }
 
 impl<T: Drop, U: Default + Drop> Contents<T, U> {
@@ -68,10 +68,7 @@ impl<T: Drop, U: Default + Drop> Contents<T, U> {
         let longest = shown_cells(room, in_lists, lists);
         let slots = new_slots(alloc, slots, room, in_lists, lists)?;
         let lists = CellLists::new(alloc, lists, longest)?;
-        Ok(Contents {
-            slots,
-            lists: Box::new(alloc, lists)?,
-        })
+        Ok(Contents { slots, lists })
     }
 
     /// So many slots more, each with room for so many elements, behind those that are there, as `new`
@@ -99,7 +96,7 @@ impl<T: Drop, U: Default + Drop> Contents<T, U> {
         }
         let longer = CellLists::new(alloc, lists, longest)?;
         self.slots.append(&mut added)?;
-        *self.lists = longer;
+        self.lists = longer;
         Ok(())
     }
 
@@ -130,8 +127,9 @@ impl<T: Drop, U: Default + Drop> Contents<T, U> {
         requires { slot < length self.old }
         ensures { self.new ≡ with_changed self.old slot ended_content }
     {
+        let had_list = self.slots[slot].has_list();
         self.slots[slot].end();
-        settle(&mut self.slots, &mut self.lists, slot);
+        settle(&mut self.slots, &mut self.lists, slot, had_list);
     }
 
     /// Writes the value of a loan of one element, which then counts as written.
@@ -139,8 +137,9 @@ impl<T: Drop, U: Default + Drop> Contents<T, U> {
         requires { SomeAt self.old slot (λ content. length content.cells ≡ 1) }
         ensures { self.new ≡ with_changed self.old slot (written_content (value ∷ [])) }
     {
+        let had_list = self.slots[slot].has_list();
         self.slots[slot].write_payload(value);
-        settle(&mut self.slots, &mut self.lists, slot);
+        settle(&mut self.slots, &mut self.lists, slot, had_list);
     }
 
     /// Writes into each cell of the slot's loan what the function returns for its index. It is
@@ -151,8 +150,9 @@ impl<T: Drop, U: Default + Drop> Contents<T, U> {
         requires in_lists { SomeAt self.old slot (λ content. content.is_in_place ≡ false) }
         ensures { (answers : List T) × AnswersInOrder F.step f answers × WritesValues self.old self.new slot answers }
     {
+        let had_list = self.slots[slot].has_list();
         self.slots[slot].write_from_fn(f);
-        settle(&mut self.slots, &mut self.lists, slot);
+        settle(&mut self.slots, &mut self.lists, slot, had_list);
     }
 
     /// Takes the cells of the slot's loan as its values, where each is written. Returns whether it
@@ -161,10 +161,11 @@ impl<T: Drop, U: Default + Drop> Contents<T, U> {
         requires { SomeAt self.old slot (λ content. content.is_in_place ≡ true → length content.cells ≡ 1) }
         ensures { AssumesWritten self.old self.new slot result }
     {
+        let had_list = self.slots[slot].has_list();
         if !self.slots[slot].assume_init() {
             return false;
         }
-        settle(&mut self.slots, &mut self.lists, slot);
+        settle(&mut self.slots, &mut self.lists, slot, had_list);
         true
     }
 }
@@ -176,8 +177,9 @@ impl<T: Copy + Drop, U: Default + Drop> Contents<T, U> {
         requires { SomeAt self.old slot (λ content. (content.is_in_place ≡ false) × (length values.now ≡ length content.cells)) }
         ensures { WritesValues self.old self.new slot values.now }
     {
+        let had_list = self.slots[slot].has_list();
         self.slots[slot].write_from_slice(values);
-        settle(&mut self.slots, &mut self.lists, slot);
+        settle(&mut self.slots, &mut self.lists, slot, had_list);
     }
 }
 
@@ -189,8 +191,9 @@ impl<T: Copy + Default + Drop, U: Default + Drop> Contents<T, U> {
         requires { SomeAt self.old slot (λ content. content.is_in_place ≡ false) }
         ensures { (values : List T) × WritesValues self.old self.new slot values }
     {
+        let had_list = self.slots[slot].has_list();
         self.slots[slot].write_unspecified();
-        settle(&mut self.slots, &mut self.lists, slot);
+        settle(&mut self.slots, &mut self.lists, slot, had_list);
     }
 }
 

@@ -1,23 +1,26 @@
 //! Lists for the cells of the loans that are out.
-ghost use Rattle.std.specs.Prelude.{◌≡◌, ◌<◌, ◌≤◌, length, true, false, IsSomeAnd, slice_get};
+ghost use Rattle.std.specs.Prelude.{◌≡◌, ◌<◌, length, true, false, IsSomeAnd, slice_get};
 ghost use Rattle.iox2_contents.specs.SlotStates.{contents_of, has_list, waits};
 ghost use Rattle.iox2_contents.specs.SlotRooms.{HasLists, HasListsBut};
 
 use crate::cell_lists::CellLists;
 use crate::content::Content;
 
-/// Gives back the list that a slot may have, whose cells are gone.
+/// Gives back the list that a slot may have, whose cells are gone. Whether it has one is asked before
+/// they go, while what says so is at hand.
 #[inline(always)]
 pub(crate) fn settle<T: Drop, U>(
     slots: &mut Vec<Content<T, U>>,
     lists: &mut CellLists<T>,
     slot: usize,
+    had_list: bool,
 )
-    requires { HasListsBut slot lists.old.most lists.old.spare lists.old.room slots.old.items }
+    requires lists { HasListsBut slot lists.old.most lists.old.spare lists.old.room slots.old.items }
+    requires known { IsSomeAnd (slice_get slots.old.items slot) (λ s. has_list s ≡ had_list) }
     ensures same { contents_of slots.new.items ≡ contents_of slots.old.items }
     ensures lists { HasLists lists.new.most lists.new.spare lists.new.room slots.new.items }
 {
-    if slots[slot].has_list() {
+    if had_list {
         take_back(slots, lists, slot);
     }
 }

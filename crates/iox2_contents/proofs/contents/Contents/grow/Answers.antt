@@ -1,5 +1,4 @@
-use Rattle.std.proofs.Common.{◌≡◌, ◌≤◌, ◌∙◌, refl, ap, arith}
-use Rattle.iox2_contents.specs.SpareLists.{SpareLists}
+use Rattle.std.proofs.Common.{◌≡◌, ◌≤◌, refl, arith}
 use Rattle.iox2_contents.proofs.NewSlots.{adds, grown-lists, of-contents, relisted, some-slots, without}
 use Rattle.iox2_contents.proofs.contents.Contents.grow.Goals as goal
 
@@ -7,8 +6,8 @@ pub invariant_of-self-then-longest : goal.invariant_of-self-then-longest
 invariant_of-self-then-longest g c =
     let are = of-contents (λ content. content.lists ≡ c.lists_for-lists.result) c.self.inside.slots.items _ c.self.view_is (rw c.lists_for-lists.ensures c.requires.lists) in
     let some = some-slots c.self.inside.slots.items _ c.self.view_is c.requires.some in
-    let most : c.longest.result ≡ c.self.inside.lists.value.most = c.longest.ensures ∙ ap (λ (lists : SpareLists). lists.most) c.deref.ensures in
-    let long : c.shown_cells-longest.result ≤ c.self.inside.lists.value.most = omega (arith, most) in
+    let most : c.longest.result ≡ c.self.inside.lists.most = c.longest.ensures in
+    let long : c.shown_cells-longest.result ≤ c.self.inside.lists.most = omega (arith, most) in
     rw c.in_ok-append.ensures.items (grown-lists g.U.Default.is_default c.args.room c.args.in_lists c.lists_for-lists.result (without c.args.in_lists c.args.lists _ c.lists_for-lists.ensures)
     _ (λ listed. omega (arith, c.shown_cells-longest.ensures.all listed, long)) (λ away. omega (arith, c.shown_cells-longest.ensures.first away, long))
     _ _ _ c.self.inside.slots.items c.in_ok-added.added.items c.self.invariant some are c.in_ok-added.ensures.new (omega arith) refl)
@@ -24,8 +23,8 @@ pub invariant_of-self-2 : goal.invariant_of-self-2
 invariant_of-self-2 g c =
     let are = of-contents (λ content. content.lists ≡ c.lists_for-lists.result) c.self.inside.slots.items _ c.self.view_is (rw c.lists_for-lists.ensures c.requires.lists) in
     let some = some-slots c.self.inside.slots.items _ c.self.view_is c.requires.some in
-    let most : c.longest.result ≡ c.self.inside.lists.value.most = c.longest.ensures ∙ ap (λ (lists : SpareLists). lists.most) c.deref.ensures in
-    let less : c.self.inside.lists.value.most ≤ c.shown_cells-longest.result = omega (arith, most) in
+    let most : c.longest.result ≡ c.self.inside.lists.most = c.longest.ensures in
+    let less : c.self.inside.lists.most ≤ c.shown_cells-longest.result = omega (arith, most) in
     rw (c.in_ok-longer.ensures.most, c.in_ok-longer.ensures.spare, c.in_ok-longer.ensures.room, c.in_ok-append-2.ensures.items)
     (relisted g.U.Default.is_default c.args.room c.args.in_lists c.lists_for-lists.result (without c.args.in_lists c.args.lists _ c.lists_for-lists.ensures)
     c.shown_cells-longest.result c.shown_cells-longest.ensures.all c.shown_cells-longest.ensures.first

@@ -5,7 +5,7 @@ use Rattle.iox2_contents.proofs.contents.Contents.new.Goals as goal
 
 pub invariant_of-result : goal.invariant_of-result
 invariant_of-result g c =
-    rw (c.in_ok-new.ensures.ok, c.in_ok-lists.ensures.most, c.in_ok-lists.ensures.spare, c.in_ok-lists.ensures.room)
+    rw (c.in_ok-lists.ensures.most, c.in_ok-lists.ensures.spare, c.in_ok-lists.ensures.room)
     (new-lists g.U.Default.is_default c.args.room c.args.in_lists c.lists_for-lists.result (without c.args.in_lists c.args.lists _ c.lists_for-lists.ensures) _ c.shown_cells-longest.ensures.all c.shown_cells-longest.ensures.first
     _ _ _ c.in_ok-slots.ensures.new (omega arith) (omega arith))
 
