@@ -14,7 +14,7 @@ pub(crate) struct CellLists<T> {
 }
 
 impl<T> Model for CellLists<T> {
-    ghost use Rattle.std.specs.Prelude.{◌≡◌, ◌≤◌, ◌-◌, [], None, length, replicate, vec_capacity};
+    ghost use Rattle.std.specs.Prelude.{◌≡◌, ◌<◌, ◌≤◌, ◌-◌, [], None, length, replicate, vec_capacity};
     ghost use Rattle.iox2_contents.specs.SpareLists.{SpareLists, FirstAnd, of_first};
 
     ghost Value = { SpareLists };
@@ -25,13 +25,13 @@ impl<T> Model for CellLists<T> {
       room = vec_capacity kept.lists - 1;
     } };
 
-    // The cells to show are unwritten, and each other list is empty and has room for as many.
+    // The cells to show are unwritten, and each other list is empty and has room for as many, and for two.
     ghost invariant = { λ kept. FirstAnd (λ shown. shown.items ≡ replicate (length shown.items) None)
-        (λ shown list. (list.items ≡ []) × (length shown.items ≤ vec_capacity list)) kept.lists.items };
+        (λ shown list. (list.items ≡ []) × (length shown.items ≤ vec_capacity list) × (1 < vec_capacity list)) kept.lists.items };
 }
 
 impl<T: Drop> CellLists<T> {
-    /// So many lists, each with room for so many cells, and as many cells to show.
+    /// So many lists, each with room for so many cells, and for two at least, and as many cells to show.
     pub(crate) fn new(alloc: Global, count: usize, longest: usize) -> Result<Self, AllocError>
         ensures most { IfOk result (λ lists. lists.most ≡ longest) }
         ensures spare { IfOk result (λ lists. lists.spare ≡ count) }
@@ -43,7 +43,7 @@ impl<T: Drop> CellLists<T> {
         let mut lists = Vec::with_capacity(alloc, all)?;
         lists.push_reserved(unwritten_cells(alloc, longest)?);
         for _ in 0..count {
-            lists.push_reserved(Vec::with_capacity(alloc, longest)?);
+            lists.push_reserved(Vec::with_capacity(alloc, longest.max(2))?);
         }
         Ok(CellLists { lists })
     }
@@ -51,7 +51,8 @@ impl<T: Drop> CellLists<T> {
     /// Takes back a list of a loan. One is long enough that has room for as many cells as can be
     /// shown; a shorter one is of an older segment, and goes.
     pub(crate) fn put(&mut self, list: Vec<Option<T>>)
-        requires { list.items ≡ [] }
+        requires empty { list.items ≡ [] }
+        requires wide { 1 < vec_capacity list }
         ensures most { self.new.most ≡ self.old.most }
         ensures room { self.new.room ≡ self.old.room }
         ensures kept { self.old.spare ≤ self.new.spare }
@@ -67,6 +68,7 @@ impl<T: Drop> CellLists<T> {
         requires { 0 < self.old.spare }
         ensures empty { result.items ≡ [] }
         ensures long { self.old.most ≤ vec_capacity result }
+        ensures wide { 1 < vec_capacity result }
         ensures most { self.new.most ≡ self.old.most }
         ensures room { self.new.room ≡ self.old.room }
         ensures less { self.new.spare + 1 ≡ self.old.spare }

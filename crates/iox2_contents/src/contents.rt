@@ -34,7 +34,7 @@ impl<T, U> Model for Contents<T, U> {
 
     ghost Value = { List (ContentState T U) };
 
-    ghost view = { λ contents. contents_of contents.slots.items };
+    ghost view = { λ contents. contents_of contents.lists.room contents.slots.items };
 
     // The longest loan may show unwritten cells, and each loan that may be out finds a list for its own.
     ghost invariant = { λ contents. HasLists contents.lists.most contents.lists.spare contents.lists.room contents.slots.items };

@@ -17,7 +17,7 @@ pub(crate) fn settle<T: Drop, U>(
 )
     requires lists { HasListsBut slot lists.old.most lists.old.spare lists.old.room slots.old.items }
     requires known { IsSomeAnd (slice_get slots.old.items slot) (λ s. has_list s ≡ had_list) }
-    ensures same { contents_of slots.new.items ≡ contents_of slots.old.items }
+    ensures same { contents_of lists.new.room slots.new.items ≡ contents_of lists.old.room slots.old.items }
     ensures lists { HasLists lists.new.most lists.new.spare lists.new.room slots.new.items }
 {
     if had_list {
@@ -31,7 +31,7 @@ pub(crate) fn settle<T: Drop, U>(
 fn take_back<T: Drop, U>(slots: &mut Vec<Content<T, U>>, lists: &mut CellLists<T>, slot: usize)
     requires lists { HasListsBut slot lists.old.most lists.old.spare lists.old.room slots.old.items }
     requires has { IsSomeAnd (slice_get slots.old.items slot) (λ s. has_list s ≡ true) }
-    ensures same { contents_of slots.new.items ≡ contents_of slots.old.items }
+    ensures same { contents_of lists.new.room slots.new.items ≡ contents_of lists.old.room slots.old.items }
     ensures lists { HasLists lists.new.most lists.new.spare lists.new.room slots.new.items }
 {
     lists.put(slots[slot].take_list());
@@ -46,7 +46,7 @@ pub(crate) fn ready<T: Drop, U>(
 )
     requires lists { HasLists lists.old.most lists.old.spare lists.old.room slots.old.items }
     requires within { slot < length slots.old.items }
-    ensures same { contents_of slots.new.items ≡ contents_of slots.old.items }
+    ensures same { contents_of lists.new.room slots.new.items ≡ contents_of lists.old.room slots.old.items }
     ensures lists { HasLists lists.new.most lists.new.spare lists.new.room slots.new.items }
     ensures ready { IsSomeAnd (slice_get slots.new.items slot) (λ s. waits s ≡ false) }
 {
@@ -61,7 +61,7 @@ pub(crate) fn ready<T: Drop, U>(
 fn hand_out<T: Drop, U>(slots: &mut Vec<Content<T, U>>, lists: &mut CellLists<T>, slot: usize)
     requires lists { HasLists lists.old.most lists.old.spare lists.old.room slots.old.items }
     requires waits { IsSomeAnd (slice_get slots.old.items slot) (λ s. waits s ≡ true) }
-    ensures same { contents_of slots.new.items ≡ contents_of slots.old.items }
+    ensures same { contents_of lists.new.room slots.new.items ≡ contents_of lists.old.room slots.old.items }
     ensures lists { HasLists lists.new.most lists.new.spare lists.new.room slots.new.items }
     ensures ready { IsSomeAnd (slice_get slots.new.items slot) (λ s. waits s ≡ false) }
 {

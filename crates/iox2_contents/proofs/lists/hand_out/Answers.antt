@@ -23,7 +23,7 @@ put_list-requires-clause-room g c =
 pub returns-clause-same : goal.returns-clause-same
 returns-clause-same g c =
     let read = some_read c.args.slots.now.items c.args.slot (λ s. waits s ≡ true) c.index_mut.result.now c.requires.waits c.index_mut.ensures.value in
-    rw c.put_list.ensures (listed-same c.args.lists.now.most 0 0 _ c.args.slot _ read.0 _)
+    rw (c.put_list.ensures, c.take-list.ensures.room) (listed-same c.args.lists.now.most 0 _ _ c.args.slot _ read.0 _)
 
 pub returns-clause-lists : goal.returns-clause-lists
 returns-clause-lists g c =

@@ -13,7 +13,7 @@ take_list-requires g c = (some_read c.args.slots.now.items c.args.slot (λ s. ha
 pub returns-clause-same : goal.returns-clause-same
 returns-clause-same g c =
     let read = some_read c.args.slots.now.items c.args.slot (λ s. has_list s ≡ true) c.index_mut.result.now c.requires.has c.index_mut.ensures.value in
-    rw c.take_list.ensures.taken (bare-same c.args.lists.now.most 0 0 _ c.args.slot _ read.0 c.requires.lists.ended)
+    rw (c.take_list.ensures.taken, c.put.ensures.room) (bare-same c.args.lists.now.most 0 _ _ c.args.slot _ read.0 c.requires.lists.ended)
 
 pub returns-clause-lists : goal.returns-clause-lists
 returns-clause-lists g c =
