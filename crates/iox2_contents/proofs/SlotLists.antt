@@ -1,6 +1,6 @@
 -- Which lists of cells there are, where one slot changes.
 use Rattle.std.proofs.Common.{◌≡◌, ◌≢◌, ◌⊎◌, ◌<◌, ◌≤◌, ◌+◌, ◌∙◌, ◌&&◌, ℕ, zero, suc, Bool, true, false, Some, List, [], length, get_or, slice_set, inl, inr, refl, ap, sym, subst, arith}
-use Rattle.std.proofs.lemmas.Bool.{cases_eq}
+use Rattle.std.proofs.lemmas.Bool.{cases_eq, cases_lt}
 use Rattle.std.proofs.lemmas.List.{map-set, set-set}
 use Rattle.std.proofs.lemmas.List.Elements.{All-set}
 use Rattle.std.specs.Prelude.{slice_get, nat_lt, sum_by, IsSomeAnd}
@@ -9,7 +9,7 @@ use Rattle.iox2_contents.specs.SlotContents.{ClearsSlot, ContentState, ended_con
 use Rattle.iox2_contents.specs.SlotStates.{SlotState, contents_of, has_list, waits, with_content}
 use Rattle.iox2_contents.specs.SlotRooms.{HasLists, HasListsBut, ListsCells, ShowsAtMost, one_if_long, long_count}
 use Rattle.iox2_contents.proofs.SlotSums.{within, reads, there, mapped, sum-changed, sum-less, sum-map, set-here, set-away, set-same}
-use Rattle.iox2_contents.proofs.OpenSlots.{and-false, no-wait, one-if, one_if_open, not-open, never-open, open-once, is-open, has-some, waits-for, long-none, long-open}
+use Rattle.iox2_contents.proofs.OpenSlots.{and-false, no-wait, one-if, one_if_open, not-open, never-open, open-once, is-open, has-some, waits-for, long-none, long-once, long-open, short-none}
 
 module _ {T U : Type 0} where
   module _ (most spare spare_room : ℕ) (xs : List (SlotState T U)) (i : ℕ) (s : SlotState T U) (at : slice_get xs i ≡ Some s) where
@@ -179,6 +179,15 @@ module _ {T U : Type 0} where
     pub bare-lists : (but : HasListsBut i most spare spare_room xs) (spare' : ℕ) → (spare + one_if_long most s ≤ spare') ⊎ (spare_room ≤ spare') → HasLists most spare' spare_room (slice_set xs i bare)
     bare-lists but spare' back = given-back but spare' bare (bare-content but.ended) refl back
 
+    -- the list that comes back is kept where it is long enough and there is room for it
+    pub taken-back : HasListsBut i most spare spare_room xs → (spare' : ℕ) → spare ≤ spare' → (most ≤ s.cell_room → spare < spare_room → spare' ≡ spare + 1)
+        → HasLists most spare' spare_room (slice_set xs i bare)
+    taken-back but spare' more back = bare-lists but spare' (by (cases_lt s.cell_room most) (cases_lt spare spare_room)) where
+      by : (s.cell_room < most) ⊎ (most ≤ s.cell_room) → (spare < spare_room) ⊎ (spare_room ≤ spare) → (spare + one_if_long most s ≤ spare') ⊎ (spare_room ≤ spare')
+      by (inl short) room = inl (omega (arith, more, short-none most s short))
+      by (inr long) (inl free) = inl (omega (arith, back long free, long-once most s))
+      by (inr long) (inr full) = inr (omega (arith, full, more))
+
     -- a slot that waits for a list finds one
     pub spares : HasLists most spare spare_room xs → waits s ≡ true → 0 < spare
     spares has is =
@@ -237,6 +246,22 @@ module _ {T U : Type 0} where
 
     pub ended-lists : HasLists most spare spare_room xs → (t : SlotState T U) → t ≡ with_content ended_content s → HasListsBut i most spare spare_room (slice_set xs i t)
     ended-lists has t is = rw is (ended (with_content ended_content s) has (of-all (ShowsAtMost most) has.shown) refl refl refl)
+
+    -- the slot has a list then where it had one before
+    still-has : (y : SlotState T U) → y ≡ get_or xs i y → (had : Bool) → had ≡ has_list y → (f : ContentState T U → ContentState T U) → (f s.content).lists ≡ s.content.lists
+        → (t : SlotState T U) → t ≡ with_content f s → IsSomeAnd (slice_get (slice_set xs i t) i) (λ z. has_list z ≡ had)
+    still-has y read had known f same t is =
+        let there : y ≡ s = read ∙ reads xs i s y at in
+        let has : has_list t ≡ had = rw (is, same, known, there) refl in
+        subst (λ o. IsSomeAnd o (λ z. has_list z ≡ had)) (sym (set-here xs i s t at)) has
+
+    pub written-has : (y : SlotState T U) → y ≡ get_or xs i y → (had : Bool) → had ≡ has_list y → (values : List T) (t : SlotState T U) → t ≡ with_content (written_content values) s
+        → IsSomeAnd (slice_get (slice_set xs i t) i) (λ z. has_list z ≡ had)
+    written-has y read had known values t is = still-has y read had known (written_content values) refl t is
+
+    pub ended-has : (y : SlotState T U) → y ≡ get_or xs i y → (had : Bool) → had ≡ has_list y → (t : SlotState T U) → t ≡ with_content ended_content s
+        → IsSomeAnd (slice_get (slice_set xs i t) i) (λ z. has_list z ≡ had)
+    ended-has y read had known t is = still-has y read had known ended_content refl t is
 
     -- a loan starts in a slot whose last one has no cells any more
     pub started-lists : HasLists most spare spare_room xs → (header : U) (len : ℕ) (t : SlotState T U) → t ≡ with_content (unwritten_content header len) s

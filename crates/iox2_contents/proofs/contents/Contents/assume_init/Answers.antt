@@ -1,7 +1,7 @@
 use Rattle.std.proofs.Common.{◌≡◌, ◌∙◌, true, length, ap, sym}
 use Rattle.iox2_contents.specs.SlotStates.{contents_of}
 use Rattle.iox2_contents.proofs.SlotReads.{content_read}
-use Rattle.iox2_contents.proofs.SlotLists.{changed-contents, content-at, written-lists}
+use Rattle.iox2_contents.proofs.SlotLists.{changed-contents, content-at, written-lists, written-has}
 use Rattle.iox2_contents.proofs.SlotSums.{set-same}
 use Rattle.iox2_contents.proofs.contents.Contents.assume_init.Goals as goal
 
@@ -22,7 +22,12 @@ returns-then-not-assume_init g c =
 pub settle-requires-clause-lists : goal.settle-requires-clause-lists
 settle-requires-clause-lists g c =
     let read = content_read c.self.inside.slots.items _ c.args.slot (λ content. content.is_in_place ≡ true → length content.cells ≡ 1) _ c.self.view_is c.requires c.index_mut.ensures.value in
-    written-lists _ _ _ _ c.args.slot _ read.0 c.self.invariant.2 _ _ (c.assume_init.ensures.written c.if-not-assume_init.false)
+    written-lists _ _ _ _ c.args.slot _ read.0 c.self.invariant _ _ (c.assume_init.ensures.written c.if-not-assume_init.false)
+
+pub settle-requires-clause-known : goal.settle-requires-clause-known
+settle-requires-clause-known g c =
+    let read = content_read c.self.inside.slots.items _ c.args.slot (λ content. content.is_in_place ≡ true → length content.cells ≡ 1) _ c.self.view_is c.requires c.index_mut.ensures.value in
+    written-has 0 0 0 c.self.inside.slots.items c.args.slot _ read.0 c.index.result.now c.index.ensures _ c.has_list-had_list.ensures _ _ (c.assume_init.ensures.written c.if-not-assume_init.false)
 
 pub returns : goal.returns
 returns g c =

@@ -9,11 +9,7 @@ use Rattle.iox2_contents.proofs.contents.Contents.cells_mut.Goals as goal
 pub invariant_of-self-lent : goal.invariant_of-self-lent
 invariant_of-self-lent g c =
     let read = content_read c.ready.new.slots.items _ c.args.slot (λ content. 0 < content.lists) _ (c.ready.ensures.same ∙ c.self.view_is) c.requires c.index_mut.ensures.value in
-    λ w. (
-      c.self.invariant.0,
-      c.ready.ensures.empty,
-      lent _ _ _ c.ready.new.slots.items c.args.slot _ read.0 (with_content (with_cells w) c.index_mut.result.now) c.ready.ensures.lists refl refl refl refl (sym (length_refill _ _ w refl)),
-    )
+    λ w. lent _ _ _ c.ready.new.slots.items c.args.slot _ read.0 (with_content (with_cells w) c.index_mut.result.now) c.ready.ensures.lists refl refl refl refl (sym (length_refill _ _ w refl))
 
 pub returns : goal.returns
 returns g c =

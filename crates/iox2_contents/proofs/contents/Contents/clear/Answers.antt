@@ -9,11 +9,8 @@ pub invariant_of-self : goal.invariant_of-self
 invariant_of-self g c =
     let within : c.args.slot < length c.end.new.self = rw (c.end.ensures, changed-long) c.requires in
     let read = slot_read c.self.inside.slots.items _ c.args.slot _ c.self.view_is within c.index_mut.ensures.value in
-    let was = ended-there c.args.self.now c.end.new.self c.args.slot _ c.requires c.end.ensures (content-at 0 0 0 _ c.args.slot _ read _ c.self.view_is) in (
-      c.self.invariant.0,
-      c.self.invariant.1,
-      cleared-lists _ _ _ _ c.args.slot _ read c.self.invariant.2 c.clear.new.self (ap (λ content. content.cells) was) c.clear.ensures.cells c.clear.ensures.lists c.clear.ensures.in_place c.clear.ensures.room c.clear.ensures.none,
-    )
+    let was = ended-there c.args.self.now c.end.new.self c.args.slot _ c.requires c.end.ensures (content-at 0 0 0 _ c.args.slot _ read _ c.self.view_is) in
+    cleared-lists _ _ _ _ c.args.slot _ read c.self.invariant c.clear.new.self (ap (λ content. content.cells) was) c.clear.ensures.cells c.clear.ensures.lists c.clear.ensures.in_place c.clear.ensures.room c.clear.ensures.none
 
 pub returns : goal.returns
 returns g c =

@@ -9,7 +9,7 @@ invariant_of-self g c =
     let slots = c.self.inside.slots.items in
     let ended = content_read slots _ c.args.slot (λ content. 0 < content.lists → content.cells ≡ []) _ c.self.view_is c.requires.ended c.index_mut.ensures.value in
     let few = content_read slots _ c.args.slot (λ content. 0 < content.lists → open_count c.args.self.now < content.lists) _ c.self.view_is c.requires.few c.index_mut.ensures.value in
-    (c.self.invariant.0, c.self.invariant.1, started-lists _ _ _ slots c.args.slot _ ended.0 c.self.invariant.2 _ _ _ c.start.ensures.started ended.1 (rw c.self.view_is few.1))
+    started-lists _ _ _ slots c.args.slot _ ended.0 c.self.invariant _ _ _ c.start.ensures.started ended.1 (rw c.self.view_is few.1)
 
 pub returns : goal.returns
 returns g c =

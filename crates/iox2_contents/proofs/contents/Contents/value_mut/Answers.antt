@@ -8,11 +8,7 @@ use Rattle.iox2_contents.proofs.contents.Contents.value_mut.Goals as goal
 pub invariant_of-self-lent : goal.invariant_of-self-lent
 invariant_of-self-lent g c =
     let read = content_read c.self.inside.slots.items _ c.args.slot (λ content. 0 < length content.values) _ c.self.view_is c.requires c.index_mut.ensures.value in
-    λ w. (
-      c.self.invariant.0,
-      c.self.invariant.1,
-      lent _ _ _ c.self.inside.slots.items c.args.slot _ read.0 (with_content (with_first_value w) c.index_mut.result.now) c.self.invariant.2 refl refl refl refl refl,
-    )
+    λ w. lent _ _ _ c.self.inside.slots.items c.args.slot _ read.0 (with_content (with_first_value w) c.index_mut.result.now) c.self.invariant refl refl refl refl refl
 
 pub returns : goal.returns
 returns g c =
