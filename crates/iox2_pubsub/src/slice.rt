@@ -7,8 +7,7 @@ mod sample_mut;
 mod sample_mut_uninit;
 mod subscriber;
 
-pub use port_factory::publisher::PortFactoryPublisher;
-pub use port_factory::subscriber::PortFactorySubscriber;
+pub use port_factory::{PortFactoryPublisher, PortFactorySubscriber};
 pub use publisher::{LocatedLoan, Publisher};
 pub use sample::Sample;
 pub use sample_mut::SampleMut;
