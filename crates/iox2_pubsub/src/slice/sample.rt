@@ -4,10 +4,12 @@ ghost use Rattle.std.specs.Prelude.{◌≡◌};
 use crate::domain::Domain;
 use crate::parts::hints::sample_values_at_hint;
 use iox2_deliveries::sample_payloads;
-use iox2_store::{BackpressureFn, DegradationFn, Header, Key, UniquePublisherId};
+use iox2_store::{BackpressureFn, DegradationFn};
+use std::ops::Deref;
 
 /// A slice that a subscriber has received and not yet released. It is a value to be spent, as the
-/// sample of a single value is, and is that sample with another view of its payload.
+/// sample of a single value is, and is that sample with another view of its payload: what doesn't
+/// spend it and isn't here is called as there.
 ///
 /// Example (`crates/thermometer/src/series.rt`):
 ///
@@ -22,16 +24,29 @@ pub struct Sample {
     pub(crate) sample: crate::Sample,
 }
 
+impl Deref for Sample {
+    ghost use Rattle.iox2_pubsub.specs.Handles.{as_sample};
+
+    type Target = crate::Sample;
+
+    ghost deref_gives = { λ handle inner. inner ≡ as_sample handle };
+
+    #[inline(always)]
+    fn deref(&self) -> &crate::Sample {
+        &self.sample
+    }
+}
+
 impl Sample {
     ghost use Rattle.std.specs.Prelude.{ℕ, IfSome, IsTrue, List};
     ghost use Rattle.iox2_store.specs.machine.Mailbox.{is_borrowed};
     ghost use Rattle.iox2_store.specs.machine.Releases.{released};
     ghost use Rattle.iox2_store.specs.machine.State.{State, Messages};
     ghost use Rattle.iox2_domain.specs.Shows.{Shows};
-    ghost use Rattle.iox2_pubsub.specs.Live.{IsFromOrigin, IsLiveSample, SampleHasHeader, SampleHasUserHeader, received_sample, sample_key};
+    ghost use Rattle.iox2_pubsub.specs.Live.{IsLiveSample, received_sample, sample_key};
     ghost use Rattle.iox2_pubsub.specs.Leaves.{LeavesBut};
     ghost use Rattle.iox2_pubsub.specs.Slices.{HoldsSlices, SampleHasValues};
-    ghost use Rattle.iox2_pubsub.specs.Handles.{as_sample, origin_of, receiver_of, sample_number};
+    ghost use Rattle.iox2_pubsub.specs.Handles.{as_sample, receiver_of, sample_number};
 
     /// The message's values as they lie in their slot.
     ///
@@ -79,44 +94,6 @@ impl Sample {
         sample.release(domain);
     }
 
-    /// The publisher that sent the message, as it was when the sample was received.
-    ///
-    /// iceoryx2's `Sample::origin` (`src/sample.rs`).
-    pub fn origin(&self) -> UniquePublisherId
-        ensures { result ≡ origin_of (as_sample self.now) }
-    {
-        self.sample.origin()
-    }
-
-    /// Where the message comes from, and of how many elements it is.
-    ///
-    /// iceoryx2's `Sample::header` (`src/sample.rs`).
-    pub fn header<'a, T: Drop, U: Default + Drop, F: BackpressureFn, G: DegradationFn>(
-        &self,
-        domain: &'a Domain<T, U, F, G>,
-    ) -> &'a Header
-        requires live { IsLiveSample domain.now (as_sample self.now) }
-        ensures origin { IsFromOrigin domain.now (as_sample self.now) → (result.now).publisher_id ≡ origin_of (as_sample self.now) }
-        ensures reads { SampleHasHeader domain.now (sample_key (as_sample self.now)) result.now }
-        ensures same { (header : Header) → SampleHasHeader domain.now (sample_key (as_sample self.now)) header → result.now ≡ header }
-    {
-        self.sample.header(domain)
-    }
-
-    /// The user header.
-    ///
-    /// iceoryx2's `Sample::user_header` (`src/sample.rs`).
-    pub fn user_header<'a, T: Drop, U: Default + Drop, F: BackpressureFn, G: DegradationFn>(
-        &self,
-        domain: &'a Domain<T, U, F, G>,
-    ) -> &'a U
-        requires live { IsLiveSample domain.now (as_sample self.now) }
-        ensures reads { SampleHasUserHeader domain.now (sample_key (as_sample self.now)) result.now }
-        ensures same { (header : U) → SampleHasUserHeader domain.now (sample_key (as_sample self.now)) header → result.now ≡ header }
-    {
-        self.sample.user_header(domain)
-    }
-
     /// The same sample, as one of a slice. This library's own.
     pub fn new(sample: crate::Sample) -> Sample
         ensures { as_sample result ≡ sample }
@@ -130,13 +107,6 @@ impl Sample {
     {
         let Sample { sample } = self;
         sample
-    }
-
-    /// Names the sample without being its handle. This library's own.
-    pub fn key(&self) -> Key
-        ensures { result ≡ sample_key (as_sample self.now) }
-    {
-        self.sample.key()
     }
 
     /// Spends the handle of a sample whose domain is gone. A domain that is still there isn't told,

@@ -8,10 +8,12 @@ mod write_unspecified;
 use crate::domain::Domain;
 use crate::slice::SampleMut;
 use iox2_deliveries::{loan_cells, write_loan_from_fn, write_loan_from_slice};
-use iox2_store::{BackpressureFn, DegradationFn, Header, Key};
+use iox2_store::{BackpressureFn, DegradationFn};
+use std::ops::Deref;
 
 /// A loan of a slice whose payload isn't written. It is a value to be spent, as the loan of a single
-/// value is, and is that loan with another view of its payload.
+/// value is, and is that loan with another view of its payload: what doesn't spend it and isn't here
+/// is called as there.
 ///
 /// Example (`crates/thermometer/src/series.rt`):
 ///
@@ -23,6 +25,19 @@ use iox2_store::{BackpressureFn, DegradationFn, Header, Key};
 /// iceoryx2's `sample_mut_uninit::SampleMutUninit` of a slice (`src/sample_mut_uninit.rs`).
 pub struct SampleMutUninit {
     pub(crate) sample: crate::SampleMutUninit,
+}
+
+impl Deref for SampleMutUninit {
+    ghost use Rattle.iox2_pubsub.specs.Handles.{as_unwritten};
+
+    type Target = crate::SampleMutUninit;
+
+    ghost deref_gives = { λ handle inner. inner ≡ as_unwritten handle };
+
+    #[inline(always)]
+    fn deref(&self) -> &crate::SampleMutUninit {
+        &self.sample
+    }
 }
 
 impl SampleMutUninit {
@@ -175,35 +190,6 @@ impl SampleMutUninit {
         sample.discard(domain);
     }
 
-    /// Where the message comes from, and of how many elements it is.
-    ///
-    /// iceoryx2's `SampleMutUninit::header` (`src/sample_mut_uninit.rs`).
-    pub fn header<'a, T: Drop, U: Default + Drop, F: BackpressureFn, G: DegradationFn>(
-        &self,
-        domain: &'a Domain<T, U, F, G>,
-    ) -> &'a Header
-        requires live { IsLoanKey domain.now (unwritten_key (as_unwritten self.now)) }
-        ensures origin { (result.now).publisher_id ≡ unwritten_lender (as_unwritten self.now) }
-        ensures reads { LoanHasHeader domain.now (unwritten_key (as_unwritten self.now)) result.now }
-        ensures same { (header : Header) → LoanHasHeader domain.now (unwritten_key (as_unwritten self.now)) header → result.now ≡ header }
-    {
-        self.sample.header(domain)
-    }
-
-    /// The user header.
-    ///
-    /// iceoryx2's `SampleMutUninit::user_header` (`src/sample_mut_uninit.rs`).
-    pub fn user_header<'a, T: Drop, U: Default + Drop, F: BackpressureFn, G: DegradationFn>(
-        &self,
-        domain: &'a Domain<T, U, F, G>,
-    ) -> &'a U
-        requires live { IsLoanKey domain.now (unwritten_key (as_unwritten self.now)) }
-        ensures reads { LoanHasUserHeader domain.now (unwritten_key (as_unwritten self.now)) result.now }
-        ensures same { (header : U) → LoanHasUserHeader domain.now (unwritten_key (as_unwritten self.now)) header → result.now ≡ header }
-    {
-        self.sample.user_header(domain)
-    }
-
     /// The same loan, as one of a slice. This library's own.
     pub fn new(sample: crate::SampleMutUninit) -> SampleMutUninit
         ensures { as_unwritten result ≡ sample }
@@ -217,13 +203,6 @@ impl SampleMutUninit {
     {
         let SampleMutUninit { sample } = self;
         sample
-    }
-
-    /// Names the loan without being its handle. This library's own.
-    pub fn key(&self) -> Key
-        ensures { result ≡ unwritten_key (as_unwritten self.now) }
-    {
-        self.sample.key()
     }
 
     /// Spends the handle of a loan whose domain is gone. A domain that is still there isn't told,
