@@ -6,6 +6,7 @@ mod sample;
 mod sample_mut;
 mod sample_mut_uninit;
 mod subscriber;
+mod views;
 
 pub use port_factory::{PortFactoryPublisher, PortFactorySubscriber};
 pub use publisher::{LocatedLoan, Publisher};

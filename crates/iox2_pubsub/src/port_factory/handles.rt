@@ -1,57 +1,24 @@
 //! What factories make.
 ghost use Rattle.std.specs.Prelude.{◌≡◌};
 
-use crate::publisher::Publisher;
-use crate::subscriber::Subscriber;
-
-/// What a factory of publishers makes: a publisher of single values, or one of slices.
+/// A handle of a port: that of single values, or the same port's handle of slices. A factory makes
+/// either.
 ///
-/// Example (`crates/iox2_pubsub/src/port_factory/handles.rt`):
-///
-/// ```rust
-/// fn of_publisher(publisher: Publisher) -> Publisher {
-///     publisher
-/// }
-/// ```
-///
-/// This library's own, where iceoryx2's factory knows the type of the payload.
-pub trait PublisherHandle {
-    ghost use Rattle.iox2_pubsub.specs.declared.publisher.Publisher.{Publisher};
+/// This library's own, where iceoryx2's factories know the type of the payload.
+pub trait PortHandle<P> {
+    // The handle of single values.
+    ghost as_port: { Self → P };
 
-    // The same publisher, as one of single values.
-    ghost as_publisher: { Self → Publisher };
-
-    /// The handle of this publisher.
-    fn of_publisher(publisher: Publisher) -> Self
-        ensures { as_publisher result ≡ publisher };
+    /// The handle that this is in the view of single values.
+    fn of_port(port: P) -> Self
+        ensures { as_port result ≡ port };
 }
 
-impl PublisherHandle for Publisher {
-    ghost as_publisher = { λ publisher. publisher };
+impl<P> PortHandle<P> for P {
+    ghost as_port = { λ port. port };
 
-    fn of_publisher(publisher: Publisher) -> Publisher {
-        publisher
-    }
-}
-
-/// What a factory of subscribers makes: a subscriber of single values, or one of slices.
-///
-/// This library's own, where iceoryx2's factory knows the type of the payload.
-pub trait SubscriberHandle {
-    ghost use Rattle.iox2_pubsub.specs.declared.subscriber.Subscriber.{Subscriber};
-
-    // The same subscriber, as one of single values.
-    ghost as_subscriber: { Self → Subscriber };
-
-    /// The handle of this subscriber.
-    fn of_subscriber(subscriber: Subscriber) -> Self
-        ensures { as_subscriber result ≡ subscriber };
-}
-
-impl SubscriberHandle for Subscriber {
-    ghost as_subscriber = { λ subscriber. subscriber };
-
-    fn of_subscriber(subscriber: Subscriber) -> Subscriber {
-        subscriber
+    #[inline(always)]
+    fn of_port(port: P) -> P {
+        port
     }
 }

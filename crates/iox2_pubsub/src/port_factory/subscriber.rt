@@ -13,7 +13,7 @@ ghost use Rattle.iox2_domain.specs.Shows.{Shows};
 
 use crate::domain::Domain;
 use crate::port_factory::degradations::{box_in, mark_of};
-use crate::port_factory::handles::SubscriberHandle;
+use crate::port_factory::handles::PortHandle;
 use crate::subscriber::Subscriber;
 use iox2_domain::{HandlerMark, SubscriberOptions};
 use iox2_ports::create_subscriber;
@@ -68,7 +68,7 @@ impl<G, H> PortFactorySubscriber<G, H> {
     }
 }
 
-impl<G: DegradationFn, H: SubscriberHandle> PortFactorySubscriber<G, H> {
+impl<G: DegradationFn, H: PortHandle<Subscriber>> PortFactorySubscriber<G, H> {
     ghost use Rattle.iox2_pubsub.specs.Handles.{buffer_size_of, publisher_id, subscriber_id};
     ghost use Rattle.iox2_pubsub.specs.declared.publisher.Publisher.{Publisher};
 
@@ -144,15 +144,15 @@ impl<G: DegradationFn, H: SubscriberHandle> PortFactorySubscriber<G, H> {
         domain: &mut Domain<T, U, F, G>,
     ) -> Result<H, SubscriberCreateError>
         ensures creates { (m : Messages T U) (s : State T U) → Shows domain.old m s → (s' : State T U) × Shows domain.new m s' × MatchResult result
-            (λ subscriber. CreateSubscriber (answers_of F.allows G.allows (domain.new.boxes).subscribers) s self.settings s' None × (subscriber_id (H.as_subscriber subscriber) ≡ s.next_port) × (buffer_size_of (H.as_subscriber subscriber) ≡ buffer_for self.settings))
+            (λ subscriber. CreateSubscriber (answers_of F.allows G.allows (domain.new.boxes).subscribers) s self.settings s' None × (subscriber_id (H.as_port subscriber) ≡ s.next_port) × (buffer_size_of (H.as_port subscriber) ≡ buffer_for self.settings))
             (λ error. CreateSubscriber (answers_of F.allows G.allows (domain.new.boxes).subscribers) s self.settings s' (Some error)) }
-        ensures live { IfOk result (λ subscriber. IsLiveSubscriber domain.new (H.as_subscriber subscriber)) }
-        ensures buffer { IfOk result (λ subscriber. HasItsBuffer domain.new (H.as_subscriber subscriber)) }
-        ensures boxed { IfOk result (λ subscriber. subscriber_box domain.new (subscriber_id (H.as_subscriber subscriber)) ≡ self.box) }
-        ensures new { IfOk result (λ subscriber. IsNewIn domain.old (subscriber_port (H.as_subscriber subscriber))) }
-        ensures none { IfOk result (λ subscriber. waiting domain.new (H.as_subscriber subscriber) ≡ 0) }
-        ensures awaits { IfOk result (λ subscriber. NoneRefused domain.old domain.new → (publisher : Publisher) → IsPublisherKey domain.old (publisher_key publisher) → IsAwaited domain.new (publisher_id publisher) (H.as_subscriber subscriber)) }
-        ensures room { IfOk result (λ subscriber. (closes : ℕ) → closes ≤ expired_limit domain.old.config → HasRoomFor domain.new (H.as_subscriber subscriber) closes) }
+        ensures live { IfOk result (λ subscriber. IsLiveSubscriber domain.new (H.as_port subscriber)) }
+        ensures buffer { IfOk result (λ subscriber. HasItsBuffer domain.new (H.as_port subscriber)) }
+        ensures boxed { IfOk result (λ subscriber. subscriber_box domain.new (subscriber_id (H.as_port subscriber)) ≡ self.box) }
+        ensures new { IfOk result (λ subscriber. IsNewIn domain.old (subscriber_port (H.as_port subscriber))) }
+        ensures none { IfOk result (λ subscriber. waiting domain.new (H.as_port subscriber) ≡ 0) }
+        ensures awaits { IfOk result (λ subscriber. NoneRefused domain.old domain.new → (publisher : Publisher) → IsPublisherKey domain.old (publisher_key publisher) → IsAwaited domain.new (publisher_id publisher) (H.as_port subscriber)) }
+        ensures room { IfOk result (λ subscriber. (closes : ℕ) → closes ≤ expired_limit domain.old.config → HasRoomFor domain.new (H.as_port subscriber) closes) }
         ensures leaves { Leaves domain.old domain.new }
     {
         let service_id = domain.state.config().service_id;
@@ -163,7 +163,7 @@ impl<G: DegradationFn, H: SubscriberHandle> PortFactorySubscriber<G, H> {
             &options,
             self.degradation_box,
         )?;
-        Ok(H::of_subscriber(Subscriber {
+        Ok(H::of_port(Subscriber {
             service_id,
             id: port.id,
             place: port.place,

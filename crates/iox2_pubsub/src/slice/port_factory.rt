@@ -4,7 +4,6 @@ ghost use Rattle.iox2_store.specs.machine.Ports.{default_subscriber_settings};
 ghost use Rattle.iox2_domain.specs.NewPublisher.{plain_publisher};
 
 use crate::domain::Domain;
-use crate::port_factory::handles::{PublisherHandle, SubscriberHandle};
 use crate::port_factory::preallocation::NoOverride;
 use crate::port_factory::{publisher, subscriber};
 use crate::slice::{Publisher, Subscriber};
@@ -51,26 +50,6 @@ pub type PortFactorySubscriber<G = Box<dyn DegradationFn>> = subscriber::PortFac
     G,
     Subscriber,
 >;
-
-impl PublisherHandle for Publisher {
-    ghost use Rattle.iox2_pubsub.specs.Handles as handles;
-
-    ghost as_publisher = { λ publisher. handles.as_publisher publisher };
-
-    fn of_publisher(publisher: crate::Publisher) -> Publisher {
-        Publisher { publisher }
-    }
-}
-
-impl SubscriberHandle for Subscriber {
-    ghost use Rattle.iox2_pubsub.specs.Handles as handles;
-
-    ghost as_subscriber = { λ subscriber. handles.as_subscriber subscriber };
-
-    fn of_subscriber(subscriber: crate::Subscriber) -> Subscriber {
-        Subscriber { subscriber }
-    }
-}
 
 impl<T: Drop, U: Default + Drop, F: BackpressureFn, G: DegradationFn> Domain<T, U, F, G> {
     /// A factory of publishers of slices, with as many loans as the domain's settings allow a

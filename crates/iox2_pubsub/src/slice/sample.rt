@@ -5,11 +5,10 @@ use crate::domain::Domain;
 use crate::parts::hints::sample_values_at_hint;
 use iox2_deliveries::sample_payloads;
 use iox2_store::{BackpressureFn, DegradationFn};
-use std::ops::Deref;
 
 /// A slice that a subscriber has received and not yet released. It is a value to be spent, as the
-/// sample of a single value is, and is that sample with another view of its payload: what doesn't
-/// spend it and isn't here is called as there.
+/// sample of a single value is, and is that sample with another view of its payload. All other
+/// calls are those of that sample.
 ///
 /// Example (`crates/thermometer/src/series.rt`):
 ///
@@ -22,19 +21,6 @@ use std::ops::Deref;
 /// iceoryx2's `sample::Sample` of a slice (`src/sample.rs`).
 pub struct Sample {
     pub(crate) sample: crate::Sample,
-}
-
-impl Deref for Sample {
-    ghost use Rattle.iox2_pubsub.specs.Handles.{as_sample};
-
-    type Target = crate::Sample;
-
-    ghost deref_gives = { λ handle inner. inner ≡ as_sample handle };
-
-    #[inline(always)]
-    fn deref(&self) -> &crate::Sample {
-        &self.sample
-    }
 }
 
 impl Sample {
@@ -92,27 +78,5 @@ impl Sample {
     {
         let Sample { sample } = self;
         sample.release(domain);
-    }
-
-    /// The same sample, as one of a slice. This library's own.
-    pub fn new(sample: crate::Sample) -> Sample
-        ensures { as_sample result ≡ sample }
-    {
-        Sample { sample }
-    }
-
-    /// The same sample, as one of a single value. This library's own.
-    pub fn into_inner(self) -> crate::Sample
-        ensures { result ≡ as_sample self }
-    {
-        let Sample { sample } = self;
-        sample
-    }
-
-    /// Spends the handle of a sample whose domain is gone. A domain that is still there isn't told,
-    /// and counts the message as borrowed from then on. This library's own.
-    pub fn disown(self) {
-        let Sample { sample } = self;
-        sample.disown();
     }
 }

@@ -8,11 +8,10 @@ use crate::domain::Domain;
 use crate::send_outcome::SendOutcome;
 use iox2_deliveries::loan_values;
 use iox2_store::{BackpressureFn, DegradationFn, SendError};
-use std::ops::Deref;
 
 /// A loan of a slice whose payload is written. It is a value to be spent, as the loan of a single
-/// value is, and is that loan with another view of its payload: what doesn't spend it and isn't here
-/// is called as there.
+/// value is, and is that loan with another view of its payload. All other calls are those of
+/// that loan.
 ///
 /// Example (`crates/thermometer/src/series.rt`):
 ///
@@ -26,19 +25,6 @@ use std::ops::Deref;
 /// iceoryx2's `sample_mut::SampleMut` of a slice (`src/sample_mut.rs`).
 pub struct SampleMut {
     pub(crate) sample: crate::SampleMut,
-}
-
-impl Deref for SampleMut {
-    ghost use Rattle.iox2_pubsub.specs.Handles.{as_written};
-
-    type Target = crate::SampleMut;
-
-    ghost deref_gives = { λ handle inner. inner ≡ as_written handle };
-
-    #[inline(always)]
-    fn deref(&self) -> &crate::SampleMut {
-        &self.sample
-    }
 }
 
 impl SampleMut {
@@ -156,27 +142,5 @@ impl SampleMut {
     {
         let SampleMut { sample } = self;
         sample.discard(domain);
-    }
-
-    /// The same loan, as one of a slice. This library's own.
-    pub fn new(sample: crate::SampleMut) -> SampleMut
-        ensures { as_written result ≡ sample }
-    {
-        SampleMut { sample }
-    }
-
-    /// The same loan, as one of a single value. This library's own.
-    pub fn into_inner(self) -> crate::SampleMut
-        ensures { result ≡ as_written self }
-    {
-        let SampleMut { sample } = self;
-        sample
-    }
-
-    /// Spends the handle of a loan whose domain is gone. A domain that is still there isn't told,
-    /// and keeps the loan. This library's own.
-    pub fn disown(self) {
-        let SampleMut { sample } = self;
-        sample.disown();
     }
 }

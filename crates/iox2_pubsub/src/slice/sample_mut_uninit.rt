@@ -9,11 +9,10 @@ use crate::domain::Domain;
 use crate::slice::SampleMut;
 use iox2_deliveries::{loan_cells, write_loan_from_fn, write_loan_from_slice};
 use iox2_store::{BackpressureFn, DegradationFn};
-use std::ops::Deref;
 
 /// A loan of a slice whose payload isn't written. It is a value to be spent, as the loan of a single
-/// value is, and is that loan with another view of its payload: what doesn't spend it and isn't here
-/// is called as there.
+/// value is, and is that loan with another view of its payload. All other calls are those of
+/// that loan.
 ///
 /// Example (`crates/thermometer/src/series.rt`):
 ///
@@ -25,19 +24,6 @@ use std::ops::Deref;
 /// iceoryx2's `sample_mut_uninit::SampleMutUninit` of a slice (`src/sample_mut_uninit.rs`).
 pub struct SampleMutUninit {
     pub(crate) sample: crate::SampleMutUninit,
-}
-
-impl Deref for SampleMutUninit {
-    ghost use Rattle.iox2_pubsub.specs.Handles.{as_unwritten};
-
-    type Target = crate::SampleMutUninit;
-
-    ghost deref_gives = { λ handle inner. inner ≡ as_unwritten handle };
-
-    #[inline(always)]
-    fn deref(&self) -> &crate::SampleMutUninit {
-        &self.sample
-    }
 }
 
 impl SampleMutUninit {
@@ -188,27 +174,5 @@ impl SampleMutUninit {
     {
         let SampleMutUninit { sample } = self;
         sample.discard(domain);
-    }
-
-    /// The same loan, as one of a slice. This library's own.
-    pub fn new(sample: crate::SampleMutUninit) -> SampleMutUninit
-        ensures { as_unwritten result ≡ sample }
-    {
-        SampleMutUninit { sample }
-    }
-
-    /// The same loan, as one of a single value. This library's own.
-    pub fn into_inner(self) -> crate::SampleMutUninit
-        ensures { result ≡ as_unwritten self }
-    {
-        let SampleMutUninit { sample } = self;
-        sample
-    }
-
-    /// Spends the handle of a loan whose domain is gone. A domain that is still there isn't told,
-    /// and keeps the loan. This library's own.
-    pub fn disown(self) {
-        let SampleMutUninit { sample } = self;
-        sample.disown();
     }
 }
