@@ -331,8 +331,10 @@ impl<F: BackpressureFn, G: DegradationFn, H: PortHandle<Publisher>> PortFactoryP
         };
         let options = self.options;
         let boxed = self.degradation_box;
-        let publisher = create_plain(domain, &options, self.backpressure_handler, boxed, segments)?;
-        Ok(H::of_port(publisher))
+        match create_plain(domain, &options, self.backpressure_handler, boxed, segments) {
+            Ok(publisher) => Ok(H::of_port(publisher)),
+            Err(error) => Err(error),
+        }
     }
 }
 

@@ -73,7 +73,9 @@ impl<
             .slots
             .ask(domain.state.config(), options.max_loaned_samples);
         let boxed = self.degradation_box;
-        let publisher = create_plain(domain, &options, self.backpressure_handler, boxed, segments)?;
-        Ok(H::of_port(publisher))
+        match create_plain(domain, &options, self.backpressure_handler, boxed, segments) {
+            Ok(publisher) => Ok(H::of_port(publisher)),
+            Err(error) => Err(error),
+        }
     }
 }
