@@ -4,6 +4,14 @@ ghost use Rattle.std.specs.Prelude.{◌≡◌};
 /// A handle of a port: that of single values, or the same port's handle of slices. A factory makes
 /// either.
 ///
+/// Example (`crates/iox2_pubsub/src/slice/views.rt`):
+///
+/// ```rust
+/// fn of_port(port: crate::Publisher) -> Publisher {
+///     Publisher::new(port)
+/// }
+/// ```
+///
 /// This library's own, where iceoryx2's factories know the type of the payload.
 pub trait PortHandle<P> {
     // The handle of single values.

@@ -123,16 +123,11 @@ impl<F: BackpressureFn, G: DegradationFn, O: Drop, H> PortFactoryPublisher<F, G,
     ///
     /// iceoryx2's `PortFactoryPublisher::max_loaned_samples`
     /// (`src/service/port_factory/publisher.rs`).
-    pub fn max_loaned_samples(self, value: usize) -> Self
+    pub fn max_loaned_samples(mut self, value: usize) -> Self
         ensures { result ≡ record self { settings = record (self.settings) { max_loaned_samples = value } } }
     {
-        PortFactoryPublisher {
-            options: PublisherOptions {
-                max_loaned_samples: value,
-                ..self.options
-            },
-            ..self
-        }
+        self.options.max_loaned_samples = value;
+        self
     }
 
     /// Sets what the publisher does where the buffer of a subscriber is full and the service doesn't
@@ -140,16 +135,11 @@ impl<F: BackpressureFn, G: DegradationFn, O: Drop, H> PortFactoryPublisher<F, G,
     ///
     /// iceoryx2's `PortFactoryPublisher::backpressure_strategy`
     /// (`src/service/port_factory/publisher.rs`).
-    pub fn backpressure_strategy(self, value: BackpressureStrategy) -> Self
+    pub fn backpressure_strategy(mut self, value: BackpressureStrategy) -> Self
         ensures { result ≡ record self { settings = record (self.settings) { backpressure_strategy = value } } }
     {
-        PortFactoryPublisher {
-            options: PublisherOptions {
-                strategy: value,
-                ..self.options
-            },
-            ..self
-        }
+        self.options.strategy = value;
+        self
     }
 
     /// Sets what answers where the buffer of a subscriber is full and the service doesn't overflow,
@@ -159,13 +149,11 @@ impl<F: BackpressureFn, G: DegradationFn, O: Drop, H> PortFactoryPublisher<F, G,
     ///
     /// iceoryx2's `PortFactoryPublisher::set_backpressure_handler`
     /// (`src/service/port_factory/publisher.rs`).
-    pub fn set_backpressure_handler(self, handler: BackpressureHandler<F>) -> Self
+    pub fn set_backpressure_handler(mut self, handler: BackpressureHandler<F>) -> Self
         ensures { result ≡ with_handler self handler }
     {
-        PortFactoryPublisher {
-            backpressure_handler: Some(handler),
-            ..self
-        }
+        self.backpressure_handler = Some(handler);
+        self
     }
 
     /// Sets what answers where memory for a connection with a subscriber is refused: the publisher
@@ -174,17 +162,12 @@ impl<F: BackpressureFn, G: DegradationFn, O: Drop, H> PortFactoryPublisher<F, G,
     ///
     /// iceoryx2's `PortFactoryPublisher::set_degradation_handler`
     /// (`src/service/port_factory/publisher.rs`).
-    pub fn set_degradation_handler(self, handler: DegradationHandler<G>) -> Self
+    pub fn set_degradation_handler(mut self, handler: DegradationHandler<G>) -> Self
         ensures { result ≡ with_degradation self handler }
     {
-        PortFactoryPublisher {
-            options: PublisherOptions {
-                degradation: mark_of(&handler),
-                ..self.options
-            },
-            degradation_box: box_in(handler),
-            ..self
-        }
+        self.options.degradation = mark_of(&handler);
+        self.degradation_box = box_in(handler);
+        self
     }
 
     /// Sets how the memory of the publisher grows. A static one refuses a loan that is too long, or
@@ -192,19 +175,11 @@ impl<F: BackpressureFn, G: DegradationFn, O: Drop, H> PortFactoryPublisher<F, G,
     ///
     /// iceoryx2's `PortFactoryPublisher::allocation_strategy`
     /// (`src/service/port_factory/publisher.rs`), which is of slices alone.
-    pub fn allocation_strategy(self, value: AllocationStrategy) -> Self
+    pub fn allocation_strategy(mut self, value: AllocationStrategy) -> Self
         ensures { result ≡ record self { settings = record (self.settings) { allocation_strategy = value } } }
     {
-        PortFactoryPublisher {
-            slots: SlotSettings {
-                allocation: value,
-                preallocated: self.slots.preallocated,
-            },
-            options: self.options,
-            backpressure_handler: self.backpressure_handler,
-            degradation_box: self.degradation_box,
-            makes: self.makes,
-        }
+        self.slots.allocation = value;
+        self
     }
 
     /// Sets what says how many slots the publisher is to have: a closure that is given the worst
@@ -261,16 +236,11 @@ impl<F: BackpressureFn, G: DegradationFn, O: Drop> PortFactoryPublisher<F, G, O,
     ///
     /// iceoryx2's `PortFactoryPublisher::initial_max_slice_len`
     /// (`src/service/port_factory/publisher.rs`).
-    pub fn initial_max_slice_len(self, value: usize) -> Self
+    pub fn initial_max_slice_len(mut self, value: usize) -> Self
         ensures { result ≡ record self { settings = record (self.settings) { initial_max_slice_len = value } } }
     {
-        PortFactoryPublisher {
-            options: PublisherOptions {
-                initial_max_slice_len: value,
-                ..self.options
-            },
-            ..self
-        }
+        self.options.initial_max_slice_len = value;
+        self
     }
 }
 

@@ -75,16 +75,11 @@ impl<G: DegradationFn, H: PortHandle<Subscriber>> PortFactorySubscriber<G, H> {
     /// Sets how many messages of one publisher may wait for the subscriber. Here 0 counts as 1.
     ///
     /// iceoryx2's `PortFactorySubscriber::buffer_size` (`src/service/port_factory/subscriber.rs`).
-    pub fn buffer_size(self, value: usize) -> Self
+    pub fn buffer_size(mut self, value: usize) -> Self
         ensures { result ≡ record self { settings = record (self.settings) { buffer_size = value } } }
     {
-        PortFactorySubscriber {
-            options: SubscriberOptions {
-                buffer_size: value,
-                ..self.options
-            },
-            ..self
-        }
+        self.options.buffer_size = value;
+        self
     }
 
     /// Sets what answers where memory for a connection with a publisher is refused: the subscriber
@@ -94,17 +89,12 @@ impl<G: DegradationFn, H: PortHandle<Subscriber>> PortFactorySubscriber<G, H> {
     ///
     /// iceoryx2's `PortFactorySubscriber::set_degradation_handler`
     /// (`src/service/port_factory/subscriber.rs`).
-    pub fn set_degradation_handler(self, handler: DegradationHandler<G>) -> Self
+    pub fn set_degradation_handler(mut self, handler: DegradationHandler<G>) -> Self
         ensures { result ≡ receiver_with_degradation self handler }
     {
-        PortFactorySubscriber {
-            options: SubscriberOptions {
-                degradation: mark_of(&handler),
-                ..self.options
-            },
-            degradation_box: box_in(handler),
-            makes: self.makes,
-        }
+        self.options.degradation = mark_of(&handler);
+        self.degradation_box = box_in(handler);
+        self
     }
 
     /// A factory with the same settings, which makes subscribers without a handler: where memory for
