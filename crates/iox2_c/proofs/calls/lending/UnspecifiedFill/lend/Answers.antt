@@ -3,7 +3,7 @@ use Rattle.iox2_pubsub.specs.Handles.{as_publisher, as_unwritten, publisher_id, 
 use Rattle.iox2_pubsub.proofs.WrittenLoanCalls.{default-grants, default-refused}
 use Rattle.iox2_c.specs.Steps.{BytesState}
 use Rattle.iox2_c.proofs.LoanSteps.{any-bytes}
-use Rattle.iox2_c.proofs.calls.uninit_loans.lend_uninit.Goals as goal
+use Rattle.iox2_c.proofs.calls.lending.UnspecifiedFill.lend.Goals as goal
 
 pub returns-in-Ok-clause-lends : goal.returns-in-Ok-clause-lends
 returns-in-Ok-clause-lends c = λ m s shown.
