@@ -94,7 +94,34 @@ static void turn_channel(iox2ps_domain_t *domain, const iox2ps_publisher_t *publ
   must_be(were_closed, 1, __LINE__);
 }
 
-/* A channel is turned, loans are discarded, and messages sent, one of which waits twice and is given up. All are received. */
+/* Sends a loan into a channel of the connection with the subscriber. */
+static iox2ps_status_t send_to(iox2ps_domain_t *domain, const iox2ps_publisher_t *publisher, const iox2ps_subscriber_t *subscriber,
+                               size_t channel, iox2ps_blocked_t *blocked) {
+  iox2ps_loan_t loan;
+  void *payload;
+  size_t connection, receivers;
+  OK(iox2ps_publisher_get_connection_id_of(domain, publisher, &subscriber->id, &connection));
+  OK(iox2ps_publisher_loan_uninit(domain, publisher, 8, &loan, &payload));
+  return iox2ps_loan_deliver_offset_to_connection(domain, &loan, channel, connection, &receivers, blocked);
+}
+
+/* Messages are sent to one connection. One is received, one waits for that and is given up, and one goes into a channel of which
+ * nothing is received, where from the second round on it finds no room. */
+static void send_to_one(iox2ps_domain_t *domain, const iox2ps_publisher_t *publisher, const iox2ps_subscriber_t *subscriber) {
+  iox2ps_blocked_t blocked;
+  size_t receivers;
+  iox2ps_status_t sent;
+  OK(send_to(domain, publisher, subscriber, 0, &blocked));
+  IS(send_to(domain, publisher, subscriber, 0, &blocked), IOX2PS_BLOCKED);
+  OK(iox2ps_blocked_give_up(domain, &blocked, &receivers));
+  receive(domain, subscriber);
+  sent = send_to(domain, publisher, subscriber, 1, &blocked);
+  if (sent == IOX2PS_BLOCKED) sent = iox2ps_blocked_give_up(domain, &blocked, &receivers);
+  OK(sent);
+}
+
+/* A channel is turned, loans are discarded, and messages sent, one of which waits twice and is given up. All are received, but for
+ * what goes into the further channel. */
 static void round_of_calls(iox2ps_domain_t *domain, const iox2ps_publisher_t *publisher, const iox2ps_subscriber_t *subscriber) {
   iox2ps_loan_t loan;
   iox2ps_blocked_t blocked;
@@ -103,6 +130,7 @@ static void round_of_calls(iox2ps_domain_t *domain, const iox2ps_publisher_t *pu
   OK(iox2ps_publisher_update_connections(domain, publisher));
   OK(iox2ps_subscriber_update_connections(domain, subscriber));
   turn_channel(domain, publisher, subscriber);
+  send_to_one(domain, publisher, subscriber);
   OK(iox2ps_publisher_loan(domain, publisher, 8, &loan, &payload));
   OK(iox2ps_loan_payload(domain, &loan, &payload, &len));
   OK(iox2ps_loan_discard(domain, &loan));
@@ -129,6 +157,7 @@ int main(int argc, char **argv) {
   config.subscriber_max_buffer_size = 1;
   config.max_publishers = config.max_subscribers = 1;
   config.enable_safe_overflow = 0;
+  config.number_of_channels = 2;
   OK(iox2ps_domain_create(&domain, &config));
   OK(iox2ps_subscriber_create(&domain, &subscriber));
   OK(iox2ps_publisher_create(&domain, &publisher));

@@ -532,11 +532,12 @@ IOX2PS_NODISCARD iox2ps_status_t iox2ps_sample_release(iox2ps_domain_t *domain, 
 
 /** @}
  * @name Channels
- * A publisher and a subscriber that are connected have as many channels as number_of_channels of the settings says. Messages
- * go to channel 0. A channel is in a state, which is a number. Where channel 0 is closed it takes no message and no history, as
- * a closed subscriber does: a send goes past it and doesn't count it. What waits there is received all the same. Each other
- * state is open, and the program says what it means. A channel may also have a hint that its subscriber is about to disconnect,
- * which goes with each change of the state. State and hint are the connection's, and go with it.
+ * A publisher and a subscriber that are connected have as many channels as number_of_channels of the settings says. A send
+ * goes to channel 0, and one to a single connection to the channel that it names; only what is in channel 0 is received. A
+ * channel is in a state, which is a number. A closed channel takes no message, and channel 0 no history then, as a closed
+ * subscriber does: a send goes past it and doesn't count it. What waits in channel 0 is received all the same. Each other
+ * state is open, and the program says what it means. A channel may also have a hint that its subscriber is about to
+ * disconnect, which goes with each change of the state. State and hint are the connection's, and go with it.
  *
  * A subscriber's calls go over all connections that it has, also those with closed publishers of which it has messages; a
  * publisher's are about one, which iox2ps_publisher_get_connection_id_of() names. A port has a connection once it was made
@@ -544,8 +545,9 @@ IOX2PS_NODISCARD iox2ps_status_t iox2ps_sample_release(iox2ps_domain_t *domain, 
  * goes past it when it is tried again. IOX2PS_NO_SUCH_CHANNEL comes for each channel from number_of_channels on, but
  * for channel 0.
  *
- * Calls that only ask aren't recorded, and nothing recorded depends on them. For calls that change a channel there is no
- * command, so that a recording ends before the first of them: it and what follows are counted as missed.
+ * Calls that only ask aren't recorded, and nothing recorded depends on them. For calls that change a channel, and for a
+ * send to one connection, there is no command, so that a recording ends before the first of them: it and what follows are
+ * counted as missed.
  * @{ */
 
 #define IOX2PS_CHANNEL_STATE_OPEN UINT64_C(0)  /**< the state of a new channel */

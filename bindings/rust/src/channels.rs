@@ -37,10 +37,11 @@ fn done(code: u32) -> Result<(), ChannelError> {
 
 /// # Channels
 ///
-/// A publisher and a subscriber that are connected have as many channels as their domain says. Messages go to
-/// channel 0. A channel is in a state, which is a number. A closed channel takes no message and no history: a send goes past it and
-/// doesn't count it, and what waits there is received all the same. Each other state is open, and the program
-/// says what it means.
+/// A publisher and a subscriber that are connected have as many channels as their domain says. A send goes to
+/// channel 0, and one to a single connection to the channel that it names; only what is in channel 0 is
+/// received. A channel is in a state, which is a number. A closed channel takes no message and no history: a
+/// send goes past it and doesn't count it, and what waits in channel 0 is received all the same. Each other
+/// state is open, and the program says what it means.
 impl<P: Payload + ?Sized, M: Threads> Publisher<P, M> {
     /// Names the connection to the subscriber with this id, where there is one, by a number for the calls
     /// below. An update makes connections, and each send makes one first.

@@ -6,7 +6,8 @@ ghost use Rattle.std.specs.Prelude.{◌≤◌};
 
 mod passing;
 
-use passing::pass_bytes;
+use passing::ByHandles;
+use slice_passing::pass_slices;
 use std::alloc::Global;
 
 /// Makes a domain of bytes, and passes so many messages, each of so many bytes. Returns how many
@@ -15,5 +16,5 @@ use std::alloc::Global;
 pub extern "C" fn pass_by_handles(alloc: Global, bytes: usize, messages: u64) -> u64
     ensures { result ≤ messages }
 {
-    pass_bytes(alloc, bytes, messages).unwrap_or(0)
+    pass_slices::<u8, ByHandles>(alloc, bytes, messages).unwrap_or(0)
 }

@@ -1,14 +1,16 @@
 -- What each call comes to, by its code.
-use Rattle.std.specs.Prelude.{ℕ, true, ◌≡◌, ◌⊎◌}
+use Rattle.std.specs.Prelude.{ℕ, true, ◌≡◌, ◌⊎◌, IfOk}
 use Rattle.std.specs.declared.result.Result.{Result}
 use Rattle.std.specs.declared.result.Result.TheVariants.{Err, Ok}
 use Rattle.iox2_store.specs.declared.errors.LoanError.{LoanError}
 use Rattle.iox2_store.specs.declared.errors.PublisherCreateError.{PublisherCreateError}
 use Rattle.iox2_store.specs.declared.key.Key.{Key}
+use Rattle.iox2_store.specs.machine.Records.{PublisherSettings}
 use Rattle.iox2_pubsub.specs.declared.slice.publisher.Publisher.{Publisher}
-use Rattle.iox2_pubsub.specs.Handles.{as_publisher, publisher_id}
-use Rattle.iox2_pubsub.specs.Live.{HasMark, IsLoanKey, IsPublisherKey, IsUnblocked}
+use Rattle.iox2_pubsub.specs.Handles.{as_publisher, max_slice_len_of, publisher_id, strategy_of}
+use Rattle.iox2_pubsub.specs.Live.{HasMark, IsLoanKey, IsNewIn, IsPublisherKey, IsReadyPublisher, IsUnblocked, Stays, publisher_port}
 use Rattle.iox2_c.specs.Serving.{KeptBytes}
+use Rattle.iox2_c.specs.Steps.{CreatesPublisher}
 
 -- ---- creations and loans
 
@@ -16,6 +18,15 @@ use Rattle.iox2_c.specs.Serving.{KeptBytes}
 abbrev pub publisher_made : Result Publisher PublisherCreateError → Result ℕ PublisherCreateError
 publisher_made (Ok it) = Ok (publisher_id (as_publisher it))
 publisher_made (Err error) = Err error
+
+-- A publisher with these settings was asked for, and this came of it.
+pub record MakesPublisher (given : PublisherSettings) (old new : KeptBytes) (made : Result Publisher PublisherCreateError) : Type 0 where
+  pub creates : CreatesPublisher old new given (publisher_made made)
+  pub ready : IfOk made (λ it. IsReadyPublisher new (as_publisher it))
+  pub fresh : IfOk made (λ it. IsNewIn old (publisher_port (as_publisher it)))
+  pub longest : IfOk made (λ it. max_slice_len_of (as_publisher it) ≡ given.initial_max_slice_len)
+  pub strategy : IfOk made (λ it. strategy_of (as_publisher it) ≡ given.backpressure_strategy)
+  pub stays : Stays old new
 
 -- What came of a loan, without its handle.
 abbrev pub loan_made : {A : Type 0} → Result A LoanError → Result (Unit {0}) LoanError

@@ -9,6 +9,8 @@ use Rattle.iox2_domain.specs.Shows.{Shows}
 use Rattle.iox2_pubsub.specs.Live.{IsPublisherKey, IsSubscriberKey}
 use Rattle.iox2_c.specs.Serving.{KeptBytes}
 use Rattle.iox2_c.specs.Steps.{BytesState, StepsTo}
+use Rattle.iox2_c.specs.declared.calls.channel_changes.ReceivedChange.{ReceivedChange}
+use Rattle.iox2_c.specs.declared.calls.channel_changes.ReceivedChange.TheVariants.{Close, Hint}
 
 -- ---- refusals, which change nothing: 2 where no live port is named, and 70 where there is no channel with the number
 
@@ -20,6 +22,14 @@ module _ (domain : KeptBytes) (key : Key) (channel : ℕ) where
   -- Why a subscriber's is.
   abbrev pub RefusesSubscriberChannel : (code : ℕ) → Type 0
   RefusesSubscriberChannel code = ((code ≡ 2) × (IsSubscriberKey domain key → ⊥)) ⊎ ((code ≡ 70) × IsSubscriberKey domain key × (channel_count domain.config ≤ channel))
+
+  -- A publisher's call on a channel is answered with this code: 0 where it is there, and else why it is refused.
+  abbrev pub AnswersPublisherChannel : (code : ℕ) → Type 0
+  AnswersPublisherChannel code = ((code ≡ 0) × IsPublisherKey domain key) ⊎ RefusesPublisherChannel code
+
+  -- A subscriber's is.
+  abbrev pub AnswersSubscriberChannel : (code : ℕ) → Type 0
+  AnswersSubscriberChannel code = ((code ≡ 0) × IsSubscriberKey domain key) ⊎ RefusesSubscriberChannel code
 
 -- ---- answers
 
@@ -68,6 +78,11 @@ module _ (old new : KeptBytes) where
   -- The subscriber with this id hinted that it disconnects wherever the channel was in the state `expected`.
   abbrev pub HintsReceived : (subscriber channel expected : ℕ) → Type 0
   HintsReceived subscriber channel expected = ComesTo (λ s. received_hinted s subscriber channel expected)
+
+  -- The subscriber with this id changed the channel so wherever it was in the state `expected`.
+  abbrev pub ChangesReceived : ReceivedChange → (subscriber channel expected : ℕ) → Type 0
+  ChangesReceived Close = ClosesReceived
+  ChangesReceived Hint = HintsReceived
 
   -- The publisher with this id closed the channel at that connection, if it was in the state `expected`.
   abbrev pub ClosesSent : (publisher channel place expected : ℕ) → Type 0

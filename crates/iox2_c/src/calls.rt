@@ -4,10 +4,10 @@
 pub mod channel_changes;
 pub mod channels;
 pub mod connection_sends;
+pub mod lending;
 pub mod loans;
 pub mod publishers;
 pub mod questions;
 pub mod samples;
 pub mod sends;
 pub mod subscribers;
-pub mod uninit_loans;

@@ -4,9 +4,11 @@ mod answers;
 mod messages;
 mod ports;
 
-use crate::status::NOT_LIVE;
+use crate::status::{NOT_LIVE, OK};
 pub use answers::{error_of, publisher_reply, subscriber_reply};
+use answers::{BytesReply, plain_reply};
 use call_recorder::{NOWHERE, Name, Recorder};
+use iox2_commands::Command;
 use iox2_pubsub::ServiceConfig;
 use std::alloc::{AllocError, Global};
 
@@ -53,6 +55,44 @@ impl Recording {
     pub fn end(&mut self) {
         if let Some(recorder) = &mut self.recorder {
             recorder.miss();
+        }
+    }
+
+    // Keeps the command of a call on what has this name, which came to this code and has this reply.
+    fn keep<C: FnOnce(usize) -> Command<u64, u64>>(
+        &mut self,
+        name: Name,
+        code: u32,
+        command: C,
+        reply: BytesReply,
+    )
+        requires { C.IsAlwaysCallable command }
+    {
+        if let Some(recorder) = &mut self.recorder {
+            let of = target(recorder, name, code);
+            recorder.keep(command(of), reply);
+        }
+    }
+
+    // The same of a call that has nothing to tell, after which nothing has the name.
+    fn keep_last<C: FnOnce(usize) -> Command<u64, u64>>(
+        &mut self,
+        name: Name,
+        code: u32,
+        command: C,
+    )
+        requires { C.IsAlwaysCallable command }
+    {
+        self.keep(name, code, command, plain_reply(code));
+        if code == OK {
+            self.forget(name);
+        }
+    }
+
+    // Nothing has this name any more.
+    fn forget(&mut self, name: Name) {
+        if let Some(recorder) = &mut self.recorder {
+            recorder.forget(name);
         }
     }
 

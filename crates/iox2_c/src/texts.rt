@@ -1,6 +1,8 @@
 //! The texts of codes. Each ends in a zero byte, as C's do.
 ghost use Rattle.std.specs.Prelude.{◌≡◌};
-ghost use Rattle.iox2_c.specs.Texts.{IsTextOfErrors, call_text, channel_text, ended, failure_text, loan_text, publisher_text, receive_text, send_text, subscriber_text, text_numbered, warning_text};
+ghost use Rattle.iox2_c.specs.Texts.{IsTextOfErrors, ended, text_numbered};
+
+const UNKNOWN: &[u8] = b"no code of a call\0";
 
 /// The text of a code, or of the kind of a warning.
 #[tactic(auto, using(crate::proofs::TextsOfErrors::texts_of_errors))]
@@ -9,142 +11,87 @@ pub fn text_of(code: u32) -> &'static [u8]
     ensures errors { IsTextOfErrors code result.now }
 {
     match code / 10 {
-        0 => text_of_call(code),
-        1 => text_of_loan(code),
-        2 => text_of_send(code),
-        3 => text_of_receive(code),
-        4 => text_of_failure(code),
-        5 => text_of_publisher(code),
-        6 => text_of_subscriber(code),
-        7 => text_of_channel(code),
-        _ => text_of_warning(code),
-    }
-}
-
-const UNKNOWN: &[u8] = b"no code of a call\0";
-
-fn text_of_call(code: u32) -> &'static [u8]
-    ensures { result.now ≡ ended (call_text code) }
-{
-    match code {
-        0 => b"done\0",
-        1 => b"there is no domain: none was made, or it was destroyed\0",
-        2 => b"the numbers name nothing that is live in the domain\0",
-        3 => b"no message waits\0",
-        4 => b"there is no memory for the domain\0",
-        5 => b"there is a domain already\0",
-        6 => b"the send waits for a subscriber whose buffer is full\0",
-        7 => b"an earlier send of the publisher waits\0",
-        8 => b"a field of the settings has none of its values\0",
-        9 => b"the message is longer than the room for it\0",
-        _ => UNKNOWN,
-    }
-}
-
-fn text_of_loan(code: u32) -> &'static [u8]
-    ensures { result.now ≡ ended (loan_text code) }
-{
-    match code {
-        10 => b"LoanError::OutOfMemory\0",
-        11 => b"LoanError::ExceedsMaxLoans\0",
-        12 => b"LoanError::ExceedsMaxLoanSize\0",
-        13 => b"LoanError::InternalFailure\0",
-        _ => UNKNOWN,
-    }
-}
-
-fn text_of_send(code: u32) -> &'static [u8]
-    ensures { result.now ≡ ended (send_text code) }
-{
-    match code {
-        20 => b"SendError::ConnectionBrokenSinceSenderNoLongerExists\0",
-        21 => b"SendError::ConnectionCorrupted\0",
-        22 => b"SendError::UnableToDeliver\0",
-        23 => b"SendError::InternalError\0",
-        24 => {
-            b"SendError::ConnectionError(FailedToEstablishConnection(IncompatibleBufferSize))\0"
-        }
-        25 => b"SendError::ConnectionError(FailedToEstablishConnection(OutOfMemory))\0",
-        26 => {
-            b"SendError::ConnectionError(FailedToEstablishConnection(ExpiredConnectionBufferFull))\0"
-        }
-        27 => b"SendError::ConnectionError(UnableToMapSendersDataSegment(InternalError))\0",
-        _ => UNKNOWN,
-    }
-}
-
-fn text_of_receive(code: u32) -> &'static [u8]
-    ensures { result.now ≡ ended (receive_text code) }
-{
-    match code {
-        30 => b"ReceiveError::ExceedsMaxBorrows\0",
-        34 => {
-            b"ReceiveError::ConnectionFailure(FailedToEstablishConnection(IncompatibleBufferSize))\0"
-        }
-        35 => b"ReceiveError::ConnectionFailure(FailedToEstablishConnection(OutOfMemory))\0",
-        36 => {
-            b"ReceiveError::ConnectionFailure(FailedToEstablishConnection(ExpiredConnectionBufferFull))\0"
-        }
-        37 => b"ReceiveError::ConnectionFailure(UnableToMapSendersDataSegment(InternalError))\0",
-        _ => UNKNOWN,
-    }
-}
-
-fn text_of_failure(code: u32) -> &'static [u8]
-    ensures { result.now ≡ ended (failure_text code) }
-{
-    match code {
-        44 => b"ConnectionFailure::FailedToEstablishConnection(IncompatibleBufferSize)\0",
-        45 => b"ConnectionFailure::FailedToEstablishConnection(OutOfMemory)\0",
-        46 => b"ConnectionFailure::FailedToEstablishConnection(ExpiredConnectionBufferFull)\0",
-        47 => b"ConnectionFailure::UnableToMapSendersDataSegment(InternalError)\0",
-        _ => UNKNOWN,
-    }
-}
-
-fn text_of_publisher(code: u32) -> &'static [u8]
-    ensures { result.now ≡ ended (publisher_text code) }
-{
-    match code {
-        50 => b"PublisherCreateError::ExceedsMaxSupportedPublishers\0",
-        51 => b"PublisherCreateError::UnableToCreateDataSegment\0",
-        52 => b"PublisherCreateError::FailedToDeployThreadsafetyPolicy\0",
-        53 => b"PublisherCreateError::UnableToCreatePortTag\0",
-        _ => UNKNOWN,
-    }
-}
-
-fn text_of_subscriber(code: u32) -> &'static [u8]
-    ensures { result.now ≡ ended (subscriber_text code) }
-{
-    match code {
-        60 => b"SubscriberCreateError::ExceedsMaxSupportedSubscribers\0",
-        61 => b"SubscriberCreateError::BufferSizeExceedsMaxSupportedBufferSizeOfService\0",
-        62 => b"SubscriberCreateError::FailedToDeployThreadsafetyPolicy\0",
-        63 => b"SubscriberCreateError::UnableToCreatePortTag\0",
-        _ => UNKNOWN,
-    }
-}
-
-fn text_of_channel(code: u32) -> &'static [u8]
-    ensures { result.now ≡ ended (channel_text code) }
-{
-    match code {
-        70 => b"a connection has no channel with this number\0",
-        71 => b"the publisher has no connection to that subscriber\0",
-        _ => UNKNOWN,
-    }
-}
-
-fn text_of_warning(kind: u32) -> &'static [u8]
-    ensures { result.now ≡ ended (warning_text kind) }
-{
-    match kind {
-        100 => b"Warning::ExpiredBufferRaised\0",
-        101 => b"Warning::PublisherPartlyConnected\0",
-        102 => b"Warning::SubscriberPartlyConnected\0",
-        103 => b"Warning::ConnectionNotMade\0",
-        104 => b"Warning::ExpiredDataDiscarded\0",
-        _ => UNKNOWN,
+        0 => match code {
+            0 => b"done\0",
+            1 => b"there is no domain: none was made, or it was destroyed\0",
+            2 => b"the numbers name nothing that is live in the domain\0",
+            3 => b"no message waits\0",
+            4 => b"there is no memory for the domain\0",
+            5 => b"there is a domain already\0",
+            6 => b"the send waits for a subscriber whose buffer is full\0",
+            7 => b"an earlier send of the publisher waits\0",
+            8 => b"a field of the settings has none of its values\0",
+            9 => b"the message is longer than the room for it\0",
+            _ => UNKNOWN,
+        },
+        1 => match code {
+            10 => b"LoanError::OutOfMemory\0",
+            11 => b"LoanError::ExceedsMaxLoans\0",
+            12 => b"LoanError::ExceedsMaxLoanSize\0",
+            13 => b"LoanError::InternalFailure\0",
+            _ => UNKNOWN,
+        },
+        2 => match code {
+            20 => b"SendError::ConnectionBrokenSinceSenderNoLongerExists\0",
+            21 => b"SendError::ConnectionCorrupted\0",
+            22 => b"SendError::UnableToDeliver\0",
+            23 => b"SendError::InternalError\0",
+            24 => {
+                b"SendError::ConnectionError(FailedToEstablishConnection(IncompatibleBufferSize))\0"
+            }
+            25 => b"SendError::ConnectionError(FailedToEstablishConnection(OutOfMemory))\0",
+            26 => {
+                b"SendError::ConnectionError(FailedToEstablishConnection(ExpiredConnectionBufferFull))\0"
+            }
+            27 => b"SendError::ConnectionError(UnableToMapSendersDataSegment(InternalError))\0",
+            _ => UNKNOWN,
+        },
+        3 => match code {
+            30 => b"ReceiveError::ExceedsMaxBorrows\0",
+            34 => {
+                b"ReceiveError::ConnectionFailure(FailedToEstablishConnection(IncompatibleBufferSize))\0"
+            }
+            35 => b"ReceiveError::ConnectionFailure(FailedToEstablishConnection(OutOfMemory))\0",
+            36 => {
+                b"ReceiveError::ConnectionFailure(FailedToEstablishConnection(ExpiredConnectionBufferFull))\0"
+            }
+            37 =>
+                b"ReceiveError::ConnectionFailure(UnableToMapSendersDataSegment(InternalError))\0",
+            _ => UNKNOWN,
+        },
+        4 => match code {
+            44 => b"ConnectionFailure::FailedToEstablishConnection(IncompatibleBufferSize)\0",
+            45 => b"ConnectionFailure::FailedToEstablishConnection(OutOfMemory)\0",
+            46 => b"ConnectionFailure::FailedToEstablishConnection(ExpiredConnectionBufferFull)\0",
+            47 => b"ConnectionFailure::UnableToMapSendersDataSegment(InternalError)\0",
+            _ => UNKNOWN,
+        },
+        5 => match code {
+            50 => b"PublisherCreateError::ExceedsMaxSupportedPublishers\0",
+            51 => b"PublisherCreateError::UnableToCreateDataSegment\0",
+            52 => b"PublisherCreateError::FailedToDeployThreadsafetyPolicy\0",
+            53 => b"PublisherCreateError::UnableToCreatePortTag\0",
+            _ => UNKNOWN,
+        },
+        6 => match code {
+            60 => b"SubscriberCreateError::ExceedsMaxSupportedSubscribers\0",
+            61 => b"SubscriberCreateError::BufferSizeExceedsMaxSupportedBufferSizeOfService\0",
+            62 => b"SubscriberCreateError::FailedToDeployThreadsafetyPolicy\0",
+            63 => b"SubscriberCreateError::UnableToCreatePortTag\0",
+            _ => UNKNOWN,
+        },
+        7 => match code {
+            70 => b"a connection has no channel with this number\0",
+            71 => b"the publisher has no connection to that subscriber\0",
+            _ => UNKNOWN,
+        },
+        _ => match code {
+            100 => b"Warning::ExpiredBufferRaised\0",
+            101 => b"Warning::PublisherPartlyConnected\0",
+            102 => b"Warning::SubscriberPartlyConnected\0",
+            103 => b"Warning::ConnectionNotMade\0",
+            104 => b"Warning::ExpiredDataDiscarded\0",
+            _ => UNKNOWN,
+        },
     }
 }

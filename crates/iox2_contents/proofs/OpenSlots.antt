@@ -1,9 +1,9 @@
 -- What counts of one slot: cells that can be handed out as a list, and a list that is long enough.
-use Rattle.std.proofs.Common.{◌≡◌, ◌<◌, ◌≤◌, ◌∙◌, ◌==◌, ◌&&◌, ℕ, Bool, true, false, cond, [], length, refl, ap, subst, arith}
+use Rattle.std.proofs.Common.{◌≡◌, ◌<◌, ◌≤◌, ◌∙◌, ◌==◌, ◌&&◌, ℕ, Bool, true, false, cond, [], length, refl, ap, sym, subst, arith}
 use Rattle.std.proofs.lemmas.Bool.Decides.{nat_tests}
 use Rattle.std.specs.Prelude.{nat_lt, nat_le}
 use Rattle.iox2_contents.specs.SlotContents.{ContentState, is_open}
-use Rattle.iox2_contents.specs.SlotStates.{SlotState, has_list, waits}
+use Rattle.iox2_contents.specs.SlotStates.{SlotState, content_of, has_list, waits}
 use Rattle.iox2_contents.specs.SlotRooms.{ListsCells, ShowsAtMost, one_if_long}
 
 pub and-false : (b : Bool) → (b && false) ≡ false
@@ -34,7 +34,23 @@ too-short n m most short = grind (arith, nat_tests)
 pub no-wait : (n m k : ℕ) → 0 < m → (nat_lt 0 n && (m == 0 && nat_lt 0 k)) ≡ false
 no-wait n m k some = grind (arith, nat_tests)
 
+some-lists : (m n : ℕ) → 0 < m → cond {A = ℕ} (nat_lt 0 m) n 0 ≡ n
+some-lists m n some = grind (arith, nat_tests)
+
+of-some : (m n : ℕ) → 0 < cond {A = ℕ} (nat_lt 0 m) n 0 → 0 < m
+of-some m n some = grind (arith, nat_tests)
+
 module _ {T U : Type 0} where
+  -- a slot whose publisher keeps lists shows how many, and any other none
+  pub shown-lists : (n : ℕ) (s : SlotState T U) → 0 < s.content.lists → (content_of n s).lists ≡ n
+  shown-lists n s some = some-lists s.content.lists n some
+
+  pub shown-none : (n : ℕ) (s : SlotState T U) → s.content.lists ≡ 0 → (content_of n s).lists ≡ 0
+  shown-none n s none = ap (λ m. cond {A = ℕ} (nat_lt 0 m) n 0) none
+
+  pub from-shown : (n : ℕ) (s : SlotState T U) → 0 < (content_of n s).lists → 0 < s.content.lists
+  from-shown n s some = of-some s.content.lists n some
+
   -- one where the slot has cells that can be handed out as a list
   abbrev pub one_if_open : ContentState T U → ℕ
   one_if_open content = cond (is_open content) 1 0
@@ -80,11 +96,12 @@ module _ {T U : Type 0} where
       omega (arith, no)
 
   -- a slot with a list that is long enough has cells
-  pub long-open : (most : ℕ) (s : SlotState T U) → ShowsAtMost most s → ListsCells s → one_if_long most s ≤ one_if_open s.content
-  long-open most s shows lists = by (has_list s) refl where
-    by : (b : Bool) → has_list s ≡ b → one_if_long most s ≤ one_if_open s.content
+  pub long-open : (most n : ℕ) (s : SlotState T U) → ShowsAtMost most s → ListsCells s → (0 < s.content.lists → 0 < n) → one_if_long most s ≤ one_if_open (content_of n s)
+  long-open most n s shows lists more = by (has_list s) refl where
+    by : (b : Bool) → has_list s ≡ b → one_if_long most s ≤ one_if_open (content_of n s)
     by true e =
-        let is = is-open s.content (has-some s e).0 (lists e) in
+        let some = (has-some s e).0 in
+        let is = is-open (content_of n s) (subst (λ m. 0 < m) (sym (shown-lists n s some)) (more some)) (lists e) in
         let no : one_if_long most s ≤ 1 = subst (λ b. one_if_long most s ≤ cond {A = ℕ} b 1 0) e (long-has most s shows) in
         omega (arith, is, no)
     by false e = omega (arith, long-none most s shows e)

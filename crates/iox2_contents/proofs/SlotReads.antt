@@ -7,7 +7,7 @@ use Rattle.std.specs.Bool.{MatchBool}
 use Rattle.std.specs.List.{All}
 use Rattle.std.proofs.lemmas.List.Elements.{All-get_or}
 use Rattle.iox2_contents.specs.SlotContents.{ContentState, SomeAt}
-use Rattle.iox2_contents.specs.SlotStates.{SlotState, contents_of}
+use Rattle.iox2_contents.specs.SlotStates.{SlotState, content_of, contents_of}
 
 -- There is a slot of which something holds.
 pub some_within : {A : Type 0} (contents : List A) (slot : ℕ) (P : A → Type 0) → SomeAt contents slot P → slot < length contents
@@ -43,18 +43,18 @@ by_result true whole partial = whole refl
 by_result false whole partial = partial refl
 
 -- It holds of the content in the slot that indexing gives there.
-pub content_read : {T U : Type 0} (slots : List (SlotState T U)) (contents : List (ContentState T U)) (slot : ℕ) (P : ContentState T U → Type 0) (x : SlotState T U) → contents_of slots ≡ contents → SomeAt contents slot P
-    → x ≡ get_or slots slot x → (slice_get slots slot ≡ Some x) × P x.content
-content_read {T = T} {U = U} slots contents slot P x are h e = some_read slots slot (λ s. P s.content) x (of_contents slots slot (subst (λ ys. SomeAt ys slot P) (sym are) h)) e
+pub content_read : {T U : Type 0} (n : ℕ) (slots : List (SlotState T U)) (contents : List (ContentState T U)) (slot : ℕ) (P : ContentState T U → Type 0) (x : SlotState T U) → contents_of n slots ≡ contents → SomeAt contents slot P
+    → x ≡ get_or slots slot x → (slice_get slots slot ≡ Some x) × P (content_of n x)
+content_read {T = T} {U = U} n slots contents slot P x are h e = some_read slots slot (λ s. P (content_of n s)) x (of_contents slots slot (subst (λ ys. SomeAt ys slot P) (sym are) h)) e
   where
-    of_contents : (ys : List (SlotState T U)) (k : ℕ) → SomeAt (contents_of ys) k P → SomeAt ys k (λ s. P s.content)
+    of_contents : (ys : List (SlotState T U)) (k : ℕ) → SomeAt (contents_of n ys) k P → SomeAt ys k (λ s. P (content_of n s))
     of_contents [] k h = absurd h
     of_contents (y ∷ ys) zero h = h
     of_contents (y ∷ ys) (suc k) h = of_contents ys k h
 
 -- What stands in a slot that there is.
-pub slot_read : {T U : Type 0} (slots : List (SlotState T U)) (contents : List (ContentState T U)) (slot : ℕ) (x : SlotState T U) → contents_of slots ≡ contents → slot < length contents
+pub slot_read : {T U : Type 0} (n : ℕ) (slots : List (SlotState T U)) (contents : List (ContentState T U)) (slot : ℕ) (x : SlotState T U) → contents_of n slots ≡ contents → slot < length contents
     → x ≡ get_or slots slot x → slice_get slots slot ≡ Some x
-slot_read slots contents slot x are within e =
-    let count : length contents ≡ length slots = sym (ap length are) ∙ length-map slots (λ s. s.content) in
+slot_read n slots contents slot x are within e =
+    let count : length contents ≡ length slots = sym (ap length are) ∙ length-map slots (content_of n) in
     slice_get_read slots _ slot x refl (omega (arith, within, count)) e

@@ -9,5 +9,6 @@ pub mod PayloadLends
 pub mod SlotContents
 pub mod SlotStates
 pub mod SlotRooms
+pub mod SpareLists
 pub mod ContentLends
 pub mod ContentsLends

@@ -22,25 +22,21 @@ module _ {T U : Type 0} where
   abbrev pub long_count : (most : ℕ) → List (SlotState T U) → ℕ
   long_count most slots = sum_by (one_if_long most) slots
 
-  -- Each slot that has cells finds a list for them, with so many lists to spare, which are this long, and room for so many.
-  pub record HasLists (most spare spare_room : ℕ) (slots : List (SlotState T U)) : Type 0 where
+  -- Each slot that has cells finds a list for them, with so many lists to spare, which are this long, of so many in all.
+  pub record HasLists (most spare lists : ℕ) (slots : List (SlotState T U)) : Type 0 where
     pub shown : All (ShowsAtMost most) slots
     pub listed : All ListsCells slots
-    pub lists : ℕ
-    pub alike : All (λ slot. 0 < slot.content.lists → slot.content.lists ≡ lists) slots
-    -- No list is lost that is long enough for each slot, and there is room for all of them.
+    pub some : All (λ slot. 0 < slot.content.lists → 0 < lists) slots
+    -- No list is lost that is long enough for each slot.
     pub kept : lists ≤ spare + long_count most slots
-    pub room : lists ≤ spare_room
     -- No more slots have cells than there are lists.
-    pub opened : open_count (contents_of slots) ≤ lists
+    pub opened : open_count (contents_of lists slots) ≤ lists
 
   -- The same but for a slot whose cells are gone, and which may have their list still.
-  pub record HasListsBut (at most spare spare_room : ℕ) (slots : List (SlotState T U)) : Type 0 where
+  pub record HasListsBut (at most spare lists : ℕ) (slots : List (SlotState T U)) : Type 0 where
     pub shown : All (ShowsAtMost most) slots
     pub listed : (slot : ℕ) (s : SlotState T U) → slice_get slots slot ≡ Some s → slot ≢ at → ListsCells s
     pub ended : IsSomeAnd (slice_get slots at) (λ slot. slot.content.cells ≡ [])
-    pub lists : ℕ
-    pub alike : All (λ slot. 0 < slot.content.lists → slot.content.lists ≡ lists) slots
+    pub some : All (λ slot. 0 < slot.content.lists → 0 < lists) slots
     pub kept : lists ≤ spare + long_count most slots
-    pub room : lists ≤ spare_room
-    pub opened : open_count (contents_of slots) ≤ lists
+    pub opened : open_count (contents_of lists slots) ≤ lists

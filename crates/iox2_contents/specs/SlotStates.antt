@@ -1,17 +1,27 @@
 -- What a slot has besides its content, which no public contract shows.
-use Rattle.std.specs.Prelude.{◌≡◌, ℕ, Bool, false, ◌&&◌, ◌==◌, List, [], length, map, nat_lt}
+use Rattle.std.specs.Prelude.{◌≡◌, ℕ, Bool, false, ◌&&◌, ◌==◌, cond, List, [], length, map, nat_lt}
+use Rattle.iox2_contents.specs.CellLists.{keeps}
 use Rattle.iox2_contents.specs.SlotContents.{ContentState}
 use Rattle.iox2_contents.specs.SlotPayload.{lies_in_place}
 
--- The content of a slot, and for how many cells there is room in a list that they have.
+-- The content of a slot, of which `lists` is 1 where its publisher keeps lists, and for how many cells there is room in a list
+-- that they have.
 pub record SlotState (T U : Type 0) : Type 0 where
   pub content : ContentState T U
   pub cell_room : ℕ
 
 module _ {T U : Type 0} where
-  -- The contents of slots.
-  abbrev pub contents_of : List (SlotState T U) → List (ContentState T U)
-  contents_of slots = map (λ slot. slot.content) slots
+  -- The content with so many lists, where it has any.
+  abbrev pub with_lists : (lists : ℕ) → ContentState T U → ContentState T U
+  with_lists lists content = record content { lists = cond (nat_lt 0 content.lists) lists 0 }
+
+  -- The content of a slot of a publisher that keeps so many lists, if any.
+  abbrev pub content_of : (lists : ℕ) → SlotState T U → ContentState T U
+  content_of lists slot = with_lists lists slot.content
+
+  -- The contents of such slots.
+  abbrev pub contents_of : (lists : ℕ) → List (SlotState T U) → List (ContentState T U)
+  contents_of lists slots = map (content_of lists) slots
 
   -- The slot with another content.
   abbrev pub with_content : (ContentState T U → ContentState T U) → SlotState T U → SlotState T U
@@ -32,5 +42,5 @@ module _ {T U : Type 0} where
     pub values : slot.content.values ≡ []
     pub rooms : slot.content.room ≡ room
     pub in_place : slot.content.is_in_place ≡ lies_in_place room in_lists
-    pub lists_are : slot.content.lists ≡ lists
+    pub lists_are : slot.content.lists ≡ keeps lists
     pub none : has_list slot ≡ false

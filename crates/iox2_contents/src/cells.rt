@@ -2,7 +2,7 @@
 ghost use Rattle.std.specs.Prelude.{◌≡◌, ◌<◌, ◌≤◌, ◌+◌, ◌&&◌, ◌==◌, [], ◌++◌, length, map, nat_lt, replicate, slice_get, vec_capacity, true, false, None, Some, IsSome, IfOk, is_some};
 ghost use Rattle.std.specs.Borrow.{sem};
 ghost use Rattle.std.specs.List.{All, list_all};
-ghost use Rattle.iox2_contents.specs.CellLists.{with_items, has_list, waits};
+ghost use Rattle.iox2_contents.specs.CellLists.{with_items, has_list, keeps, waits};
 
 use std::alloc::{AllocError, Global};
 use std::marker::Model;
@@ -12,19 +12,18 @@ use std::mem;
 ///
 /// They are listed once a reference is handed out by which they may be written. Until then a loan is
 /// but their number, and shows cells that all loans of its publisher share. The list is one of those
-/// that its publisher keeps for its loans, and goes back there. Where a publisher keeps none, there is
-/// room for one cell, and the others are never listed.
+/// that its publisher keeps for its loans, and goes back there. Each of these has room for two cells or
+/// more. Where a publisher keeps none, there is always room for one cell, and the others are never
+/// listed. So the room tells whether there are such lists.
 #[derive(Drop)]
 pub(crate) struct Cells<T> {
     listed: Vec<Option<T>>,
     // So many cells aren't listed, and none of them is written.
     unlisted: usize,
-    // How many lists the publisher keeps for its loans.
-    lists: usize,
 }
 
 impl<T> Model for Cells<T> {
-    ghost use Rattle.std.specs.Prelude.{◌≡◌, ◌<◌, ◌≤◌, ◌+◌, ◌^◌, ◌++◌, Option, None, length, replicate, vec_capacity};
+    ghost use Rattle.std.specs.Prelude.{◌≡◌, ◌<◌, ◌+◌, ◌^◌, ◌++◌, ◌==◌, Option, None, cond, length, replicate, vec_capacity};
     ghost use Rattle.iox2_contents.specs.CellLists.{CellList};
 
     ghost Value = { CellList T };
@@ -32,19 +31,19 @@ impl<T> Model for Cells<T> {
     ghost view = { λ cells. record {
       items = cells.listed.items ++ replicate cells.unlisted None;
       room = vec_capacity cells.listed;
-      lists = cells.lists;
+      lists = cond (vec_capacity cells.listed == 1) 0 1;
     } };
 
     // With a list of its publisher's all cells are listed.
     ghost invariant = { λ cells. (length cells.listed.items + cells.unlisted < 2 ^ 64)
-        × (0 < cells.lists → 0 < vec_capacity cells.listed → cells.unlisted ≡ 0) };
+        × (1 < vec_capacity cells.listed → cells.unlisted ≡ 0) };
 }
 
 impl<T: Drop> Cells<T> {
     /// No cells, of a publisher that keeps so many lists; with room for one, where it keeps none.
     pub(crate) fn new(alloc: Global, lists: usize) -> Result<Self, AllocError>
         ensures items { IfOk result (λ cells. cells.items ≡ []) }
-        ensures lists { IfOk result (λ cells. cells.lists ≡ lists) }
+        ensures lists { IfOk result (λ cells. cells.lists ≡ keeps lists) }
         ensures own { IfOk result (λ cells. lists ≡ 0 → 0 < cells.room) }
         ensures none { IfOk result (λ cells. 0 < lists → cells.room ≡ 0) }
     {
@@ -52,7 +51,6 @@ impl<T: Drop> Cells<T> {
         Ok(Cells {
             listed: Vec::with_capacity(alloc, room)?,
             unlisted: 0,
-            lists,
         })
     }
 
@@ -76,20 +74,26 @@ impl<T: Drop> Cells<T> {
         count
     }
 
-    /// Drops the cells, with their memory.
+    /// Drops the cells, with the memory of a list of their publisher's. The room for one cell stays.
     pub(crate) fn give_up(&mut self, alloc: Global)
         ensures items { self.new.items ≡ [] }
-        ensures room { self.new.room ≡ 0 }
+        ensures none { 0 < self.old.lists → self.new.room ≡ 0 }
         ensures lists { self.new.lists ≡ self.old.lists }
     {
-        self.listed = Vec::new(alloc);
+        if self.listed.capacity() == 1 {
+            self.listed.clear();
+        } else {
+            self.listed = Vec::new(alloc);
+        }
         self.unlisted = 0;
     }
 
     /// Drops the cells, and takes their list out, which is its publisher's.
     pub(crate) fn take_list(&mut self) -> Vec<Option<T>>
+        requires { has_list self.old ≡ true }
         ensures empty { result.items ≡ [] }
         ensures room { vec_capacity result ≡ self.old.room }
+        ensures wide { 1 < vec_capacity result }
         ensures items { self.new.items ≡ [] }
         ensures none { self.new.room ≡ 0 }
         ensures lists { self.new.lists ≡ self.old.lists }
@@ -106,6 +110,7 @@ impl<T: Drop> Cells<T> {
         requires waits { waits self.old ≡ true }
         requires empty { list.items ≡ [] }
         requires room { length self.old.items ≤ vec_capacity list }
+        requires wide { 1 < vec_capacity list }
         ensures items { self.new.items ≡ self.old.items }
         ensures room { self.new.room ≡ vec_capacity list }
         ensures lists { self.new.lists ≡ self.old.lists }
@@ -144,14 +149,14 @@ impl<T> Cells<T> {
     pub(crate) fn has_list(&self) -> bool
         ensures { result ≡ has_list self.now }
     {
-        self.lists > 0 && self.listed.capacity() > 0
+        self.listed.capacity() > 1
     }
 
     /// Whether they need one of their publisher's lists before they can be written.
     pub(crate) fn waits(&self) -> bool
         ensures { result ≡ waits self.now }
     {
-        self.lists > 0 && self.listed.capacity() == 0 && self.unlisted > 0
+        self.listed.capacity() == 0 && self.unlisted > 0
     }
 
     /// The first cell. Where it isn't listed it is one of the unwritten ones.

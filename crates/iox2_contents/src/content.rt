@@ -127,6 +127,7 @@ impl<T: Drop, U> Content<T, U> {
         requires waits { waits self.old ≡ true }
         requires empty { list.items ≡ [] }
         requires room { self.old.content.room ≤ vec_capacity list }
+        requires wide { 1 < vec_capacity list }
         ensures { self.new ≡ record self.old { cell_room = vec_capacity list } }
     {
         self.payload.put_list(list);
@@ -137,6 +138,7 @@ impl<T: Drop, U> Content<T, U> {
         requires { has_list self.old ≡ true }
         ensures empty { result.items ≡ [] }
         ensures list { vec_capacity result ≡ self.old.cell_room }
+        ensures wide { 1 < vec_capacity result }
         ensures taken { self.new ≡ record self.old { content = ended_content self.old.content; cell_room = 0 } }
     {
         self.payload.take_list()

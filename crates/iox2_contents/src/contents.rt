@@ -1,5 +1,5 @@
 //! The contents of a publisher's slots.
-ghost use Rattle.std.specs.Prelude.{◌≡◌, ◌<◌, ◌≤◌, List, [], ◌∷◌, length, replicate, true, false, None, Some, IfOk, OnOk, OnErr};
+ghost use Rattle.std.specs.Prelude.{◌≡◌, ◌<◌, ◌≤◌, List, [], ◌∷◌, length, true, false, Some, IfOk, OnOk, OnErr};
 ghost use Rattle.std.specs.Borrow.{sem};
 ghost use Rattle.std.specs.List.{All};
 ghost use Rattle.iox2_contents.specs.SlotCalls.{AnswersInOrder};
@@ -7,9 +7,9 @@ ghost use Rattle.iox2_contents.specs.SlotPayload.{lies_in_place};
 ghost use Rattle.iox2_contents.specs.SlotStates.{IsNew};
 ghost use Rattle.iox2_contents.specs.SlotContents.{SomeAt, AddsSlots, ClearsSlot, WritesValues, AssumesWritten, StartsLoan, with_changed, written_content, ended_content, lists_for, open_count, user_header_at, cells_at, values_at, first_cell_at, first_value_at};
 
-use crate::cells::push_unwritten;
+use crate::cell_lists::CellLists;
 use crate::content::Content;
-use crate::lists::{cell_lists, ready, settle};
+use crate::lists::{ready, settle};
 use std::alloc::{AllocError, Global};
 use std::marker::Model;
 
@@ -21,28 +21,23 @@ use std::marker::Model;
 #[derive(Drop)]
 pub struct Contents<T, U> {
     slots: Vec<Content<T, U>>,
-    // Unwritten cells for each loan to show that hasn't listed its own.
-    unwritten: Vec<Option<T>>,
-    // Lists for the cells of loans that have to be listed: as many as loans may be out, but for those
-    // that loans have.
-    spare: Vec<Vec<Option<T>>>,
+    // One vector more, and no third: the contents take 48 bytes, so that an entry of a slab is found by
+    // one multiplication (docs/decisions/cost.md, "The contents of a publisher take 48 bytes").
+    lists: CellLists<T>,
 }
 
 impl<T, U> Model for Contents<T, U> {
-    ghost use Rattle.std.specs.Prelude.{◌≡◌, ◌≤◌, List, [], None, length, replicate, vec_capacity};
-    ghost use Rattle.std.specs.List.{All};
+    ghost use Rattle.std.specs.Prelude.{List};
     ghost use Rattle.iox2_contents.specs.SlotContents.{ContentState};
     ghost use Rattle.iox2_contents.specs.SlotStates.{contents_of};
     ghost use Rattle.iox2_contents.specs.SlotRooms.{HasLists};
 
     ghost Value = { List (ContentState T U) };
 
-    ghost view = { λ contents. contents_of contents.slots.items };
+    ghost view = { λ contents. contents_of contents.lists.room contents.slots.items };
 
     // The longest loan may show unwritten cells, and each loan that may be out finds a list for its own.
-    ghost invariant = { λ contents. (contents.unwritten.items ≡ replicate (length contents.unwritten.items) None)
-        × All (λ list. (list.items ≡ []) × (length contents.unwritten.items ≤ vec_capacity list)) contents.spare.items
-        × HasLists (length contents.unwritten.items) (length contents.spare.items) (vec_capacity contents.spare) contents.slots.items };
+    ghost invariant = { λ contents. HasLists contents.lists.most contents.lists.spare contents.lists.room contents.slots.items };
 }
 
 impl<T: Drop, U: Default + Drop> Contents<T, U> {
@@ -71,11 +66,9 @@ impl<T: Drop, U: Default + Drop> Contents<T, U> {
     {
         let lists = lists_for(in_lists, lists);
         let longest = shown_cells(room, in_lists, lists);
-        Ok(Contents {
-            slots: new_slots(alloc, slots, room, in_lists, lists)?,
-            unwritten: unwritten_cells(alloc, longest)?,
-            spare: cell_lists(alloc, lists, longest)?,
-        })
+        let slots = new_slots(alloc, slots, room, in_lists, lists)?;
+        let lists = CellLists::new(alloc, lists, longest)?;
+        Ok(Contents { slots, lists })
     }
 
     /// So many slots more, each with room for so many elements, behind those that are there, as `new`
@@ -97,15 +90,13 @@ impl<T: Drop, U: Default + Drop> Contents<T, U> {
         let lists = lists_for(in_lists, lists);
         let longest = shown_cells(room, in_lists, lists);
         let mut added = new_slots(alloc, more, room, in_lists, lists)?;
-        if longest <= self.unwritten.len() {
+        if longest <= self.lists.longest() {
             self.slots.append(&mut added)?;
             return Ok(());
         }
-        let unwritten = unwritten_cells(alloc, longest)?;
-        let spare = cell_lists(alloc, lists, longest)?;
+        let longer = CellLists::new(alloc, lists, longest)?;
         self.slots.append(&mut added)?;
-        self.unwritten = unwritten;
-        self.spare = spare;
+        self.lists = longer;
         Ok(())
     }
 
@@ -136,8 +127,9 @@ impl<T: Drop, U: Default + Drop> Contents<T, U> {
         requires { slot < length self.old }
         ensures { self.new ≡ with_changed self.old slot ended_content }
     {
+        let had_list = self.slots[slot].has_list();
         self.slots[slot].end();
-        settle(&mut self.slots, &mut self.spare, &self.unwritten, slot);
+        settle(&mut self.slots, &mut self.lists, slot, had_list);
     }
 
     /// Writes the value of a loan of one element, which then counts as written.
@@ -145,19 +137,22 @@ impl<T: Drop, U: Default + Drop> Contents<T, U> {
         requires { SomeAt self.old slot (λ content. length content.cells ≡ 1) }
         ensures { self.new ≡ with_changed self.old slot (written_content (value ∷ [])) }
     {
+        let had_list = self.slots[slot].has_list();
         self.slots[slot].write_payload(value);
-        settle(&mut self.slots, &mut self.spare, &self.unwritten, slot);
+        settle(&mut self.slots, &mut self.lists, slot, had_list);
     }
 
     /// Writes into each cell of the slot's loan what the function returns for its index. It is
     /// called for 0, 1 and so on, in this order. The loan then counts as written.
+    #[inline(always)]
     pub fn write_from_fn<F: FnMut(usize) -> T + Drop>(&mut self, slot: usize, f: F)
         requires callable { F.IsAlwaysCallable f }
         requires in_lists { SomeAt self.old slot (λ content. content.is_in_place ≡ false) }
         ensures { (answers : List T) × AnswersInOrder F.step f answers × WritesValues self.old self.new slot answers }
     {
+        let had_list = self.slots[slot].has_list();
         self.slots[slot].write_from_fn(f);
-        settle(&mut self.slots, &mut self.spare, &self.unwritten, slot);
+        settle(&mut self.slots, &mut self.lists, slot, had_list);
     }
 
     /// Takes the cells of the slot's loan as its values, where each is written. Returns whether it
@@ -166,10 +161,11 @@ impl<T: Drop, U: Default + Drop> Contents<T, U> {
         requires { SomeAt self.old slot (λ content. content.is_in_place ≡ true → length content.cells ≡ 1) }
         ensures { AssumesWritten self.old self.new slot result }
     {
+        let had_list = self.slots[slot].has_list();
         if !self.slots[slot].assume_init() {
             return false;
         }
-        settle(&mut self.slots, &mut self.spare, &self.unwritten, slot);
+        settle(&mut self.slots, &mut self.lists, slot, had_list);
         true
     }
 }
@@ -181,8 +177,9 @@ impl<T: Copy + Drop, U: Default + Drop> Contents<T, U> {
         requires { SomeAt self.old slot (λ content. (content.is_in_place ≡ false) × (length values.now ≡ length content.cells)) }
         ensures { WritesValues self.old self.new slot values.now }
     {
+        let had_list = self.slots[slot].has_list();
         self.slots[slot].write_from_slice(values);
-        settle(&mut self.slots, &mut self.spare, &self.unwritten, slot);
+        settle(&mut self.slots, &mut self.lists, slot, had_list);
     }
 }
 
@@ -194,8 +191,9 @@ impl<T: Copy + Default + Drop, U: Default + Drop> Contents<T, U> {
         requires { SomeAt self.old slot (λ content. content.is_in_place ≡ false) }
         ensures { (values : List T) × WritesValues self.old self.new slot values }
     {
+        let had_list = self.slots[slot].has_list();
         self.slots[slot].write_unspecified();
-        settle(&mut self.slots, &mut self.spare, &self.unwritten, slot);
+        settle(&mut self.slots, &mut self.lists, slot, had_list);
     }
 }
 
@@ -238,15 +236,6 @@ fn new_slots<T: Drop, U: Default + Drop>(
     Ok(contents)
 }
 
-// So many unwritten cells.
-fn unwritten_cells<T: Drop>(alloc: Global, count: usize) -> Result<Vec<Option<T>>, AllocError>
-    ensures unwritten { IfOk result (λ cells. cells.items ≡ replicate count None) }
-{
-    let mut cells = Vec::with_capacity(alloc, count)?;
-    push_unwritten(&mut cells, count);
-    Ok(cells)
-}
-
 impl<T, U> Contents<T, U> {
     ghost use Rattle.iox2_contents.specs.ContentsLends.{LendsValue, LendsValues, LendsUserHeader};
 
@@ -263,7 +252,7 @@ impl<T, U> Contents<T, U> {
         requires { SomeAt self.now slot (λ content. 0 < length content.cells) }
         ensures { first_cell_at self.now slot ≡ Some result.now }
     {
-        self.slots[slot].cell(self.unwritten.as_slice())
+        self.slots[slot].cell(self.lists.unwritten())
     }
 
     /// The cells of the slot's loan, and none once it is written, in contents with lists of cells. The
@@ -272,7 +261,7 @@ impl<T, U> Contents<T, U> {
         requires { SomeAt self.now slot (λ content. 0 < content.lists) }
         ensures { cells_at self.now slot ≡ Some result.now }
     {
-        self.slots[slot].cells(self.unwritten.as_slice())
+        self.slots[slot].cells(self.lists.unwritten())
     }
 
     /// The first value of the slot's loan or message, which is written.
@@ -329,7 +318,7 @@ impl<T: Drop, U> Contents<T, U> {
         ensures* writes_back { sem 𝓛 (LendsCell T.row U.row self.entry slot result) }
         ensures value { first_cell_at self.old slot ≡ Some result.now }
     {
-        ready(&mut self.slots, &mut self.spare, &self.unwritten, slot);
+        ready(&mut self.slots, &mut self.lists, slot);
         self.slots[slot].cell_mut()
     }
 
@@ -340,7 +329,7 @@ impl<T: Drop, U> Contents<T, U> {
         ensures* writes_back { sem 𝓛 (LendsCells T.row U.row self.entry slot result) }
         ensures value { cells_at self.old slot ≡ Some result.now }
     {
-        ready(&mut self.slots, &mut self.spare, &self.unwritten, slot);
+        ready(&mut self.slots, &mut self.lists, slot);
         self.slots[slot].cells_mut()
     }
 }

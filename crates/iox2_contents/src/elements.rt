@@ -3,6 +3,7 @@ ghost use Rattle.std.specs.Prelude.{◌≡◌, ◌<◌, ◌≤◌, ◌&&◌, ◌
 ghost use Rattle.std.specs.Borrow.{sem};
 ghost use Rattle.std.specs.List.{list_all};
 ghost use Rattle.iox2_contents.specs.SlotCalls.{AnswersInOrder};
+ghost use Rattle.iox2_contents.specs.CellLists.{keeps};
 ghost use Rattle.iox2_contents.specs.SlotElements.{unwritten_elements, written_elements, ended_elements, has_list, waits};
 
 use crate::cells::Cells;
@@ -44,7 +45,7 @@ impl<T: Drop> Elements<T> {
         ensures cells { IfOk result (λ elements. elements.cells ≡ []) }
         ensures values { IfOk result (λ elements. elements.values ≡ []) }
         ensures room { IfOk result (λ elements. elements.room ≡ room) }
-        ensures lists { IfOk result (λ elements. elements.lists ≡ lists) }
+        ensures lists { IfOk result (λ elements. elements.lists ≡ keeps lists) }
         ensures none { IfOk result (λ elements. 0 < lists → elements.cell_room ≡ 0) }
     {
         let cells = Cells::new(alloc, lists)?;
@@ -63,12 +64,12 @@ impl<T: Drop> Elements<T> {
         self.values.hide();
     }
 
-    /// Drops what was there, with its memory.
+    /// Drops what was there, with its memory, but for the room for one cell.
     pub(crate) fn give_up(&mut self, alloc: Global)
         ensures cells { self.new.cells ≡ [] }
         ensures room { self.new.room ≡ 0 }
         ensures lists { self.new.lists ≡ self.old.lists }
-        ensures none { self.new.cell_room ≡ 0 }
+        ensures none { 0 < self.old.lists → self.new.cell_room ≡ 0 }
     {
         self.cells.give_up(alloc);
         self.values.give_up(alloc);
@@ -122,6 +123,7 @@ impl<T: Drop> Elements<T> {
         requires waits { waits self.old ≡ true }
         requires empty { list.items ≡ [] }
         requires room { self.old.room ≤ vec_capacity list }
+        requires wide { 1 < vec_capacity list }
         ensures { self.new ≡ record self.old { cell_room = vec_capacity list } }
     {
         self.cells.put_list(list);
@@ -129,9 +131,10 @@ impl<T: Drop> Elements<T> {
 
     /// Drops the cells, and takes their list out.
     pub(crate) fn take_list(&mut self) -> Vec<Option<T>>
-        requires { 0 < self.old.lists }
+        requires { has_list self.old ≡ true }
         ensures empty { result.items ≡ [] }
         ensures list { vec_capacity result ≡ self.old.cell_room }
+        ensures wide { 1 < vec_capacity result }
         ensures taken { self.new ≡ record self.old { cells = []; cell_room = 0 } }
     {
         self.cells.take_list()

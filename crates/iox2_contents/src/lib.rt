@@ -3,6 +3,7 @@
 //! It names no other crate of this library, so that it is proved beside the plain types.
 #![tactic(auto)]
 
+mod cell_lists;
 mod cells;
 mod content;
 mod contents;

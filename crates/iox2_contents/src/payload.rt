@@ -3,6 +3,7 @@ ghost use Rattle.std.specs.Prelude.{◌≡◌, ◌<◌, ◌≤◌, [], ◌∷◌
 ghost use Rattle.std.specs.Borrow.{sem};
 ghost use Rattle.std.specs.List.{list_all};
 ghost use Rattle.iox2_contents.specs.SlotCalls.{AnswersInOrder};
+ghost use Rattle.iox2_contents.specs.CellLists.{keeps};
 ghost use Rattle.iox2_contents.specs.SlotPayload.{cells_of, values_of, room_of, is_in_place, lists_of, cell_room_of, lies_in_place, has_list, waits};
 
 use crate::elements::Elements;
@@ -35,7 +36,7 @@ impl<T: Drop> Payload<T> {
         ensures values { IfOk result (λ payload. values_of payload ≡ []) }
         ensures room { IfOk result (λ payload. room_of payload ≡ room) }
         ensures in_place { IfOk result (λ payload. is_in_place payload ≡ lies_in_place room in_lists) }
-        ensures lists { IfOk result (λ payload. lists_of payload ≡ lists) }
+        ensures lists { IfOk result (λ payload. lists_of payload ≡ keeps lists) }
         ensures none { IfOk result (λ payload. has_list payload ≡ false) }
     {
         if room == 1 && !in_lists {
@@ -99,6 +100,7 @@ impl<T: Drop> Payload<T> {
         requires waits { waits self.old ≡ true }
         requires empty { list.items ≡ [] }
         requires room { room_of self.old ≤ vec_capacity list }
+        requires wide { 1 < vec_capacity list }
         ensures list { cell_room_of self.new ≡ vec_capacity list }
         ensures cells { cells_of self.new ≡ cells_of self.old }
         ensures values { values_of self.new ≡ values_of self.old }
@@ -117,6 +119,7 @@ impl<T: Drop> Payload<T> {
         requires { has_list self.old ≡ true }
         ensures empty { result.items ≡ [] }
         ensures list { vec_capacity result ≡ cell_room_of self.old }
+        ensures wide { 1 < vec_capacity result }
         ensures cells { cells_of self.new ≡ [] }
         ensures none { cell_room_of self.new ≡ 0 }
         ensures values { values_of self.new ≡ values_of self.old }

@@ -1,14 +1,14 @@
 //! A box is asked about a full receiver, and about no other.
-ghost use Rattle.std.specs.Prelude.{◌≡◌, ◌<◌, ◌∷◌, [], nat_lt, cond, IfOk};
+ghost use Rattle.std.specs.Prelude.{◌≡◌, ◌<◌, ◌∷◌, [], IfOk};
 ghost use Rattle.iox2_slots.specs.Link.{empty_link};
 ghost use Rattle.iox2_ends.specs.Deliveries.{begun};
-ghost use Rattle.iox2_store.specs.declared.backpressure.BackpressureAction.TheVariants.{Retry, DiscardDataAndFail};
 
 use iox2_ends::sender::{Delivery, DeliveryOutcome, Progress, ReceiverDetails, deliver};
+use iox2_handler_fixtures::Patience;
 use iox2_slots::{Connection, Home, SlotBook};
 use iox2_store::{
-    BackpressureAction, BackpressureFn, BackpressureHandler, BackpressureInfo,
-    BackpressureStrategy, ServiceConfig, UniqueNodeId, UniquePublisherId,
+    BackpressureAction, BackpressureFn, BackpressureHandler, BackpressureStrategy, ServiceConfig,
+    UniqueNodeId, UniquePublisherId,
 };
 use slab::Slab;
 use std::alloc::{AllocError, Global};
@@ -22,24 +22,6 @@ const HOME: Home = Home {
     subscriber_place: 0,
     book: 0,
 };
-
-// Tries a delivery again so many times, and fails it then.
-#[derive(Drop)]
-struct Patience {
-    retries: u64,
-}
-
-impl BackpressureFn for Patience {
-    ghost allows = { λ patience info action. action ≡ cond (nat_lt info.retries patience.retries) Retry DiscardDataAndFail };
-
-    fn call(&self, info: &BackpressureInfo) -> BackpressureAction {
-        if info.retries < self.retries {
-            BackpressureAction::Retry
-        } else {
-            BackpressureAction::DiscardDataAndFail
-        }
-    }
-}
 
 // The connection, in which the slot waits.
 fn connection_with(alloc: Global, buffer_size: usize, slot: usize) -> Result<Connection, AllocError>
@@ -91,7 +73,11 @@ fn outcome_at(
     let keys = [Some(connections.insert_reserved(connection))];
     let mut receivers = Vec::new(alloc);
     receivers.push(Some(receiver))?;
-    let function: Box<dyn BackpressureFn> = Box::new(alloc, Patience { retries: 2 })?;
+    let patience = Patience {
+        retries: 2,
+        last_answer: BackpressureAction::DiscardDataAndFail,
+    };
+    let function: Box<dyn BackpressureFn> = Box::new(alloc, patience)?;
     let handler = Some(BackpressureHandler::Custom(function));
     Ok(deliver(
         &without_overflow(),

@@ -4,6 +4,7 @@ ghost use Rattle.iox2_pubsub.specs.Live.{blocked_key};
 
 mod retry;
 
+use crate::keys::loan_key;
 use iox2_domain::LoanAt;
 use iox2_store::Key;
 
@@ -30,19 +31,12 @@ impl BlockedSend {
     pub fn key(&self) -> Key
         ensures { result ≡ blocked_key self.now }
     {
-        Key {
-            service_id: self.service_id,
-            port: self.loan.publisher.value(),
-            message: self.loan.number,
-        }
+        loan_key(self.service_id, &self.loan)
     }
 
     /// Spends the handle of a blocked send whose domain is gone. A domain that is still there isn't
     /// told, and keeps the send.
     pub fn disown(self) {
-        let BlockedSend {
-            service_id: _,
-            loan: _,
-        } = self;
+        self.into_parts();
     }
 }

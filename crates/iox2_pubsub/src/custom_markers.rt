@@ -20,6 +20,15 @@ pub struct CustomPayloadMarker(pub u8);
 
 /// The user header of messages with a custom payload.
 ///
+/// Example (`crates/iox2_slice_tests/src/tests/custom_payloads.rt`):
+///
+/// ```rust
+/// let mut domain: Domain<CustomPayloadMarker, CustomHeaderMarker> = Domain::new(
+///     rt.alloc(),
+///     bytes(),
+/// ).expect(&rt, "a domain");
+/// ```
+///
 /// iceoryx2's `CustomHeaderMarker` (`src/service/builder`).
 #[derive(Debug, Clone, Copy, PartialEq, Eq, Default)]
 pub struct CustomHeaderMarker;

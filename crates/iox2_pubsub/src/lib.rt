@@ -4,6 +4,7 @@
 mod blocked_send;
 mod custom_markers;
 mod domain;
+mod keys;
 mod parts;
 mod port_factory;
 mod publisher;
@@ -28,6 +29,7 @@ pub use iox2_store::{
     UniquePublisherId, UniqueSubscriberId, Warning, ZeroCopyCreationError, worst_case_slots,
 };
 pub use parts::{LoanParts, PublisherParts, SampleParts, SubscriberParts};
+pub use port_factory::handles::PortHandle;
 pub use port_factory::preallocation::{NoOverride, PreallocatedSamplesOverride};
 pub use port_factory::publisher::PortFactoryPublisher;
 pub use port_factory::subscriber::PortFactorySubscriber;

@@ -10,6 +10,7 @@ mod send_copy;
 mod update_connections;
 
 use crate::domain::Domain;
+use crate::keys::port_key;
 use crate::parts::hints::find_open_publisher;
 use iox2_deliveries::is_waiting;
 use iox2_store::{BackpressureFn, BackpressureStrategy, DegradationFn, Key, UniquePublisherId};
@@ -62,23 +63,13 @@ impl Publisher {
     pub fn key(&self) -> Key
         ensures { result ≡ publisher_key self.now }
     {
-        Key {
-            service_id: self.service_id,
-            port: self.id.value(),
-            message: 0,
-        }
+        port_key(self.service_id, self.id.value())
     }
 
     /// Spends the handle of a publisher whose domain is gone. A domain that is still there isn't
     /// told, and keeps the publisher. This library's own.
     pub fn disown(self) {
-        let Publisher {
-            service_id: _,
-            id: _,
-            place: _,
-            strategy: _,
-            initial_max_slice_len: _,
-        } = self;
+        self.into_parts();
     }
 }
 

@@ -113,10 +113,6 @@ impl Sample {
     /// Spends the handle of a sample whose domain is gone. A domain that is still there isn't told,
     /// and counts the message as borrowed from then on. This library's own.
     pub fn disown(self) {
-        let Sample {
-            service_id: _,
-            origin: _,
-            sample: _,
-        } = self;
+        self.into_parts();
     }
 }

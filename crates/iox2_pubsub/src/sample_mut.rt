@@ -8,6 +8,7 @@ pub(crate) mod send;
 mod user_header_mut;
 
 use crate::domain::Domain;
+use crate::keys::loan_key;
 use iox2_deliveries::{is_waiting, loan_header, loan_user_header, loan_value};
 use iox2_domain::LoanAt;
 use iox2_store::{BackpressureFn, DegradationFn, Header, Key};
@@ -101,19 +102,12 @@ impl SampleMut {
     pub fn key(&self) -> Key
         ensures { result ≡ written_key self.now }
     {
-        Key {
-            service_id: self.service_id,
-            port: self.loan.publisher.value(),
-            message: self.loan.number,
-        }
+        loan_key(self.service_id, &self.loan)
     }
 
     /// Spends the handle of a loan whose domain is gone. A domain that is still there isn't told,
     /// and keeps the loan. This library's own.
     pub fn disown(self) {
-        let SampleMut {
-            service_id: _,
-            loan: _,
-        } = self;
+        self.into_parts();
     }
 }

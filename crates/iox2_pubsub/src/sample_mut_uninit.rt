@@ -8,6 +8,7 @@ mod user_header_mut;
 mod write_payload;
 
 use crate::domain::Domain;
+use crate::keys::loan_key;
 use iox2_deliveries::{loan_cell, loan_header, loan_user_header};
 use iox2_domain::LoanAt;
 use iox2_store::{BackpressureFn, DegradationFn, Header, Key};
@@ -87,19 +88,12 @@ impl SampleMutUninit {
     pub fn key(&self) -> Key
         ensures { result ≡ unwritten_key self.now }
     {
-        Key {
-            service_id: self.service_id,
-            port: self.loan.publisher.value(),
-            message: self.loan.number,
-        }
+        loan_key(self.service_id, &self.loan)
     }
 
     /// Spends the handle of a loan whose domain is gone. A domain that is still there isn't told,
     /// and keeps the loan. This library's own.
     pub fn disown(self) {
-        let SampleMutUninit {
-            service_id: _,
-            loan: _,
-        } = self;
+        self.into_parts();
     }
 }

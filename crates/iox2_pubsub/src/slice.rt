@@ -6,9 +6,9 @@ mod sample;
 mod sample_mut;
 mod sample_mut_uninit;
 mod subscriber;
+mod views;
 
-pub use port_factory::publisher::PortFactoryPublisher;
-pub use port_factory::subscriber::PortFactorySubscriber;
+pub use port_factory::{PortFactoryPublisher, PortFactorySubscriber};
 pub use publisher::{LocatedLoan, Publisher};
 pub use sample::Sample;
 pub use sample_mut::SampleMut;

@@ -9,6 +9,7 @@ mod receive;
 mod update_connections;
 
 use crate::domain::Domain;
+use crate::keys::port_key;
 use crate::parts::hints::find_open_subscriber;
 use iox2_store::{BackpressureFn, DegradationFn, Key, UniqueSubscriberId};
 
@@ -59,22 +60,13 @@ impl Subscriber {
     pub fn key(&self) -> Key
         ensures { result ≡ subscriber_key self.now }
     {
-        Key {
-            service_id: self.service_id,
-            port: self.id.value(),
-            message: 0,
-        }
+        port_key(self.service_id, self.id.value())
     }
 
     /// Spends the handle of a subscriber whose domain is gone. A domain that is still there isn't
     /// told, and keeps the subscriber. This library's own.
     pub fn disown(self) {
-        let Subscriber {
-            service_id: _,
-            id: _,
-            place: _,
-            buffer_size: _,
-        } = self;
+        self.into_parts();
     }
 }
 

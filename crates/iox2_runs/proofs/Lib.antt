@@ -30,3 +30,4 @@ pub mod CarriedSlices
 pub mod CellLists
 pub mod CellViews
 pub mod Services
+pub mod SameRooms

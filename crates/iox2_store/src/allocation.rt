@@ -2,6 +2,17 @@
 
 /// How a publisher's memory grows where a loan finds no room.
 ///
+/// Example (`crates/refused_rows/src/growth.rt`):
+///
+/// ```rust
+/// domain
+///     .slice_publisher_builder()
+///     .max_loaned_samples(1)
+///     .allocation_strategy(strategy)
+///     .backpressure_strategy(BackpressureStrategy::DiscardData)
+///     .create(domain)
+/// ```
+///
 /// iceoryx2's `iceoryx2_cal::shm_allocator::AllocationStrategy`.
 #[derive(Debug, Clone, Copy, PartialEq, Eq)]
 pub enum AllocationStrategy {

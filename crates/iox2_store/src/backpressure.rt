@@ -7,6 +7,15 @@ use std::time::Duration;
 /// What a publisher does at a full buffer, where it has no handler or its handler leaves it to
 /// the strategy.
 ///
+/// Example (`crates/calling/src/closing.rt`):
+///
+/// ```rust
+/// let publisher = domain
+///     .publisher_builder()
+///     .backpressure_strategy(BackpressureStrategy::DiscardData)
+///     .create(domain)?;
+/// ```
+///
 /// iceoryx2's `port::backpressure_strategy::BackpressureStrategy`
 /// (`src/port/backpressure_strategy.rs`).
 #[derive(Debug, Clone, Copy, PartialEq, Eq)]
@@ -91,6 +100,22 @@ pub struct BackpressureInfo {
 }
 
 /// What a publisher asks at a full buffer. `allows` says which answers it may give.
+///
+/// Example (`crates/slow_display/src/patience.rt`):
+///
+/// ```rust
+/// impl BackpressureFn for Patience {
+///     ghost allows = { λ patience info action. action ≡ cond (nat_lt info.retries patience.retries) Retry DiscardData };
+///
+///     fn call(&self, info: &BackpressureInfo) -> BackpressureAction {
+///         if info.retries < self.retries {
+///             BackpressureAction::Retry
+///         } else {
+///             BackpressureAction::DiscardData
+///         }
+///     }
+/// }
+/// ```
 ///
 /// iceoryx2's `port::BackpressureFn` (`src/port/mod.rs`), there a trait of closures.
 pub trait BackpressureFn: Drop {

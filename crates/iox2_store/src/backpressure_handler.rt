@@ -6,6 +6,15 @@ use crate::backpressure::{BackpressureAction, BackpressureFn, BackpressureInfo};
 
 /// What answers for a publisher at a full buffer.
 ///
+/// Example (`crates/slow_display/src/main.rt`):
+///
+/// ```rust
+/// let publisher = domain
+///     .publisher_builder()
+///     .set_backpressure_handler(BackpressureHandler::Custom(patience))
+///     .create(domain)?;
+/// ```
+///
 /// iceoryx2's `port::BackpressureHandler` (`src/port/mod.rs`).
 #[derive(Drop)]
 pub enum BackpressureHandler<F = Box<dyn BackpressureFn>> {

@@ -44,6 +44,22 @@ pub struct DegradationInfo {
 
 /// What a port asks where it can't make a connection. `allows` says which answers it may give.
 ///
+/// Example (`crates/iox2_run_tests/src/tests/degradations.rt`):
+///
+/// ```rust
+/// impl DegradationFn for Unneeded {
+///     ghost allows = { λ unneeded cause info action. action ≡ cond (eqb info.receiver_port_id unneeded.subscriber) Ignore DegradeAndFail };
+///
+///     fn call(&self, _: DegradationCause, info: &DegradationInfo) -> DegradationAction {
+///         if info.receiver_port_id == self.subscriber {
+///             DegradationAction::Ignore
+///         } else {
+///             DegradationAction::DegradeAndFail
+///         }
+///     }
+/// }
+/// ```
+///
 /// iceoryx2's `port::DegradationFn` (`src/port/mod.rs`), there a trait of closures.
 pub trait DegradationFn: Drop {
     ghost allows: { Self → DegradationCause → DegradationInfo → DegradationAction → Type 0 };

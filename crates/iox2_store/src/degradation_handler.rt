@@ -6,6 +6,15 @@ use crate::degradation::{DegradationAction, DegradationCause, DegradationFn, Deg
 
 /// What answers for a port where memory for a connection is refused.
 ///
+/// Example (`crates/refused_rows/src/ports.rt`):
+///
+/// ```rust
+/// domain
+///     .subscriber_builder()
+///     .set_degradation_handler(handler)
+///     .create(domain)
+/// ```
+///
 /// iceoryx2's `port::DegradationHandler` (`src/port/mod.rs`).
 #[derive(Drop)]
 pub enum DegradationHandler<G = Box<dyn DegradationFn>> {

@@ -19,10 +19,22 @@ pub enum TypeVariant {
 /// The settings of a domain: the limits that all of its ports share, and what a publisher gets
 /// where its factory sets nothing else.
 ///
-/// This library's own. `new` gives the defaults, of which `..` keeps what isn't set. A number may be
-/// anything that its type holds, but for what the call that makes a domain asks for so far. Where
-/// one asks for more memory than there can be, the creation of a port is refused, or a connection
-/// isn't made, which is a warning.
+/// `new` gives the defaults, of which `..` keeps what isn't set. A number may be anything that its
+/// type holds. Where one asks for more memory than there can be, the creation of a port is refused, or
+/// a connection isn't made, and the port's handler says what comes of that.
+///
+/// Example (`crates/slow_display/src/main.rt`):
+///
+/// ```rust
+/// let config = ServiceConfig {
+///     max_publishers: 1,
+///     max_subscribers: 1,
+///     enable_safe_overflow: false,
+///     ..ServiceConfig::new(1)
+/// };
+/// ```
+///
+/// This library's own.
 #[derive(Debug, Clone, Copy, PartialEq, Eq)]
 pub struct ServiceConfig {
     /// Names the domain. Its handles carry this number, so two domains need two numbers if their
@@ -45,8 +57,8 @@ pub struct ServiceConfig {
     /// How many subscribers there may be at a time. A closed one counts until its last sample is
     /// released.
     pub max_subscribers: usize,
-    /// How many messages of one publisher may wait for one subscriber. A subscriber may ask for
-    /// less. Here 0 counts as 1.
+    /// How many messages of one publisher may wait for one subscriber, in each channel. A subscriber
+    /// may ask for less. Here 0 counts as 1.
     pub subscriber_max_buffer_size: usize,
     /// How many samples of one publisher a subscriber may hold that it hasn't released.
     pub subscriber_max_borrowed_samples: usize,
@@ -76,8 +88,8 @@ impl ServiceConfig {
     /// departed publishers; no history; one channel; overflow. Where there is none a publisher retries
     /// until its message is delivered. Its memory is static, and cells are handed out.
     ///
-    /// They follow iceoryx2's configuration where nothing else is set; `docs/DECISIONS.md` says which
-    /// of them were read there.
+    /// They follow iceoryx2's configuration where nothing else is set
+    /// (docs/decisions/domain.md, "The defaults of a service").
     pub fn new(service_id: u128) -> ServiceConfig
         ensures { result ≡ default_config service_id }
     {

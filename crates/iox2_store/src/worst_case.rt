@@ -9,8 +9,8 @@ use crate::service_config::ServiceConfig;
 /// be, its buffer and what it may borrow; then the history; then the loans. This library's own.
 ///
 /// With so many slots the publisher is never refused a loan for want of one; with fewer it can be,
-/// where a connection has one channel. `None` where the number doesn't fit `usize`, and only there:
-/// no part of the sum is formed that is larger than the sum.
+/// without overflow and where a connection has one channel. `None` where the number doesn't fit
+/// `usize`, and only there: no part of the sum is formed that is larger than the sum.
 pub fn worst_case_slots(config: &ServiceConfig, loans: usize) -> Option<usize>
     ensures { SomeIff result (IsTrue (fits (worst_case config.now loans))) (worst_case config.now loans) }
 {

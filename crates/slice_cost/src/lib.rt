@@ -6,7 +6,8 @@ ghost use Rattle.std.specs.Prelude.{◌≤◌};
 
 mod passing;
 
-use passing::pass_slices;
+use passing::BySteps;
+use slice_passing::pass_slices;
 use std::alloc::Global;
 
 /// Makes a domain of slices, and passes so many of them, each of so many elements. Returns how many
@@ -15,5 +16,5 @@ use std::alloc::Global;
 pub extern "C" fn pass_long_messages(alloc: Global, elements: usize, messages: u64) -> u64
     ensures { result ≤ messages }
 {
-    pass_slices(alloc, elements, messages).unwrap_or(0)
+    pass_slices::<u64, BySteps>(alloc, elements, messages).unwrap_or(0)
 }

@@ -1,8 +1,8 @@
 //! What ports change at the channels of their connections. No command of a recording stands for that, so
 //! that a recording ends before it.
-ghost use Rattle.std.specs.Prelude.{◌≡◌, ◌<◌, ◌⊎◌};
-ghost use Rattle.iox2_pubsub.specs.Live.{IsPublisherKey, IsSubscriberKey, No_item};
-ghost use Rattle.iox2_c.specs.Channels.{ClosesReceived, ClosesSent, HintsReceived, RefusesPublisherChannel, RefusesSubscriberChannel, SetsState};
+ghost use Rattle.std.specs.Prelude.{◌≡◌, ◌<◌};
+ghost use Rattle.iox2_pubsub.specs.Live.{No_item};
+ghost use Rattle.iox2_c.specs.Channels.{AnswersPublisherChannel, AnswersSubscriberChannel, ChangesReceived, ClosesSent, SetsState};
 ghost use Rattle.iox2_c.specs.Numbers.{named_publisher, named_subscriber, wide};
 ghost use Rattle.iox2_c.specs.Serving.{ServesBut};
 
@@ -21,8 +21,7 @@ pub fn set_state(
     state: u64,
     were_closed: &mut u32,
 ) -> u32
-    ensures code { (result ≡ 0) ⊎ RefusesSubscriberChannel service.old.domain (named_subscriber numbers.now) channel result }
-    ensures live { result ≡ 0 → IsSubscriberKey service.old.domain (named_subscriber numbers.now) }
+    ensures code { AnswersSubscriberChannel service.old.domain (named_subscriber numbers.now) channel result }
     ensures sets { result ≡ 0 → SetsState service.old.domain service.new.domain (wide (numbers.now).id) channel state were_closed.new }
     ensures refused { 0 < result → service.new ≡ service.old }
     ensures same { 0 < result → were_closed.new ≡ were_closed.old }
@@ -39,39 +38,25 @@ pub fn set_state(
     OK
 }
 
-/// Closes a channel at each connection of a subscriber where it is in a state.
-pub fn close_received(
-    service: &mut Service,
-    numbers: &SubscriberNumbers,
-    channel: usize,
-    expected: u64,
-) -> u32
-    ensures code { (result ≡ 0) ⊎ RefusesSubscriberChannel service.old.domain (named_subscriber numbers.now) channel result }
-    ensures live { result ≡ 0 → IsSubscriberKey service.old.domain (named_subscriber numbers.now) }
-    ensures closes { result ≡ 0 → ClosesReceived service.old.domain service.new.domain (wide (numbers.now).id) channel expected }
-    ensures refused { 0 < result → service.new ≡ service.old }
-    ensures stays { ServesBut No_item service.old service.new }
-{
-    let subscriber = match subscriber_with_channel(&service.domain, numbers, channel) {
-        Ok(subscriber) => subscriber,
-        Err(code) => return code,
-    };
-    subscriber.close_channel(&mut service.domain, channel, expected);
-    subscriber.disown();
-    service.recording.end();
-    OK
+/// What a subscriber does to a channel at each of its connections.
+#[derive(Clone, Copy)]
+pub enum ReceivedChange {
+    /// It closes the channel.
+    Close,
+    /// It hints that it disconnects.
+    Hint,
 }
 
-/// Hints at each connection of a subscriber where a channel is in a state that the subscriber disconnects.
-pub fn hint(
+/// Changes a channel so at each connection of a subscriber where it is in a state.
+pub fn change_received(
     service: &mut Service,
     numbers: &SubscriberNumbers,
+    change: ReceivedChange,
     channel: usize,
     expected: u64,
 ) -> u32
-    ensures code { (result ≡ 0) ⊎ RefusesSubscriberChannel service.old.domain (named_subscriber numbers.now) channel result }
-    ensures live { result ≡ 0 → IsSubscriberKey service.old.domain (named_subscriber numbers.now) }
-    ensures hints { result ≡ 0 → HintsReceived service.old.domain service.new.domain (wide (numbers.now).id) channel expected }
+    ensures code { AnswersSubscriberChannel service.old.domain (named_subscriber numbers.now) channel result }
+    ensures changes { result ≡ 0 → ChangesReceived service.old.domain service.new.domain change (wide (numbers.now).id) channel expected }
     ensures refused { 0 < result → service.new ≡ service.old }
     ensures stays { ServesBut No_item service.old service.new }
 {
@@ -79,7 +64,11 @@ pub fn hint(
         Ok(subscriber) => subscriber,
         Err(code) => return code,
     };
-    subscriber.set_disconnect_hint(&mut service.domain, channel, expected);
+    let domain = &mut service.domain;
+    match change {
+        ReceivedChange::Close => subscriber.close_channel(domain, channel, expected),
+        ReceivedChange::Hint => subscriber.set_disconnect_hint(domain, channel, expected),
+    }
     subscriber.disown();
     service.recording.end();
     OK
@@ -93,8 +82,7 @@ pub fn close_sent(
     connection: usize,
     expected: u64,
 ) -> u32
-    ensures code { (result ≡ 0) ⊎ RefusesPublisherChannel service.old.domain (named_publisher numbers.now) channel result }
-    ensures live { result ≡ 0 → IsPublisherKey service.old.domain (named_publisher numbers.now) }
+    ensures code { AnswersPublisherChannel service.old.domain (named_publisher numbers.now) channel result }
     ensures closes { result ≡ 0 → ClosesSent service.old.domain service.new.domain (wide (numbers.now).id) channel connection expected }
     ensures refused { 0 < result → service.new ≡ service.old }
     ensures stays { ServesBut No_item service.old service.new }

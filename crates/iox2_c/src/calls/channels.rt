@@ -3,8 +3,8 @@
 ghost use Rattle.std.specs.Prelude.{◌≡◌, ◌<◌, ◌↔◌, ◌⊎◌, IfErr, IfNone, IfOk, IfSome, IsTrue, None, Some};
 ghost use Rattle.iox2_store.specs.machine.Limits.{channel_count};
 ghost use Rattle.iox2_pubsub.specs.Handles.{as_subscriber, publisher_id, subscriber_id};
-ghost use Rattle.iox2_pubsub.specs.Live.{IsLiveSubscriber, IsPlacedPublisher, IsPublisherKey, IsSubscriberKey, publisher_key, subscriber_key};
-ghost use Rattle.iox2_c.specs.Channels.{RefusesPublisherChannel, RefusesSubscriberChannel, TellsConnection, TellsHint, TellsSomeState, TellsState};
+ghost use Rattle.iox2_pubsub.specs.Live.{IsLiveSubscriber, IsPlacedPublisher, IsPublisherKey, publisher_key, subscriber_key};
+ghost use Rattle.iox2_c.specs.Channels.{AnswersPublisherChannel, AnswersSubscriberChannel, RefusesPublisherChannel, RefusesSubscriberChannel, TellsConnection, TellsHint, TellsSomeState, TellsState};
 ghost use Rattle.iox2_c.specs.Numbers.{named_publisher, named_subscriber, wide};
 
 use crate::calls::questions::number_of;
@@ -86,8 +86,7 @@ pub fn some_has_state(
     state: u64,
     out: &mut u32,
 ) -> u32
-    ensures code { (result ≡ 0) ⊎ RefusesSubscriberChannel service.now.domain (named_subscriber numbers.now) channel result }
-    ensures live { result ≡ 0 → IsSubscriberKey service.now.domain (named_subscriber numbers.now) }
+    ensures code { AnswersSubscriberChannel service.now.domain (named_subscriber numbers.now) channel result }
     ensures tells { result ≡ 0 → TellsSomeState service.now.domain (wide (numbers.now).id) channel state out.new }
     ensures same { 0 < result → out.new ≡ out.old }
 {
@@ -137,8 +136,7 @@ pub fn has_state(
     state: u64,
     out: &mut u32,
 ) -> u32
-    ensures code { (result ≡ 0) ⊎ RefusesPublisherChannel service.now.domain (named_publisher numbers.now) channel result }
-    ensures live { result ≡ 0 → IsPublisherKey service.now.domain (named_publisher numbers.now) }
+    ensures code { AnswersPublisherChannel service.now.domain (named_publisher numbers.now) channel result }
     ensures tells { result ≡ 0 → TellsState service.now.domain (wide (numbers.now).id) channel connection state out.new }
     ensures same { 0 < result → out.new ≡ out.old }
 {
@@ -161,8 +159,7 @@ pub fn has_hint(
     state: u64,
     out: &mut u32,
 ) -> u32
-    ensures code { (result ≡ 0) ⊎ RefusesPublisherChannel service.now.domain (named_publisher numbers.now) channel result }
-    ensures live { result ≡ 0 → IsPublisherKey service.now.domain (named_publisher numbers.now) }
+    ensures code { AnswersPublisherChannel service.now.domain (named_publisher numbers.now) channel result }
     ensures tells { result ≡ 0 → TellsHint service.now.domain (wide (numbers.now).id) channel connection state out.new }
     ensures same { 0 < result → out.new ≡ out.old }
 {

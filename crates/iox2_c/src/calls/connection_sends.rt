@@ -20,7 +20,7 @@ pub fn send_to(
 ) -> u32
     ensures { SendToReturns numbers.now channel connection service.old service.new receivers.old receivers.new blocked.old blocked.new result }
 {
-    let Some(loan) = written_loan(&service.domain, numbers) else {
+    let Some(loan) = written_loan(&service.domain, numbers, numbers.book) else {
         return NOT_LIVE;
     };
     if !has_channel(&service.domain, channel) {

@@ -15,24 +15,9 @@ use crate::status::{NOT_LIVE, OK};
 use iox2_pubsub::LoanParts;
 use iox2_pubsub::slice::SampleMut;
 
-/// A handle of a loan that is out.
+/// A handle of a loan that is out, which is looked for in this book first.
 #[inline(always)]
-pub fn written_loan(domain: &BytesDomain, numbers: &LoanNumbers) -> Option<SampleMut>
-    ensures out { IfSome result (λ it. IsWritten domain.now (as_written it)) }
-    ensures named { IfSome result (λ it. written_key (as_written it) ≡ named_loan numbers.now) }
-    ensures number { IfSome result (λ it. written_number (as_written it) ≡ wide (numbers.now).number) }
-    ensures none { IfNone result (IsOut domain.now (named_loan numbers.now) → ⊥) }
-{
-    written_loan_in(domain, numbers, numbers.book)
-}
-
-/// The same, which is looked for in this book first.
-#[inline(always)]
-pub fn written_loan_in(
-    domain: &BytesDomain,
-    numbers: &LoanNumbers,
-    book: usize,
-) -> Option<SampleMut>
+pub fn written_loan(domain: &BytesDomain, numbers: &LoanNumbers, book: usize) -> Option<SampleMut>
     ensures out { IfSome result (λ it. IsWritten domain.now (as_written it)) }
     ensures named { IfSome result (λ it. written_key (as_written it) ≡ named_loan numbers.now) }
     ensures number { IfSome result (λ it. written_number (as_written it) ≡ wide (numbers.now).number) }
@@ -48,14 +33,13 @@ pub fn written_loan_in(
 
 /// Gives a loan back unsent.
 pub fn discard(service: &mut Service, numbers: &LoanNumbers) -> u32
-    ensures code { (result ≡ 0) ⊎ RefusesLoan service.old.domain (named_loan numbers.now) result }
-    ensures out { result ≡ 0 → IsOut service.old.domain (named_loan numbers.now) }
+    ensures code { ((result ≡ 0) × IsOut service.old.domain (named_loan numbers.now)) ⊎ RefusesLoan service.old.domain (named_loan numbers.now) result }
     ensures discards { result ≡ 0 → Discards service.old.domain service.new.domain (wide (numbers.now).number) }
     ensures spent { result ≡ 0 → IsLoanKey service.new.domain (named_loan numbers.now) → ⊥ }
     ensures refused { 0 < result → service.new ≡ service.old }
     ensures stays { ServesBut (A_loan (wide (numbers.now).number)) service.old service.new }
 {
-    let Some(loan) = written_loan(&service.domain, numbers) else {
+    let Some(loan) = written_loan(&service.domain, numbers, numbers.book) else {
         service.recording.discarded(numbers, NOT_LIVE);
         return NOT_LIVE;
     };
@@ -71,7 +55,7 @@ pub fn payload(service: &Service, numbers: &LoanNumbers, out: &mut *mut u8, len:
     ensures length { result ≡ 0 → (values : List ℕ) → HasValues service.now.domain (wide (numbers.now).number) values → len.new ≡ length values }
     ensures same { 0 < result → len.new ≡ len.old }
 {
-    let Some(loan) = written_loan(&service.domain, numbers) else {
+    let Some(loan) = written_loan(&service.domain, numbers, numbers.book) else {
         return NOT_LIVE;
     };
     let bytes = loan.payload(&service.domain);

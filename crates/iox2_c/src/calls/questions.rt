@@ -20,10 +20,11 @@ use crate::calls::samples::copy_bytes;
 use crate::calls::subscribers::live_subscriber;
 use crate::config::Config;
 use crate::numbers::{PublisherNumbers, SubscriberNumbers};
-use crate::recording::error_of;
+use crate::recording::{Recording, error_of};
 use crate::service::Service;
 use crate::status::{NOT_LIVE, OK, OUT_OF_MEMORY, failure_status};
 use crate::warning::{WarningNumbers, numbers_of};
+use call_recorder::Name;
 use iox2_pubsub::{ConnectionFailure, UpdateConnections};
 use std::alloc::Global;
 
@@ -43,10 +44,7 @@ pub fn update_publisher(service: &mut Service, numbers: &PublisherNumbers) -> u3
     };
     let updated = publisher.update_connections(&mut service.domain);
     publisher.disown();
-    let failed = error_of(&updated);
-    let code = update_code(updated);
-    service.recording.update(numbers.name(), code, failed);
-    code
+    tell_update(&mut service.recording, numbers.name(), updated)
 }
 
 /// Makes and removes a subscriber's connections.
@@ -62,10 +60,7 @@ pub fn update_subscriber(service: &mut Service, numbers: &SubscriberNumbers) -> 
     };
     let updated = subscriber.update_connections(&mut service.domain);
     subscriber.disown();
-    let failed = error_of(&updated);
-    let code = update_code(updated);
-    service.recording.update(numbers.name(), code, failed);
-    code
+    tell_update(&mut service.recording, numbers.name(), updated)
 }
 
 /// Whether a message waits for a subscriber, after an update.
@@ -88,14 +83,17 @@ pub fn has_samples(service: &mut Service, numbers: &SubscriberNumbers, waits: &m
     code
 }
 
-// What came of an update: its code.
-fn update_code(updated: Result<(), ConnectionFailure>) -> u32
+// What came of an update of the port with this name, which is recorded: its code.
+fn tell_update(recording: &mut Recording, name: Name, updated: Result<(), ConnectionFailure>) -> u32
     ensures { result ≡ code_of failure_code updated }
 {
-    match updated {
+    let failed = error_of(&updated);
+    let code = match updated {
         Ok(()) => OK,
         Err(failure) => failure_status(failure),
-    }
+    };
+    recording.update(name, code, failed);
+    code
 }
 
 // What came of the question: its code, and the answer.

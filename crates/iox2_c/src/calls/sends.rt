@@ -13,7 +13,7 @@ ghost use Rattle.iox2_c.specs.Returns.{SendReturns, TellsSent};
 ghost use Rattle.iox2_c.specs.Serving.{IsOfBytes, ServesBut};
 ghost use Rattle.iox2_c.specs.Steps.{GivesUp, Retries, SendsCopy};
 
-use crate::calls::loans::{written_loan, written_loan_in};
+use crate::calls::loans::written_loan;
 use crate::calls::publishers::ready_publisher;
 use crate::numbers::{LoanNumbers, PublisherNumbers};
 use crate::recording::error_of;
@@ -80,7 +80,11 @@ pub fn send(
     ensures { SendReturns numbers.now service.old service.new receivers.old receivers.new blocked.old blocked.new result }
 {
     if service.recording.is_on() {
-        return send_recorded(service, numbers, receivers, blocked);
+        record_bytes(service, numbers);
+        let mut failed = None;
+        let code = send_elsewhere(service, numbers, receivers, blocked, Some(&mut failed));
+        service.recording.sent(numbers, code, *receivers, failed);
+        return code;
     }
     match service.domain.sends_at_once(&numbers.parts()) {
         Some(book) => send_named(service, numbers, book, receivers, blocked, None),
@@ -101,7 +105,7 @@ fn send_named(
 ) -> u32
     ensures { SendReturns numbers.now service.old service.new receivers.old receivers.new blocked.old blocked.new result }
 {
-    let Some(loan) = written_loan_in(&service.domain, numbers, book) else {
+    let Some(loan) = written_loan(&service.domain, numbers, book) else {
         return NOT_LIVE;
     };
     if loan.is_blocked(&service.domain) {
@@ -130,29 +134,11 @@ fn send_elsewhere(
     send_named(service, numbers, numbers.book, receivers, blocked, failed)
 }
 
-// The same, and it is recorded with its bytes, which C wrote before.
-#[cold]
-#[inline(never)]
-fn send_recorded(
-    service: &mut Service,
-    numbers: &LoanNumbers,
-    receivers: &mut usize,
-    blocked: &mut LoanNumbers,
-) -> u32
-    ensures { SendReturns numbers.now service.old service.new receivers.old receivers.new blocked.old blocked.new result }
-{
-    record_bytes(service, numbers);
-    let mut failed = None;
-    let code = send_elsewhere(service, numbers, receivers, blocked, Some(&mut failed));
-    service.recording.sent(numbers, code, *receivers, failed);
-    code
-}
-
 // Records the bytes of a loan that is out.
 fn record_bytes(service: &mut Service, numbers: &LoanNumbers)
     ensures { service.new ≡ service.old }
 {
-    if let Some(loan) = written_loan(&service.domain, numbers) {
+    if let Some(loan) = written_loan(&service.domain, numbers, numbers.book) {
         service
             .recording
             .written(numbers, loan.payload(&service.domain));

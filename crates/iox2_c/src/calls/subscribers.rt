@@ -35,7 +35,7 @@ pub fn create(service: &mut Service, out: &mut SubscriberNumbers) -> u32
     ensures same { 0 < result → out.new ≡ out.old }
     ensures stays { ServesBut No_item service.old service.new }
 {
-    let factory = plain_factory(service);
+    let factory = service.domain.slice_subscriber_builder();
     let made = factory.create(&mut service.domain);
     let reply = subscriber_reply(&made);
     let code = tell(made, out);
@@ -43,13 +43,6 @@ pub fn create(service: &mut Service, out: &mut SubscriberNumbers) -> u32
     let options = SubscriberOptions::of(&plain);
     service.recording.subscriber(&options, reply);
     code
-}
-
-// A factory of subscribers without options.
-fn plain_factory(service: &Service) -> PortFactorySubscriber<NoHandler>
-    ensures { result.settings ≡ plain_subscriber_settings service.now }
-{
-    service.domain.slice_subscriber_builder()
 }
 
 // A factory of subscribers with these options.

@@ -5,7 +5,7 @@ ghost use Rattle.iox2_c.specs.Boxed.{Becomes, HoldsOn, Knows};
 ghost use Rattle.iox2_c.specs.Channels.{ClosesReceived, ClosesSent, HintsReceived, RefusesPublisherChannel, RefusesSubscriberChannel, SetsState};
 ghost use Rattle.iox2_c.specs.Numbers.{named_publisher, named_subscriber, wide};
 
-use crate::calls::channel_changes;
+use crate::calls::channel_changes::{self, ReceivedChange};
 use crate::domain_box::DomainBox;
 use crate::numbers::{PublisherNumbers, SubscriberNumbers};
 use crate::status::NO_DOMAIN;
@@ -55,7 +55,13 @@ pub extern "C" fn iox2ps_subscriber_close_channel(
     ensures stays { HoldsOn No_item domain.old.service domain.new.service }
 {
     match domain.service() {
-        Some(service) => channel_changes::close_received(service, subscriber, channel, expected),
+        Some(service) => channel_changes::change_received(
+            service,
+            subscriber,
+            ReceivedChange::Close,
+            channel,
+            expected,
+        ),
         None => NO_DOMAIN,
     }
 }
@@ -76,7 +82,13 @@ pub extern "C" fn iox2ps_subscriber_set_disconnect_hint(
     ensures stays { HoldsOn No_item domain.old.service domain.new.service }
 {
     match domain.service() {
-        Some(service) => channel_changes::hint(service, subscriber, channel, expected),
+        Some(service) => channel_changes::change_received(
+            service,
+            subscriber,
+            ReceivedChange::Hint,
+            channel,
+            expected,
+        ),
         None => NO_DOMAIN,
     }
 }

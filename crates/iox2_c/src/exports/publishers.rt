@@ -10,7 +10,8 @@ ghost use Rattle.iox2_c.specs.Numbers.{named_loan, named_publisher, wide};
 ghost use Rattle.iox2_c.specs.Settings.{AreOptions, ReadsSettings, plain_publisher_settings, publisher_settings};
 ghost use Rattle.iox2_c.specs.Steps.{ClosesPublisher, CreatesPublisher, Lends, LendsUninit};
 
-use crate::calls::{publishers, uninit_loans};
+use crate::calls::lending::{self, Unspecified, Zeros};
+use crate::calls::publishers;
 use crate::domain_box::DomainBox;
 use crate::numbers::{LoanNumbers, PublisherNumbers};
 use crate::options::PublisherOptions;
@@ -101,7 +102,7 @@ pub extern "C" fn iox2ps_publisher_loan(
     ensures stays { HoldsOn No_item domain.old.service domain.new.service }
 {
     match domain.service() {
-        Some(service) => publishers::loan(service, publisher, len, loan, payload),
+        Some(service) => lending::loan::<Zeros>(service, publisher, len, loan, payload),
         None => NO_DOMAIN,
     }
 }
@@ -127,7 +128,7 @@ pub extern "C" fn iox2ps_publisher_loan_uninit(
     ensures stays { HoldsOn No_item domain.old.service domain.new.service }
 {
     match domain.service() {
-        Some(service) => uninit_loans::loan_uninit(service, publisher, len, loan, payload),
+        Some(service) => lending::loan::<Unspecified>(service, publisher, len, loan, payload),
         None => NO_DOMAIN,
     }
 }

@@ -46,23 +46,19 @@ pub fn subscriber_reply(made: &Result<Subscriber, SubscriberCreateError>) -> Byt
 
 /// Of a loan.
 pub fn loan_reply(code: u32, refused: Option<LoanError>) -> BytesReply {
-    if let Some(error) = refused {
-        return Reply::LoanRefused(error);
-    }
-    match code {
-        OK => Reply::Loaned,
+    match (refused, code) {
+        (Some(error), _) => Reply::LoanRefused(error),
+        (None, OK) => Reply::Loaned,
         _ => Reply::Skipped,
     }
 }
 
 /// Of a send or a retry, whose message so many subscribers took.
 pub fn send_reply(code: u32, receivers: usize, failed: Option<SendError>) -> BytesReply {
-    if let Some(error) = failed {
-        return Reply::SendRefused(error);
-    }
-    match code {
-        OK => Reply::Delivered(receivers),
-        BLOCKED => Reply::Blocked,
+    match (failed, code) {
+        (Some(error), _) => Reply::SendRefused(error),
+        (None, OK) => Reply::Delivered(receivers),
+        (None, BLOCKED) => Reply::Blocked,
         _ => Reply::Skipped,
     }
 }
@@ -85,11 +81,9 @@ pub fn question_reply(code: u32, waits: u32, failed: Option<ConnectionFailure>) 
 
 /// Of a receive that got nothing.
 pub fn receive_reply(code: u32, failed: Option<ReceiveError>) -> BytesReply {
-    if let Some(error) = failed {
-        return Reply::ReceiveRefused(error);
-    }
-    match code {
-        NO_SAMPLE => Reply::NoSample,
+    match (failed, code) {
+        (Some(error), _) => Reply::ReceiveRefused(error),
+        (None, NO_SAMPLE) => Reply::NoSample,
         _ => Reply::Skipped,
     }
 }

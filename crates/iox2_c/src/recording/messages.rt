@@ -1,6 +1,6 @@
 //! Calls of messages are recorded.
 
-use super::answers::{BytesReply, loan_reply, plain_reply, receive_reply, send_reply};
+use super::answers::{BytesReply, loan_reply, receive_reply, send_reply};
 use super::{Recording, target};
 use crate::numbers::{LoanNumbers, PublisherNumbers, SubscriberNumbers};
 use crate::status::{BLOCKED, NOT_LIVE, OK, PUBLISHER_IS_BLOCKED};
@@ -73,11 +73,11 @@ impl Recording {
         receivers: usize,
         failed: Option<SendError>,
     ) {
+        let refused = refused_loan(failed);
         let Some(recorder) = &mut self.recorder else {
             return;
         };
         let of = target(recorder, publisher.name(), code);
-        let refused = refused_loan(failed);
         if code == NOT_LIVE || code == PUBLISHER_IS_BLOCKED || refused.is_some() {
             let len = bytes.len();
             recorder.keep(Command::LoanSlice { of, len }, loan_reply(code, refused));
@@ -90,14 +90,7 @@ impl Recording {
 
     /// A loan was given back unsent.
     pub fn discarded(&mut self, loan: &LoanNumbers, code: u32) {
-        let Some(recorder) = &mut self.recorder else {
-            return;
-        };
-        let of = target(recorder, loan_name(loan), code);
-        recorder.keep(Command::Discard { of }, plain_reply(code));
-        if code == OK {
-            recorder.forget(loan_name(loan));
-        }
+        self.keep_last(loan_name(loan), code, |of| Command::Discard { of });
     }
 
     /// A send that waits was tried again, so many nanoseconds after it was blocked.
@@ -109,14 +102,14 @@ impl Recording {
         receivers: usize,
         failed: Option<SendError>,
     ) {
-        let Some(recorder) = &mut self.recorder else {
-            return;
-        };
-        let of = target(recorder, blocked_name(blocked), code);
         let elapsed = Duration::from_nanos(elapsed);
-        let reply = send_reply(code, receivers, failed);
-        recorder.keep(Command::Retry { of, elapsed }, reply);
-        forget_ended(recorder, blocked, code);
+        self.keep(
+            blocked_name(blocked),
+            code,
+            move |of| Command::Retry { of, elapsed },
+            send_reply(code, receivers, failed),
+        );
+        self.forget_ended(blocked, code);
     }
 
     /// The subscriber for which a send waits was given up.
@@ -127,13 +120,17 @@ impl Recording {
         receivers: usize,
         failed: Option<SendError>,
     ) {
-        let Some(recorder) = &mut self.recorder else {
-            return;
-        };
-        let of = target(recorder, blocked_name(blocked), code);
         let reply = send_reply(code, receivers, failed);
-        recorder.keep(Command::GiveUp { of }, reply);
-        forget_ended(recorder, blocked, code);
+        let name = blocked_name(blocked);
+        self.keep(name, code, |of| Command::GiveUp { of }, reply);
+        self.forget_ended(blocked, code);
+    }
+
+    // A send that has ended has no name any more.
+    fn forget_ended(&mut self, blocked: &LoanNumbers, code: u32) {
+        if code != NOT_LIVE && code != BLOCKED {
+            self.forget(blocked_name(blocked));
+        }
     }
 
     /// A message with these bytes was received.
@@ -156,24 +153,13 @@ impl Recording {
         code: u32,
         failed: Option<ReceiveError>,
     ) {
-        let Some(recorder) = &mut self.recorder else {
-            return;
-        };
-        let of = target(recorder, subscriber.name(), code);
-        recorder.keep(Command::Receive { of }, receive_reply(code, failed));
+        let reply = receive_reply(code, failed);
+        self.keep(subscriber.name(), code, |of| Command::Receive { of }, reply);
     }
 
     /// The message with this key was given back, or not, as the code says.
     pub fn released(&mut self, key: Key, code: u32) {
-        let Some(recorder) = &mut self.recorder else {
-            return;
-        };
-        let name = key_name(key);
-        let of = target(recorder, name, code);
-        recorder.keep(Command::Release { of }, plain_reply(code));
-        if code == OK {
-            recorder.forget(name);
-        }
+        self.keep_last(key_name(key), code, |of| Command::Release { of });
     }
 }
 
@@ -197,13 +183,6 @@ fn refused_loan(failed: Option<SendError>) -> Option<LoanError> {
     match failed {
         Some(SendError::LoanError(error)) => Some(error),
         _ => None,
-    }
-}
-
-// A send that has ended has no name any more.
-fn forget_ended(recorder: &mut Recorder, blocked: &LoanNumbers, code: u32) {
-    if code != NOT_LIVE && code != BLOCKED {
-        recorder.forget(blocked_name(blocked));
     }
 }
 

@@ -1,11 +1,10 @@
 //! Calls of ports are recorded.
 
-use super::answers::{BytesReply, plain_reply, question_reply, update_reply};
-use super::{Recording, target};
+use super::Recording;
+use super::answers::{BytesReply, question_reply, update_reply};
 use crate::config::strategy_of;
 use crate::numbers::{PublisherNumbers, SubscriberNumbers};
 use crate::options::{PublisherOptions, SubscriberOptions, allocation_of, degradation_of};
-use crate::status::OK;
 use call_recorder::Name;
 use iox2_commands::{Command, Reply};
 use iox2_pubsub::{
@@ -55,23 +54,13 @@ impl Recording {
 
     /// A port was closed, or not, as the code says.
     pub fn close(&mut self, name: Name, code: u32) {
-        let Some(recorder) = &mut self.recorder else {
-            return;
-        };
-        let of = target(recorder, name, code);
-        recorder.keep(Command::Close { of }, plain_reply(code));
-        if code == OK {
-            recorder.forget(name);
-        }
+        self.keep_last(name, code, |of| Command::Close { of });
     }
 
     /// The connections of a port were updated, or not, as the code and the failure say.
     pub fn update(&mut self, name: Name, code: u32, failed: Option<ConnectionFailure>) {
-        let Some(recorder) = &mut self.recorder else {
-            return;
-        };
-        let of = target(recorder, name, code);
-        recorder.keep(Command::Update { of }, update_reply(code, failed));
+        let reply = update_reply(code, failed);
+        self.keep(name, code, |of| Command::Update { of }, reply);
     }
 
     /// A subscriber was asked whether a message waits.
@@ -82,12 +71,10 @@ impl Recording {
         waits: u32,
         failed: Option<ConnectionFailure>,
     ) {
-        let Some(recorder) = &mut self.recorder else {
-            return;
-        };
-        let of = target(recorder, subscriber.name(), code);
-        recorder.keep(
-            Command::HasSamples { of },
+        self.keep(
+            subscriber.name(),
+            code,
+            |of| Command::HasSamples { of },
             question_reply(code, waits, failed),
         );
     }

@@ -102,10 +102,6 @@ impl<T: Drop, U: Default + Drop, F: BackpressureFn, G: DegradationFn> Domain<T, 
         if !self.is_sample_at_hint(parts) {
             return None;
         }
-        Some(Sample {
-            service_id: parts.service_id,
-            origin: UniquePublisherId::new(parts.origin),
-            sample: parts.sample(),
-        })
+        Some(parts.handle())
     }
 }

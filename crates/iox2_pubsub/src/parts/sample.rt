@@ -9,6 +9,8 @@ use iox2_domain::SampleAt;
 use iox2_store::{BackpressureFn, DegradationFn, UniquePublisherId, UniqueSubscriberId};
 
 impl SampleParts {
+    ghost use Rattle.iox2_pubsub.specs.Parts.{sample_parts};
+
     // The private part of a handle with these numbers.
     pub(crate) fn sample(&self) -> SampleAt
         ensures { result ≡ record { subscriber = self.now.subscriber; number = self.now.number; connection = self.now.connection; book = self.now.book; slot = self.now.slot } }
@@ -19,6 +21,17 @@ impl SampleParts {
             connection: self.connection,
             book: self.book,
             slot: self.slot,
+        }
+    }
+
+    // The handle with these numbers.
+    pub(crate) fn handle(&self) -> Sample
+        ensures { sample_parts result ≡ self.now }
+    {
+        Sample {
+            service_id: self.service_id,
+            origin: UniquePublisherId::new(self.origin),
+            sample: self.sample(),
         }
     }
 }
@@ -73,10 +86,6 @@ impl<T: Drop, U: Default + Drop, F: BackpressureFn, G: DegradationFn> Domain<T, 
         if !self.has_sample_of(parts) {
             return None;
         }
-        Some(Sample {
-            service_id: parts.service_id,
-            origin: UniquePublisherId::new(parts.origin),
-            sample: parts.sample(),
-        })
+        Some(parts.handle())
     }
 }

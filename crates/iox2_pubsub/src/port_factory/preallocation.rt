@@ -6,6 +6,15 @@ use iox2_store::{AllocationStrategy, ServiceConfig, worst_case_slots};
 
 /// No override: a publisher has the worst case of slots.
 ///
+/// Example (`crates/calling/src/closing.rt`): the factory of `publisher_builder` has it.
+///
+/// ```rust
+/// let publisher = domain
+///     .publisher_builder()
+///     .backpressure_strategy(BackpressureStrategy::DiscardData)
+///     .create(domain)?;
+/// ```
+///
 /// This library's own, where iceoryx2 has an override that is there or not.
 #[derive(Debug, Clone, Copy, PartialEq, Eq)]
 pub struct NoOverride;

@@ -1,4 +1,4 @@
-//! The factory of publishers.
+//! The factory of publishers, of single values and of slices.
 ghost use Rattle.std.specs.Prelude.{◌≡◌, ◌≤◌, true, false, None, Some, IfOk, OnErr, MatchResult};
 ghost use Rattle.iox2_store.specs.declared.degradation.DegradationAction.TheVariants.{Warn};
 ghost use Rattle.iox2_domain.specs.Boxes.{answers_of};
@@ -23,15 +23,17 @@ mod overridden;
 
 use crate::domain::Domain;
 use crate::port_factory::degradations::{box_in, mark_of};
+use crate::port_factory::handles::PortHandle;
 use crate::port_factory::preallocation::{NoOverride, PreallocatedSamplesOverride, SlotSettings};
 use crate::publisher::Publisher;
+use crate::slice;
 use iox2_domain::{HandlerMark, PublisherOptions};
 use iox2_ports::{SegmentOptions, create_publisher};
 use iox2_store::{
     AllocationStrategy, BackpressureFn, BackpressureHandler, BackpressureStrategy,
-    DegradationAction, DegradationFn, DegradationHandler, PublisherCreateError,
+    DegradationAction, DegradationFn, DegradationHandler, PublisherCreateError, ServiceConfig,
 };
-use std::marker::Model;
+use std::marker::{Model, PhantomData};
 
 /// Makes a publisher. It begins with the loans that the domain's settings allow a publisher, and with
 /// their strategy. Its memory is to grow as they say.
@@ -55,15 +57,17 @@ pub struct PortFactoryPublisher<
     F = Box<dyn BackpressureFn>,
     G = Box<dyn DegradationFn>,
     O = NoOverride,
+    H = Publisher,
 > {
     slots: SlotSettings<O>,
     options: PublisherOptions,
     backpressure_handler: Option<BackpressureHandler<F>>,
     // What answers where it can't make a connection, where that is a box.
     degradation_box: Option<G>,
+    makes: PhantomData<H>,
 }
 
-impl<F, G, O> Model for PortFactoryPublisher<F, G, O> {
+impl<F, G, O, H> Model for PortFactoryPublisher<F, G, O, H> {
     ghost use Rattle.iox2_domain.specs.NewPublisher.{static_publisher};
     ghost use Rattle.iox2_ends.specs.Handlers.{marks_of};
     ghost use Rattle.iox2_ports.specs.Handlers.{custom_box};
@@ -87,7 +91,15 @@ impl<T: Drop, U: Default + Drop, F: BackpressureFn, G: DegradationFn> Domain<T, 
     pub fn publisher_builder(&self) -> PortFactoryPublisher<F, G>
         ensures { result ≡ record { settings = record (plain_publisher (self.now.config).publisher_max_loaned_samples (self.now.config).backpressure_strategy 1) { allocation_strategy = (self.now.config).publisher_allocation_strategy }; box = None; degradation_box = None; preallocated = record {} } }
     {
-        let config = self.state.config();
+        PortFactoryPublisher::with_settings_of(self.state.config())
+    }
+}
+
+impl<F, G, H> PortFactoryPublisher<F, G, NoOverride, H> {
+    // A factory that was told nothing yet, in a domain with these settings.
+    pub(crate) fn with_settings_of(config: &ServiceConfig) -> Self
+        ensures { result ≡ record { settings = record (plain_publisher (config.now).publisher_max_loaned_samples (config.now).backpressure_strategy 1) { allocation_strategy = (config.now).publisher_allocation_strategy }; box = None; degradation_box = None; preallocated = record {} } }
+    {
         PortFactoryPublisher {
             slots: SlotSettings {
                 allocation: config.publisher_allocation_strategy,
@@ -101,27 +113,21 @@ impl<T: Drop, U: Default + Drop, F: BackpressureFn, G: DegradationFn> Domain<T, 
             },
             backpressure_handler: None,
             degradation_box: None,
+            makes: PhantomData,
         }
     }
 }
 
-impl<F: BackpressureFn, G: DegradationFn, O: Drop> PortFactoryPublisher<F, G, O> {
+impl<F: BackpressureFn, G: DegradationFn, O: Drop, H> PortFactoryPublisher<F, G, O, H> {
     /// Sets how many loans of the publisher may be out at a time, 0 or more.
     ///
     /// iceoryx2's `PortFactoryPublisher::max_loaned_samples`
     /// (`src/service/port_factory/publisher.rs`).
-    pub fn max_loaned_samples(self, value: usize) -> Self
+    pub fn max_loaned_samples(mut self, value: usize) -> Self
         ensures { result ≡ record self { settings = record (self.settings) { max_loaned_samples = value } } }
     {
-        PortFactoryPublisher {
-            slots: self.slots,
-            options: PublisherOptions {
-                max_loaned_samples: value,
-                ..self.options
-            },
-            backpressure_handler: self.backpressure_handler,
-            degradation_box: self.degradation_box,
-        }
+        self.options.max_loaned_samples = value;
+        self
     }
 
     /// Sets what the publisher does where the buffer of a subscriber is full and the service doesn't
@@ -129,18 +135,11 @@ impl<F: BackpressureFn, G: DegradationFn, O: Drop> PortFactoryPublisher<F, G, O>
     ///
     /// iceoryx2's `PortFactoryPublisher::backpressure_strategy`
     /// (`src/service/port_factory/publisher.rs`).
-    pub fn backpressure_strategy(self, value: BackpressureStrategy) -> Self
+    pub fn backpressure_strategy(mut self, value: BackpressureStrategy) -> Self
         ensures { result ≡ record self { settings = record (self.settings) { backpressure_strategy = value } } }
     {
-        PortFactoryPublisher {
-            slots: self.slots,
-            options: PublisherOptions {
-                strategy: value,
-                ..self.options
-            },
-            backpressure_handler: self.backpressure_handler,
-            degradation_box: self.degradation_box,
-        }
+        self.options.strategy = value;
+        self
     }
 
     /// Sets what answers where the buffer of a subscriber is full and the service doesn't overflow,
@@ -150,15 +149,11 @@ impl<F: BackpressureFn, G: DegradationFn, O: Drop> PortFactoryPublisher<F, G, O>
     ///
     /// iceoryx2's `PortFactoryPublisher::set_backpressure_handler`
     /// (`src/service/port_factory/publisher.rs`).
-    pub fn set_backpressure_handler(self, handler: BackpressureHandler<F>) -> Self
+    pub fn set_backpressure_handler(mut self, handler: BackpressureHandler<F>) -> Self
         ensures { result ≡ with_handler self handler }
     {
-        PortFactoryPublisher {
-            slots: self.slots,
-            options: self.options,
-            backpressure_handler: Some(handler),
-            degradation_box: self.degradation_box,
-        }
+        self.backpressure_handler = Some(handler);
+        self
     }
 
     /// Sets what answers where memory for a connection with a subscriber is refused: the publisher
@@ -167,37 +162,24 @@ impl<F: BackpressureFn, G: DegradationFn, O: Drop> PortFactoryPublisher<F, G, O>
     ///
     /// iceoryx2's `PortFactoryPublisher::set_degradation_handler`
     /// (`src/service/port_factory/publisher.rs`).
-    pub fn set_degradation_handler(self, handler: DegradationHandler<G>) -> Self
+    pub fn set_degradation_handler(mut self, handler: DegradationHandler<G>) -> Self
         ensures { result ≡ with_degradation self handler }
     {
-        PortFactoryPublisher {
-            slots: self.slots,
-            options: PublisherOptions {
-                degradation: mark_of(&handler),
-                ..self.options
-            },
-            backpressure_handler: self.backpressure_handler,
-            degradation_box: box_in(handler),
-        }
+        self.options.degradation = mark_of(&handler);
+        self.degradation_box = box_in(handler);
+        self
     }
 
-    /// Sets how the memory of the publisher grows. A static one refuses a loan where each of its slots
-    /// is in use; any other makes further slots for it, up to 254 times.
+    /// Sets how the memory of the publisher grows. A static one refuses a loan that is too long, or
+    /// where each of its slots is in use; any other makes further slots for it, up to 254 times.
     ///
     /// iceoryx2's `PortFactoryPublisher::allocation_strategy`
-    /// (`src/service/port_factory/publisher.rs`), of slices alone.
-    pub fn allocation_strategy(self, value: AllocationStrategy) -> Self
+    /// (`src/service/port_factory/publisher.rs`), which is of slices alone.
+    pub fn allocation_strategy(mut self, value: AllocationStrategy) -> Self
         ensures { result ≡ record self { settings = record (self.settings) { allocation_strategy = value } } }
     {
-        PortFactoryPublisher {
-            slots: SlotSettings {
-                allocation: value,
-                preallocated: self.slots.preallocated,
-            },
-            options: self.options,
-            backpressure_handler: self.backpressure_handler,
-            degradation_box: self.degradation_box,
-        }
+        self.slots.allocation = value;
+        self
     }
 
     /// Sets what says how many slots the publisher is to have: a closure that is given the worst
@@ -209,7 +191,7 @@ impl<F: BackpressureFn, G: DegradationFn, O: Drop> PortFactoryPublisher<F, G, O>
     pub fn override_sample_preallocation<P: Fn(usize) -> usize + Drop>(
         self,
         callback: P,
-    ) -> PortFactoryPublisher<F, G, PreallocatedSamplesOverride<P>>
+    ) -> PortFactoryPublisher<F, G, PreallocatedSamplesOverride<P>, H>
         ensures { result ≡ with_callback self callback }
     {
         PortFactoryPublisher {
@@ -220,6 +202,7 @@ impl<F: BackpressureFn, G: DegradationFn, O: Drop> PortFactoryPublisher<F, G, O>
             options: self.options,
             backpressure_handler: self.backpressure_handler,
             degradation_box: self.degradation_box,
+            makes: self.makes,
         }
     }
 
@@ -228,7 +211,7 @@ impl<F: BackpressureFn, G: DegradationFn, O: Drop> PortFactoryPublisher<F, G, O>
     ///
     /// iceoryx2's `PortFactoryPublisher::__internal_partial_clone`
     /// (`src/service/port_factory/publisher.rs`).
-    pub fn internal_partial_clone(&self) -> PortFactoryPublisher<F, G>
+    pub fn internal_partial_clone(&self) -> PortFactoryPublisher<F, G, NoOverride, H>
         ensures { result ≡ record { settings = record (self.now.settings) { degradation_handler = Fixed Warn; backpressure_handler = None }; box = None; degradation_box = None; preallocated = record {} } }
     {
         PortFactoryPublisher {
@@ -242,15 +225,36 @@ impl<F: BackpressureFn, G: DegradationFn, O: Drop> PortFactoryPublisher<F, G, O>
             },
             backpressure_handler: None,
             degradation_box: None,
+            makes: PhantomData,
         }
     }
 }
 
-impl<F: BackpressureFn, G: DegradationFn> PortFactoryPublisher<F, G> {
-    ghost use Rattle.iox2_pubsub.specs.Handles.{publisher_id, strategy_of};
+impl<F: BackpressureFn, G: DegradationFn, O: Drop> PortFactoryPublisher<F, G, O, slice::Publisher> {
+    /// Sets for how many elements each of the publisher's first slots has room, 0 or more. A loan of a
+    /// static publisher has no more.
+    ///
+    /// iceoryx2's `PortFactoryPublisher::initial_max_slice_len`
+    /// (`src/service/port_factory/publisher.rs`).
+    pub fn initial_max_slice_len(mut self, value: usize) -> Self
+        ensures { result ≡ record self { settings = record (self.settings) { initial_max_slice_len = value } } }
+    {
+        self.options.initial_max_slice_len = value;
+        self
+    }
+}
+
+impl<F: BackpressureFn, G: DegradationFn, H: PortHandle<Publisher>> PortFactoryPublisher<
+    F,
+    G,
+    NoOverride,
+    H,
+> {
+    ghost use Rattle.iox2_pubsub.specs.Handles.{max_slice_len_of, publisher_id, strategy_of};
 
     /// Makes the publisher, with the next id at the lowest free place, and connects it with the
-    /// subscribers that there are. Every subscriber is then due for an update. Where memory for a
+    /// subscribers that there are. Each of its first slots has room for the longest loan that the
+    /// factory was told of. Every subscriber is then due for an update. Where memory for a
     /// connection is refused, the publisher's handler says whether the domain warns of it; where the
     /// handler fails the call, the publisher is made, and the domain warns of that.
     ///
@@ -266,28 +270,29 @@ impl<F: BackpressureFn, G: DegradationFn> PortFactoryPublisher<F, G> {
     pub fn create<T: Drop, U: Default + Drop>(
         self,
         domain: &mut Domain<T, U, F, G>,
-    ) -> Result<Publisher, PublisherCreateError>
+    ) -> Result<H, PublisherCreateError>
         ensures creates { (m : Messages T U) (s : State T U) → Shows domain.old m s → (s' : State T U) × Shows domain.new m s'
             × MatchResult result
-            (λ publisher. (publisher_id publisher ≡ s.next_port) × CreatePublisher (answers_of F.allows G.allows (domain.new.boxes).publishers) s self.settings s' None)
+            (λ publisher. (publisher_id (H.as_port publisher) ≡ s.next_port) × CreatePublisher (answers_of F.allows G.allows (domain.new.boxes).publishers) s self.settings s' None)
             (λ e. CreatePublisher (answers_of F.allows G.allows (domain.new.boxes).publishers) s self.settings s' (Some e)) }
-        ensures grows { IfOk result (λ publisher. GrowsBy domain.new publisher self.settings.allocation_strategy) }
-        ensures ready { IfOk result (λ publisher. IsReadyPublisher domain.new publisher) }
-        ensures discards { self.settings.backpressure_strategy ≡ BackpressureStrategy.DiscardData → self.settings.backpressure_handler ≡ None → may_fail_update self.settings.degradation_handler ≡ false → IfOk result (λ publisher. NeverWaits domain.new (publisher_key publisher)) }
-        ensures passes { may_wait self.settings.backpressure_strategy self.settings.backpressure_handler ≡ false → may_fail self.settings.backpressure_handler ≡ false → may_fail_update self.settings.degradation_handler ≡ false → IfOk result (λ publisher. NeverWaits domain.new (publisher_key publisher)) }
-        ensures overflows { (domain.old.config).enable_safe_overflow ≡ true → may_fail_update self.settings.degradation_handler ≡ false → IfOk result (λ publisher. NeverWaits domain.new (publisher_key publisher)) }
-        ensures never_fails { may_fail self.settings.backpressure_handler ≡ false → may_fail_update self.settings.degradation_handler ≡ false → IfOk result (λ publisher. NeverFails domain.new (publisher_id publisher)) }
-        ensures boxed { IfOk result (λ publisher. handler_box domain.new (publisher_id publisher) ≡ self.box) }
-        ensures degrades { IfOk result (λ publisher. degradation_box domain.new (publisher_id publisher) ≡ self.degradation_box) }
-        ensures strategy { IfOk result (λ publisher. strategy_of publisher ≡ self.settings.backpressure_strategy) }
-        ensures new { IfOk result (λ publisher. IsNewIn domain.old (publisher_port publisher)) }
+        ensures grows { IfOk result (λ publisher. GrowsBy domain.new (H.as_port publisher) self.settings.allocation_strategy) }
+        ensures ready { IfOk result (λ publisher. IsReadyPublisher domain.new (H.as_port publisher)) }
+        ensures discards { self.settings.backpressure_strategy ≡ BackpressureStrategy.DiscardData → self.settings.backpressure_handler ≡ None → may_fail_update self.settings.degradation_handler ≡ false → IfOk result (λ publisher. NeverWaits domain.new (publisher_key (H.as_port publisher))) }
+        ensures passes { may_wait self.settings.backpressure_strategy self.settings.backpressure_handler ≡ false → may_fail self.settings.backpressure_handler ≡ false → may_fail_update self.settings.degradation_handler ≡ false → IfOk result (λ publisher. NeverWaits domain.new (publisher_key (H.as_port publisher))) }
+        ensures overflows { (domain.old.config).enable_safe_overflow ≡ true → may_fail_update self.settings.degradation_handler ≡ false → IfOk result (λ publisher. NeverWaits domain.new (publisher_key (H.as_port publisher))) }
+        ensures never_fails { may_fail self.settings.backpressure_handler ≡ false → may_fail_update self.settings.degradation_handler ≡ false → IfOk result (λ publisher. NeverFails domain.new (publisher_id (H.as_port publisher))) }
+        ensures boxed { IfOk result (λ publisher. handler_box domain.new (publisher_id (H.as_port publisher)) ≡ self.box) }
+        ensures degrades { IfOk result (λ publisher. degradation_box domain.new (publisher_id (H.as_port publisher)) ≡ self.degradation_box) }
+        ensures strategy { IfOk result (λ publisher. strategy_of (H.as_port publisher) ≡ self.settings.backpressure_strategy) }
+        ensures longest { IfOk result (λ publisher. max_slice_len_of (H.as_port publisher) ≡ self.settings.initial_max_slice_len) }
+        ensures new { IfOk result (λ publisher. IsNewIn domain.old (publisher_port (H.as_port publisher))) }
         ensures refused { OnErr result (WaitingStays domain.old domain.new) }
         ensures no_fewer { (subscriber : Subscriber) → waiting domain.old subscriber ≤ waiting domain.new subscriber }
         ensures connections { ConnectionsStay domain.old domain.new }
         ensures room { RoomStays domain.old domain.new }
-        ensures connects { IfOk result (λ publisher. NoneRefused domain.old domain.new → (subscriber : Subscriber) → IsSubscriberKey domain.old (subscriber_key subscriber) → IsConnected domain.new (publisher_id publisher) subscriber) }
+        ensures connects { IfOk result (λ publisher. NoneRefused domain.old domain.new → (subscriber : Subscriber) → IsSubscriberKey domain.old (subscriber_key subscriber) → IsConnected domain.new (publisher_id (H.as_port publisher)) subscriber) }
         ensures loans_left { LoansLeftStay domain.old domain.new }
-        ensures left { LendsFirst (domain.old.config) self.settings → IfOk result (λ publisher. HasLoansLeft domain.new publisher self.settings.max_loaned_samples) }
+        ensures left { LendsFirst (domain.old.config) self.settings → IfOk result (λ publisher. HasLoansLeft domain.new (H.as_port publisher) self.settings.max_loaned_samples) }
         ensures stays { Stays domain.old domain.new }
     {
         let segments = SegmentOptions {
@@ -296,7 +301,10 @@ impl<F: BackpressureFn, G: DegradationFn> PortFactoryPublisher<F, G> {
         };
         let options = self.options;
         let boxed = self.degradation_box;
-        create_plain(domain, &options, self.backpressure_handler, boxed, segments)
+        match create_plain(domain, &options, self.backpressure_handler, boxed, segments) {
+            Ok(publisher) => Ok(H::of_port(publisher)),
+            Err(error) => Err(error),
+        }
     }
 }
 

@@ -1,4 +1,4 @@
-//! The factory of subscribers.
+//! The factory of subscribers, of single values and of slices.
 ghost use Rattle.std.specs.Prelude.{◌≡◌, ◌≤◌, ℕ, None, Some, IfOk, MatchResult};
 ghost use Rattle.iox2_store.specs.declared.degradation.DegradationAction.TheVariants.{Warn};
 ghost use Rattle.iox2_domain.specs.Boxes.{answers_of};
@@ -13,13 +13,15 @@ ghost use Rattle.iox2_domain.specs.Shows.{Shows};
 
 use crate::domain::Domain;
 use crate::port_factory::degradations::{box_in, mark_of};
+use crate::port_factory::handles::PortHandle;
 use crate::subscriber::Subscriber;
 use iox2_domain::{HandlerMark, SubscriberOptions};
 use iox2_ports::create_subscriber;
 use iox2_store::{
-    BackpressureFn, DegradationAction, DegradationFn, DegradationHandler, SubscriberCreateError,
+    BackpressureFn, DegradationAction, DegradationFn, DegradationHandler, ServiceConfig,
+    SubscriberCreateError,
 };
-use std::marker::Model;
+use std::marker::{Model, PhantomData};
 
 /// Makes a subscriber. It begins with the largest buffer that the domain allows.
 ///
@@ -34,13 +36,14 @@ use std::marker::Model;
 ///
 /// iceoryx2's `PortFactorySubscriber` (`src/service/port_factory/subscriber.rs`).
 #[derive(Drop)]
-pub struct PortFactorySubscriber<G = Box<dyn DegradationFn>> {
+pub struct PortFactorySubscriber<G = Box<dyn DegradationFn>, H = Subscriber> {
     options: SubscriberOptions,
     // What answers where it can't make a connection, where that is a box.
     degradation_box: Option<G>,
+    makes: PhantomData<H>,
 }
 
-impl<G> Model for PortFactorySubscriber<G> {
+impl<G, H> Model for PortFactorySubscriber<G, H> {
     ghost use Rattle.iox2_domain.specs.SubscriberEntry.{asked_for};
     ghost use Rattle.iox2_pubsub.specs.Factories.{SubscriberFactory};
 
@@ -49,22 +52,34 @@ impl<G> Model for PortFactorySubscriber<G> {
     ghost view = { λ factory. record { settings = asked_for factory.options; box = factory.degradation_box } };
 }
 
-impl<G: DegradationFn> PortFactorySubscriber<G> {
-    ghost use Rattle.iox2_pubsub.specs.Handles.{buffer_size_of, publisher_id, subscriber_id};
-    ghost use Rattle.iox2_pubsub.specs.declared.publisher.Publisher.{Publisher};
-    /// Sets how many messages of one publisher may wait for the subscriber. Here 0 counts as 1.
-    ///
-    /// iceoryx2's `PortFactorySubscriber::buffer_size` (`src/service/port_factory/subscriber.rs`).
-    pub fn buffer_size(self, value: usize) -> Self
-        ensures { result ≡ record self { settings = record (self.settings) { buffer_size = value } } }
+impl<G, H> PortFactorySubscriber<G, H> {
+    // A factory that was told nothing yet, in a domain with these settings.
+    pub(crate) fn with_settings_of(config: &ServiceConfig) -> Self
+        ensures { result ≡ record { settings = default_subscriber_settings config.now; box = None } }
     {
         PortFactorySubscriber {
             options: SubscriberOptions {
-                buffer_size: value,
-                ..self.options
+                buffer_size: config.subscriber_max_buffer_size.max(1),
+                degradation: HandlerMark::Fixed(DegradationAction::Warn),
             },
-            degradation_box: self.degradation_box,
+            degradation_box: None,
+            makes: PhantomData,
         }
+    }
+}
+
+impl<G: DegradationFn, H: PortHandle<Subscriber>> PortFactorySubscriber<G, H> {
+    ghost use Rattle.iox2_pubsub.specs.Handles.{buffer_size_of, publisher_id, subscriber_id};
+    ghost use Rattle.iox2_pubsub.specs.declared.publisher.Publisher.{Publisher};
+
+    /// Sets how many messages of one publisher may wait for the subscriber. Here 0 counts as 1.
+    ///
+    /// iceoryx2's `PortFactorySubscriber::buffer_size` (`src/service/port_factory/subscriber.rs`).
+    pub fn buffer_size(mut self, value: usize) -> Self
+        ensures { result ≡ record self { settings = record (self.settings) { buffer_size = value } } }
+    {
+        self.options.buffer_size = value;
+        self
     }
 
     /// Sets what answers where memory for a connection with a publisher is refused: the subscriber
@@ -74,16 +89,12 @@ impl<G: DegradationFn> PortFactorySubscriber<G> {
     ///
     /// iceoryx2's `PortFactorySubscriber::set_degradation_handler`
     /// (`src/service/port_factory/subscriber.rs`).
-    pub fn set_degradation_handler(self, handler: DegradationHandler<G>) -> Self
+    pub fn set_degradation_handler(mut self, handler: DegradationHandler<G>) -> Self
         ensures { result ≡ receiver_with_degradation self handler }
     {
-        PortFactorySubscriber {
-            options: SubscriberOptions {
-                degradation: mark_of(&handler),
-                ..self.options
-            },
-            degradation_box: box_in(handler),
-        }
+        self.options.degradation = mark_of(&handler);
+        self.degradation_box = box_in(handler);
+        self
     }
 
     /// A factory with the same settings, which makes subscribers without a handler: where memory for
@@ -100,6 +111,7 @@ impl<G: DegradationFn> PortFactorySubscriber<G> {
                 ..self.options
             },
             degradation_box: None,
+            makes: PhantomData,
         }
     }
 
@@ -120,17 +132,17 @@ impl<G: DegradationFn> PortFactorySubscriber<G> {
     pub fn create<T: Drop, U: Default + Drop, F: BackpressureFn>(
         self,
         domain: &mut Domain<T, U, F, G>,
-    ) -> Result<Subscriber, SubscriberCreateError>
+    ) -> Result<H, SubscriberCreateError>
         ensures creates { (m : Messages T U) (s : State T U) → Shows domain.old m s → (s' : State T U) × Shows domain.new m s' × MatchResult result
-            (λ subscriber. CreateSubscriber (answers_of F.allows G.allows (domain.new.boxes).subscribers) s self.settings s' None × (subscriber_id subscriber ≡ s.next_port) × (buffer_size_of subscriber ≡ buffer_for self.settings))
+            (λ subscriber. CreateSubscriber (answers_of F.allows G.allows (domain.new.boxes).subscribers) s self.settings s' None × (subscriber_id (H.as_port subscriber) ≡ s.next_port) × (buffer_size_of (H.as_port subscriber) ≡ buffer_for self.settings))
             (λ error. CreateSubscriber (answers_of F.allows G.allows (domain.new.boxes).subscribers) s self.settings s' (Some error)) }
-        ensures live { IfOk result (λ subscriber. IsLiveSubscriber domain.new subscriber) }
-        ensures buffer { IfOk result (λ subscriber. HasItsBuffer domain.new subscriber) }
-        ensures boxed { IfOk result (λ subscriber. subscriber_box domain.new (subscriber_id subscriber) ≡ self.box) }
-        ensures new { IfOk result (λ subscriber. IsNewIn domain.old (subscriber_port subscriber)) }
-        ensures none { IfOk result (λ subscriber. waiting domain.new subscriber ≡ 0) }
-        ensures awaits { IfOk result (λ subscriber. NoneRefused domain.old domain.new → (publisher : Publisher) → IsPublisherKey domain.old (publisher_key publisher) → IsAwaited domain.new (publisher_id publisher) subscriber) }
-        ensures room { IfOk result (λ subscriber. (closes : ℕ) → closes ≤ expired_limit domain.old.config → HasRoomFor domain.new subscriber closes) }
+        ensures live { IfOk result (λ subscriber. IsLiveSubscriber domain.new (H.as_port subscriber)) }
+        ensures buffer { IfOk result (λ subscriber. HasItsBuffer domain.new (H.as_port subscriber)) }
+        ensures boxed { IfOk result (λ subscriber. subscriber_box domain.new (subscriber_id (H.as_port subscriber)) ≡ self.box) }
+        ensures new { IfOk result (λ subscriber. IsNewIn domain.old (subscriber_port (H.as_port subscriber))) }
+        ensures none { IfOk result (λ subscriber. waiting domain.new (H.as_port subscriber) ≡ 0) }
+        ensures awaits { IfOk result (λ subscriber. NoneRefused domain.old domain.new → (publisher : Publisher) → IsPublisherKey domain.old (publisher_key publisher) → IsAwaited domain.new (publisher_id publisher) (H.as_port subscriber)) }
+        ensures room { IfOk result (λ subscriber. (closes : ℕ) → closes ≤ expired_limit domain.old.config → HasRoomFor domain.new (H.as_port subscriber) closes) }
         ensures leaves { Leaves domain.old domain.new }
     {
         let service_id = domain.state.config().service_id;
@@ -141,12 +153,12 @@ impl<G: DegradationFn> PortFactorySubscriber<G> {
             &options,
             self.degradation_box,
         )?;
-        Ok(Subscriber {
+        Ok(H::of_port(Subscriber {
             service_id,
             id: port.id,
             place: port.place,
             buffer_size: options.buffer_size.max(1),
-        })
+        }))
     }
 }
 
@@ -157,12 +169,6 @@ impl<T: Drop, U: Default + Drop, F: BackpressureFn, G: DegradationFn> Domain<T, 
     pub fn subscriber_builder(&self) -> PortFactorySubscriber<G>
         ensures { result ≡ record { settings = default_subscriber_settings self.now.config; box = None } }
     {
-        PortFactorySubscriber {
-            options: SubscriberOptions {
-                buffer_size: self.state.config().subscriber_max_buffer_size.max(1),
-                degradation: HandlerMark::Fixed(DegradationAction::Warn),
-            },
-            degradation_box: None,
-        }
+        PortFactorySubscriber::with_settings_of(self.state.config())
     }
 }

@@ -17,8 +17,11 @@ impl Publisher {
     ghost use Rattle.iox2_pubsub.specs.Handles.{publisher_id, subscriber_id};
     ghost use Rattle.iox2_domain.specs.Shows.{Shows};
 
-    /// Names the publisher's connection to a subscriber, where it has one: by the subscriber's
-    /// place.
+    /// Names the publisher's connection to a subscriber, by the subscriber's place: for the calls on
+    /// its channels, and for `SampleMut::deliver_offset_to_connection`. `receiver_port_id` is the
+    /// number of the subscriber's id. `None` where the publisher has no connection to it: that to a
+    /// new subscriber comes with the publisher's next send or update, and that to a closed one goes
+    /// with a later one.
     ///
     /// iceoryx2's `Sender::get_connection_id_of` (`src/port/details/sender.rs`), which is internal.
     pub fn get_connection_id_of<T: Drop, U: Default + Drop, F: BackpressureFn, G: DegradationFn>(
@@ -33,8 +36,10 @@ impl Publisher {
         place_of_receiver(&domain.state, self.place, receiver_port_id)
     }
 
-    /// Whether a channel is in a state at a connection. `channel` is its number, below
-    /// `number_of_channels` of the settings. It isn't, where there is no such connection.
+    /// Whether a channel is in a state at a connection: 0 is that of a new channel, `u64::MAX` that of
+    /// a closed one, and any other the caller's. `channel` is its number, below `number_of_channels`
+    /// of the settings, and `connection` the place that `get_connection_id_of` tells. It isn't, where
+    /// there is no such connection.
     ///
     /// iceoryx2's `Sender::has_channel_state` (`src/port/details/sender.rs`), which is internal.
     pub fn has_channel_state<T: Drop, U: Default + Drop, F: BackpressureFn, G: DegradationFn>(
@@ -52,8 +57,9 @@ impl Publisher {
         is_sent_in(&domain.state, self.place, channel, connection, state)
     }
 
-    /// Whether a channel is in a state at a connection, and a disconnect was hinted since it came
-    /// into that. None was, where there is no such connection.
+    /// Whether a channel is in a state at a connection, and the subscriber has hinted there that it is
+    /// about to disconnect. A change of the state takes the hint away. Both are numbered as for
+    /// `has_channel_state`; `false` where there is no such connection.
     ///
     /// iceoryx2's `Sender::has_disconnect_hint` (`src/port/details/sender.rs`), which is internal.
     pub fn has_disconnect_hint<T: Drop, U: Default + Drop, F: BackpressureFn, G: DegradationFn>(
@@ -71,11 +77,13 @@ impl Publisher {
         is_sent_hinted(&domain.state, self.place, channel, connection, state)
     }
 
-    /// Closes a channel at a connection, where it is in the state `expected`. A closed channel takes
-    /// no message and gets no history, no handler is asked of it, and its subscriber isn't counted;
-    /// what waits there can be received as before. Where the channel is in another state, or there is
-    /// no such connection, nothing changes. `channel` is its number, below `number_of_channels` of the
-    /// settings; other channels stay as they are. Messages go to channel 0. Takes no memory.
+    /// Closes a channel at a connection, where it is in the state `expected`: so one subscriber gets
+    /// nothing there until it opens the channel again (`Subscriber::set_channel_state`). A send goes to
+    /// channel 0, and past it where it is closed: its subscriber gets no message and no history there,
+    /// isn't counted, and no handler is asked of it. What waits in a closed channel stays, and in
+    /// channel 0 it can be received. Where the channel is in another state, or there is no such
+    /// connection, nothing changes. Both are numbered as for `has_channel_state`; other channels stay
+    /// as they are. Takes no memory.
     ///
     /// iceoryx2's `Sender::close_channel` (`src/port/details/sender.rs`), which is internal.
     pub fn close_channel<T: Drop, U: Default + Drop, F: BackpressureFn, G: DegradationFn>(

@@ -23,7 +23,8 @@ impl SampleMut {
     ghost use Rattle.iox2_domain.specs.Shows.{Shows};
     ghost use Rattle.iox2_pubsub.specs.Handles.{written_lender, written_number};
 
-    /// Sends the message into one channel of one of its publisher's connections, and to nobody else.
+    /// Sends the message into one channel of one of its publisher's connections, and to nobody else:
+    /// so one subscriber gets it alone.
     /// `channel` is the number of the channel, below `number_of_channels` of the settings. `connection`
     /// is the place of the connection, as `get_connection_id_of` of the publisher tells it. A subscriber
     /// that is closed, or whose channel is closed, is skipped. Where the channel is full and the service
@@ -39,9 +40,9 @@ impl SampleMut {
     /// error is returned.
     ///
     /// The loan counts among the publisher's loans until the send has ended. Its slot is free again
-    /// when the subscriber that took the message has released it. A message in another channel than 0
-    /// can't be received by this library: it stays until its ports are closed, or with overflow until
-    /// a later one goes there in its place.
+    /// then where nobody took the message, and else when the subscriber has released it. A message in
+    /// another channel than 0 can't be received by this library: it stays until its ports are closed at
+    /// the latest, and with overflow until a later one goes there in its place.
     ///
     /// iceoryx2's `Sender::deliver_offset_to_connection` (`src/port/details/sender.rs`), which is
     /// internal.

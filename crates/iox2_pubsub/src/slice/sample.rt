@@ -4,10 +4,11 @@ ghost use Rattle.std.specs.Prelude.{◌≡◌};
 use crate::domain::Domain;
 use crate::parts::hints::sample_values_at_hint;
 use iox2_deliveries::sample_payloads;
-use iox2_store::{BackpressureFn, DegradationFn, Header, Key, UniquePublisherId};
+use iox2_store::{BackpressureFn, DegradationFn};
 
 /// A slice that a subscriber has received and not yet released. It is a value to be spent, as the
-/// sample of a single value is, and is that sample with another view of its payload.
+/// sample of a single value is, and is that sample with another view of its payload. All other
+/// calls are those of that sample.
 ///
 /// Example (`crates/thermometer/src/series.rt`):
 ///
@@ -28,10 +29,10 @@ impl Sample {
     ghost use Rattle.iox2_store.specs.machine.Releases.{released};
     ghost use Rattle.iox2_store.specs.machine.State.{State, Messages};
     ghost use Rattle.iox2_domain.specs.Shows.{Shows};
-    ghost use Rattle.iox2_pubsub.specs.Live.{IsFromOrigin, IsLiveSample, SampleHasHeader, SampleHasUserHeader, received_sample, sample_key};
+    ghost use Rattle.iox2_pubsub.specs.Live.{IsLiveSample, received_sample, sample_key};
     ghost use Rattle.iox2_pubsub.specs.Leaves.{LeavesBut};
     ghost use Rattle.iox2_pubsub.specs.Slices.{HoldsSlices, SampleHasValues};
-    ghost use Rattle.iox2_pubsub.specs.Handles.{as_sample, origin_of, receiver_of, sample_number};
+    ghost use Rattle.iox2_pubsub.specs.Handles.{as_sample, receiver_of, sample_number};
 
     /// The message's values as they lie in their slot.
     ///
@@ -48,7 +49,8 @@ impl Sample {
         sample_payloads(&domain.state, &self.sample.sample)
     }
 
-    /// The same, where the message lies in the slot that its handle names. This library's own.
+    /// The same, where the message lies in the slot that its handle names, and `None` elsewhere: so
+    /// nothing is searched. This library's own.
     #[inline(always)]
     pub fn payload_at_hint<'a, T: Drop, U: Default + Drop, F: BackpressureFn, G: DegradationFn>(
         &self,
@@ -62,7 +64,9 @@ impl Sample {
         sample_values_at_hint(&domain.state, &self.sample.sample)
     }
 
-    /// Gives the message back.
+    /// Gives the message back, as a sample of a single value is. Takes no memory.
+    ///
+    /// iceoryx2's `Sample`, when it is dropped (`src/sample.rs`).
     #[inline(always)]
     pub fn release<T: Drop, U: Default + Drop, F: BackpressureFn, G: DegradationFn>(
         self,
@@ -77,72 +81,5 @@ impl Sample {
     {
         let Sample { sample } = self;
         sample.release(domain);
-    }
-
-    /// The publisher that sent the message, as it was when the sample was received.
-    ///
-    /// iceoryx2's `Sample::origin` (`src/sample.rs`).
-    pub fn origin(&self) -> UniquePublisherId
-        ensures { result ≡ origin_of (as_sample self.now) }
-    {
-        self.sample.origin()
-    }
-
-    /// Where the message comes from, and of how many elements it is.
-    ///
-    /// iceoryx2's `Sample::header` (`src/sample.rs`).
-    pub fn header<'a, T: Drop, U: Default + Drop, F: BackpressureFn, G: DegradationFn>(
-        &self,
-        domain: &'a Domain<T, U, F, G>,
-    ) -> &'a Header
-        requires live { IsLiveSample domain.now (as_sample self.now) }
-        ensures origin { IsFromOrigin domain.now (as_sample self.now) → (result.now).publisher_id ≡ origin_of (as_sample self.now) }
-        ensures reads { SampleHasHeader domain.now (sample_key (as_sample self.now)) result.now }
-        ensures same { (header : Header) → SampleHasHeader domain.now (sample_key (as_sample self.now)) header → result.now ≡ header }
-    {
-        self.sample.header(domain)
-    }
-
-    /// The user header.
-    ///
-    /// iceoryx2's `Sample::user_header` (`src/sample.rs`).
-    pub fn user_header<'a, T: Drop, U: Default + Drop, F: BackpressureFn, G: DegradationFn>(
-        &self,
-        domain: &'a Domain<T, U, F, G>,
-    ) -> &'a U
-        requires live { IsLiveSample domain.now (as_sample self.now) }
-        ensures reads { SampleHasUserHeader domain.now (sample_key (as_sample self.now)) result.now }
-        ensures same { (header : U) → SampleHasUserHeader domain.now (sample_key (as_sample self.now)) header → result.now ≡ header }
-    {
-        self.sample.user_header(domain)
-    }
-
-    /// The same sample, as one of a slice. This library's own.
-    pub fn new(sample: crate::Sample) -> Sample
-        ensures { as_sample result ≡ sample }
-    {
-        Sample { sample }
-    }
-
-    /// The same sample, as one of a single value. This library's own.
-    pub fn into_inner(self) -> crate::Sample
-        ensures { result ≡ as_sample self }
-    {
-        let Sample { sample } = self;
-        sample
-    }
-
-    /// Names the sample without being its handle. This library's own.
-    pub fn key(&self) -> Key
-        ensures { result ≡ sample_key (as_sample self.now) }
-    {
-        self.sample.key()
-    }
-
-    /// Spends the handle of a sample whose domain is gone. A domain that is still there isn't told,
-    /// and counts the message as borrowed from then on. This library's own.
-    pub fn disown(self) {
-        let Sample { sample } = self;
-        sample.disown();
     }
 }

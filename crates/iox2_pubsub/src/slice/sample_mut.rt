@@ -7,10 +7,11 @@ mod user_header_mut;
 use crate::domain::Domain;
 use crate::send_outcome::SendOutcome;
 use iox2_deliveries::loan_values;
-use iox2_store::{BackpressureFn, DegradationFn, Header, Key, SendError};
+use iox2_store::{BackpressureFn, DegradationFn, SendError};
 
 /// A loan of a slice whose payload is written. It is a value to be spent, as the loan of a single
-/// value is, and is that loan with another view of its payload.
+/// value is, and is that loan with another view of its payload. All other calls are those of
+/// that loan.
 ///
 /// Example (`crates/thermometer/src/series.rt`):
 ///
@@ -27,14 +28,14 @@ pub struct SampleMut {
 }
 
 impl SampleMut {
-    ghost use Rattle.std.specs.Prelude.{IfErr, IfOk, IsOk, List, Some, [], false, length, ◌<◌, ◌++◌, ◌∷◌, ◌+◌, ◌↔◌};
+    ghost use Rattle.std.specs.Prelude.{IfErr, IfOk, IsOk, List, Some, [], length, ◌<◌, ◌++◌, ◌∷◌, ◌+◌};
     ghost use Rattle.iox2_store.specs.machine.Limits.{channel_count};
     ghost use Rattle.iox2_store.specs.machine.Loans.{loan_discarded};
     ghost use Rattle.iox2_store.specs.machine.Records.{Loan};
     ghost use Rattle.iox2_store.specs.machine.State.{State, Messages};
     ghost use Rattle.iox2_domain.specs.Boxes.{answers_of};
     ghost use Rattle.iox2_domain.specs.Shows.{Shows};
-    ghost use Rattle.iox2_pubsub.specs.Live.{AddAtMost, AllFrom, AreAllSlices, HasItsBuffer, HasLender, IsBlockedSend, IsConnected, IsLoanKey, IsServed, IsUnblocked, IsWritten, LoanHasHeader, LoanHasUserHeader, NeverFails, NeverWaits, OthersSend, StaysBut, blocked_key, UpToDateStay, payloads, waiting, written_key, written_loan};
+    ghost use Rattle.iox2_pubsub.specs.Live.{AddAtMost, AllFrom, AreAllSlices, HasItsBuffer, HasLender, IsBlockedSend, IsConnected, IsLoanKey, IsServed, IsUnblocked, IsWritten, NeverFails, NeverWaits, OthersSend, StaysBut, blocked_key, UpToDateStay, payloads, waiting, written_key, written_loan};
     ghost use Rattle.iox2_pubsub.specs.Leaves.{LeavesBut};
     ghost use Rattle.iox2_pubsub.specs.declared.subscriber.Subscriber.{Subscriber};
     ghost use Rattle.iox2_pubsub.specs.LoansLeft.{HasOneMoreLeft, LoansLeftStay};
@@ -57,7 +58,10 @@ impl SampleMut {
         loan_values(&domain.state, &self.sample.loan)
     }
 
-    /// Sends the message, as the loan of a single value is sent. Its payload isn't touched.
+    /// Sends the message, as the loan of a single value is sent, and fails as that does. Its payload
+    /// isn't touched.
+    ///
+    /// iceoryx2's `SampleMut::send` (`src/sample_mut.rs`).
     #[inline(always)]
     pub fn send<T: Drop, U: Default + Drop, F: BackpressureFn, G: DegradationFn>(
         self,
@@ -92,8 +96,13 @@ impl SampleMut {
         sample.send(domain)
     }
 
-    /// Sends the message into one channel of one connection, as the loan of a single value is sent
-    /// there.
+    /// Sends the message into one channel of one of its publisher's connections, as the loan of a
+    /// single value is sent there, and fails as that does. `channel` is the number of the channel, below
+    /// `number_of_channels` of the settings, and `connection` the place of the connection, as
+    /// `get_connection_id_of` of the publisher tells it. Takes no memory.
+    ///
+    /// iceoryx2's `Sender::deliver_offset_to_connection` (`src/port/details/sender.rs`), which is
+    /// internal.
     pub fn deliver_offset_to_connection<
         T: Drop,
         U: Default + Drop,
@@ -127,7 +136,9 @@ impl SampleMut {
         sample.deliver_offset_to_connection(domain, channel, connection)
     }
 
-    /// Gives the loan back unsent.
+    /// Gives the loan back unsent, as that of a single value is. Takes no memory.
+    ///
+    /// iceoryx2's `SampleMut`, when it is dropped (`src/sample_mut.rs`).
     pub fn discard<T: Drop, U: Default + Drop, F: BackpressureFn, G: DegradationFn>(
         self,
         domain: &mut Domain<T, U, F, G>,
@@ -141,75 +152,5 @@ impl SampleMut {
     {
         let SampleMut { sample } = self;
         sample.discard(domain);
-    }
-
-    /// Where the message comes from, and of how many elements it is.
-    ///
-    /// iceoryx2's `SampleMut::header` (`src/sample_mut.rs`).
-    pub fn header<'a, T: Drop, U: Default + Drop, F: BackpressureFn, G: DegradationFn>(
-        &self,
-        domain: &'a Domain<T, U, F, G>,
-    ) -> &'a Header
-        requires live { IsLoanKey domain.now (written_key (as_written self.now)) }
-        ensures origin { (result.now).publisher_id ≡ written_lender (as_written self.now) }
-        ensures reads { LoanHasHeader domain.now (written_key (as_written self.now)) result.now }
-        ensures same { (header : Header) → LoanHasHeader domain.now (written_key (as_written self.now)) header → result.now ≡ header }
-    {
-        self.sample.header(domain)
-    }
-
-    /// The user header.
-    ///
-    /// iceoryx2's `SampleMut::user_header` (`src/sample_mut.rs`).
-    pub fn user_header<'a, T: Drop, U: Default + Drop, F: BackpressureFn, G: DegradationFn>(
-        &self,
-        domain: &'a Domain<T, U, F, G>,
-    ) -> &'a U
-        requires live { IsLoanKey domain.now (written_key (as_written self.now)) }
-        ensures reads { LoanHasUserHeader domain.now (written_key (as_written self.now)) result.now }
-        ensures same { (header : U) → LoanHasUserHeader domain.now (written_key (as_written self.now)) header → result.now ≡ header }
-    {
-        self.sample.user_header(domain)
-    }
-
-    /// The same loan, as one of a slice. This library's own.
-    pub fn new(sample: crate::SampleMut) -> SampleMut
-        ensures { as_written result ≡ sample }
-    {
-        SampleMut { sample }
-    }
-
-    /// The same loan, as one of a single value. This library's own.
-    pub fn into_inner(self) -> crate::SampleMut
-        ensures { result ≡ as_written self }
-    {
-        let SampleMut { sample } = self;
-        sample
-    }
-
-    /// Whether a send of its publisher is blocked, as is none of a closed one. Until that has ended,
-    /// the loan can't be sent. This library's own.
-    pub fn is_blocked<T: Drop, U: Default + Drop, F: BackpressureFn, G: DegradationFn>(
-        &self,
-        domain: &Domain<T, U, F, G>,
-    ) -> bool
-        requires live { IsLoanKey domain.now (written_key (as_written self.now)) }
-        ensures { (result ≡ false) ↔ IsUnblocked domain.now (written_key (as_written self.now)) }
-    {
-        self.sample.is_blocked(domain)
-    }
-
-    /// Names the loan without being its handle. This library's own.
-    pub fn key(&self) -> Key
-        ensures { result ≡ written_key (as_written self.now) }
-    {
-        self.sample.key()
-    }
-
-    /// Spends the handle of a loan whose domain is gone. A domain that is still there isn't told,
-    /// and keeps the loan. This library's own.
-    pub fn disown(self) {
-        let SampleMut { sample } = self;
-        sample.disown();
     }
 }

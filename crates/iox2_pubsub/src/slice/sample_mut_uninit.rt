@@ -8,10 +8,11 @@ mod write_unspecified;
 use crate::domain::Domain;
 use crate::slice::SampleMut;
 use iox2_deliveries::{loan_cells, write_loan_from_fn, write_loan_from_slice};
-use iox2_store::{BackpressureFn, DegradationFn, Header, Key};
+use iox2_store::{BackpressureFn, DegradationFn};
 
 /// A loan of a slice whose payload isn't written. It is a value to be spent, as the loan of a single
-/// value is, and is that loan with another view of its payload.
+/// value is, and is that loan with another view of its payload. All other calls are those of
+/// that loan.
 ///
 /// Example (`crates/thermometer/src/series.rt`):
 ///
@@ -159,7 +160,9 @@ impl SampleMutUninit {
         }
     }
 
-    /// Gives the loan back without a payload.
+    /// Gives the loan back without a payload, as that of a single value is. Takes no memory.
+    ///
+    /// iceoryx2's `SampleMutUninit`, when it is dropped (`src/sample_mut_uninit.rs`).
     pub fn discard<T: Drop, U: Default + Drop, F: BackpressureFn, G: DegradationFn>(
         self,
         domain: &mut Domain<T, U, F, G>,
@@ -173,63 +176,5 @@ impl SampleMutUninit {
     {
         let SampleMutUninit { sample } = self;
         sample.discard(domain);
-    }
-
-    /// Where the message comes from, and of how many elements it is.
-    ///
-    /// iceoryx2's `SampleMutUninit::header` (`src/sample_mut_uninit.rs`).
-    pub fn header<'a, T: Drop, U: Default + Drop, F: BackpressureFn, G: DegradationFn>(
-        &self,
-        domain: &'a Domain<T, U, F, G>,
-    ) -> &'a Header
-        requires live { IsLoanKey domain.now (unwritten_key (as_unwritten self.now)) }
-        ensures origin { (result.now).publisher_id ≡ unwritten_lender (as_unwritten self.now) }
-        ensures reads { LoanHasHeader domain.now (unwritten_key (as_unwritten self.now)) result.now }
-        ensures same { (header : Header) → LoanHasHeader domain.now (unwritten_key (as_unwritten self.now)) header → result.now ≡ header }
-    {
-        self.sample.header(domain)
-    }
-
-    /// The user header.
-    ///
-    /// iceoryx2's `SampleMutUninit::user_header` (`src/sample_mut_uninit.rs`).
-    pub fn user_header<'a, T: Drop, U: Default + Drop, F: BackpressureFn, G: DegradationFn>(
-        &self,
-        domain: &'a Domain<T, U, F, G>,
-    ) -> &'a U
-        requires live { IsLoanKey domain.now (unwritten_key (as_unwritten self.now)) }
-        ensures reads { LoanHasUserHeader domain.now (unwritten_key (as_unwritten self.now)) result.now }
-        ensures same { (header : U) → LoanHasUserHeader domain.now (unwritten_key (as_unwritten self.now)) header → result.now ≡ header }
-    {
-        self.sample.user_header(domain)
-    }
-
-    /// The same loan, as one of a slice. This library's own.
-    pub fn new(sample: crate::SampleMutUninit) -> SampleMutUninit
-        ensures { as_unwritten result ≡ sample }
-    {
-        SampleMutUninit { sample }
-    }
-
-    /// The same loan, as one of a single value. This library's own.
-    pub fn into_inner(self) -> crate::SampleMutUninit
-        ensures { result ≡ as_unwritten self }
-    {
-        let SampleMutUninit { sample } = self;
-        sample
-    }
-
-    /// Names the loan without being its handle. This library's own.
-    pub fn key(&self) -> Key
-        ensures { result ≡ unwritten_key (as_unwritten self.now) }
-    {
-        self.sample.key()
-    }
-
-    /// Spends the handle of a loan whose domain is gone. A domain that is still there isn't told,
-    /// and keeps the loan. This library's own.
-    pub fn disown(self) {
-        let SampleMutUninit { sample } = self;
-        sample.disown();
     }
 }

@@ -18,9 +18,9 @@ impl Subscriber {
     ghost use Rattle.iox2_pubsub.specs.Handles.{subscriber_id};
     ghost use Rattle.iox2_domain.specs.Shows.{Shows};
 
-    /// Whether a channel is in a state at some connection of the subscriber. `channel` is its
-    /// number, below `number_of_channels` of the settings. It isn't, where the subscriber has no
-    /// connection.
+    /// Whether a channel is in a state at some connection of the subscriber: 0 is that of a new
+    /// channel, `u64::MAX` that of a closed one, and any other the caller's. `channel` is its number,
+    /// below `number_of_channels` of the settings. It isn't, where the subscriber has no connection.
     ///
     /// iceoryx2's `Receiver::at_least_one_channel_has_state` (`src/port/details/receiver.rs`), which
     /// is internal.
@@ -70,12 +70,13 @@ impl Subscriber {
         were_closed
     }
 
-    /// Closes a channel at each connection of the subscriber where it is in the state `expected`. A
-    /// closed channel takes no message and gets no history, no handler is asked of it, and its
-    /// subscriber isn't counted; what waits there can be received as before. Where the channel is in
-    /// another state nothing changes. A connection with a publisher that comes later is open.
-    /// `channel` is its number, below `number_of_channels` of the settings; other channels stay as
-    /// they are. Messages go to channel 0. Takes no memory.
+    /// Closes a channel at each connection of the subscriber where it is in the state `expected`: so it
+    /// gets nothing there until `set_channel_state` opens it again. A send goes to channel 0, and past it
+    /// where it is closed: the subscriber gets no message and no history there, isn't counted, and no
+    /// handler is asked of it. What waits in a closed channel stays, and in channel 0 it can be
+    /// received. Where the channel is in another state nothing changes. A connection with a publisher
+    /// that comes later is open. `channel` is its number, below `number_of_channels` of the settings;
+    /// other channels stay as they are. Takes no memory.
     ///
     /// iceoryx2's `Receiver::close_channel` (`src/port/details/receiver.rs`), which is internal.
     pub fn close_channel<T: Drop, U: Default + Drop, F: BackpressureFn, G: DegradationFn>(

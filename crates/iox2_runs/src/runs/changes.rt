@@ -1,15 +1,14 @@
 //! Commands that change a loan that is out.
 ghost use Rattle.std.specs.Prelude.{◌≡◌, cond};
 ghost use Rattle.iox2_store.specs.machine.Environments.{fixed_handlers};
-ghost use Rattle.iox2_runs.specs.Rooms.{SameRoom};
-ghost use Rattle.iox2_runs.specs.Leaves.{Leaves};
-ghost use Rattle.iox2_runs.specs.Carries.{IsLiveTable, Carries, defaults_of};
+ghost use Rattle.iox2_runs.specs.Carries.{IsLiveTable, defaults_of};
+ghost use Rattle.iox2_runs.specs.CarriesOut.{CarriesOut};
 ghost use Rattle.iox2_commands.specs.declared.command.Command.TheVariants.{AssumeInit, SetPayload, WriteCell, WriteHeader, WriteAll};
 ghost use Rattle.iox2_commands.specs.declared.reply.Reply.TheVariants.{Done, Skipped};
 ghost use Rattle.iox2_runs.specs.declared.runs.made.Made.TheVariants.{Nothing};
 
 use super::cells::{set_value_at, write_cell_at, write_cells};
-use super::made::{Made, put, take};
+use super::made::{Made, put, skip, take};
 use iox2_commands::Reply;
 use iox2_pubsub::{Domain, SampleMut, SampleMutUninit};
 use iox2_store::{BackpressureFn, DegradationFn};
@@ -23,9 +22,7 @@ pub(crate) fn write_cell<T: Default + Drop, U: Default + Drop, F: BackpressureFn
     value: T,
 ) -> Reply<T, U>
     requires { IsLiveTable domain.old table.old.items }
-    ensures carries { Carries fixed_handlers (defaults_of T.is_default U.is_default) domain.old domain.new table.old.items (WriteCell of at value) result table.new.items Nothing }
-    ensures leaves { Leaves domain.old domain.new table.old.items table.new.items Nothing }
-    ensures room { SameRoom table.old table.new }
+    ensures { CarriesOut fixed_handlers (defaults_of T.is_default U.is_default) domain.old domain.new table.old table.new (WriteCell of at value) result Nothing }
 {
     match take(table, of) {
         Made::Unwritten(loan) => {
@@ -33,10 +30,7 @@ pub(crate) fn write_cell<T: Default + Drop, U: Default + Drop, F: BackpressureFn
             put(table, of, Made::Unwritten(loan));
             done_if(is_there)
         }
-        other => {
-            put(table, of, other);
-            Reply::Skipped
-        }
+        other => skip(table, of, other),
     }
 }
 
@@ -54,9 +48,7 @@ pub(crate) fn set_payload<
     value: T,
 ) -> Reply<T, U>
     requires { IsLiveTable domain.old table.old.items }
-    ensures carries { Carries fixed_handlers (defaults_of T.is_default U.is_default) domain.old domain.new table.old.items (SetPayload of at value) result table.new.items Nothing }
-    ensures leaves { Leaves domain.old domain.new table.old.items table.new.items Nothing }
-    ensures room { SameRoom table.old table.new }
+    ensures { CarriesOut fixed_handlers (defaults_of T.is_default U.is_default) domain.old domain.new table.old table.new (SetPayload of at value) result Nothing }
 {
     match take(table, of) {
         Made::Written(loan) => {
@@ -64,10 +56,7 @@ pub(crate) fn set_payload<
             put(table, of, Made::Written(loan));
             done_if(is_there)
         }
-        other => {
-            put(table, of, other);
-            Reply::Skipped
-        }
+        other => skip(table, of, other),
     }
 }
 
@@ -90,9 +79,7 @@ pub(crate) fn write_all<
     G: DegradationFn,
 >(domain: &mut Domain<T, U, F, G>, table: &mut Vec<Made>, of: usize, value: T) -> Reply<T, U>
     requires { IsLiveTable domain.old table.old.items }
-    ensures carries { Carries fixed_handlers (defaults_of T.is_default U.is_default) domain.old domain.new table.old.items (WriteAll of value) result table.new.items Nothing }
-    ensures leaves { Leaves domain.old domain.new table.old.items table.new.items Nothing }
-    ensures room { SameRoom table.old table.new }
+    ensures { CarriesOut fixed_handlers (defaults_of T.is_default U.is_default) domain.old domain.new table.old table.new (WriteAll of value) result Nothing }
 {
     match take(table, of) {
         Made::Unwritten(loan) => {
@@ -100,10 +87,7 @@ pub(crate) fn write_all<
             put(table, of, Made::Written(loan));
             Reply::Done
         }
-        other => {
-            put(table, of, other);
-            Reply::Skipped
-        }
+        other => skip(table, of, other),
     }
 }
 
@@ -115,9 +99,7 @@ pub(crate) fn write_header<
     G: DegradationFn,
 >(domain: &mut Domain<T, U, F, G>, table: &mut Vec<Made>, of: usize, value: U) -> Reply<T, U>
     requires { IsLiveTable domain.old table.old.items }
-    ensures carries { Carries fixed_handlers (defaults_of T.is_default U.is_default) domain.old domain.new table.old.items (WriteHeader of value) result table.new.items Nothing }
-    ensures leaves { Leaves domain.old domain.new table.old.items table.new.items Nothing }
-    ensures room { SameRoom table.old table.new }
+    ensures { CarriesOut fixed_handlers (defaults_of T.is_default U.is_default) domain.old domain.new table.old table.new (WriteHeader of value) result Nothing }
 {
     match take(table, of) {
         Made::Unwritten(mut loan) => {
@@ -130,10 +112,7 @@ pub(crate) fn write_header<
             put(table, of, Made::Written(loan));
             Reply::Done
         }
-        other => {
-            put(table, of, other);
-            Reply::Skipped
-        }
+        other => skip(table, of, other),
     }
 }
 
@@ -145,9 +124,7 @@ pub(crate) fn assume_init<
     G: DegradationFn,
 >(domain: &mut Domain<T, U, F, G>, table: &mut Vec<Made>, of: usize) -> Reply<T, U>
     requires { IsLiveTable domain.old table.old.items }
-    ensures carries { Carries fixed_handlers (defaults_of T.is_default U.is_default) domain.old domain.new table.old.items (AssumeInit of) result table.new.items Nothing }
-    ensures leaves { Leaves domain.old domain.new table.old.items table.new.items Nothing }
-    ensures room { SameRoom table.old table.new }
+    ensures { CarriesOut fixed_handlers (defaults_of T.is_default U.is_default) domain.old domain.new table.old table.new (AssumeInit of) result Nothing }
 {
     match take(table, of) {
         Made::Unwritten(loan) => match loan.assume_init(domain) {
@@ -160,9 +137,6 @@ pub(crate) fn assume_init<
                 Reply::Unwritten
             }
         },
-        other => {
-            put(table, of, other);
-            Reply::Skipped
-        }
+        other => skip(table, of, other),
     }
 }

@@ -1,11 +1,11 @@
 //! Commands that have a publisher lend, or send a copy.
 ghost use Rattle.iox2_store.specs.machine.Environments.{fixed_handlers};
-ghost use Rattle.iox2_runs.specs.Rooms.{SameRoom};
 ghost use Rattle.iox2_runs.specs.Leaves.{Leaves};
 ghost use Rattle.iox2_runs.specs.Carries.{IsLiveTable, Carries, defaults_of};
+ghost use Rattle.iox2_runs.specs.CarriesOut.{CarriesOut};
 ghost use Rattle.iox2_commands.specs.declared.command.Command.TheVariants.{LoanUninit, Loan, SendCopy, LoanSlice};
 
-use super::made::{Made, put, take};
+use super::made::{Made, put, skip, take};
 use super::send_replies::send_reply;
 use super::services::{has_slices, is_single_valued};
 use iox2_commands::Reply;
@@ -84,9 +84,7 @@ pub(crate) fn loan_slice<T: Default + Drop, U: Default + Drop, F: BackpressureFn
     len: usize,
 ) -> (Reply<T, U>, Made)
     requires { IsLiveTable domain.old table.old.items }
-    ensures carries { Carries fixed_handlers (defaults_of T.is_default U.is_default) domain.old domain.new table.old.items (LoanSlice of len) result.0 table.new.items result.1 }
-    ensures leaves { Leaves domain.old domain.new table.old.items table.new.items result.1 }
-    ensures room { SameRoom table.old table.new }
+    ensures { CarriesOut fixed_handlers (defaults_of T.is_default U.is_default) domain.old domain.new table.old table.new (LoanSlice of len) result.0 result.1 }
 {
     if !has_slices(domain) {
         return (Reply::Skipped, Made::Nothing);
@@ -105,10 +103,7 @@ pub(crate) fn loan_slice<T: Default + Drop, U: Default + Drop, F: BackpressureFn
                 Err(error) => (Reply::LoanRefused(error), Made::Nothing),
             }
         }
-        other => {
-            put(table, of, other);
-            (Reply::Skipped, Made::Nothing)
-        }
+        other => (skip(table, of, other), Made::Nothing),
     }
 }
 

@@ -1,8 +1,10 @@
 //! What a run's commands made.
 ghost use Rattle.std.specs.Prelude.{◌≡◌, ◌<◌, slice_set, slice_index_or};
 ghost use Rattle.iox2_runs.specs.Rooms.{SameRoom};
+ghost use Rattle.iox2_commands.specs.declared.reply.Reply.TheVariants.{Skipped};
 ghost use Rattle.iox2_runs.specs.declared.runs.made.Made.TheVariants.{Nothing};
 
+use iox2_commands::Reply;
 use iox2_pubsub::{BlockedSend, Publisher, Sample, SampleMut, SampleMutUninit, Subscriber};
 use std::mem;
 
@@ -71,4 +73,14 @@ pub(crate) fn put(table: &mut Vec<Made>, of: usize, made: Made)
     } else {
         made.disown();
     }
+}
+
+/// Puts what was taken back in its place, and replies that nothing was done.
+pub(crate) fn skip<T, U>(table: &mut Vec<Made>, of: usize, made: Made) -> Reply<T, U>
+    ensures reply { result ≡ Skipped }
+    ensures items { table.new.items ≡ slice_set table.old.items of made }
+    ensures room { SameRoom table.old table.new }
+{
+    put(table, of, made);
+    Reply::Skipped
 }

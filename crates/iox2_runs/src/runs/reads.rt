@@ -3,14 +3,13 @@ ghost use Rattle.std.specs.Prelude.{◌≡◌, Some};
 ghost use Rattle.std.specs.Option.{option_map_or};
 ghost use Rattle.iox2_commands.specs.declared.reply.Reply.TheVariants.{Cell, Skipped};
 ghost use Rattle.iox2_store.specs.machine.Environments.{fixed_handlers};
-ghost use Rattle.iox2_runs.specs.Rooms.{SameRoom};
-ghost use Rattle.iox2_runs.specs.Leaves.{Leaves};
 ghost use Rattle.iox2_runs.specs.Carries.{IsLiveTable, Carries, defaults_of};
+ghost use Rattle.iox2_runs.specs.CarriesOut.{CarriesOut};
 ghost use Rattle.iox2_commands.specs.declared.command.Command.TheVariants.{Read, ReadHeader, ReadUserHeader};
 ghost use Rattle.iox2_runs.specs.declared.runs.made.Made.TheVariants.{Nothing};
 
 use super::cells::{received_value, unwritten_cell, written_value};
-use super::made::{Made, put, take};
+use super::made::{Made, put, skip, take};
 use iox2_commands::Reply;
 use iox2_pubsub::Domain;
 use iox2_store::{BackpressureFn, DegradationFn};
@@ -23,9 +22,7 @@ pub(crate) fn read<
     G: DegradationFn,
 >(domain: &Domain<T, U, F, G>, table: &mut Vec<Made>, of: usize, at: usize) -> Reply<T, U>
     requires { IsLiveTable domain.now table.old.items }
-    ensures carries { Carries fixed_handlers (defaults_of T.is_default U.is_default) domain.now domain.now table.old.items (Read of at) result table.new.items Nothing }
-    ensures leaves { Leaves domain.now domain.now table.old.items table.new.items Nothing }
-    ensures room { SameRoom table.old table.new }
+    ensures { CarriesOut fixed_handlers (defaults_of T.is_default U.is_default) domain.now domain.now table.old table.new (Read of at) result Nothing }
 {
     match take(table, of) {
         Made::Unwritten(loan) => {
@@ -43,10 +40,7 @@ pub(crate) fn read<
             put(table, of, Made::Sample(sample));
             value_reply(value)
         }
-        other => {
-            put(table, of, other);
-            Reply::Skipped
-        }
+        other => skip(table, of, other),
     }
 }
 

@@ -1,13 +1,12 @@
 //! Commands that spend what one before them made.
 ghost use Rattle.iox2_store.specs.machine.Environments.{fixed_handlers};
-ghost use Rattle.iox2_runs.specs.Rooms.{SameRoom};
-ghost use Rattle.iox2_runs.specs.Leaves.{Leaves};
-ghost use Rattle.iox2_runs.specs.Carries.{IsLiveTable, Carries, defaults_of};
+ghost use Rattle.iox2_runs.specs.Carries.{IsLiveTable, defaults_of};
+ghost use Rattle.iox2_runs.specs.CarriesOut.{CarriesOut};
 ghost use Rattle.iox2_commands.specs.declared.command.Command.TheVariants.{Send, Discard, Retry, GiveUp, Release, Close};
 ghost use Rattle.iox2_runs.specs.declared.runs.made.Made.TheVariants.{Nothing};
 
-use super::made::{Made, put, take};
-use super::send_replies::send_reply;
+use super::made::{Made, put, skip, take};
+use super::send_replies::{put_outcome, send_reply};
 use iox2_commands::Reply;
 use iox2_pubsub::Domain;
 use iox2_store::{BackpressureFn, DegradationFn};
@@ -21,9 +20,7 @@ pub(crate) fn send<T: Default + Drop, U: Default + Drop, F: BackpressureFn, G: D
     of: usize,
 ) -> (Reply<T, U>, Made)
     requires { IsLiveTable domain.old table.old.items }
-    ensures carries { Carries fixed_handlers (defaults_of T.is_default U.is_default) domain.old domain.new table.old.items (Send of) result.0 table.new.items result.1 }
-    ensures leaves { Leaves domain.old domain.new table.old.items table.new.items result.1 }
-    ensures room { SameRoom table.old table.new }
+    ensures { CarriesOut fixed_handlers (defaults_of T.is_default U.is_default) domain.old domain.new table.old table.new (Send of) result.0 result.1 }
 {
     match take(table, of) {
         Made::Written(loan) => {
@@ -33,10 +30,7 @@ pub(crate) fn send<T: Default + Drop, U: Default + Drop, F: BackpressureFn, G: D
             }
             send_reply(loan.send(domain))
         }
-        other => {
-            put(table, of, other);
-            (Reply::Skipped, Made::Nothing)
-        }
+        other => (skip(table, of, other), Made::Nothing),
     }
 }
 
@@ -47,9 +41,7 @@ pub(crate) fn discard<T: Default + Drop, U: Default + Drop, F: BackpressureFn, G
     of: usize,
 ) -> Reply<T, U>
     requires { IsLiveTable domain.old table.old.items }
-    ensures carries { Carries fixed_handlers (defaults_of T.is_default U.is_default) domain.old domain.new table.old.items (Discard of) result table.new.items Nothing }
-    ensures leaves { Leaves domain.old domain.new table.old.items table.new.items Nothing }
-    ensures room { SameRoom table.old table.new }
+    ensures { CarriesOut fixed_handlers (defaults_of T.is_default U.is_default) domain.old domain.new table.old table.new (Discard of) result Nothing }
 {
     match take(table, of) {
         Made::Unwritten(loan) => {
@@ -60,10 +52,7 @@ pub(crate) fn discard<T: Default + Drop, U: Default + Drop, F: BackpressureFn, G
             loan.discard(domain);
             Reply::Done
         }
-        other => {
-            put(table, of, other);
-            Reply::Skipped
-        }
+        other => skip(table, of, other),
     }
 }
 
@@ -76,20 +65,11 @@ pub(crate) fn retry<T: Default + Drop, U: Default + Drop, F: BackpressureFn, G: 
     elapsed: Duration,
 ) -> Reply<T, U>
     requires { IsLiveTable domain.old table.old.items }
-    ensures carries { Carries fixed_handlers (defaults_of T.is_default U.is_default) domain.old domain.new table.old.items (Retry of elapsed) result table.new.items Nothing }
-    ensures leaves { Leaves domain.old domain.new table.old.items table.new.items Nothing }
-    ensures room { SameRoom table.old table.new }
+    ensures { CarriesOut fixed_handlers (defaults_of T.is_default U.is_default) domain.old domain.new table.old table.new (Retry of elapsed) result Nothing }
 {
     match take(table, of) {
-        Made::Blocked(blocked) => {
-            let (reply, made) = send_reply(blocked.retry(domain, elapsed));
-            put(table, of, made);
-            reply
-        }
-        other => {
-            put(table, of, other);
-            Reply::Skipped
-        }
+        Made::Blocked(blocked) => put_outcome(table, of, blocked.retry(domain, elapsed)),
+        other => skip(table, of, other),
     }
 }
 
@@ -101,20 +81,11 @@ pub(crate) fn give_up<T: Default + Drop, U: Default + Drop, F: BackpressureFn, G
     of: usize,
 ) -> Reply<T, U>
     requires { IsLiveTable domain.old table.old.items }
-    ensures carries { Carries fixed_handlers (defaults_of T.is_default U.is_default) domain.old domain.new table.old.items (GiveUp of) result table.new.items Nothing }
-    ensures leaves { Leaves domain.old domain.new table.old.items table.new.items Nothing }
-    ensures room { SameRoom table.old table.new }
+    ensures { CarriesOut fixed_handlers (defaults_of T.is_default U.is_default) domain.old domain.new table.old table.new (GiveUp of) result Nothing }
 {
     match take(table, of) {
-        Made::Blocked(blocked) => {
-            let (reply, made) = send_reply(blocked.give_up(domain));
-            put(table, of, made);
-            reply
-        }
-        other => {
-            put(table, of, other);
-            Reply::Skipped
-        }
+        Made::Blocked(blocked) => put_outcome(table, of, blocked.give_up(domain)),
+        other => skip(table, of, other),
     }
 }
 
@@ -125,19 +96,14 @@ pub(crate) fn release<T: Default + Drop, U: Default + Drop, F: BackpressureFn, G
     of: usize,
 ) -> Reply<T, U>
     requires { IsLiveTable domain.old table.old.items }
-    ensures carries { Carries fixed_handlers (defaults_of T.is_default U.is_default) domain.old domain.new table.old.items (Release of) result table.new.items Nothing }
-    ensures leaves { Leaves domain.old domain.new table.old.items table.new.items Nothing }
-    ensures room { SameRoom table.old table.new }
+    ensures { CarriesOut fixed_handlers (defaults_of T.is_default U.is_default) domain.old domain.new table.old table.new (Release of) result Nothing }
 {
     match take(table, of) {
         Made::Sample(sample) => {
             sample.release(domain);
             Reply::Done
         }
-        other => {
-            put(table, of, other);
-            Reply::Skipped
-        }
+        other => skip(table, of, other),
     }
 }
 
@@ -149,9 +115,7 @@ pub(crate) fn close<T: Default + Drop, U: Default + Drop, F: BackpressureFn, G: 
     of: usize,
 ) -> Reply<T, U>
     requires { IsLiveTable domain.old table.old.items }
-    ensures carries { Carries fixed_handlers (defaults_of T.is_default U.is_default) domain.old domain.new table.old.items (Close of) result table.new.items Nothing }
-    ensures leaves { Leaves domain.old domain.new table.old.items table.new.items Nothing }
-    ensures room { SameRoom table.old table.new }
+    ensures { CarriesOut fixed_handlers (defaults_of T.is_default U.is_default) domain.old domain.new table.old table.new (Close of) result Nothing }
 {
     match take(table, of) {
         Made::Publisher(publisher) => {
@@ -166,9 +130,6 @@ pub(crate) fn close<T: Default + Drop, U: Default + Drop, F: BackpressureFn, G: 
             subscriber.close(domain);
             Reply::Done
         }
-        other => {
-            put(table, of, other);
-            Reply::Skipped
-        }
+        other => skip(table, of, other),
     }
 }

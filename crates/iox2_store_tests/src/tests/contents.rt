@@ -143,20 +143,14 @@ fn assume_init(contents: &mut Contents<Reading, Station>) -> bool
 fn celsius_at(contents: &Contents<Reading, Station>, at: usize) -> Option<u64>
     requires { SomeAt contents.now 0 (λ content. (content.is_in_place ≡ false) × (0 < content.lists)) }
 {
-    match contents.values(0).get(at) {
-        Some(reading) => Some(reading.celsius),
-        None => None,
-    }
+    contents.values(0).get(at).map(|reading| reading.celsius)
 }
 
 // Whether the cell there is written, if the slot has one.
 fn is_written_at(contents: &Contents<Reading, Station>, at: usize) -> Option<bool>
     requires { SomeAt contents.now 0 (λ content. (content.is_in_place ≡ false) × (0 < content.lists)) }
 {
-    match contents.cells(0).get(at) {
-        Some(cell) => Some(cell.is_some()),
-        None => None,
-    }
+    contents.cells(0).get(at).map(|cell| cell.is_some())
 }
 
 #[test]
@@ -192,13 +186,21 @@ fn cells_are_taken_only_once_each_is_written(rt: HostRuntime) {
     assert!(rt; is_written_later && values == [Some(20), Some(21)]);
 }
 
+// The contents of one slot for a share, in which a loan has started.
+fn lent_to_a_share(rt: &impl Abort, alloc: Global) -> Contents<Rc<u8>, Station>
+    ensures { SomeAt result 0 (λ content. (length content.cells ≡ 1) × (content.room ≡ 1) × (content.lists ≡ 0)) }
+{
+    let mut contents: Contents<Rc<u8>, Station> = Contents::new(alloc, 1, 1, false, 1).expect(
+        rt, "room",
+    );
+    contents.start(0, 1);
+    contents
+}
+
 #[test]
 fn what_lay_in_a_cleared_slot_is_dropped(rt: HostRuntime) {
     let shared = Rc::new(rt.alloc(), 21_u8).expect(&rt, "a value");
-    let mut contents: Contents<Rc<u8>, Station> = Contents::new(rt.alloc(), 1, 1, false, 1).expect(
-        &rt, "room",
-    );
-    contents.start(0, 1);
+    let mut contents = lent_to_a_share(&rt, rt.alloc());
     contents.write_payload(0, shared.clone().expect(&rt, "a share"));
     let held = Rc::strong_count(&shared);
     contents.clear(rt.alloc(), 0);
@@ -210,10 +212,7 @@ fn what_lay_in_a_cleared_slot_is_dropped(rt: HostRuntime) {
 #[test]
 fn what_was_put_into_a_cell_goes_with_its_loan(rt: HostRuntime) {
     let shared = Rc::new(rt.alloc(), 21_u8).expect(&rt, "a value");
-    let mut contents: Contents<Rc<u8>, Station> = Contents::new(rt.alloc(), 1, 1, false, 1).expect(
-        &rt, "room",
-    );
-    contents.start(0, 1);
+    let mut contents = lent_to_a_share(&rt, rt.alloc());
     *contents.cell_mut(0) = Some(shared.clone().expect(&rt, "a share"));
     let held = Rc::strong_count(&shared);
     contents.end(0);

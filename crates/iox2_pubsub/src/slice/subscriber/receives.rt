@@ -1,10 +1,10 @@
-//! A subscriber of slices receives, also bytes of the caller's own, and says whether a message waits.
-ghost use Rattle.std.specs.Prelude.{◌<◌, ◌↔◌, ◌∷◌, ◌≡◌, ◌≤◌, IfNone, IfOk, IfSome, IsTrue, List, OnOk, OnSome, [], suc};
+//! A subscriber of slices receives, also bytes of the caller's own.
+ghost use Rattle.std.specs.Prelude.{◌<◌, ◌∷◌, ◌≡◌, ◌≤◌, IfNone, IfOk, IfSome, List, OnOk, OnSome, [], suc};
 
 use crate::custom_markers::CustomPayloadMarker;
 use crate::domain::Domain;
 use crate::slice::{Sample, Subscriber};
-use iox2_store::{BackpressureFn, ConnectionFailure, DegradationFn, ReceiveError};
+use iox2_store::{BackpressureFn, DegradationFn, ReceiveError};
 
 impl Subscriber {
     ghost use Rattle.iox2_domain.specs.Boxes.{answers_of};
@@ -109,39 +109,5 @@ impl Subscriber {
         ensures stays { Stays domain.old domain.new }
     {
         self.receive(domain)
-    }
-}
-
-impl Subscriber {
-    ghost use Rattle.iox2_store.specs.machine.State.{State, Messages};
-    ghost use Rattle.iox2_pubsub.specs.Live.{IsLiveSubscriber, IsUpToDate, KeepsAll, OthersWait, Stays, UpToDateStay, waiting, WaitingStays};
-    ghost use Rattle.iox2_pubsub.specs.LoansLeft.{LoansLeftStay};
-    ghost use Rattle.iox2_pubsub.specs.QuestionCalls.{Answers};
-    ghost use Rattle.iox2_domain.specs.Boxes.{answers_of};
-    ghost use Rattle.iox2_domain.specs.Shows.{Shows};
-    ghost use Rattle.iox2_pubsub.specs.Handles.{as_subscriber, subscriber_id};
-
-    /// Updates the subscriber's connections and says whether any message waits for it, also one
-    /// that it can't receive before it has released another. Fails where the update does, as
-    /// `UpdateConnections::update_connections` says.
-    ///
-    /// iceoryx2's `Subscriber::has_samples` (`src/port/subscriber.rs`).
-    pub fn has_samples<T: Drop, U: Default + Drop, F: BackpressureFn, G: DegradationFn>(
-        &self,
-        domain: &mut Domain<T, U, F, G>,
-    ) -> Result<bool, ConnectionFailure>
-        requires live { IsLiveSubscriber domain.old (as_subscriber self.now) }
-        ensures answers { (m : Messages T U) (s : State T U) → Shows domain.old m s
-            → (s' : State T U) × Shows domain.new m s' × Answers (answers_of F.allows G.allows (domain.old.boxes).subscribers) s (subscriber_id (as_subscriber self.now)) result s' }
-        ensures waits { IfOk result (λ waits. IsTrue waits ↔ (0 < waiting domain.new (as_subscriber self.now))) }
-        ensures undisturbed { KeepsAll domain.old (as_subscriber self.now) → WaitingStays domain.old domain.new }
-        ensures no_more { waiting domain.new (as_subscriber self.now) ≤ waiting domain.old (as_subscriber self.now) }
-        ensures others { OthersWait (as_subscriber self.now) domain.old domain.new }
-        ensures updated { OnOk result (IsUpToDate domain.new (as_subscriber self.now)) }
-        ensures up_to_date { UpToDateStay domain.old domain.new }
-        ensures loans_left { LoansLeftStay domain.old domain.new }
-        ensures stays { Stays domain.old domain.new }
-    {
-        self.subscriber.has_samples(domain)
     }
 }

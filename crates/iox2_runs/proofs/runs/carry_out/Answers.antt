@@ -50,71 +50,43 @@ pub loan_slice-requires : goal.loan_slice-requires
 loan_slice-requires g c = c.requires
 
 pub returns-in-LoanSlice : goal.returns-in-LoanSlice
-returns-in-LoanSlice g c = record {
-  carries = rw c.in-LoanSlice.is c.loan_slice.ensures.carries;
-  leaves = c.loan_slice.ensures.leaves;
-  room = c.loan_slice.ensures.room;
-}
+returns-in-LoanSlice g c = rw c.in-LoanSlice.is c.loan_slice.ensures
 
 pub write_cell-requires : goal.write_cell-requires
 write_cell-requires g c = c.requires
 
 pub returns-in-WriteCell : goal.returns-in-WriteCell
-returns-in-WriteCell g c = record {
-  carries = rw c.in-WriteCell.is c.write_cell.ensures.carries;
-  leaves = c.write_cell.ensures.leaves;
-  room = c.write_cell.ensures.room;
-}
+returns-in-WriteCell g c = rw c.in-WriteCell.is c.write_cell.ensures
 
 pub write_all-requires : goal.write_all-requires
 write_all-requires g c = c.requires
 
 pub returns-in-WriteAll : goal.returns-in-WriteAll
-returns-in-WriteAll g c = record {
-  carries = rw c.in-WriteAll.is c.write_all.ensures.carries;
-  leaves = c.write_all.ensures.leaves;
-  room = c.write_all.ensures.room;
-}
+returns-in-WriteAll g c = rw c.in-WriteAll.is c.write_all.ensures
 
 pub assume_init-requires : goal.assume_init-requires
 assume_init-requires g c = c.requires
 
 pub returns-in-AssumeInit : goal.returns-in-AssumeInit
-returns-in-AssumeInit g c = record {
-  carries = rw c.in-AssumeInit.is c.assume_init.ensures.carries;
-  leaves = c.assume_init.ensures.leaves;
-  room = c.assume_init.ensures.room;
-}
+returns-in-AssumeInit g c = rw c.in-AssumeInit.is c.assume_init.ensures
 
 pub write_header-requires : goal.write_header-requires
 write_header-requires g c = c.requires
 
 pub returns-in-WriteHeader : goal.returns-in-WriteHeader
-returns-in-WriteHeader g c = record {
-  carries = rw c.in-WriteHeader.is c.write_header.ensures.carries;
-  leaves = c.write_header.ensures.leaves;
-  room = c.write_header.ensures.room;
-}
+returns-in-WriteHeader g c = rw c.in-WriteHeader.is c.write_header.ensures
 
 pub set_payload-requires : goal.set_payload-requires
 set_payload-requires g c = c.requires
 
 pub returns-in-SetPayload : goal.returns-in-SetPayload
-returns-in-SetPayload g c = record {
-  carries = rw c.in-SetPayload.is c.set_payload.ensures.carries;
-  leaves = c.set_payload.ensures.leaves;
-  room = c.set_payload.ensures.room;
-}
+returns-in-SetPayload g c = rw c.in-SetPayload.is c.set_payload.ensures
 
 pub send-requires : goal.send-requires
 send-requires g c = c.requires
 
 pub returns-in-Send : goal.returns-in-Send
-returns-in-Send g c = record {
-  carries = rw c.in-Send.is c.send.ensures.carries;
-  leaves = c.send.ensures.leaves;
-  room = c.send.ensures.room;
-}
+returns-in-Send g c = rw c.in-Send.is c.send.ensures
 
 pub send_copy-requires : goal.send_copy-requires
 send_copy-requires g c = rw c.deref-in-SendCopy.ensures.value c.requires
@@ -130,31 +102,19 @@ pub discard-requires : goal.discard-requires
 discard-requires g c = c.requires
 
 pub returns-in-Discard : goal.returns-in-Discard
-returns-in-Discard g c = record {
-  carries = rw c.in-Discard.is c.discard.ensures.carries;
-  leaves = c.discard.ensures.leaves;
-  room = c.discard.ensures.room;
-}
+returns-in-Discard g c = rw c.in-Discard.is c.discard.ensures
 
 pub retry-requires : goal.retry-requires
 retry-requires g c = c.requires
 
 pub returns-in-Retry : goal.returns-in-Retry
-returns-in-Retry g c = record {
-  carries = rw c.in-Retry.is c.retry.ensures.carries;
-  leaves = c.retry.ensures.leaves;
-  room = c.retry.ensures.room;
-}
+returns-in-Retry g c = rw c.in-Retry.is c.retry.ensures
 
 pub give_up-requires : goal.give_up-requires
 give_up-requires g c = c.requires
 
 pub returns-in-GiveUp : goal.returns-in-GiveUp
-returns-in-GiveUp g c = record {
-  carries = rw c.in-GiveUp.is c.give_up.ensures.carries;
-  leaves = c.give_up.ensures.leaves;
-  room = c.give_up.ensures.room;
-}
+returns-in-GiveUp g c = rw c.in-GiveUp.is c.give_up.ensures
 
 pub update-requires : goal.update-requires
 update-requires g c = rw c.deref-in-Update.ensures.value c.requires
@@ -190,11 +150,7 @@ pub read-requires : goal.read-requires
 read-requires g c = c.requires
 
 pub returns-in-Read : goal.returns-in-Read
-returns-in-Read g c = record {
-  carries = rw c.in-Read.is c.read.ensures.carries;
-  leaves = c.read.ensures.leaves;
-  room = c.read.ensures.room;
-}
+returns-in-Read g c = rw c.in-Read.is c.read.ensures
 
 pub read_header-requires : goal.read_header-requires
 read_header-requires g c = rw c.deref-in-ReadHeader.ensures.value c.requires
@@ -220,21 +176,13 @@ pub release-requires : goal.release-requires
 release-requires g c = c.requires
 
 pub returns-in-Release : goal.returns-in-Release
-returns-in-Release g c = record {
-  carries = rw c.in-Release.is c.release.ensures.carries;
-  leaves = c.release.ensures.leaves;
-  room = c.release.ensures.room;
-}
+returns-in-Release g c = rw c.in-Release.is c.release.ensures
 
 pub close-requires : goal.close-requires
 close-requires g c = c.requires
 
 pub returns-in-Close : goal.returns-in-Close
-returns-in-Close g c = record {
-  carries = rw c.in-Close.is c.close.ensures.carries;
-  leaves = c.close.ensures.leaves;
-  room = c.close.ensures.room;
-}
+returns-in-Close g c = rw c.in-Close.is c.close.ensures
 
 pub returns-in-Nothing : goal.returns-in-Nothing
 returns-in-Nothing g c = record {

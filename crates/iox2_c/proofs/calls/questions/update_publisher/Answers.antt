@@ -8,7 +8,7 @@ use Rattle.iox2_c.proofs.calls.questions.update_publisher.Goals as goal
 pub returns-clause-updates : goal.returns-clause-updates
 returns-clause-updates c = λ live. (
   c.update_connections-updated.result,
-  c.update_code-code.ensures,
+  c.tell_update.ensures,
   moved (λ k p. UpdatesPublisher k c.update_connections-updated.new.domain p c.update_connections-updated.result) c.service.inside.domain c.args.service.now.domain _ (wide c.args.numbers.now.id)
       (ap (λ (s : Serving). s.domain) c.service.view_is) c.in-Ok.ensures.id c.update_connections-updated.ensures.updates,
 )

@@ -1,13 +1,15 @@
-use Rattle.std.proofs.Common.{ap}
+use Rattle.std.proofs.Common.{ap, ◌∙◌}
+use Rattle.iox2_pubsub.specs.Factories.{SubscriberFactory}
 use Rattle.iox2_c.specs.Serving.{Serving}
 use Rattle.iox2_c.specs.Settings.{plain_subscriber_settings}
+use Rattle.iox2_c.specs.declared.handlers.NoHandler.{NoHandler}
 use Rattle.iox2_c.proofs.CreationSteps.{ToldOf, subscriber-creates, subscriber-refused, told-moved}
 use Rattle.iox2_c.proofs.calls.subscribers.create.Goals as goal
 
 told : (c : goal.After-subscriber) → ToldOf c.args.service.now.domain c.create-made.new.domain (plain_subscriber_settings c.args.service.now) c.create-made.result
 told c =
-    told-moved c.service.inside.domain c.args.service.now.domain c.create-made.new.domain c.plain_factory-factory.result.settings (plain_subscriber_settings c.args.service.now) c.create-made.result
-    (ap (λ (s : Serving). s.domain) c.service.view_is) c.plain_factory-factory.ensures c.create-made.ensures.creates
+    told-moved c.service.inside.domain c.args.service.now.domain c.create-made.new.domain c.slice_subscriber_builder-factory.result.settings (plain_subscriber_settings c.args.service.now) c.create-made.result
+    (ap (λ (s : Serving). s.domain) c.service.view_is) (ap (λ (f : SubscriberFactory NoHandler). f.settings) c.slice_subscriber_builder-factory.ensures ∙ ap plain_subscriber_settings c.service.view_is) c.create-made.ensures.creates
 
 pub returns-clause-creates : goal.returns-clause-creates
 returns-clause-creates c = λ ok.

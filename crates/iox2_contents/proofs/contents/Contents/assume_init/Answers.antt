@@ -1,38 +1,44 @@
-use Rattle.std.proofs.Common.{◌≡◌, ◌∙◌, true, length, ap, sym}
-use Rattle.iox2_contents.specs.SlotStates.{contents_of}
+use Rattle.std.proofs.Common.{◌≡◌, ◌∙◌, true, length, ap, sym, refl}
+use Rattle.iox2_contents.specs.SlotStates.{content_of, contents_of}
+use Rattle.iox2_contents.specs.SlotContents.{written_content}
 use Rattle.iox2_contents.proofs.SlotReads.{content_read}
-use Rattle.iox2_contents.proofs.SlotLists.{changed-contents, content-at, written-lists}
+use Rattle.iox2_contents.proofs.SlotLists.{changed-contents, content-at, written-lists, written-has}
 use Rattle.iox2_contents.proofs.SlotSums.{set-same}
 use Rattle.iox2_contents.proofs.contents.Contents.assume_init.Goals as goal
 
 pub invariant_of-self : goal.invariant_of-self
 invariant_of-self g c =
-    let read = content_read c.self.inside.slots.items _ c.args.slot (λ content. content.is_in_place ≡ true → length content.cells ≡ 1) _ c.self.view_is c.requires c.index_mut.ensures.value in
+    let read = content_read _ c.self.inside.slots.items _ c.args.slot (λ content. content.is_in_place ≡ true → length content.cells ≡ 1) _ c.self.view_is c.requires c.index_mut.ensures.value in
     rw (set-same c.self.inside.slots.items c.args.slot _ _ read.0 (c.assume_init.ensures.refused c.if-not-assume_init.true)) c.self.invariant
 
 pub returns-then-not-assume_init : goal.returns-then-not-assume_init
 returns-then-not-assume_init g c =
-    let read = content_read c.self.inside.slots.items _ c.args.slot (λ content. content.is_in_place ≡ true → length content.cells ≡ 1) _ c.self.view_is c.requires c.index_mut.ensures.value in (
-      c.index_mut.result.now.content,
-      content-at 0 0 0 _ c.args.slot _ read.0 _ c.self.view_is,
+    let read = content_read _ c.self.inside.slots.items _ c.args.slot (λ content. content.is_in_place ≡ true → length content.cells ≡ 1) _ c.self.view_is c.requires c.index_mut.ensures.value in (
+      content_of c.self.inside.lists.room c.index_mut.result.now,
+      content-at 0 0 _ _ c.args.slot _ read.0 _ c.self.view_is,
       sym c.if-not-assume_init.true ∙ c.assume_init.ensures.all,
-      ap contents_of (set-same c.self.inside.slots.items c.args.slot _ _ read.0 (c.assume_init.ensures.refused c.if-not-assume_init.true)) ∙ c.self.view_is,
+      ap (contents_of c.self.inside.lists.room) (set-same c.self.inside.slots.items c.args.slot _ _ read.0 (c.assume_init.ensures.refused c.if-not-assume_init.true)) ∙ c.self.view_is,
     )
 
 pub settle-requires-clause-lists : goal.settle-requires-clause-lists
 settle-requires-clause-lists g c =
-    let read = content_read c.self.inside.slots.items _ c.args.slot (λ content. content.is_in_place ≡ true → length content.cells ≡ 1) _ c.self.view_is c.requires c.index_mut.ensures.value in
-    written-lists _ _ _ _ c.args.slot _ read.0 c.self.invariant.2 _ _ (c.assume_init.ensures.written c.if-not-assume_init.false)
+    let read = content_read _ c.self.inside.slots.items _ c.args.slot (λ content. content.is_in_place ≡ true → length content.cells ≡ 1) _ c.self.view_is c.requires c.index_mut.ensures.value in
+    written-lists _ _ _ _ c.args.slot _ read.0 c.self.invariant _ _ (c.assume_init.ensures.written c.if-not-assume_init.false)
+
+pub settle-requires-clause-known : goal.settle-requires-clause-known
+settle-requires-clause-known g c =
+    let read = content_read _ c.self.inside.slots.items _ c.args.slot (λ content. content.is_in_place ≡ true → length content.cells ≡ 1) _ c.self.view_is c.requires c.index_mut.ensures.value in
+    written-has 0 0 0 c.self.inside.slots.items c.args.slot _ read.0 c.index.result.now c.index.ensures _ c.has_list-had_list.ensures _ _ (c.assume_init.ensures.written c.if-not-assume_init.false)
 
 pub returns : goal.returns
 returns g c =
-    let read = content_read c.self.inside.slots.items _ c.args.slot (λ content. content.is_in_place ≡ true → length content.cells ≡ 1) _ c.self.view_is c.requires c.index_mut.ensures.value in (
-      c.index_mut.result.now.content,
-      content-at 0 0 0 _ c.args.slot _ read.0 _ c.self.view_is,
+    let read = content_read _ c.self.inside.slots.items _ c.args.slot (λ content. content.is_in_place ≡ true → length content.cells ≡ 1) _ c.self.view_is c.requires c.index_mut.ensures.value in (
+      content_of c.self.inside.lists.room c.index_mut.result.now,
+      content-at 0 0 _ _ c.args.slot _ read.0 _ c.self.view_is,
       sym c.if-not-assume_init.false ∙ c.assume_init.ensures.all,
       (
         c.assume_init.new.self.content.values,
         c.assume_init.ensures.values c.if-not-assume_init.false,
-        c.settle.ensures.same ∙ changed-contents 0 0 0 _ c.args.slot _ read.0 _ _ _ c.self.view_is (c.assume_init.ensures.written c.if-not-assume_init.false),
+        c.settle.ensures.same ∙ changed-contents 0 0 _ _ c.args.slot _ read.0 _ (written_content c.assume_init.new.self.content.values) _ c.self.view_is (c.assume_init.ensures.written c.if-not-assume_init.false) refl,
       ),
     )

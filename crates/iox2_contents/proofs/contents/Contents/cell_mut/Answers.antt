@@ -8,17 +8,13 @@ use Rattle.iox2_contents.proofs.contents.Contents.cell_mut.Goals as goal
 
 pub invariant_of-self-lent : goal.invariant_of-self-lent
 invariant_of-self-lent g c =
-    let read = content_read c.ready.new.slots.items _ c.args.slot (λ content. 0 < length content.cells) _ (c.ready.ensures.same ∙ c.self.view_is) c.requires c.index_mut.ensures.value in
-    λ w. (
-      c.self.invariant.0,
-      c.ready.ensures.empty,
-      lent _ _ _ c.ready.new.slots.items c.args.slot _ read.0 (with_content (with_first_cell w) c.index_mut.result.now) c.ready.ensures.lists refl refl refl refl (length-set _ 0 w),
-    )
+    let read = content_read _ c.ready.new.slots.items _ c.args.slot (λ content. 0 < length content.cells) _ (c.ready.ensures.same ∙ c.self.view_is) c.requires c.index_mut.ensures.value in
+    λ w. lent _ _ _ c.ready.new.slots.items c.args.slot _ read.0 (with_content (with_first_cell w) c.index_mut.result.now) c.ready.ensures.lists refl refl refl refl (length-set _ 0 w)
 
 pub returns : goal.returns
 returns g c =
     let same = c.ready.ensures.same ∙ c.self.view_is in
-    let read = content_read c.ready.new.slots.items _ c.args.slot (λ content. 0 < length content.cells) _ same c.requires c.index_mut.ensures.value in (
-      (refl, λ w. changed-contents 0 0 0 c.ready.new.slots.items c.args.slot _ read.0 _ (with_first_cell w) _ same refl),
-      record { writes_back = tt; value = rw (content-at 0 0 0 c.ready.new.slots.items c.args.slot _ read.0 _ same) c.cell_mut.ensures.value },
+    let read = content_read _ c.ready.new.slots.items _ c.args.slot (λ content. 0 < length content.cells) _ same c.requires c.index_mut.ensures.value in (
+      (refl, λ w. changed-contents 0 0 _ c.ready.new.slots.items c.args.slot _ read.0 _ (with_first_cell w) _ same refl refl),
+      record { writes_back = tt; value = rw (content-at 0 0 _ c.ready.new.slots.items c.args.slot _ read.0 _ same) c.cell_mut.ensures.value },
     )

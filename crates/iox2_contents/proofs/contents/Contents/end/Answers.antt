@@ -1,14 +1,20 @@
-use Rattle.std.proofs.Common.{◌∙◌}
+use Rattle.std.proofs.Common.{◌∙◌, refl}
+use Rattle.iox2_contents.specs.SlotContents.{ended_content}
 use Rattle.iox2_contents.proofs.SlotReads.{slot_read}
-use Rattle.iox2_contents.proofs.SlotLists.{changed-contents, ended-lists}
+use Rattle.iox2_contents.proofs.SlotLists.{changed-contents, ended-lists, ended-has}
 use Rattle.iox2_contents.proofs.contents.Contents.end.Goals as goal
 
 pub settle-requires-clause-lists : goal.settle-requires-clause-lists
 settle-requires-clause-lists g c =
-    let read = slot_read c.self.inside.slots.items _ c.args.slot _ c.self.view_is c.requires c.index_mut.ensures.value in
-    ended-lists _ _ _ _ c.args.slot _ read c.self.invariant.2 _ c.end.ensures
+    let read = slot_read _ c.self.inside.slots.items _ c.args.slot _ c.self.view_is c.requires c.index_mut.ensures.value in
+    ended-lists _ _ _ _ c.args.slot _ read c.self.invariant _ c.end.ensures
+
+pub settle-requires-clause-known : goal.settle-requires-clause-known
+settle-requires-clause-known g c =
+    let read = slot_read _ c.self.inside.slots.items _ c.args.slot _ c.self.view_is c.requires c.index_mut.ensures.value in
+    ended-has 0 0 0 c.self.inside.slots.items c.args.slot _ read c.index.result.now c.index.ensures _ c.has_list-had_list.ensures _ c.end.ensures
 
 pub returns : goal.returns
 returns g c =
-    let read = slot_read c.self.inside.slots.items _ c.args.slot _ c.self.view_is c.requires c.index_mut.ensures.value in
-    c.settle.ensures.same ∙ changed-contents 0 0 0 _ c.args.slot _ read _ _ _ c.self.view_is c.end.ensures
+    let read = slot_read _ c.self.inside.slots.items _ c.args.slot _ c.self.view_is c.requires c.index_mut.ensures.value in
+    c.settle.ensures.same ∙ changed-contents 0 0 _ _ c.args.slot _ read _ ended_content _ c.self.view_is c.end.ensures refl

@@ -1,29 +1,25 @@
 use Rattle.std.proofs.Common.{◌≡◌, ◌∙◌, [], arith}
 use Rattle.iox2_contents.specs.SlotContents.{lists_for}
-use Rattle.iox2_contents.proofs.NewSlots.{new-contents, new-forms, new-lists, without}
-use Rattle.iox2_contents.proofs.SlotSums.{replicated}
+use Rattle.iox2_contents.proofs.NewSlots.{new-contents, new-forms, new-lists, new-lists-are, without}
 use Rattle.iox2_contents.proofs.contents.Contents.new.Goals as goal
 
 pub invariant_of-result : goal.invariant_of-result
 invariant_of-result g c =
-    let unwritten = replicated c.in_ok-unwritten_cells.field-0.items _ _ c.in_ok-unwritten_cells.ensures.unwritten in (
-      unwritten.1,
-      rw unwritten.0 c.in_ok-cell_lists.ensures.empty,
-      rw unwritten.0 (new-lists g.U.Default.is_default c.args.room c.args.in_lists c.lists_for-lists.result (without c.args.in_lists c.args.lists _ c.lists_for-lists.ensures) _ c.shown_cells-longest.ensures.all c.shown_cells-longest.ensures.first
-          _ _ _ c.in_ok-new_slots.ensures.new (omega (arith, c.in_ok-cell_lists.ensures.count)) (omega (arith, c.in_ok-cell_lists.ensures.capacity))),
-    )
+    rw (c.in_ok-lists.ensures.most, c.in_ok-lists.ensures.spare, c.in_ok-lists.ensures.room)
+    (new-lists g.U.Default.is_default c.args.room c.args.in_lists c.lists_for-lists.result (without c.args.in_lists c.args.lists _ c.lists_for-lists.ensures) _ c.shown_cells-longest.ensures.all c.shown_cells-longest.ensures.first
+    _ _ c.in_ok-slots.ensures.new (omega arith))
 
 pub returns-clause-default : goal.returns-clause-default
-returns-clause-default g c = new-contents _ _ _ _ _ c.in_ok-new_slots.ensures.new (λ content. g.U.Default.is_default content.user_header) (λ s is. is.default)
+returns-clause-default g c = new-contents _ _ _ _ _ c.in_ok-slots.ensures.new _ (λ content. g.U.Default.is_default content.user_header) (λ s is. is.default)
 
 pub returns-clause-empty : goal.returns-clause-empty
-returns-clause-empty g c = new-contents _ _ _ _ _ c.in_ok-new_slots.ensures.new (λ content. (content.cells ≡ []) × (content.values ≡ [])) (λ s is. (is.cells, is.values))
+returns-clause-empty g c = new-contents _ _ _ _ _ c.in_ok-slots.ensures.new _ (λ content. (content.cells ≡ []) × (content.values ≡ [])) (λ s is. (is.cells, is.values))
 
 pub returns-clause-room : goal.returns-clause-room
-returns-clause-room g c = new-contents _ _ _ _ _ c.in_ok-new_slots.ensures.new (λ content. content.room ≡ c.args.room) (λ s is. is.rooms)
+returns-clause-room g c = new-contents _ _ _ _ _ c.in_ok-slots.ensures.new _ (λ content. content.room ≡ c.args.room) (λ s is. is.rooms)
 
 pub returns-clause-in_lists : goal.returns-clause-in_lists
-returns-clause-in_lists g c = new-forms _ _ _ _ _ c.in_ok-new_slots.ensures.new
+returns-clause-in_lists g c = new-forms _ _ _ _ _ c.in_ok-slots.ensures.new _
 
 pub returns-clause-lists : goal.returns-clause-lists
-returns-clause-lists g c = new-contents _ _ _ _ _ c.in_ok-new_slots.ensures.new (λ content. content.lists ≡ lists_for c.args.in_lists c.args.lists) (λ s is. is.lists_are ∙ c.lists_for-lists.ensures)
+returns-clause-lists g c = rw c.in_ok-lists.ensures.room (new-lists-are _ _ _ _ _ c.in_ok-slots.ensures.new _ c.lists_for-lists.ensures)

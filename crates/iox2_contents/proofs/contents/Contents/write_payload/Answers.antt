@@ -1,14 +1,20 @@
-use Rattle.std.proofs.Common.{◌≡◌, ◌∙◌, length}
+use Rattle.std.proofs.Common.{◌≡◌, ◌∙◌, length, refl, ◌∷◌, []}
+use Rattle.iox2_contents.specs.SlotContents.{written_content}
 use Rattle.iox2_contents.proofs.SlotReads.{content_read}
-use Rattle.iox2_contents.proofs.SlotLists.{changed-contents, written-lists}
+use Rattle.iox2_contents.proofs.SlotLists.{changed-contents, written-lists, written-has}
 use Rattle.iox2_contents.proofs.contents.Contents.write_payload.Goals as goal
 
 pub settle-requires-clause-lists : goal.settle-requires-clause-lists
 settle-requires-clause-lists g c =
-    let read = content_read c.self.inside.slots.items _ c.args.slot (λ content. length content.cells ≡ 1) _ c.self.view_is c.requires c.index_mut.ensures.value in
-    written-lists _ _ _ _ c.args.slot _ read.0 c.self.invariant.2 _ _ c.write_payload.ensures
+    let read = content_read _ c.self.inside.slots.items _ c.args.slot (λ content. length content.cells ≡ 1) _ c.self.view_is c.requires c.index_mut.ensures.value in
+    written-lists _ _ _ _ c.args.slot _ read.0 c.self.invariant _ _ c.write_payload.ensures
+
+pub settle-requires-clause-known : goal.settle-requires-clause-known
+settle-requires-clause-known g c =
+    let read = content_read _ c.self.inside.slots.items _ c.args.slot (λ content. length content.cells ≡ 1) _ c.self.view_is c.requires c.index_mut.ensures.value in
+    written-has 0 0 0 c.self.inside.slots.items c.args.slot _ read.0 c.index.result.now c.index.ensures _ c.has_list-had_list.ensures _ _ c.write_payload.ensures
 
 pub returns : goal.returns
 returns g c =
-    let read = content_read c.self.inside.slots.items _ c.args.slot (λ content. length content.cells ≡ 1) _ c.self.view_is c.requires c.index_mut.ensures.value in
-    c.settle.ensures.same ∙ changed-contents 0 0 0 _ c.args.slot _ read.0 _ _ _ c.self.view_is c.write_payload.ensures
+    let read = content_read _ c.self.inside.slots.items _ c.args.slot (λ content. length content.cells ≡ 1) _ c.self.view_is c.requires c.index_mut.ensures.value in
+    c.settle.ensures.same ∙ changed-contents 0 0 _ _ c.args.slot _ read.0 _ (written_content (c.args.value ∷ [])) _ c.self.view_is c.write_payload.ensures refl

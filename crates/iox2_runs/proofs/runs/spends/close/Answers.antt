@@ -10,6 +10,7 @@ use Rattle.iox2_runs.proofs.CarriedCloses.{close_passed, close_held_up, publishe
 use Rattle.iox2_runs.proofs.LeavingSteps.{leaves-all, leaves-spending}
 use Rattle.iox2_pubsub.proofs.StaysBut.{nothing-is-new}
 use Rattle.iox2_runs.specs.declared.runs.made.Made.TheVariants.{Nothing, Publisher as MadePublisher, Subscriber as MadeSubscriber}
+use Rattle.iox2_runs.proofs.SameRooms.{same-room-twice}
 use Rattle.iox2_runs.proofs.runs.spends.close.Goals as goal
 
 pub close-requires-in-Subscriber : goal.close-requires-in-Subscriber
@@ -17,27 +18,30 @@ close-requires-in-Subscriber g c = record {
   live = live_subscriber {T = g.row.T.Denot} {U = g.row.U.Denot} c.args.domain.now c.args.table.now.items c.requires c.args.of c.in-Subscriber.subscriber (sym c.take.ensures.made ∙ c.in-Subscriber.is);
 }
 
-pub returns-in-Subscriber-clause-carries : goal.returns-in-Subscriber-clause-carries
-returns-in-Subscriber-clause-carries g c =
-    subscriber_close_carried {T = g.row.T.Denot} {U = g.row.U.Denot} fixed_handlers _ c.args.domain.now c.close-in-Subscriber.new.domain c.args.table.now.items c.take.new.table.items c.args.of
-    c.in-Subscriber.subscriber (sym c.take.ensures.made ∙ c.in-Subscriber.is) c.close-in-Subscriber.ensures.closed c.take.ensures.items
+pub returns-in-Subscriber : goal.returns-in-Subscriber
+returns-in-Subscriber g c = record {
+  carries =
+      subscriber_close_carried {T = g.row.T.Denot} {U = g.row.U.Denot} fixed_handlers _ c.args.domain.now c.close-in-Subscriber.new.domain c.args.table.now.items c.take.new.table.items c.args.of
+      c.in-Subscriber.subscriber (sym c.take.ensures.made ∙ c.in-Subscriber.is) c.close-in-Subscriber.ensures.closed c.take.ensures.items;
+  leaves =
+      leaves-spending {T = g.row.T.Denot} {U = g.row.U.Denot} c.args.domain.now c.close-in-Subscriber.new.domain c.args.table.now.items c.take.new.table.items c.args.of
+      (MadeSubscriber c.in-Subscriber.subscriber) Nothing (sym c.take.ensures.made ∙ c.in-Subscriber.is) c.close-in-Subscriber.ensures.stays (λ start new. nothing-is-new start) c.take.ensures.items tt;
+  room = c.take.ensures.room;
+}
 
-pub returns-in_default-clause-carries : goal.returns-in_default-clause-carries
-returns-in_default-clause-carries g c =
-    close_passed {T = g.row.T.Denot} {U = g.row.U.Denot} fixed_handlers _ c.args.domain.now c.args.domain.now c.args.table.now.items c.put-in_default.new.table.items c.args.of
-    (ap (λ (h : Made). is_publisher_entry (entry_for h)) (sym c.take.ensures.made) ∙ not_publisher c.take.result c.in_default.not-Publisher)
-    (ap (λ (h : Made). is_subscriber_entry (entry_for h)) (sym c.take.ensures.made) ∙ not_subscriber c.take.result c.in_default.not-Subscriber) refl
-    (back c.args.table.now.items c.take.new.table.items c.put-in_default.new.table.items c.args.of c.take.result c.take.ensures.items (sym c.take.ensures.made) c.put-in_default.ensures.items)
-
-pub returns-in-Subscriber-clause-leaves : goal.returns-in-Subscriber-clause-leaves
-returns-in-Subscriber-clause-leaves g c =
-    leaves-spending {T = g.row.T.Denot} {U = g.row.U.Denot} c.args.domain.now c.close-in-Subscriber.new.domain c.args.table.now.items c.take.new.table.items c.args.of
-    (MadeSubscriber c.in-Subscriber.subscriber) Nothing (sym c.take.ensures.made ∙ c.in-Subscriber.is) c.close-in-Subscriber.ensures.stays (λ start new. nothing-is-new start) c.take.ensures.items tt
-
-pub returns-in_default-clause-leaves : goal.returns-in_default-clause-leaves
-returns-in_default-clause-leaves g c =
-    leaves-all {T = g.row.T.Denot} {U = g.row.U.Denot} c.args.domain.now c.args.domain.now c.args.table.now.items c.put-in_default.new.table.items refl
-    (back c.args.table.now.items c.take.new.table.items c.put-in_default.new.table.items c.args.of c.take.result c.take.ensures.items (sym c.take.ensures.made) c.put-in_default.ensures.items)
+pub returns-in_default : goal.returns-in_default
+returns-in_default g c = record {
+  carries =
+      rw c.skip.ensures.reply
+      (close_passed {T = g.row.T.Denot} {U = g.row.U.Denot} fixed_handlers _ c.args.domain.now c.args.domain.now c.args.table.now.items c.skip.new.table.items c.args.of
+      (ap (λ (h : Made). is_publisher_entry (entry_for h)) (sym c.take.ensures.made) ∙ not_publisher c.take.result c.in_default.not-Publisher)
+      (ap (λ (h : Made). is_subscriber_entry (entry_for h)) (sym c.take.ensures.made) ∙ not_subscriber c.take.result c.in_default.not-Subscriber) refl
+      (back c.args.table.now.items c.take.new.table.items c.skip.new.table.items c.args.of c.take.result c.take.ensures.items (sym c.take.ensures.made) c.skip.ensures.items));
+  leaves =
+      leaves-all {T = g.row.T.Denot} {U = g.row.U.Denot} c.args.domain.now c.args.domain.now c.args.table.now.items c.skip.new.table.items refl
+      (back c.args.table.now.items c.take.new.table.items c.skip.new.table.items c.args.of c.take.result c.take.ensures.items (sym c.take.ensures.made) c.skip.ensures.items);
+  room = same-room-twice c.take.ensures.room c.skip.ensures.room;
+}
 
 pub is_blocked-requires : goal.is_blocked-requires
 is_blocked-requires g c = record {
@@ -49,23 +53,25 @@ close-requires g c = record {
   ready = ready_publisher {T = g.row.T.Denot} {U = g.row.U.Denot} c.args.domain.now c.args.table.now.items c.requires c.args.of c.in-Publisher.publisher (sym c.take.ensures.made ∙ c.in-Publisher.is) (c.is_blocked.ensures.0 c.if-is_blocked.false);
 }
 
-pub returns-then-is_blocked-clause-carries : goal.returns-then-is_blocked-clause-carries
-returns-then-is_blocked-clause-carries g c =
-    close_held_up {T = g.row.T.Denot} {U = g.row.U.Denot} fixed_handlers _ c.args.domain.now c.args.domain.now c.args.table.now.items c.put.new.table.items c.args.of c.in-Publisher.publisher (sym c.take.ensures.made ∙ c.in-Publisher.is)
-    (shown_waits {T = g.row.T.Denot} {U = g.row.U.Denot} c.args.domain.now (publisher_key c.in-Publisher.publisher) (known_publisher {T = g.row.T.Denot} {U = g.row.U.Denot} c.args.domain.now c.args.table.now.items c.requires c.args.of c.in-Publisher.publisher (sym c.take.ensures.made ∙ c.in-Publisher.is)) c.is_blocked.result c.is_blocked.ensures c.if-is_blocked.true) refl
-    (back c.args.table.now.items c.take.new.table.items c.put.new.table.items c.args.of (MadePublisher c.in-Publisher.publisher) c.take.ensures.items (sym c.take.ensures.made ∙ c.in-Publisher.is) c.put.ensures.items)
+pub returns-then-is_blocked : goal.returns-then-is_blocked
+returns-then-is_blocked g c = record {
+  carries =
+      close_held_up {T = g.row.T.Denot} {U = g.row.U.Denot} fixed_handlers _ c.args.domain.now c.args.domain.now c.args.table.now.items c.put.new.table.items c.args.of c.in-Publisher.publisher (sym c.take.ensures.made ∙ c.in-Publisher.is)
+      (shown_waits {T = g.row.T.Denot} {U = g.row.U.Denot} c.args.domain.now (publisher_key c.in-Publisher.publisher) (known_publisher {T = g.row.T.Denot} {U = g.row.U.Denot} c.args.domain.now c.args.table.now.items c.requires c.args.of c.in-Publisher.publisher (sym c.take.ensures.made ∙ c.in-Publisher.is)) c.is_blocked.result c.is_blocked.ensures c.if-is_blocked.true) refl
+      (back c.args.table.now.items c.take.new.table.items c.put.new.table.items c.args.of (MadePublisher c.in-Publisher.publisher) c.take.ensures.items (sym c.take.ensures.made ∙ c.in-Publisher.is) c.put.ensures.items);
+  leaves =
+      leaves-all {T = g.row.T.Denot} {U = g.row.U.Denot} c.args.domain.now c.args.domain.now c.args.table.now.items c.put.new.table.items refl
+      (back c.args.table.now.items c.take.new.table.items c.put.new.table.items c.args.of (MadePublisher c.in-Publisher.publisher) c.take.ensures.items (sym c.take.ensures.made ∙ c.in-Publisher.is) c.put.ensures.items);
+  room = same-room-twice c.take.ensures.room c.put.ensures.room;
+}
 
-pub returns-then-is_blocked-clause-leaves : goal.returns-then-is_blocked-clause-leaves
-returns-then-is_blocked-clause-leaves g c =
-    leaves-all {T = g.row.T.Denot} {U = g.row.U.Denot} c.args.domain.now c.args.domain.now c.args.table.now.items c.put.new.table.items refl
-    (back c.args.table.now.items c.take.new.table.items c.put.new.table.items c.args.of (MadePublisher c.in-Publisher.publisher) c.take.ensures.items (sym c.take.ensures.made ∙ c.in-Publisher.is) c.put.ensures.items)
-
-pub returns-else-is_blocked-clause-carries : goal.returns-else-is_blocked-clause-carries
-returns-else-is_blocked-clause-carries g c =
-    publisher_close_carried {T = g.row.T.Denot} {U = g.row.U.Denot} fixed_handlers _ c.args.domain.now c.close.new.domain c.args.table.now.items c.take.new.table.items c.args.of
-    c.in-Publisher.publisher (sym c.take.ensures.made ∙ c.in-Publisher.is) (shown_free {T = g.row.T.Denot} {U = g.row.U.Denot} c.args.domain.now (publisher_key c.in-Publisher.publisher) (c.is_blocked.ensures.0 c.if-is_blocked.false)) c.close.ensures.closed c.take.ensures.items
-
-pub returns-else-is_blocked-clause-leaves : goal.returns-else-is_blocked-clause-leaves
-returns-else-is_blocked-clause-leaves g c =
-    leaves-spending {T = g.row.T.Denot} {U = g.row.U.Denot} c.args.domain.now c.close.new.domain c.args.table.now.items c.take.new.table.items c.args.of
-    (MadePublisher c.in-Publisher.publisher) Nothing (sym c.take.ensures.made ∙ c.in-Publisher.is) c.close.ensures.stays (λ start new. nothing-is-new start) c.take.ensures.items tt
+pub returns-else-is_blocked : goal.returns-else-is_blocked
+returns-else-is_blocked g c = record {
+  carries =
+      publisher_close_carried {T = g.row.T.Denot} {U = g.row.U.Denot} fixed_handlers _ c.args.domain.now c.close.new.domain c.args.table.now.items c.take.new.table.items c.args.of
+      c.in-Publisher.publisher (sym c.take.ensures.made ∙ c.in-Publisher.is) (shown_free {T = g.row.T.Denot} {U = g.row.U.Denot} c.args.domain.now (publisher_key c.in-Publisher.publisher) (c.is_blocked.ensures.0 c.if-is_blocked.false)) c.close.ensures.closed c.take.ensures.items;
+  leaves =
+      leaves-spending {T = g.row.T.Denot} {U = g.row.U.Denot} c.args.domain.now c.close.new.domain c.args.table.now.items c.take.new.table.items c.args.of
+      (MadePublisher c.in-Publisher.publisher) Nothing (sym c.take.ensures.made ∙ c.in-Publisher.is) c.close.ensures.stays (λ start new. nothing-is-new start) c.take.ensures.items tt;
+  room = c.take.ensures.room;
+}

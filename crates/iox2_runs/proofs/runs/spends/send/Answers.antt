@@ -12,6 +12,7 @@ use Rattle.iox2_runs.proofs.LeavingSteps.{leaves-all, leaves-sending}
 use Rattle.iox2_runs.proofs.LiveEntries.{live_written, known_lender, shown_free, shown_waits}
 use Rattle.iox2_runs.proofs.TableEntries.{back, not_written}
 use Rattle.iox2_runs.proofs.TableLooks.{is_written_entry}
+use Rattle.iox2_runs.proofs.SameRooms.{same-room-twice}
 use Rattle.iox2_runs.proofs.runs.spends.send.Goals as goal
 
 pub is_blocked-requires : goal.is_blocked-requires
@@ -24,40 +25,43 @@ send-requires-clause-live g c =
     live_written {T = g.row.T.Denot} {U = g.row.U.Denot} c.args.domain.now c.args.table.now.items c.requires c.args.of c.in-Written.loan (sym c.take.ensures.made ∙ c.in-Written.is)
 
 pub send-requires-clause-unblocked : goal.send-requires-clause-unblocked
-send-requires-clause-unblocked g c =
-    c.is_blocked.ensures.0 c.if-is_blocked.false
+send-requires-clause-unblocked g c = c.is_blocked.ensures.0 c.if-is_blocked.false
 
-pub returns-then-is_blocked-clause-carries : goal.returns-then-is_blocked-clause-carries
-returns-then-is_blocked-clause-carries g c =
-    send_held_up {T = g.row.T.Denot} {U = g.row.U.Denot} fixed_handlers _ c.args.domain.now c.args.domain.now c.args.table.now.items c.put.new.table.items c.args.of c.in-Written.loan (sym c.take.ensures.made ∙ c.in-Written.is)
-    (shown_waits {T = g.row.T.Denot} {U = g.row.U.Denot} c.args.domain.now (written_key c.in-Written.loan) (known_lender {T = g.row.T.Denot} {U = g.row.U.Denot} c.args.domain.now c.args.table.now.items c.requires c.args.of c.in-Written.loan (sym c.take.ensures.made ∙ c.in-Written.is)) c.is_blocked.result c.is_blocked.ensures c.if-is_blocked.true) refl
-    (back c.args.table.now.items c.take.new.table.items c.put.new.table.items c.args.of (Written c.in-Written.loan) c.take.ensures.items (sym c.take.ensures.made ∙ c.in-Written.is) c.put.ensures.items)
+pub returns-then-is_blocked : goal.returns-then-is_blocked
+returns-then-is_blocked g c = record {
+  carries =
+      send_held_up {T = g.row.T.Denot} {U = g.row.U.Denot} fixed_handlers _ c.args.domain.now c.args.domain.now c.args.table.now.items c.put.new.table.items c.args.of c.in-Written.loan (sym c.take.ensures.made ∙ c.in-Written.is)
+      (shown_waits {T = g.row.T.Denot} {U = g.row.U.Denot} c.args.domain.now (written_key c.in-Written.loan) (known_lender {T = g.row.T.Denot} {U = g.row.U.Denot} c.args.domain.now c.args.table.now.items c.requires c.args.of c.in-Written.loan (sym c.take.ensures.made ∙ c.in-Written.is)) c.is_blocked.result c.is_blocked.ensures c.if-is_blocked.true) refl
+      (back c.args.table.now.items c.take.new.table.items c.put.new.table.items c.args.of (Written c.in-Written.loan) c.take.ensures.items (sym c.take.ensures.made ∙ c.in-Written.is) c.put.ensures.items);
+  leaves =
+      leaves-all {T = g.row.T.Denot} {U = g.row.U.Denot} c.args.domain.now c.args.domain.now c.args.table.now.items c.put.new.table.items refl
+      (back c.args.table.now.items c.take.new.table.items c.put.new.table.items c.args.of (Written c.in-Written.loan) c.take.ensures.items (sym c.take.ensures.made ∙ c.in-Written.is) c.put.ensures.items);
+  room = same-room-twice c.take.ensures.room c.put.ensures.room;
+}
 
-pub returns-then-is_blocked-clause-leaves : goal.returns-then-is_blocked-clause-leaves
-returns-then-is_blocked-clause-leaves g c =
-    leaves-all {T = g.row.T.Denot} {U = g.row.U.Denot} c.args.domain.now c.args.domain.now c.args.table.now.items c.put.new.table.items refl
-    (back c.args.table.now.items c.take.new.table.items c.put.new.table.items c.args.of (Written c.in-Written.loan) c.take.ensures.items (sym c.take.ensures.made ∙ c.in-Written.is) c.put.ensures.items)
+pub returns-else-is_blocked : goal.returns-else-is_blocked
+returns-else-is_blocked g c = record {
+  carries =
+      rw (c.send_reply.ensures.reply, c.send_reply.ensures.made)
+      (send_carried {T = g.row.T.Denot} {U = g.row.U.Denot} (answers_of g.F.BackpressureFn.allows g.G.DegradationFn.allows c.args.domain.now.boxes.publishers) _ c.args.domain.now c.send.new.domain c.args.table.now.items c.take.new.table.items c.args.of c.in-Written.loan c.send.result (sym c.take.ensures.made ∙ c.in-Written.is)
+      (shown_free {T = g.row.T.Denot} {U = g.row.U.Denot} c.args.domain.now (written_key c.in-Written.loan) (c.is_blocked.ensures.0 c.if-is_blocked.false)) c.send.ensures.sent c.send.ensures.blocked
+      (either-failure c.args.domain.now (written_key c.in-Written.loan) c.send.result c.send.ensures.errors) c.take.ensures.items);
+  leaves =
+      rw c.send_reply.ensures.made
+      (leaves-sending {T = g.row.T.Denot} {U = g.row.U.Denot} c.args.domain.now c.send.new.domain c.args.table.now.items c.take.new.table.items c.args.of c.in-Written.loan c.send.result (sym c.take.ensures.made ∙ c.in-Written.is)
+      c.send.ensures.stays (each_blocked _ _ (λ blocked is. ap (λ (k : Key). k.port) is.1) c.send.result c.send.ensures.blocked) c.take.ensures.items);
+  room = c.take.ensures.room;
+}
 
-pub returns-else-is_blocked-clause-carries : goal.returns-else-is_blocked-clause-carries
-returns-else-is_blocked-clause-carries g c =
-    rw (c.send_reply.ensures.reply, c.send_reply.ensures.made)
-    (send_carried {T = g.row.T.Denot} {U = g.row.U.Denot} (answers_of g.F.BackpressureFn.allows g.G.DegradationFn.allows c.args.domain.now.boxes.publishers) _ c.args.domain.now c.send.new.domain c.args.table.now.items c.take.new.table.items c.args.of c.in-Written.loan c.send.result (sym c.take.ensures.made ∙ c.in-Written.is)
-    (shown_free {T = g.row.T.Denot} {U = g.row.U.Denot} c.args.domain.now (written_key c.in-Written.loan) (c.is_blocked.ensures.0 c.if-is_blocked.false)) c.send.ensures.sent c.send.ensures.blocked
-    (either-failure c.args.domain.now (written_key c.in-Written.loan) c.send.result c.send.ensures.errors) c.take.ensures.items)
-
-pub returns-else-is_blocked-clause-leaves : goal.returns-else-is_blocked-clause-leaves
-returns-else-is_blocked-clause-leaves g c =
-    rw c.send_reply.ensures.made
-    (leaves-sending {T = g.row.T.Denot} {U = g.row.U.Denot} c.args.domain.now c.send.new.domain c.args.table.now.items c.take.new.table.items c.args.of c.in-Written.loan c.send.result (sym c.take.ensures.made ∙ c.in-Written.is)
-    c.send.ensures.stays (each_blocked _ _ (λ blocked is. ap (λ (k : Key). k.port) is.1) c.send.result c.send.ensures.blocked) c.take.ensures.items)
-
-pub returns-in_default-clause-carries : goal.returns-in_default-clause-carries
-returns-in_default-clause-carries g c =
-    send_passed {T = g.row.T.Denot} {U = g.row.U.Denot} fixed_handlers _ c.args.domain.now c.args.domain.now c.args.table.now.items c.put-in_default.new.table.items c.args.of
-    (ap (λ (h : Made). is_written_entry (entry_for h)) (sym c.take.ensures.made) ∙ not_written c.take.result c.in_default.not-Written) refl
-    (back c.args.table.now.items c.take.new.table.items c.put-in_default.new.table.items c.args.of c.take.result c.take.ensures.items (sym c.take.ensures.made) c.put-in_default.ensures.items)
-
-pub returns-in_default-clause-leaves : goal.returns-in_default-clause-leaves
-returns-in_default-clause-leaves g c =
-    leaves-all {T = g.row.T.Denot} {U = g.row.U.Denot} c.args.domain.now c.args.domain.now c.args.table.now.items c.put-in_default.new.table.items refl
-    (back c.args.table.now.items c.take.new.table.items c.put-in_default.new.table.items c.args.of c.take.result c.take.ensures.items (sym c.take.ensures.made) c.put-in_default.ensures.items)
+pub returns-in_default : goal.returns-in_default
+returns-in_default g c = record {
+  carries =
+      rw c.skip.ensures.reply
+      (send_passed {T = g.row.T.Denot} {U = g.row.U.Denot} fixed_handlers _ c.args.domain.now c.args.domain.now c.args.table.now.items c.skip.new.table.items c.args.of
+      (ap (λ (h : Made). is_written_entry (entry_for h)) (sym c.take.ensures.made) ∙ not_written c.take.result c.in_default.not-Written) refl
+      (back c.args.table.now.items c.take.new.table.items c.skip.new.table.items c.args.of c.take.result c.take.ensures.items (sym c.take.ensures.made) c.skip.ensures.items));
+  leaves =
+      leaves-all {T = g.row.T.Denot} {U = g.row.U.Denot} c.args.domain.now c.args.domain.now c.args.table.now.items c.skip.new.table.items refl
+      (back c.args.table.now.items c.take.new.table.items c.skip.new.table.items c.args.of c.take.result c.take.ensures.items (sym c.take.ensures.made) c.skip.ensures.items);
+  room = same-room-twice c.take.ensures.room c.skip.ensures.room;
+}

@@ -27,23 +27,26 @@ returns-in_err-port-clause-creates g c =
 pub returns-clause-creates : goal.returns-clause-creates
 returns-clause-creates g c =
     let size : c.max.result ≡ max 1 c.self.inside.options.buffer_size = grind (arith, c.max.ensures) in
-    made-shown {T = g.row.T.Denot} {U = g.row.U.Denot} (answers_of g.F.BackpressureFn.allows g.G.DegradationFn.allows (c.create_subscriber.new.boxes).boxes) c.domain.inside.state c.create_subscriber.new.state c.args.domain.now c.domain.view_is
+    rw c.of_port.ensures (made-shown {T = g.row.T.Denot} {U = g.row.U.Denot} (answers_of g.F.BackpressureFn.allows g.G.DegradationFn.allows (c.create_subscriber.new.boxes).boxes) c.domain.inside.state c.create_subscriber.new.state c.args.domain.now c.domain.view_is
     (asked_for c.self.inside.options) c.args.self.settings (ap (λ (f : SubscriberFactory g.row.G.Denot). f.settings) c.self.view_is) c.in_ok-port.ensures.step c.in_ok-port.port.id c.max.result
-    (c.in_ok-port.ensures.id) size
+    (c.in_ok-port.ensures.id) size)
 
 pub returns-clause-live : goal.returns-clause-live
 returns-clause-live g c =
-    made-live {T = g.row.T.Denot} {U = g.row.U.Denot} (answers_of g.F.BackpressureFn.allows g.G.DegradationFn.allows (c.create_subscriber.new.boxes).boxes) c.domain.inside.state c.create_subscriber.new.state (asked_for c.self.inside.options) (record { publishers = (c.domain.inside.boxes).boxes; subscribers = (c.create_subscriber.new.boxes).boxes }) c.in_ok-port.ensures.step
+    rw c.of_port.ensures (made-live {T = g.row.T.Denot} {U = g.row.U.Denot} (answers_of g.F.BackpressureFn.allows g.G.DegradationFn.allows (c.create_subscriber.new.boxes).boxes) c.domain.inside.state c.create_subscriber.new.state (asked_for c.self.inside.options) (record { publishers = (c.domain.inside.boxes).boxes; subscribers = (c.create_subscriber.new.boxes).boxes }) c.in_ok-port.ensures.step
     (record { service_id = c.config.result.now.service_id; id = c.in_ok-port.port.id; place = c.in_ok-port.port.place; buffer_size = c.max.result })
     (ap (λ (config : ServiceConfig). config.service_id) c.config.ensures)
-    c.in_ok-port.ensures.id c.in_ok-port.ensures.stands
+    c.in_ok-port.ensures.id c.in_ok-port.ensures.stands)
 
 pub returns-clause-buffer : goal.returns-clause-buffer
 returns-clause-buffer g c =
     let size : c.max.result ≡ max 1 c.self.inside.options.buffer_size = grind (arith, c.max.ensures) in
-    made-buffer {T = g.row.T.Denot} {U = g.row.U.Denot} (answers_of g.F.BackpressureFn.allows g.G.DegradationFn.allows (c.create_subscriber.new.boxes).boxes) c.domain.inside.state c.create_subscriber.new.state (asked_for c.self.inside.options) (record { publishers = (c.domain.inside.boxes).boxes; subscribers = (c.create_subscriber.new.boxes).boxes }) c.in_ok-port.ensures.step
+    rw c.of_port.ensures (made-buffer {T = g.row.T.Denot} {U = g.row.U.Denot} (answers_of g.F.BackpressureFn.allows g.G.DegradationFn.allows (c.create_subscriber.new.boxes).boxes) c.domain.inside.state c.create_subscriber.new.state (asked_for c.self.inside.options) (record { publishers = (c.domain.inside.boxes).boxes; subscribers = (c.create_subscriber.new.boxes).boxes }) c.in_ok-port.ensures.step
     (record { service_id = c.config.result.now.service_id; id = c.in_ok-port.port.id; place = c.in_ok-port.port.place; buffer_size = c.max.result })
-    c.in_ok-port.ensures.id size (returns-clause-live g c)
+    c.in_ok-port.ensures.id size (made-live {T = g.row.T.Denot} {U = g.row.U.Denot} (answers_of g.F.BackpressureFn.allows g.G.DegradationFn.allows (c.create_subscriber.new.boxes).boxes) c.domain.inside.state c.create_subscriber.new.state (asked_for c.self.inside.options) (record { publishers = (c.domain.inside.boxes).boxes; subscribers = (c.create_subscriber.new.boxes).boxes }) c.in_ok-port.ensures.step
+    (record { service_id = c.config.result.now.service_id; id = c.in_ok-port.port.id; place = c.in_ok-port.port.place; buffer_size = c.max.result })
+    (ap (λ (config : ServiceConfig). config.service_id) c.config.ensures)
+    c.in_ok-port.ensures.id c.in_ok-port.ensures.stands))
 
 pub returns-in_err-port-clause-leaves : goal.returns-in_err-port-clause-leaves
 returns-in_err-port-clause-leaves g c =
@@ -74,26 +77,26 @@ pub returns-clause-new : goal.returns-clause-new
 returns-clause-new g c =
     let it = always-shown {T = g.row.T.Denot} {U = g.row.U.Denot} c.domain.inside.state c.args.domain.now c.domain.invariant c.domain.view_is in
     let step = returns-clause-creates g c it.0 it.1 it.2 in
-    subscriber-is-new {T = g.row.T.Denot} {U = g.row.U.Denot} c.args.domain.now c.args.domain.now it.0 it.1 it.2 c.in_ok-port.port.id (step.2).1
+    subscriber-is-new {T = g.row.T.Denot} {U = g.row.U.Denot} c.args.domain.now c.args.domain.now it.0 it.1 it.2 (g.H.PortHandle.as_port c.of_port.result).id (step.2).1
 
 pub returns-clause-none : goal.returns-clause-none
 returns-clause-none g c =
     let it = always-shown {T = g.row.T.Denot} {U = g.row.U.Denot} c.domain.inside.state c.args.domain.now c.domain.invariant c.domain.view_is in
     let step = returns-clause-creates g c it.0 it.1 it.2 in
     created-none {T = g.row.T.Denot} {U = g.row.U.Denot} c.args.domain.now _ it.0 it.0 it.1 step.0 it.2 step.1 (λ n entry at. at) (answers_of g.F.BackpressureFn.allows g.G.DegradationFn.allows (c.create_subscriber.new.boxes).boxes) c.args.self.settings (step.2).0
-    (record { service_id = c.config.result.now.service_id; id = c.in_ok-port.port.id; place = c.in_ok-port.port.place; buffer_size = c.max.result }) (step.2).1
+    (g.H.PortHandle.as_port c.of_port.result) (step.2).1
 
 pub returns-clause-boxed : goal.returns-clause-boxed
 returns-clause-boxed g c =
-    subscriber-box-is (record { publishers = (c.domain.inside.boxes).boxes; subscribers = (c.create_subscriber.new.boxes).boxes }) c.create_subscriber.new.state c.in_ok-port.port.id c.args.self.box
-    (c.in_ok-port.ensures.degrades ∙ ap (λ (f : SubscriberFactory g.row.G.Denot). f.box) c.self.view_is)
+    rw c.of_port.ensures (subscriber-box-is (record { publishers = (c.domain.inside.boxes).boxes; subscribers = (c.create_subscriber.new.boxes).boxes }) c.create_subscriber.new.state c.in_ok-port.port.id c.args.self.box
+    (c.in_ok-port.ensures.degrades ∙ ap (λ (f : SubscriberFactory g.row.G.Denot). f.box) c.self.view_is))
 
 pub returns-clause-awaits : goal.returns-clause-awaits
 returns-clause-awaits g c = λ none publisher there.
     let it = always-shown {T = g.row.T.Denot} {U = g.row.U.Denot} c.domain.inside.state c.args.domain.now c.domain.invariant c.domain.view_is in
     let step = returns-clause-creates g c it.0 it.1 it.2 in
     made-awaits {T = g.row.T.Denot} {U = g.row.U.Denot} c.args.domain.now _ it.0 it.0 it.1 step.0 it.2 step.1 (answers_of g.F.BackpressureFn.allows g.G.DegradationFn.allows (c.create_subscriber.new.boxes).boxes) c.args.self.settings (step.2).0
-    (record { service_id = c.config.result.now.service_id; id = c.in_ok-port.port.id; place = c.in_ok-port.port.place; buffer_size = c.max.result }) (step.2).1
+    (g.H.PortHandle.as_port c.of_port.result) (step.2).1
     (next-receiver-takes {T = g.row.T.Denot} {U = g.row.U.Denot} c.domain.inside.state c.args.domain.now c.domain.invariant c.domain.view_is) none publisher there
 
 pub returns-clause-room : goal.returns-clause-room
@@ -101,4 +104,4 @@ returns-clause-room g c =
     let it = always-shown {T = g.row.T.Denot} {U = g.row.U.Denot} c.domain.inside.state c.args.domain.now c.domain.invariant c.domain.view_is in
     let step = returns-clause-creates g c it.0 it.1 it.2 in
     subscriber-made-room {T = g.row.T.Denot} {U = g.row.U.Denot} c.args.domain.now _ it.0 it.0 it.1 step.0 it.2 step.1 (answers_of g.F.BackpressureFn.allows g.G.DegradationFn.allows (c.create_subscriber.new.boxes).boxes) c.args.self.settings (step.2).0
-    (record { service_id = c.config.result.now.service_id; id = c.in_ok-port.port.id; place = c.in_ok-port.port.place; buffer_size = c.max.result }) (step.2).1
+    (g.H.PortHandle.as_port c.of_port.result) (step.2).1

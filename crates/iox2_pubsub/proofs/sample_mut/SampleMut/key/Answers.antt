@@ -1,4 +1,0 @@
-use Rattle.iox2_pubsub.proofs.sample_mut.SampleMut.key.Goals as goal
-
-pub returns : goal.returns
-returns c = cc c.value.ensures
