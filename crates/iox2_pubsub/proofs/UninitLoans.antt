@@ -116,6 +116,12 @@ module _ {T U : Type 0} (is_default : U → Type 0) (checks : Bool) (len : ℕ) 
       (refused-shows f is_default checks len new stands.0 there m s (subst (λ (k : Kept T U F G). Shows k m s) (sym view) shown) A e'
       (subst (λ (r : Result LoanAt LoanError). LoanReaches is_default checks len f stands.0 r new) (is ∙ ap Err (sym same)) its))
 
+  -- the domain agrees, where the loan was granted
+  pub ok-domain : (loan : LoanAt) → answer ≡ Ok loan → IsDomain new
+  ok-domain loan is =
+      let granted : LoanReaches {A = LoanAt} is_default checks len f stands.0 (Ok loan) new = subst (λ (r : Result LoanAt LoanError). LoanReaches is_default checks len f stands.0 r new) is its in
+      granted.4.agrees
+
   -- a loan that was granted
   pub ok-shown : {F G : Type 0} {boxes : DomainBoxes F G} (A : Type 0) (a : A) (loan : LoanAt) → answer ≡ Ok loan → (kept : Kept T U F G) → keeping boxes f ≡ kept
       → (m : Messages T U) (s : State T U) → Shows kept m s → (s' : State T U) × Shows (kept_of new) m s' × LoanCall {A = A} is_default checks len s p (Ok a) s'

@@ -4,7 +4,7 @@ use Rattle.iox2_domain.specs.Kept.{Kept}
 use Rattle.iox2_domain.specs.Lending.{header_for}
 use Rattle.iox2_pubsub.specs.Live.{IsPublisherKey, LoanHasHeader, lender_key, publisher_key, unwritten_key}
 use Rattle.iox2_pubsub.specs.Slices.{HasUnwrittenCells}
-use Rattle.iox2_pubsub.proofs.UninitLoans.{err-shown, ok-cells, ok-header, ok-lengths, ok-shown, ok-live, ok-number, ok-publisher}
+use Rattle.iox2_pubsub.proofs.UninitLoans.{err-shown, ok-cells, ok-domain, ok-header, ok-lengths, ok-shown, ok-live, ok-number, ok-publisher}
 use Rattle.iox2_pubsub.proofs.PlacedHandles.{publisher-at-place}
 use Rattle.iox2_pubsub.proofs.CallsStay.{always-shown, loan-is-new, loan-stays}
 use Rattle.iox2_pubsub.proofs.LiveParts.{never-waits-alike, publisher-parts, unblocked-alike}
@@ -14,6 +14,11 @@ use Rattle.iox2_pubsub.proofs.SureLoans.{sure-granted, sure-of-loan}
 use Rattle.iox2_pubsub.proofs.LoansLeftShown.{loan-takes, refused-left}
 use Rattle.iox2_pubsub.proofs.StaysBut.{same-boxes}
 use Rattle.iox2_pubsub.proofs.publisher.Publisher.lend.Goals as goal
+
+pub invariant_of-domain-2 : goal.invariant_of-domain-2
+invariant_of-domain-2 g c =
+    ok-domain {T = g.row.T.Denot} {U = g.row.U.Denot} g.U.Default.is_default c.args.checks_length c.args.len c.domain.inside.state c.loan.new.state c.domain.invariant c.args.self.now.place c.args.self.now.id c.loan.result
+    (publisher-at-place {T = g.row.T.Denot} {U = g.row.U.Denot} c.domain.inside.state c.domain.invariant c.args.domain.now c.domain.view_is c.args.self.now c.requires.ready) c.loan.ensures.reaches c.in_ok-loan.loan c.in_ok-loan.was
 
 pub loan-requires-clause-unchecked : goal.loan-requires-clause-unchecked
 loan-requires-clause-unchecked g c = λ unchecked. ap (λ (k : Kept g.row.T.Denot g.row.U.Denot g.row.F.Denot g.row.G.Denot). (k.config).variant) c.domain.view_is ∙ c.requires.unchecked unchecked
