@@ -313,3 +313,13 @@ module _ {T U : Type 0} (old mid : List (ContentState T U)) (slot : ℕ) (was : 
     cells = cells;
     cleared = cleared ∙ ap (λ m. slice_set m slot content) mid-is ∙ set-set old slot (ended_content (get_or old slot was)) content;
   }
+
+module _ {T U : Type 0} (most spare number : ℕ) (xs : List (SlotState T U)) (i : ℕ) (s : SlotState T U) (at : slice_get xs i ≡ Some s) where
+  -- a write leaves all well where the slot has no list
+  pub written-settled : HasLists most spare number xs → (y : SlotState T U) → y ≡ get_or xs i y → (had : Bool) → had ≡ has_list y → had ≡ false → (values : List T) (t : SlotState T U)
+      → t ≡ with_content (written_content values) s → HasLists most spare number (slice_set xs i t)
+  written-settled has y read had known none values t is =
+      let there : y ≡ s = read ∙ reads xs i s y at in
+      let kept : has_list t ≡ has_list s = ap has_list is in
+      settled most spare number (slice_set xs i t) i t (set-here xs i s t at) (written-lists most spare number xs i s at has values t is)
+      (kept ∙ ap has_list (sym there) ∙ sym known ∙ none)

@@ -150,6 +150,22 @@ impl<T: Drop, U: Default + Drop> Contents<T, U> {
         requires in_lists { SomeAt self.old slot (λ content. content.is_in_place ≡ false) }
         ensures { (answers : List T) × AnswersInOrder F.step f answers × WritesValues self.old self.new slot answers }
     {
+        if self.slots[slot].has_list() {
+            self.write_listed_from_fn(slot, f);
+            return;
+        }
+        self.slots[slot].write_from_fn(f);
+    }
+
+    // The same of a loan whose cells have a list. It stands apart, so that nothing has to be kept over a
+    // usual write.
+    #[cold]
+    #[inline(never)]
+    fn write_listed_from_fn<F: FnMut(usize) -> T + Drop>(&mut self, slot: usize, f: F)
+        requires callable { F.IsAlwaysCallable f }
+        requires in_lists { SomeAt self.old slot (λ content. content.is_in_place ≡ false) }
+        ensures { (answers : List T) × AnswersInOrder F.step f answers × WritesValues self.old self.new slot answers }
+    {
         let had_list = self.slots[slot].has_list();
         self.slots[slot].write_from_fn(f);
         settle(&mut self.slots, &mut self.lists, slot, had_list);

@@ -2,18 +2,13 @@ use Rattle.std.proofs.Common.{◌≡◌, ◌∙◌, false, refl}
 use Rattle.iox2_contents.specs.SlotContents.{written_content}
 use Rattle.iox2_contents.specs.SlotStates.{content_of}
 use Rattle.iox2_contents.proofs.SlotReads.{content_read}
-use Rattle.iox2_contents.proofs.SlotLists.{changed-contents, content-at, written-lists, written-has}
+use Rattle.iox2_contents.proofs.SlotLists.{changed-contents, content-at, written-settled}
 use Rattle.iox2_contents.proofs.contents.Contents.write_from_fn.Goals as goal
 
-pub settle-requires-clause-lists : goal.settle-requires-clause-lists
-settle-requires-clause-lists g c =
+pub invariant_of-self : goal.invariant_of-self
+invariant_of-self g c =
     let read = content_read _ c.self.inside.slots.items _ c.args.slot (λ content. content.is_in_place ≡ false) _ c.self.view_is c.requires.in_lists c.index_mut.ensures.value in
-    written-lists _ _ _ _ c.args.slot _ read.0 c.self.invariant _ _ c.write_from_fn.ensures.written
-
-pub settle-requires-clause-known : goal.settle-requires-clause-known
-settle-requires-clause-known g c =
-    let read = content_read _ c.self.inside.slots.items _ c.args.slot (λ content. content.is_in_place ≡ false) _ c.self.view_is c.requires.in_lists c.index_mut.ensures.value in
-    written-has 0 0 0 c.self.inside.slots.items c.args.slot _ read.0 c.index.result.now c.index.ensures _ c.has_list-had_list.ensures _ _ c.write_from_fn.ensures.written
+    written-settled _ _ _ c.self.inside.slots.items c.args.slot _ read.0 c.self.invariant c.index.result.now c.index.ensures _ c.has_list.ensures c.if-has_list.false _ _ c.write_from_fn.ensures.written
 
 pub returns : goal.returns
 returns g c =
@@ -24,6 +19,6 @@ returns g c =
         content = content_of c.self.inside.lists.room c.index_mut.result.now;
         had = content-at 0 0 _ _ c.args.slot _ read.0 _ c.self.view_is;
         count = c.write_from_fn.ensures.count;
-        written = c.settle.ensures.same ∙ changed-contents 0 0 _ _ c.args.slot _ read.0 _ (written_content c.write_from_fn.new.self.content.values) _ c.self.view_is c.write_from_fn.ensures.written refl;
+        written = changed-contents 0 0 _ _ c.args.slot _ read.0 _ (written_content c.write_from_fn.new.self.content.values) _ c.self.view_is c.write_from_fn.ensures.written refl;
       },
     )
