@@ -50,10 +50,6 @@ use Rattle.iox2_steps.proofs.closes.LeftConnections.{numbers-held}
 
 -- ---- lists of slots
 
-nil-from : (xs : List ℕ) → is_nil xs ≡ true → xs ≡ []
-nil-from [] e = refl
-nil-from (x ∷ xs) e = absurd cc
-
 -- some slot stands in a list that has any
 some-slot : (xs : List ℕ) → is_nil xs ≡ false → (slot : ℕ) × (0 < times slot xs)
 some-slot [] e = absurd cc

@@ -15,7 +15,7 @@ use Rattle.iox2_store.specs.machine.State.{State, is_present, with_mailbox, publ
 use Rattle.iox2_store.specs.machine.Releases.{is_connected, pruned, subscriber_pruned}
 use Rattle.iox2_store.specs.machine.Ports.{mailbox_after_subscriber, subscriber_shut}
 use Rattle.iox2_store.specs.machine.WellFormed.{LeadsTo}
-use Rattle.iox2_laws.proofs.Puts.{put_at-same}
+use Rattle.iox2_laws.proofs.Puts.{put_at-same, put_at-twice}
 use Rattle.iox2_laws.proofs.MailboxLemmas.{has_numbers_dropped, nothing_borrowed}
 use Rattle.iox2_laws.proofs.FilterLemmas.{contains-filter}
 use Rattle.iox2_laws.proofs.PlaceLemmas.{places_kept_keeps}
@@ -69,13 +69,6 @@ filter-agree f g [] same = refl
 filter-agree f g (k ∷ xs) same = by (same k (or_left (eqb k k) (contains xs k) (eq-eqb k k refl))) (filter-agree f g xs (λ l has. same l (or_right (eqb k l) (contains xs l) has))) where
   by : f k ≡ g k → filter f xs ≡ filter g xs → cond (f k) (k ∷ filter f xs) (filter f xs) ≡ cond (g k) (k ∷ filter g xs) (filter g xs)
   by own rest = λ i. cond (own i) (k ∷ rest i) (rest i)
-
--- the later of two writes at one argument is what is left
-pub put_at-twice : {X : Type 0} (f : ℕ → X) (k : ℕ) (x z : X) → put_at (put_at f k x) k z ≡ put_at f k z
-put_at-twice f k x z = fun_ext (λ i. by (eqb i k) i) where
-  by : (b : Bool) (i : ℕ) → cond b z (cond b x (f i)) ≡ cond b z (f i)
-  by true i = refl
-  by false i = refl
 
 -- Nothing waits in the mailbox, in whatever channel.
 abbrev pub HasLost : Mailbox → Type 0

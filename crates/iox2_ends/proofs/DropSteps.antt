@@ -55,9 +55,6 @@ drops-one hs slot c d held r = record {
     in_use : 0 < get_or hs slot 0
     in_use = dropped-in_use hs slot c d held r
 
-pub DropsFrom-same : (hs : List ℕ) (c : Link) → DropsFrom hs c hs c
-DropsFrom-same hs c = record { kept = refl; counters = λ n. refl; shrinks = λ n. omega arith; slots = refl }
-
 -- some slots went, and then others
 pub DropsFrom-trans : (hs hs' hs'' : List ℕ) (a b c : Link) → DropsFrom hs a hs' b → DropsFrom hs' b hs'' c → DropsFrom hs a hs'' c
 DropsFrom-trans hs hs' hs'' a b c x y = record {

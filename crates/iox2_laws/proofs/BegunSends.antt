@@ -1,8 +1,6 @@
 -- A send to one connection is a send that was blocked there before anybody was asked, and that goes on from there.
-use Rattle.std.proofs.Common.{◌≡◌, ◌<◌, ◌≤◌, ℕ, false, cond, Bool, true, eqb, drop, take, refl, sym, ap, subst, ◌∙◌, arith, inl, Option, None, Some}
-use mathlib.Core.Path.{fun_ext}
+use Rattle.std.proofs.Common.{◌≡◌, ◌<◌, ◌≤◌, ℕ, false, drop, take, refl, sym, ap, subst, ◌∙◌, arith, inl, Option, None, Some}
 use Rattle.std.specs.Option.{option_map}
-use Rattle.std.proofs.lemmas.Bool.{eqb-true}
 use Rattle.std.proofs.lemmas.Option.{same_Some}
 use Rattle.iox2_store.specs.machine.Limits.{channel_count}
 use Rattle.iox2_store.specs.machine.Numbers.{put_at, without}
@@ -14,23 +12,9 @@ use Rattle.iox2_store.specs.machine.Delivery.{DeliverIn, DeliveryEnd, Complete, 
 use Rattle.iox2_store.specs.machine.Sends.{SendResult, ConcludeSend, send_blocked, with_mailboxes, DeliverAndConclude, SendToConnection}
 use Rattle.iox2_store.specs.machine.WellFormed.{IsWellFormed}
 use Rattle.iox2_laws.proofs.Cases.{by_option, match_some}
-use Rattle.iox2_laws.proofs.Puts.{put_at-same}
+use Rattle.iox2_laws.proofs.Puts.{put_at-own, put_at-same, put_at-twice}
 use Rattle.iox2_laws.proofs.DeliveryLaws.{Delivered, blocked_keeps}
 use Rattle.iox2_laws.proofs.ConnectionSends.{underway_there}
-
--- a write of what stands there changes nothing
-put_at-own : {X : Type 0} (f : ℕ → X) (k : ℕ) → put_at f k (f k) ≡ f
-put_at-own f k = fun_ext (λ i. by i (eqb i k) refl) where
-  by : (i : ℕ) (b : Bool) → eqb i k ≡ b → cond b (f k) (f i) ≡ f i
-  by i true e = ap f (sym (eqb-true i k e))
-  by i false e = refl
-
--- of two writes at one argument the later is left
-put_at-twice : {X : Type 0} (f : ℕ → X) (k : ℕ) (x z : X) → put_at (put_at f k x) k z ≡ put_at f k z
-put_at-twice f k x z = fun_ext (λ i. by i (eqb i k)) where
-  by : (i : ℕ) (b : Bool) → cond b z (cond b x (f i)) ≡ cond b z (f i)
-  by i true = refl
-  by i false = refl
 
 -- a publisher that is changed twice, where the first change is written over
 changed-twice : (f : ℕ → Option Publisher) (p : ℕ) (g h : Publisher → Publisher) → ((x : Publisher) → h (g x) ≡ h x)

@@ -1,5 +1,6 @@
 -- A function changed at one argument.
-use Rattle.std.proofs.Common.{◌≡◌, ℕ, true, false, cond, refl, sym, subst, eqb, Option, None, Some}
+use Rattle.std.proofs.Common.{◌≡◌, ℕ, Bool, true, false, cond, refl, sym, ap, subst, eqb, Option, None, Some}
+use mathlib.Core.Path.{fun_ext}
 use Rattle.std.specs.Option.{option_map}
 use Rattle.std.proofs.lemmas.Bool.{eqb-true, eq-eqb}
 use Rattle.std.proofs.lemmas.Option.{none-some, same_Some}
@@ -10,6 +11,20 @@ put_at-same f k x = rw (eq-eqb k k refl) refl
 
 pub put_at-other : {X : Type 0} (f : ℕ → X) (k : ℕ) (x : X) (i : ℕ) → eqb i k ≡ false → put_at f k x i ≡ f i
 put_at-other f k x i apart = rw apart refl
+
+-- A write of what stands there changes nothing.
+pub put_at-own : {X : Type 0} (f : ℕ → X) (k : ℕ) → put_at f k (f k) ≡ f
+put_at-own f k = fun_ext (λ i. by i (eqb i k) refl) where
+  by : (i : ℕ) (b : Bool) → eqb i k ≡ b → cond b (f k) (f i) ≡ f i
+  by i true e = ap f (sym (eqb-true i k e))
+  by i false e = refl
+
+-- Of two writes at one argument the later is left.
+pub put_at-twice : {X : Type 0} (f : ℕ → X) (k : ℕ) (x z : X) → put_at (put_at f k x) k z ≡ put_at f k z
+put_at-twice f k x z = fun_ext (λ i. by i (eqb i k)) where
+  by : (i : ℕ) (b : Bool) → cond b z (cond b x (f i)) ≡ cond b z (f i)
+  by i true = refl
+  by i false = refl
 
 -- What holds of the new value at its argument, and of the old ones elsewhere, holds everywhere.
 pub at_each : {X : Type 0} (f : ℕ → X) (k : ℕ) (x : X) (P : ℕ → X → Type 0) (i : ℕ) → (i ≡ k → P k x) → (eqb i k ≡ false → P i (f i)) → P i (put_at f k x i)

@@ -8,7 +8,8 @@ use Rattle.iox2_store.specs.machine.Delivery.{PutResult, Accepted, Skipped, Fail
 use Rattle.iox2_store.specs.declared.service_config.ServiceConfig.{ServiceConfig}
 use Rattle.iox2_store.specs.declared.backpressure.BackpressureStrategy.TheVariants.{DiscardData}
 use Rattle.iox2_store.specs.machine.Environments.{ample_memory}
-use Rattle.iox2_worst_case.proofs.FillingNumbers.{ports_from, ports_from_push, put_at_own}
+use Rattle.iox2_laws.proofs.Puts.{put_at-own}
+use Rattle.iox2_worst_case.proofs.FillingNumbers.{ports_from, ports_from_push}
 
 -- the mailbox after a message came, which it takes where it has room
 abbrev pub taken : (buffer n : ℕ) → Mailbox → Mailbox
@@ -73,7 +74,7 @@ module _ (c : ServiceConfig) (keeps : c.enable_safe_overflow ≡ false) (buffers
       let put : Put ample_memory c 1 DiscardData None buffers n first 0 no_time (Some (buffer_limit c)) (boxes first) h.0 h.2.0 =
       subst (λ (b : Option ℕ). Put ample_memory c 1 DiscardData None buffers n first 0 no_time b (boxes first) h.0 h.2.0) here.0 h.2.1 in
       let skipped : (h.0 ≡ Skipped) × (h.2.0 ≡ boxes first) = put_full first (boxes first) h.0 h.2.0 here.1 put in
-      let same : h.1 ≡ boxes = h.2.2 ∙ ap (put_at boxes first) skipped.1 ∙ put_at_own boxes first in
+      let same : h.1 ≡ boxes = h.2.2 ∙ ap (put_at boxes first) skipped.1 ∙ put_at-own boxes first in
       skip_full (suc first) count (place + 1) (k + 0) rest boxes how boxes' (λ q low high. each q (omega arith) (omega arith))
       (after_skipped place k (ports_from (suc first) count ++ rest) boxes how boxes' _ h.0 h.1 skipped.0 same h.3)
 

@@ -1,11 +1,10 @@
 -- Lists of successive numbers: a history while every message is sent at once, and the places of ports that were made in turn.
-use Rattle.std.proofs.Common.{◌≡◌, ℕ, zero, suc, ◌+◌, ◌*◌, ◌-◌, ◌≤◌, ◌<◌, true, false, cond, List, [], ◌∷◌, ◌++◌, length, drop, min, refl, sym, ap, ◌∙◌, arith, eqb, Option, None, Some, ⊎_elim}
-use Rattle.std.proofs.lemmas.Bool.{true≢false, eqb-true}
+use Rattle.std.proofs.Common.{◌≡◌, ℕ, zero, suc, ◌+◌, ◌*◌, ◌-◌, ◌≤◌, ◌<◌, true, false, List, [], ◌∷◌, ◌++◌, length, drop, min, refl, sym, ap, ◌∙◌, arith, Option, None, Some, ⊎_elim}
+use Rattle.std.proofs.lemmas.Bool.{true≢false}
 use Rattle.std.proofs.lemmas.List.{length-append}
 use Rattle.std.proofs.lemmas.Grind.{flat_map-append}
-use Rattle.std.proofs.Math.Path.{fun_ext}
 use Rattle.std.specs.List.{flat_map}
-use Rattle.iox2_store.specs.machine.Numbers.{contains, last_n, IsOnce, put_at}
+use Rattle.iox2_store.specs.machine.Numbers.{contains, last_n, IsOnce}
 use Rattle.iox2_store.specs.machine.Places.{occupant, occupants, lowest_free, set_place}
 use Rattle.iox2_laws.proofs.NumberLemmas.{contains_in_cons, absent_from}
 
@@ -115,13 +114,6 @@ nobody-ports_from first zero = refl
 nobody-ports_from first (suc count) = nobody-ports_from (suc first) count
 
 -- ---- functions
-
--- a function to which its own value is put is the same
-pub put_at_own : {X : Type 0} (f : ℕ → X) (k : ℕ) → put_at f k (f k) ≡ f
-put_at_own {X} f k = fun_ext (λ i. elim (eqb i k) as (λ b. eqb i k ≡ b → cond b (f k) (f i) ≡ f i) [
-  | true ↦ λ e. ap f (sym (eqb-true i k e))
-  | false ↦ λ e. refl
-] refl)
 
 -- two functions that agree at the numbers of a list give the same lists there
 pub flat_map_agrees : (f g : ℕ → List ℕ) (first count : ℕ) → ((n : ℕ) → first ≤ n → n < first + count → f n ≡ g n)

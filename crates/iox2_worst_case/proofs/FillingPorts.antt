@@ -24,13 +24,13 @@ use Rattle.iox2_store.specs.declared.errors.ConnectionFailure.{ConnectionFailure
 use Rattle.iox2_store.specs.declared.errors.PublisherCreateError.{PublisherCreateError}
 use Rattle.iox2_store.specs.declared.errors.SubscriberCreateError.{SubscriberCreateError}
 use Rattle.iox2_store.specs.declared.warning.Warning.TheVariants.{PublisherPartlyConnected, SubscriberPartlyConnected}
-use Rattle.iox2_laws.proofs.Puts.{put_at-same, at_each}
+use Rattle.iox2_laws.proofs.Puts.{put_at-own, put_at-same, at_each}
 use Rattle.iox2_commands.specs.Outcomes.{Handle, Publisher_handle, Subscriber_handle, Outcome}
 use Rattle.iox2_commands.specs.Step.{Step, after_publisher, after_subscriber, publisher_settings}
 use Rattle.iox2_store.specs.machine.Environments.{ample_memory}
 use Rattle.iox2_commands.specs.declared.command.Command.TheVariants.{CreatePublisher as PublisherCommand, CreateSubscriber as SubscriberCommand}
 use Rattle.iox2_commands.specs.declared.reply.Reply.TheVariants.{PublisherMade, SubscriberMade}
-use Rattle.iox2_worst_case.proofs.FillingNumbers.{numbers_from, recent, lowest_free-ports_from, set_place-ports_from, put_at_own}
+use Rattle.iox2_worst_case.proofs.FillingNumbers.{numbers_from, recent, lowest_free-ports_from, set_place-ports_from}
 use Rattle.iox2_worst_case.proofs.FillingShape.{filler, reader, IsFilling, at_some, at_none, concluded}
 
 -- what holds of the one case, where it is that one
@@ -138,7 +138,7 @@ module _ {T U : Type 0} (c : ServiceConfig) (most available : ℕ) (s : State T 
     subscriber_places =
         ap (λ (places : List (Option ℕ)). set_place places made (Some s.next_port)) f.subscriber_places ∙ set_place-ports_from 2 made s.next_port f.next_port;
     subscribers = subscribers_after;
-    mailboxes = put_at_own (s.mailboxes 1) s.next_port ∙ f.mailboxes;
+    mailboxes = put_at-own (s.mailboxes 1) s.next_port ∙ f.mailboxes;
     channels = λ q.
         let t : State T U = with_receiver_side new s.next_port who side_after in
         at_each (s.channels 1) s.next_port (channels_if_linked t 1 s.next_port) (λ _ k. k ≡ new_channels) q

@@ -34,8 +34,8 @@ use Rattle.iox2_domain.proofs.lemmas.containers.ChangedRecords.{changed-here}
 use Rattle.iox2_domain.proofs.lemmas.containers.ConnectionKeys.{map-set_place}
 use Rattle.iox2_domain.proofs.lemmas.fields.Standing.{expired-gone, leads-among, occupant-receiver_ends, some_is}
 use Rattle.iox2_domain.proofs.lemmas.fields.Views.{held-before}
-use Rattle.iox2_steps.proofs.updates.SenderWalk.{put_at-twice}
 use Rattle.iox2_domain.proofs.lemmas.fields.Parts.{but-of}
+use Rattle.iox2_laws.proofs.Puts.{put_at-twice}
 use Rattle.iox2_steps.proofs.receivers.DepartedEnds.{among}
 use Rattle.iox2_steps.proofs.receivers.LeftEnds.{IsDeparted, LeavesReceiver, left_fields, left-parts, end-expires}
 use Rattle.iox2_steps.proofs.receivers.LeftStates.{left-is, occupants-pushed, occupants-without, same-lead}

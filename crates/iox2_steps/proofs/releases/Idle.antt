@@ -39,7 +39,7 @@ none-waiting number [] [] e = (refl, refl)
 none-waiting number [] (w ∷ ws) e = absurd cc
 none-waiting number (m ∷ ms) ws e = absurd cc
 
-nil-from : (xs : List ℕ) → is_nil xs ≡ true → xs ≡ []
+pub nil-from : (xs : List ℕ) → is_nil xs ≡ true → xs ≡ []
 nil-from [] e = refl
 nil-from (x ∷ xs) e = absurd cc
 

@@ -30,7 +30,7 @@ use Rattle.iox2_domain.proofs.lemmas.fields.KeptChannels.{channels-are}
 use Rattle.iox2_laws.proofs.DeliveryLaws.{Delivered, deliver_is, all_from}
 use Rattle.iox2_laws.proofs.MailboxLemmas.{contains_in_appended}
 use Rattle.iox2_laws.proofs.NumberLemmas.{contains_in_append, contains_in_last_n}
-use Rattle.iox2_laws.proofs.Puts.{put_at-same, put_at-other, at_each, found_put}
+use Rattle.iox2_laws.proofs.Puts.{put_at-same, put_at-other, at_each, found_put, put_at-twice}
 use Rattle.iox2_laws.proofs.SendLaws.{publish_keeps}
 use Rattle.iox2_domain.specs.Ports.{PublisherFields, SubscriberFields}
 use Rattle.iox2_domain.specs.Kept.{Named, Lent_message, Sent_message, state_of, entries_of, is_named, entry_in, KeptMessage}
@@ -64,7 +64,6 @@ use Rattle.iox2_slots.specs.declared.slots.mark.SlotMark.TheVariants.{Sent}
 use Rattle.iox2_domain.specs.declared.publisher_state.BlockedDelivery.{BlockedDelivery}
 use Rattle.iox2_domain.proofs.lemmas.slots.Rebooked.{CanRebook, rebooked, rebooked-parts, rebooked-is, rebooked-entries, rebooked-lone, rebooked-back, rebooked-forth, rebooked-number, rebooked-numbered}
 use Rattle.iox2_steps.proofs.sends.SentSlots.{times-without-one}
-use Rattle.iox2_steps.proofs.updates.SenderWalk.{put_at-twice}
 use mathlib.Core.Path.{fun_ext}
 use Rattle.iox2_domain.proofs.lemmas.fields.KeptBooks.{kept-own}
 use Rattle.iox2_laws.proofs.Cases.{match_some}

@@ -26,7 +26,7 @@ use Rattle.iox2_ends.specs.Reclaims.{Reclaims}
 use Rattle.iox2_ends.proofs.Empties.{still-empty}
 use Rattle.iox2_ends.proofs.MailboxChanges.{within_if_some}
 use Rattle.iox2_laws.proofs.PublisherUpdates.{with_sender_side_keeps}
-use Rattle.iox2_laws.proofs.Puts.{put_at-same}
+use Rattle.iox2_laws.proofs.Puts.{put_at-same, put_at-twice}
 use Rattle.iox2_laws.proofs.SenderSides.{sender_side_begins, performed_keeps}
 use Rattle.iox2_domain.specs.Ports.{PublisherFields}
 use Rattle.iox2_domain.specs.Kept.{state_of, entries_of}
@@ -43,7 +43,6 @@ use Rattle.iox2_domain.proofs.lemmas.slots.ReclaimSteps.{with_reclaimed, reclaim
 use Rattle.iox2_domain.proofs.lemmas.slots.RecountedFields.{same-numbers}
 use Rattle.iox2_steps.proofs.updates.HistoryBounds.{remembered-in_use, remembered-fits}
 use Rattle.iox2_steps.proofs.updates.HistoryHanded.{handed, hands-out}
-use Rattle.iox2_steps.proofs.updates.SenderWalk.{put_at-twice}
 
 -- ---- slots are reclaimed, and the history goes out
 

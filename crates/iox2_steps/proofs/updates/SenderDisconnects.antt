@@ -21,7 +21,7 @@ use Rattle.iox2_ends.proofs.LookUps.{look_up-there}
 use Rattle.iox2_ends.proofs.MailboxChanges.{mailbox-there}
 use Rattle.iox2_ends.specs.LookUp.{look_up}
 use Rattle.iox2_laws.proofs.PublisherUpdates.{with_sender_side_keeps}
-use Rattle.iox2_laws.proofs.Puts.{put_at-same}
+use Rattle.iox2_laws.proofs.Puts.{put_at-same, put_at-twice}
 use Rattle.iox2_laws.proofs.SenderSides.{SenderSideIsWellFormed, sender_side_begins, unused_keeps}
 use Rattle.iox2_domain.specs.Ports.{PublisherFields, SubscriberFields}
 use Rattle.iox2_domain.specs.Kept.{Named, state_of, is_named}
@@ -38,7 +38,6 @@ use Rattle.iox2_domain.proofs.lemmas.fields.ConnectionEnds.{publisher-stands}
 use Rattle.iox2_domain.proofs.lemmas.fields.Standing.{place-within}
 use Rattle.iox2_domain.proofs.lemmas.fields.Views.{mailboxes-are, unblocked}
 use Rattle.iox2_steps.proofs.updates.SenderLeft.{LeavesEmpty, left-is, left-agrees, left-follows}
-use Rattle.iox2_steps.proofs.updates.SenderWalk.{put_at-twice}
 use Rattle.iox2_steps.proofs.updates.WaitingDropped.{dropped_fields, dropped-reaches, dropped-side, dropped-well, end-own, end-leads}
 
 -- No subscriber stands that has this id.

@@ -1,5 +1,5 @@
 -- A publisher's update, over the subscribers' places.
-use Rattle.std.proofs.Common.{◌≡◌, ℕ, zero, suc, ◌+◌, ◌<◌, ◌≤◌, ◌==◌, true, false, Bool, cond, List, [], ◌∷◌, length, drop, get_or, refl, ap, sym, subst, ◌∙◌}
+use Rattle.std.proofs.Common.{◌≡◌, ℕ, zero, suc, ◌+◌, ◌<◌, ◌≤◌, true, false, Bool, List, [], ◌∷◌, length, drop, get_or, refl, ap, sym, subst, ◌∙◌}
 use Rattle.std.proofs.lemmas.List.{drop_more, drop_all}
 use Rattle.std.specs.declared.option.Option.{Option}
 use Rattle.std.specs.declared.option.Option.TheVariants.{None, Some}
@@ -11,16 +11,9 @@ use Rattle.iox2_store.specs.machine.PublisherUpdate.{history_for, SenderSide, Up
 use Rattle.iox2_store.specs.machine.Records.{Publisher, Subscriber, Environment}
 use Rattle.iox2_store.specs.machine.State.{sender_channels_reset, State, receiving_buffer, has_receiver_end}
 use Rattle.iox2_store.specs.declared.errors.ConnectionFailure.{ConnectionFailure}
-use Rattle.iox2_laws.proofs.Puts.{put_at-same}
+use Rattle.iox2_laws.proofs.Puts.{put_at-same, put_at-twice}
 use Rattle.iox2_steps.proofs.updates.SenderActions.{update-histories}
 use mathlib.Core.Path.{fun_ext}
-
--- a function that is written twice
-pub put_at-twice : {X : Type 0} (f : ℕ → X) (k : ℕ) (x y : X) → put_at (put_at f k x) k y ≡ put_at f k y
-put_at-twice f k x y = fun_ext (λ i. by (i == k) (f i)) where
-  by : (b : Bool) (z : _) → cond b y (cond b x z) ≡ cond b y z
-  by true z = refl
-  by false z = refl
 
 -- both ways to ask who stands at a place
 pub occupant-get_or : (xs : List (Option ℕ)) (i : ℕ) → get_or xs i None ≡ occupant xs i
