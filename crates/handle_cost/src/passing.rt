@@ -1,10 +1,11 @@
 //! Messages of bytes pass by handles.
-ghost use Rattle.std.specs.Prelude.{◌≡◌, IfOk, IfSome};
+ghost use Rattle.std.specs.Prelude.{IfOk, IfSome};
 ghost use Rattle.iox2_pubsub.specs.Live.{IsLivePublisher, IsLiveSample, IsLiveSubscriber, IsNewIn, IsWrittenLoan, Stays, StaysBut, received_sample, written_loan};
+ghost use Rattle.slice_passing.specs.Slices.{PassesSlices};
 ghost use Rattle.iox2_pubsub.specs.Handles.{as_publisher, as_sample, as_subscriber, as_written};
 
 use iox2_pubsub::slice::{Publisher, Sample, SampleMut, Subscriber};
-use iox2_pubsub::{Domain, LoanError, ReceiveError, TypeVariant};
+use iox2_pubsub::{Domain, LoanError, ReceiveError};
 use slice_passing::Steps;
 
 /// Passes bytes by the calls below.
@@ -12,12 +13,7 @@ pub struct ByHandles {}
 
 impl Steps<u8> for ByHandles {
     // The bytes are zeros.
-    fn pass(
-        domain: &mut Domain<u8, ()>,
-        publisher: &Publisher,
-        bytes: usize,
-        _: u64,
-    ) -> Option<()> {
+    fn pass(domain: &mut Domain<u8, ()>, publisher: &Publisher, bytes: usize) -> Option<()> {
         let message = loan(domain, publisher, bytes).ok()?;
         send(domain, message)?;
         Some(())
@@ -39,8 +35,7 @@ fn loan(
     publisher: &Publisher,
     bytes: usize,
 ) -> Result<SampleMut, LoanError>
-    requires dynamic { (domain.old.config).variant ≡ TypeVariant.Dynamic }
-    requires one_unit { (domain.old.config).units_per_element ≡ 1 }
+    requires slices { PassesSlices domain.old }
     requires publisher { IsLivePublisher domain.old (as_publisher publisher.now) }
     ensures live { IfOk result (λ loan. IsWrittenLoan domain.new (as_written loan)) }
     ensures new { IfOk result (λ loan. IsNewIn domain.old (written_loan (as_written loan))) }

@@ -1,6 +1,7 @@
 //! Messages pass from a publisher to a subscriber, each of which keeps many.
 ghost use Rattle.std.specs.Prelude.{◌≤◌, IfSome};
 ghost use Rattle.iox2_pubsub.specs.Live.{IsLivePublisher, IsLiveSample, IsLiveSubscriber, IsSingleValued, IsUnblocked, IsWritten, Stays, written_key};
+ghost use Rattle.kept_cost.specs.Ports.{HasPorts};
 
 use crate::kept::Kept;
 use iox2_pubsub::{
@@ -58,9 +59,7 @@ fn pass_all(
     kept: Kept,
     rounds: u64,
 ) -> u64
-    requires single_valued { IsSingleValued domain.old }
-    requires publisher { IsLivePublisher domain.old publisher.now }
-    requires subscriber { IsLiveSubscriber domain.old subscriber.now }
+    requires ports { HasPorts domain.old publisher.now subscriber.now }
     ensures { result ≤ rounds }
 {
     let mut kept = kept;
@@ -88,12 +87,8 @@ fn send_oldest(
     oldest: Option<LoanParts>,
     value: u64,
 )
-    requires single_valued { IsSingleValued domain.old }
-    requires publisher { IsLivePublisher domain.old publisher.now }
-    requires subscriber { IsLiveSubscriber domain.old subscriber.now }
-    ensures single_valued { IsSingleValued domain.new }
-    ensures publisher { IsLivePublisher domain.new publisher.now }
-    ensures subscriber { IsLiveSubscriber domain.new subscriber.now }
+    requires ports { HasPorts domain.old publisher.now subscriber.now }
+    ensures { HasPorts domain.new publisher.now subscriber.now }
 {
     let Some(oldest) = oldest else {
         return;
@@ -116,12 +111,8 @@ fn release_oldest(
     subscriber: &Subscriber,
     oldest: Option<SampleParts>,
 ) -> bool
-    requires single_valued { IsSingleValued domain.old }
-    requires publisher { IsLivePublisher domain.old publisher.now }
-    requires subscriber { IsLiveSubscriber domain.old subscriber.now }
-    ensures single_valued { IsSingleValued domain.new }
-    ensures publisher { IsLivePublisher domain.new publisher.now }
-    ensures subscriber { IsLiveSubscriber domain.new subscriber.now }
+    requires ports { HasPorts domain.old publisher.now subscriber.now }
+    ensures { HasPorts domain.new publisher.now subscriber.now }
 {
     let Some(oldest) = oldest else {
         return false;
@@ -153,12 +144,8 @@ fn send(
 )
     requires written { IsWritten domain.old message }
     requires unblocked { IsUnblocked domain.old (written_key message) }
-    requires single_valued { IsSingleValued domain.old }
-    requires publisher { IsLivePublisher domain.old publisher.now }
-    requires subscriber { IsLiveSubscriber domain.old subscriber.now }
-    ensures single_valued { IsSingleValued domain.new }
-    ensures publisher { IsLivePublisher domain.new publisher.now }
-    ensures subscriber { IsLiveSubscriber domain.new subscriber.now }
+    requires ports { HasPorts domain.old publisher.now subscriber.now }
+    ensures { HasPorts domain.new publisher.now subscriber.now }
 {
     let Ok(outcome) = message.send(domain) else {
         return;
@@ -185,12 +172,8 @@ fn release(
     sample: Sample,
 )
     requires live { IsLiveSample domain.old sample }
-    requires single_valued { IsSingleValued domain.old }
-    requires publisher { IsLivePublisher domain.old publisher.now }
-    requires subscriber { IsLiveSubscriber domain.old subscriber.now }
-    ensures single_valued { IsSingleValued domain.new }
-    ensures publisher { IsLivePublisher domain.new publisher.now }
-    ensures subscriber { IsLiveSubscriber domain.new subscriber.now }
+    requires ports { HasPorts domain.old publisher.now subscriber.now }
+    ensures { HasPorts domain.new publisher.now subscriber.now }
 {
     sample.release(domain);
 }

@@ -1,26 +1,21 @@
 //! Slices pass, each of whose elements is one value.
 ghost use Rattle.std.specs.Prelude.{◌≡◌, IfSome};
 ghost use Rattle.iox2_pubsub.specs.Live.{IsLivePublisher, IsLiveSubscriber, IsNewIn, IsUnwrittenLoan, IsWrittenLoan, Stays, StaysBut, unwritten_key, unwritten_loan, written_key, written_loan};
-ghost use Rattle.iox2_pubsub.specs.Slices.{IsSliced};
+ghost use Rattle.slice_passing.specs.Slices.{PassesSlices};
 ghost use Rattle.iox2_pubsub.specs.Handles.{as_publisher, as_subscriber, as_unwritten, as_written};
 
+use iox2_pubsub::Domain;
 use iox2_pubsub::slice::{Publisher, SampleMut, SampleMutUninit, Subscriber};
-use iox2_pubsub::{Domain, TypeVariant};
 use slice_passing::Steps;
 
 /// Passes slices by the steps below.
 pub struct BySteps {}
 
 impl Steps<u64> for BySteps {
-    // Each element is how many slices were sent before.
-    fn pass(
-        domain: &mut Domain<u64, ()>,
-        publisher: &Publisher,
-        elements: usize,
-        earlier: u64,
-    ) -> Option<()> {
+    // Each element is the length.
+    fn pass(domain: &mut Domain<u64, ()>, publisher: &Publisher, elements: usize) -> Option<()> {
         let loan = lend(domain, publisher, elements)?;
-        let message = write(domain, loan, earlier);
+        let message = write(domain, loan, elements as u64);
         send(domain, message)
     }
 
@@ -37,9 +32,7 @@ fn lend(
     publisher: &Publisher,
     elements: usize,
 ) -> Option<SampleMutUninit>
-    requires dynamic { (domain.old.config).variant ≡ TypeVariant.Dynamic }
-    requires one_unit { (domain.old.config).units_per_element ≡ 1 }
-    requires sliced { IsSliced domain.old }
+    requires slices { PassesSlices domain.old }
     requires publisher { IsLivePublisher domain.old (as_publisher publisher.now) }
     ensures live { IfSome result (λ loan. IsUnwrittenLoan domain.new (as_unwritten loan)) }
     ensures new { IfSome result (λ loan. IsNewIn domain.old (unwritten_loan (as_unwritten loan))) }
@@ -50,7 +43,7 @@ fn lend(
 
 #[inline(never)]
 fn write(domain: &mut Domain<u64, ()>, loan: SampleMutUninit, value: u64) -> SampleMut
-    requires sliced { IsSliced domain.old }
+    requires slices { PassesSlices domain.old }
     requires loan { IsUnwrittenLoan domain.old (as_unwritten loan) }
     ensures live { IsWrittenLoan domain.new (as_written result) }
     ensures key { written_key (as_written result) ≡ unwritten_key (as_unwritten loan) }
@@ -71,7 +64,7 @@ fn send(domain: &mut Domain<u64, ()>, message: SampleMut) -> Option<()>
 // Receives a slice, and gives it back. Returns how many elements it had.
 #[inline(never)]
 fn receive(domain: &mut Domain<u64, ()>, subscriber: &Subscriber) -> Option<usize>
-    requires sliced { IsSliced domain.old }
+    requires slices { PassesSlices domain.old }
     requires subscriber { IsLiveSubscriber domain.old (as_subscriber subscriber.now) }
     ensures { Stays domain.old domain.new }
 {

@@ -1,6 +1,6 @@
-ghost use Rattle.std.specs.Prelude.{◌≡◌, ◌≤◌, IfSome};
+ghost use Rattle.std.specs.Prelude.{◌≤◌, IfSome};
 ghost use Rattle.iox2_pubsub.specs.Live.{IsLivePublisher, IsLiveSubscriber, Stays};
-ghost use Rattle.iox2_pubsub.specs.Slices.{IsSliced};
+ghost use Rattle.slice_passing.specs.Slices.{PassesSlices};
 ghost use Rattle.iox2_pubsub.specs.Handles.{as_publisher, as_subscriber};
 
 use iox2_pubsub::slice::{Publisher, Subscriber};
@@ -9,22 +9,15 @@ use std::alloc::Global;
 
 /// The calls by which a bench passes one slice of these elements.
 pub trait Steps<T: Drop> {
-    /// Sends one slice of so many elements, after so many others. `None` where it isn't lent or sent.
-    fn pass(
-        domain: &mut Domain<T, ()>,
-        publisher: &Publisher,
-        elements: usize,
-        earlier: u64,
-    ) -> Option<()>
-        requires dynamic { (domain.old.config).variant ≡ TypeVariant.Dynamic }
-        requires one_unit { (domain.old.config).units_per_element ≡ 1 }
-        requires sliced { IsSliced domain.old }
+    /// Sends one slice of so many elements. `None` where it isn't lent or sent.
+    fn pass(domain: &mut Domain<T, ()>, publisher: &Publisher, elements: usize) -> Option<()>
+        requires slices { PassesSlices domain.old }
         requires publisher { IsLivePublisher domain.old (as_publisher publisher.now) }
         ensures { Stays domain.old domain.new };
 
     /// Receives a slice, and gives it back. Returns how many elements it had.
     fn take(domain: &mut Domain<T, ()>, subscriber: &Subscriber) -> Option<usize>
-        requires sliced { IsSliced domain.old }
+        requires slices { PassesSlices domain.old }
         requires subscriber { IsLiveSubscriber domain.old (as_subscriber subscriber.now) }
         ensures { Stays domain.old domain.new };
 }
@@ -56,9 +49,7 @@ fn pass_to<T: Drop, S: Steps<T>>(
     elements: usize,
     messages: u64,
 ) -> Option<u64>
-    requires dynamic { (domain.old.config).variant ≡ TypeVariant.Dynamic }
-    requires one_unit { (domain.old.config).units_per_element ≡ 1 }
-    requires sliced { IsSliced domain.old }
+    requires slices { PassesSlices domain.old }
     requires subscriber { IsLiveSubscriber domain.old (as_subscriber subscriber.now) }
     ensures { IfSome result (λ arrived. arrived ≤ messages) }
 {
@@ -81,16 +72,14 @@ fn pass_all<T: Drop, S: Steps<T>>(
     elements: usize,
     messages: u64,
 ) -> u64
-    requires dynamic { (domain.old.config).variant ≡ TypeVariant.Dynamic }
-    requires one_unit { (domain.old.config).units_per_element ≡ 1 }
-    requires sliced { IsSliced domain.old }
+    requires slices { PassesSlices domain.old }
     requires publisher { IsLivePublisher domain.old (as_publisher publisher.now) }
     requires subscriber { IsLiveSubscriber domain.old (as_subscriber subscriber.now) }
     ensures { result ≤ messages }
 {
     let mut arrived = 0;
-    for earlier in 0..messages {
-        let is_sent = S::pass(domain, publisher, elements, earlier).is_some();
+    for passed in 0..messages {
+        let is_sent = S::pass(domain, publisher, elements).is_some();
         if is_sent && S::take(domain, subscriber) == Some(elements) {
             arrived += 1;
         }
