@@ -1,16 +1,31 @@
 //! Messages of a caller's own bytes.
+ghost use Rattle.std.specs.Prelude.{◌≡◌, true};
 ghost use Rattle.iox2_store.specs.declared.service_config.TypeVariant.TheVariants.{Dynamic};
 ghost use Rattle.iox2_pubsub.specs.Slices.{IsSliced};
 
-use crate::tests::fixtures::{Bytes, byte_domain, send_slice, slice_publisher, slice_subscriber};
+use crate::tests::fixtures::{send_slice, slice_publisher, slice_subscriber};
 use iox2_fixtures::slices;
-use iox2_pubsub::CustomPayloadMarker;
-use iox2_store::{LoanError, TypeVariant};
+use iox2_pubsub::{CustomHeaderMarker, CustomPayloadMarker, Domain};
+use iox2_store::{LoanError, ServiceConfig, TypeVariant};
 use std::process::Abort;
+
+// The settings of a domain of elements of 40 bytes each.
+fn bytes() -> ServiceConfig
+    ensures variant { result.variant ≡ Dynamic }
+    ensures lists_cells { result.lists_cells ≡ true }
+{
+    ServiceConfig {
+        units_per_element: 40,
+        ..slices()
+    }
+}
 
 #[test]
 fn an_element_has_many_bytes(rt: HostRuntime) {
-    let mut domain = byte_domain(&rt, rt.alloc(), slices());
+    let mut domain: Domain<CustomPayloadMarker, CustomHeaderMarker> = Domain::new(
+        rt.alloc(),
+        bytes(),
+    ).expect(&rt, "a domain");
     let subscriber = slice_subscriber(&rt, &mut domain);
     let publisher = slice_publisher(&rt, &mut domain, 3);
     let longer = publisher.loan_custom_payload(&mut domain, 4);
@@ -44,7 +59,7 @@ fn an_element_has_many_bytes(rt: HostRuntime) {
 }
 
 // Asserts that messages are slices.
-fn assert_dynamic(rt: &impl Abort, domain: &Bytes)
+fn assert_dynamic(rt: &impl Abort, domain: &Domain<CustomPayloadMarker, CustomHeaderMarker>)
     ensures { IsSliced domain.now }
 {
     let config = domain.config();
