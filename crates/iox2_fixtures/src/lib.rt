@@ -6,10 +6,10 @@ ghost use Rattle.iox2_store.specs.Defaults.{default_config};
 ghost use Rattle.iox2_store.specs.declared.degradation.DegradationAction.TheVariants.{Warn};
 ghost use Rattle.iox2_store.specs.machine.Records.{Fixed};
 ghost use Rattle.iox2_store.specs.declared.service_config.TypeVariant.TheVariants.{Dynamic};
-ghost use Rattle.iox2_pubsub.specs.Live.{IsLivePublisher, IsLiveSubscriber, IsSingleValued, Stays};
+ghost use Rattle.iox2_pubsub.specs.Live.{IsLivePublisher, IsLiveSubscriber, IsReadyPublisher, IsSingleValued, Stays};
 ghost use Rattle.iox2_pubsub.specs.Slices.{HoldsSlices, IsSliced};
 
-use iox2_pubsub::{Domain, PortFactoryPublisher, Publisher, SendOutcome, Subscriber};
+use iox2_pubsub::{Domain, PortFactoryPublisher, Publisher, SendOutcome, Subscriber, slice};
 use iox2_store::{BackpressureStrategy, Key, ReceiveError, ServiceConfig, TypeVariant};
 use std::io;
 use std::time::{CpuClock, Duration};
@@ -94,6 +94,16 @@ pub fn smallest() -> ServiceConfig
     }
 }
 
+/// The same as `settings`, with messages that are slices.
+pub fn slices() -> ServiceConfig
+    ensures { result ≡ record (default_config 7) { variant = Dynamic; node_id = 3; max_publishers = 1; max_subscribers = 1; enable_safe_overflow = false } }
+{
+    ServiceConfig {
+        variant: TypeVariant::Dynamic,
+        ..settings()
+    }
+}
+
 /// The same key in another service.
 pub fn elsewhere(key: Key) -> Key {
     Key {
@@ -153,6 +163,59 @@ pub fn receiver_count(outcome: SendOutcome) -> Option<usize> {
             None
         }
     }
+}
+
+/// Whether messages are single values of one unit.
+pub fn is_single_valued<T: Drop, U: Default + Drop>(domain: &Domain<T, U>) -> bool
+    ensures { IsTrue result → IsSingleValued domain.now }
+{
+    let config = domain.config();
+    matches!(config.variant, TypeVariant::FixedSize) && config.units_per_element == 1
+}
+
+/// Whether the publisher is one of the domain's, and has no blocked send.
+pub fn is_ready<T: Drop, U: Default + Drop>(domain: &Domain<T, U>, publisher: &Publisher) -> bool
+    ensures { IsTrue result → IsReadyPublisher domain.now publisher.now }
+{
+    publisher.is_in(domain) && !publisher.is_blocked(domain)
+}
+
+/// The same of a publisher of slices.
+pub fn is_slice_publisher_ready<T: Drop, U: Default + Drop>(
+    domain: &Domain<T, U>,
+    publisher: &slice::Publisher,
+) -> bool
+    ensures { IsTrue result → IsReadyPublisher domain.now publisher.now.publisher }
+{
+    publisher.is_in(domain) && !publisher.is_blocked(domain)
+}
+
+/// Closes the publisher, if it is one of the domain's and has no blocked send. Returns whether it was.
+pub fn close_publisher<T: Drop, U: Default + Drop>(
+    domain: &mut Domain<T, U>,
+    publisher: Publisher,
+) -> bool {
+    let can_close = is_ready(domain, &publisher);
+    if can_close {
+        publisher.close(domain);
+    } else {
+        publisher.disown();
+    }
+    can_close
+}
+
+/// Closes the subscriber, if it is one of the domain's. Returns whether it was.
+pub fn close_subscriber<T: Drop, U: Default + Drop>(
+    domain: &mut Domain<T, U>,
+    subscriber: Subscriber,
+) -> bool {
+    let can_close = subscriber.is_in(domain);
+    if can_close {
+        subscriber.close(domain);
+    } else {
+        subscriber.disown();
+    }
+    can_close
 }
 
 /// Whether messages are slices of elements of one unit.

@@ -3,7 +3,6 @@ mod changing_ports;
 mod plan;
 mod ports;
 mod streams;
-mod warnings;
 
 use script_runner::{Ending, ScriptError, script};
 use std::alloc::Global;
@@ -97,13 +96,6 @@ const DOMAINS_ALONE: [&[u8]; 3] = [
     b"  domain   01 001 0 0 00 18446744073709551615 keep \r\n",
 ];
 
-#[test]
-fn a_domain_line_alone_prints_nothing(rt: HostRuntime) {
-    for text in DOMAINS_ALONE {
-        Outcome::of(rt.alloc(), text).assert(&rt, 0, b"", b"");
-    }
-}
-
 /// Scripts whose first line makes no domain.
 const WITHOUT_A_DOMAIN: [&[u8]; 22] = [
     b"",
@@ -129,13 +121,6 @@ const WITHOUT_A_DOMAIN: [&[u8]; 22] = [
     b"domain 1 1 1 1 x 0 keep\n",
     b"\nsub x\n",
 ];
-
-#[test]
-fn the_first_line_is_a_domain_line(rt: HostRuntime) {
-    for text in WITHOUT_A_DOMAIN {
-        Outcome::of(rt.alloc(), text).assert(&rt, 2, b"", b"line 1: bad command\n");
-    }
-}
 
 /// Lines of which none is a command.
 const MALFORMED_LINES: [&[u8]; 69] = [
@@ -211,20 +196,9 @@ const MALFORMED_LINES: [&[u8]; 69] = [
     b"shut 1",
 ];
 
-#[test]
-fn a_malformed_line_is_named(rt: HostRuntime) -> Result<(), Fail> {
-    for line in MALFORMED_LINES {
-        let mut text = Vec::new(rt.alloc());
-        text.extend_from_slice(b"domain 1 1 1 1 0 0 keep\nsub 1\r\n")?;
-        text.extend_from_slice(line)?;
-        text.extend_from_slice(b"\r\nsub x")?;
-        Outcome::of(rt.alloc(), text.as_slice()).assert(&rt, 2, b"", b"line 3: bad command\n");
-    }
-    Ok(())
-}
-
-/// Each has a word that names nothing, a word too many, or a number too large.
-const MALFORMED: [&[u8]; 8] = [
+/// Scripts whose second line has a word that names nothing, a word too many, or a number too large. The
+/// last has its carriage return, since no line feed follows.
+const MALFORMED: [&[u8]; 10] = [
     b"domain 1 1 1 1 0 1 keep\npub 1 discard static 1 most warn\n",
     b"domain 1 1 1 1 0 1 keep\npub 1 discard static 1 most warn most\n",
     b"domain 1 1 1 1 0 1 keep\nsub most most\n",
@@ -233,28 +207,9 @@ const MALFORMED: [&[u8]; 8] = [
     b"domain 1 1 1 1 0 1 keep\nset 1 0\n",
     b"domain 1 1 1 1 0 1 keep\ncell 1 0 18446744073709551616\n",
     b"domain 1 1 1 1 0 1 keep\nnothing 1\n",
-];
-
-#[test]
-fn a_line_has_all_its_words(rt: HostRuntime) {
-    for text in MALFORMED {
-        Outcome::of(rt.alloc(), text).assert(&rt, 2, b"", b"line 2: bad command\n");
-    }
-}
-
-/// Scripts whose second line is no command.
-const MALFORMED_SECOND_LINES: [&[u8]; 2] = [
     b"domain 1 1 1 1 0 0 keep\nsub x\n",
     b"domain 1 1 1 1 0 0 keep\nloan 0\r",
 ];
-
-// The second has its carriage return, since no line feed follows.
-#[test]
-fn the_line_after_the_domain_is_the_second(rt: HostRuntime) {
-    for text in MALFORMED_SECOND_LINES {
-        Outcome::of(rt.alloc(), text).assert(&rt, 2, b"", b"line 2: bad command\n");
-    }
-}
 
 /// Scripts of one command, whose number names nothing.
 const NAMING_NOTHING: [&[u8]; 14] = [
@@ -274,11 +229,52 @@ const NAMING_NOTHING: [&[u8]; 14] = [
     b"domain 1 1 1 1 0 0 keep\nclose 1",
 ];
 
-#[test]
-fn a_number_that_names_nothing_is_skipped(rt: HostRuntime) {
-    for text in NAMING_NOTHING {
-        Outcome::of(rt.alloc(), text).assert(&rt, 0, b"skipped\n", b"");
+/// Asserts the status of each script, and what is printed of it.
+fn assert_each(
+    rt: &impl Abort,
+    alloc: Global,
+    texts: &[&[u8]],
+    status: u8,
+    replies: &[u8],
+    errors: &[u8],
+) {
+    for text in texts {
+        Outcome::of(alloc, text).assert(rt, status, replies, errors);
     }
+}
+
+#[test]
+fn a_script_is_carried_out_or_its_bad_line_is_named(rt: HostRuntime) {
+    assert_each(&rt, rt.alloc(), &DOMAINS_ALONE, 0, b"", b"");
+    assert_each(
+        &rt,
+        rt.alloc(),
+        &WITHOUT_A_DOMAIN,
+        2,
+        b"",
+        b"line 1: bad command\n",
+    );
+    assert_each(
+        &rt,
+        rt.alloc(),
+        &MALFORMED,
+        2,
+        b"",
+        b"line 2: bad command\n",
+    );
+    assert_each(&rt, rt.alloc(), &NAMING_NOTHING, 0, b"skipped\n", b"");
+}
+
+#[test]
+fn a_malformed_line_is_named(rt: HostRuntime) -> Result<(), Fail> {
+    for line in MALFORMED_LINES {
+        let mut text = Vec::new(rt.alloc());
+        text.extend_from_slice(b"domain 1 1 1 1 0 0 keep\nsub 1\r\n")?;
+        text.extend_from_slice(line)?;
+        text.extend_from_slice(b"\r\nsub x")?;
+        Outcome::of(rt.alloc(), text.as_slice()).assert(&rt, 2, b"", b"line 3: bad command\n");
+    }
+    Ok(())
 }
 
 #[test]
@@ -340,13 +336,36 @@ fn the_output_is_flushed(rt: HostRuntime) {
     );
 }
 
+/// Scripts for which errors are told that don't find room: a line that is bad, and a second warning.
+const WITH_ERRORS: [(&[u8], usize, Ending, u8, &[u8]); 2] = [
+    (
+        b"bad",
+        5,
+        Ending::Unreported(ScriptError::BadCommand(1)),
+        2,
+        b"",
+    ),
+    (
+        b"domain 1 2 1 1 0 0 keep\nsub 1\nsub 1\n",
+        30,
+        Ending::Unwarned,
+        0,
+        b"ok\nok\n",
+    ),
+];
+
 #[test]
 fn a_fault_of_the_errors_changes_nothing(rt: HostRuntime) {
-    let mut input = b"bad".as_slice();
-    let mut replies = Vec::new(rt.alloc());
-    let mut errors = Narrow::new(5);
-    let ending = script(rt.alloc(), &mut input, &mut replies, &mut errors);
-    assert!(rt; ending == Ending::Unreported(ScriptError::BadCommand(1)));
-    assert_eq!(rt; ending.status(), 2);
-    assert_eq!(rt; replies.as_slice(), b"".as_slice());
+    for (text, room, expected, status, printed) in WITH_ERRORS {
+        let mut input = text;
+        let mut replies = Vec::new(rt.alloc());
+        let mut errors = Narrow::new(room);
+        let ending = script(rt.alloc(), &mut input, &mut replies, &mut errors);
+        assert!(rt;
+            ending == expected && ending.status() == status,
+            "with room for {room}"
+        );
+        assert_eq!(rt; replies.as_slice(), printed, "with room for {room}");
+        assert_eq!(rt; errors.room(), 0, "with room for {room}");
+    }
 }

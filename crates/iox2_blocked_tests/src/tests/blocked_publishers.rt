@@ -3,10 +3,9 @@ ghost use Rattle.std.specs.Prelude.{◌≡◌};
 ghost use Rattle.iox2_pubsub.specs.Live.{IsSingleValued, IsUnwritten, IsWritten, StaysBut, unwritten_loan, written_loan};
 
 use crate::tests::waiting_publishers::{
-    assert_blocked, assert_ready, assert_single_valued, blocked, deliver, delivered, next_reading,
-    subscriber_of, waiting_domain, waiting_publisher,
+    assert_blocked, blocked, deliver, delivered, next_reading, waiting_ports,
 };
-use iox2_fixtures::{Reading, Weather};
+use iox2_fixtures::{Reading, Weather, is_ready, is_single_valued};
 use iox2_pubsub::{BlockedSend, Publisher, SampleMut, SampleMutUninit};
 use std::process::Abort;
 use std::time::Duration;
@@ -52,8 +51,8 @@ fn block_beside_a_loan(
     ensures single_valued { IsSingleValued domain.new }
     ensures loan { IsUnwritten domain.new result.1 }
 {
-    assert_single_valued(rt, domain);
-    assert_ready(rt, domain, publisher);
+    assert!(rt; is_single_valued(domain));
+    assert!(rt; is_ready(domain, publisher));
     let loan = publisher.loan_uninit(domain).expect(rt, "a loan");
     let later = publisher.loan_uninit(domain).expect(rt, "a loan");
     let message = loan.write_payload(domain, Reading { celsius });
@@ -72,23 +71,19 @@ fn send_message(rt: &impl Abort, domain: &mut Weather, message: SampleMut) -> us
 // has ended.
 #[test]
 fn a_loan_of_a_blocked_publisher_is_written(rt: HostRuntime) {
-    let mut domain = waiting_domain(&rt, rt.alloc());
-    let subscriber = subscriber_of(&rt, &mut domain, 1);
-    let publisher = waiting_publisher(&rt, &mut domain);
-    let first = deliver(&rt, &mut domain, &publisher, 20);
-    let (waiting, later) = block_beside_a_loan(&rt, &mut domain, &publisher, 21);
-    publisher.disown();
-    let (message, station) = write_and_change(&mut domain, later, 23, 5);
-    let before = message.is_blocked(&domain);
-    let read = next_reading(&rt, &mut domain, &subscriber);
-    assert_blocked(&rt, &domain, &waiting);
-    let second = delivered(&rt, waiting.retry(&mut domain, Duration::ZERO));
-    let then = next_reading(&rt, &mut domain, &subscriber);
-    let after = message.is_blocked(&domain);
-    let third = send_message(&rt, &mut domain, message);
-    let last = next_reading(&rt, &mut domain, &subscriber);
-    subscriber.disown();
-    drop(domain);
+    let mut ports = waiting_ports(&rt, rt.alloc());
+    let first = deliver(&rt, &mut ports.domain, &ports.publisher, 20);
+    let (waiting, later) = block_beside_a_loan(&rt, &mut ports.domain, &ports.publisher, 21);
+    let (message, station) = write_and_change(&mut ports.domain, later, 23, 5);
+    let before = message.is_blocked(&ports.domain);
+    let read = next_reading(&rt, &mut ports.domain, &ports.subscriber);
+    assert_blocked(&rt, &ports.domain, &waiting);
+    let second = delivered(&rt, waiting.retry(&mut ports.domain, Duration::ZERO));
+    let then = next_reading(&rt, &mut ports.domain, &ports.subscriber);
+    let after = message.is_blocked(&ports.domain);
+    let third = send_message(&rt, &mut ports.domain, message);
+    let last = next_reading(&rt, &mut ports.domain, &ports.subscriber);
+    ports.end();
     assert!(rt; [first, second, third] == [1, 1, 1]);
     assert!(rt; station == 5);
     assert!(rt; [before, after] == [true, false]);

@@ -1,8 +1,8 @@
 //! Sends that wait for a full subscriber are tried again and given up.
 use crate::tests::waiting_publishers::{
-    assert_ready, assert_single_valued, block, blocked, blocked_again, close_publisher,
-    close_subscriber, deliver, delivered, delivered_at_last, given_up, has_blocked_send,
-    next_reading, subscriber_of, waiting_domain, waiting_publisher,
+    blocked, blocked_again, blocked_ports, deliver, delivered, delivered_at_last, given_up,
+    has_blocked_send, message_of, next_reading, subscriber_of, waiting_domain, waiting_ports,
+    waiting_publisher,
 };
 use iox2_fixtures::{Reading, Weather, elsewhere};
 use iox2_pubsub::{BlockedSend, LoanParts, Publisher};
@@ -36,35 +36,29 @@ fn block_a_loan(
     publisher: &Publisher,
     celsius: u64,
 ) -> (Key, BlockedSend) {
-    assert_single_valued(rt, domain);
-    assert_ready(rt, domain, publisher);
-    let loan = publisher.loan_uninit(domain).expect(rt, "a loan");
-    let key = loan.key();
-    let message = loan.write_payload(domain, Reading { celsius });
+    let message = message_of(rt, domain, publisher, celsius);
+    let key = message.key();
+    assert!(rt; !message.is_blocked(domain));
     (key, blocked(rt, message.send(domain)))
 }
 
 #[test]
 fn a_full_subscriber_blocks_the_send_until_it_has_room(rt: HostRuntime) {
-    let mut domain = waiting_domain(&rt, rt.alloc());
-    let subscriber = subscriber_of(&rt, &mut domain, 1);
-    let publisher = waiting_publisher(&rt, &mut domain);
-    let strategy = publisher.backpressure_strategy();
-    let first = deliver(&rt, &mut domain, &publisher, 20);
-    let before = has_blocked_send(&rt, &domain, &publisher);
-    let (key, waiting) = block_a_loan(&rt, &mut domain, &publisher, 21);
+    let mut ports = waiting_ports(&rt, rt.alloc());
+    let strategy = ports.publisher.backpressure_strategy();
+    let first = deliver(&rt, &mut ports.domain, &ports.publisher, 20);
+    let before = has_blocked_send(&rt, &ports.domain, &ports.publisher);
+    let (key, waiting) = block_a_loan(&rt, &mut ports.domain, &ports.publisher, 21);
     let names_its_loan = waiting.key() == key;
-    let is_loan = domain.holds_loan(key);
-    let meanwhile = has_blocked_send(&rt, &domain, &publisher);
-    let read = next_reading(&rt, &mut domain, &subscriber);
-    let until_retried = has_blocked_send(&rt, &domain, &publisher);
-    let nothing = next_reading(&rt, &mut domain, &subscriber);
-    let second = delivered_at_last(&rt, &mut domain, waiting);
-    let after = has_blocked_send(&rt, &domain, &publisher);
-    let last = next_reading(&rt, &mut domain, &subscriber);
-    close_publisher(&rt, &mut domain, publisher);
-    close_subscriber(&rt, &mut domain, subscriber);
-    drop(domain);
+    let is_loan = ports.domain.holds_loan(key);
+    let meanwhile = has_blocked_send(&rt, &ports.domain, &ports.publisher);
+    let read = next_reading(&rt, &mut ports.domain, &ports.subscriber);
+    let until_retried = has_blocked_send(&rt, &ports.domain, &ports.publisher);
+    let nothing = next_reading(&rt, &mut ports.domain, &ports.subscriber);
+    let second = delivered_at_last(&rt, &mut ports.domain, waiting);
+    let after = has_blocked_send(&rt, &ports.domain, &ports.publisher);
+    let last = next_reading(&rt, &mut ports.domain, &ports.subscriber);
+    ports.close(&rt);
     assert!(rt; strategy == BackpressureStrategy::RetryUntilDelivered);
     assert!(rt; [first, second] == [1, 1]);
     assert!(rt; names_its_loan && !is_loan);
@@ -74,29 +68,23 @@ fn a_full_subscriber_blocks_the_send_until_it_has_room(rt: HostRuntime) {
 
 #[test]
 fn a_blocked_send_is_held_until_it_has_ended(rt: HostRuntime) {
-    let mut domain = waiting_domain(&rt, rt.alloc());
-    let subscriber = subscriber_of(&rt, &mut domain, 1);
-    let publisher = waiting_publisher(&rt, &mut domain);
-    let first = deliver(&rt, &mut domain, &publisher, 20);
-    let waiting = block(&rt, &mut domain, &publisher, 21);
+    let (mut ports, waiting) = blocked_ports(&rt, rt.alloc());
     let key = waiting.key();
     let delivered_one = Key { message: 0, ..key };
     let of_the_subscriber = Key {
-        port: subscriber.key().port,
+        port: ports.subscriber.key().port,
         ..key
     };
     let before = [
-        domain.holds_blocked(key),
-        domain.holds_blocked(delivered_one),
-        domain.holds_blocked(of_the_subscriber),
-        domain.holds_blocked(elsewhere(key)),
+        ports.domain.holds_blocked(key),
+        ports.domain.holds_blocked(delivered_one),
+        ports.domain.holds_blocked(of_the_subscriber),
+        ports.domain.holds_blocked(elsewhere(key)),
     ];
-    let second = given_up(&rt, &mut domain, waiting);
-    let after = domain.holds_blocked(key);
-    subscriber.disown();
-    publisher.disown();
-    drop(domain);
-    assert!(rt; [first, second] == [1, 0]);
+    let count = given_up(&rt, &mut ports.domain, waiting);
+    let after = ports.domain.holds_blocked(key);
+    ports.end();
+    assert!(rt; count == 0);
     assert!(rt; before == [true, false, false, false]);
     assert!(rt; !after);
 }
@@ -108,11 +96,8 @@ fn has_blocked(domain: &Weather, parts: &LoanParts) -> bool {
 
 #[test]
 fn a_blocked_send_is_had_again_until_it_has_ended(rt: HostRuntime) {
-    let mut domain = waiting_domain(&rt, rt.alloc());
-    let subscriber = subscriber_of(&rt, &mut domain, 1);
-    let publisher = waiting_publisher(&rt, &mut domain);
-    let first = deliver(&rt, &mut domain, &publisher, 20);
-    let parts = block(&rt, &mut domain, &publisher, 21).into_parts();
+    let (mut ports, waiting) = blocked_ports(&rt, rt.alloc());
+    let parts = waiting.into_parts();
     let astray = LoanParts {
         place: usize::MAX,
         book: 7,
@@ -120,40 +105,35 @@ fn a_blocked_send_is_had_again_until_it_has_ended(rt: HostRuntime) {
         ..parts
     };
     let before = [
-        has_blocked(&domain, &parts),
-        has_blocked(&domain, &LoanParts { number: 9, ..parts }),
+        has_blocked(&ports.domain, &parts),
+        has_blocked(&ports.domain, &LoanParts { number: 9, ..parts }),
     ];
-    let waiting = domain.blocked_of(&astray).expect(&rt, "a blocked send");
-    let second = given_up(&rt, &mut domain, waiting);
-    let after = has_blocked(&domain, &parts);
-    subscriber.disown();
-    publisher.disown();
-    drop(domain);
-    assert!(rt; [first, second] == [1, 0]);
+    let waiting = ports
+        .domain
+        .blocked_of(&astray)
+        .expect(&rt, "a blocked send");
+    let count = given_up(&rt, &mut ports.domain, waiting);
+    let after = has_blocked(&ports.domain, &parts);
+    ports.end();
+    assert!(rt; count == 0);
     assert!(rt; before == [true, false]);
     assert!(rt; !after);
 }
 
 #[test]
 fn a_retry_without_room_stays_blocked(rt: HostRuntime) {
-    let mut domain = waiting_domain(&rt, rt.alloc());
-    let subscriber = subscriber_of(&rt, &mut domain, 1);
-    let publisher = waiting_publisher(&rt, &mut domain);
-    let first = deliver(&rt, &mut domain, &publisher, 20);
-    let waiting = block(&rt, &mut domain, &publisher, 21);
+    let (mut ports, waiting) = blocked_ports(&rt, rt.alloc());
     let key = waiting.key();
-    let waiting = blocked_again(&rt, &mut domain, waiting);
+    let waiting = blocked_again(&rt, &mut ports.domain, waiting);
     let again = waiting.key();
-    let waiting = blocked_again(&rt, &mut domain, waiting);
-    let is_blocked = has_blocked_send(&rt, &domain, &publisher);
-    let read = next_reading(&rt, &mut domain, &subscriber);
-    let second = delivered_at_last(&rt, &mut domain, waiting);
-    let last = next_reading(&rt, &mut domain, &subscriber);
-    let nothing = next_reading(&rt, &mut domain, &subscriber);
-    subscriber.disown();
-    publisher.disown();
-    drop(domain);
-    assert!(rt; [first, second] == [1, 1]);
+    let waiting = blocked_again(&rt, &mut ports.domain, waiting);
+    let is_blocked = has_blocked_send(&rt, &ports.domain, &ports.publisher);
+    let read = next_reading(&rt, &mut ports.domain, &ports.subscriber);
+    let count = delivered_at_last(&rt, &mut ports.domain, waiting);
+    let last = next_reading(&rt, &mut ports.domain, &ports.subscriber);
+    let nothing = next_reading(&rt, &mut ports.domain, &ports.subscriber);
+    ports.end();
+    assert!(rt; count == 1);
     assert!(rt; again == key);
     assert!(rt; is_blocked);
     assert!(rt; [read, last, nothing] == [Some(20), Some(21), None]);

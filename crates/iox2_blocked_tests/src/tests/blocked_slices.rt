@@ -1,34 +1,13 @@
 //! Slices wait for a full subscriber.
-ghost use Rattle.std.specs.Prelude.{◌≡◌, false};
-ghost use Rattle.iox2_store.specs.Defaults.{default_config};
-ghost use Rattle.iox2_store.specs.declared.service_config.TypeVariant.TheVariants.{Dynamic};
-ghost use Rattle.iox2_pubsub.specs.Live.{IsReadyPublisher};
+ghost use Rattle.std.specs.Prelude.{false};
 
 use crate::tests::waiting_publishers::{blocked, delivered};
-use iox2_fixtures::{Numbers, is_sliced, settings};
+use iox2_fixtures::{Numbers, is_slice_publisher_ready, is_sliced, slices};
 use iox2_pubsub::slice::{Publisher, SampleMut, Subscriber};
 use iox2_pubsub::{BackpressureHandler, BackpressureStrategy, BlockedSend, Domain, SendOutcome};
-use iox2_store::{BackpressureAction, SendError, ServiceConfig, TypeVariant};
+use iox2_store::{BackpressureAction, SendError};
 use std::process::Abort;
 use std::time::Duration;
-
-/// The settings of a domain of slices, with one publisher and one subscriber.
-pub(crate) fn slices() -> ServiceConfig
-    ensures { result ≡ record (default_config 7) { variant = Dynamic; node_id = 3; max_publishers = 1; max_subscribers = 1; enable_safe_overflow = false } }
-{
-    ServiceConfig {
-        variant: TypeVariant::Dynamic,
-        ..settings()
-    }
-}
-
-// Asserts that the publisher is one of the domain's that has no blocked send.
-fn assert_ready(rt: &impl Abort, domain: &Numbers, publisher: &Publisher)
-    ensures { IsReadyPublisher domain.now publisher.now.publisher }
-{
-    assert!(rt; publisher.is_in(domain));
-    assert!(rt; !publisher.is_blocked(domain));
-}
 
 // Whether a send of the publisher is blocked, which is one of the domain's.
 fn has_blocked_send(rt: &impl Abort, domain: &Numbers, publisher: &Publisher) -> bool {
@@ -50,7 +29,7 @@ fn send(
     values: &[u64],
 ) -> Result<SendOutcome, SendError> {
     assert!(rt; is_sliced(domain));
-    assert_ready(rt, domain, publisher);
+    assert!(rt; is_slice_publisher_ready(domain, publisher));
     let loan = publisher.loan_slice_uninit(domain, values.len());
     let loan = loan.expect(rt, "a loan");
     if loan.payload(domain).len() != values.len() {
@@ -101,7 +80,7 @@ fn a_slice_waits_and_arrives_as_it_was_written(rt: HostRuntime) {
     let after = has_blocked_send(&rt, &domain, &publisher);
     let last = next_sum(&rt, &mut domain, &subscriber);
     let nothing = next_sum(&rt, &mut domain, &subscriber);
-    assert_ready(&rt, &domain, &publisher);
+    assert!(rt; is_slice_publisher_ready(&domain, &publisher));
     publisher.close(&mut domain);
     subscriber.disown();
     drop(domain);

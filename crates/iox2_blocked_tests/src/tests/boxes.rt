@@ -1,41 +1,23 @@
 //! Publishers whose handler is a box.
-ghost use Rattle.std.specs.Prelude.{◌≡◌, nat_lt, cond};
-ghost use Rattle.iox2_store.specs.declared.backpressure.BackpressureAction.TheVariants.{Retry, DiscardDataAndFail};
+ghost use Rattle.std.specs.Prelude.{◌≡◌};
+ghost use Rattle.iox2_store.specs.declared.backpressure.BackpressureAction.TheVariants.{Retry};
 
-use crate::tests::blocked_slices::slices;
 use crate::tests::handlers::failed;
 use crate::tests::waiting_publishers::{
-    block, blocked, blocked_again, close_publisher, close_subscriber, deliver, delivered, given_up,
-    has_blocked_send, next_reading, retry, send, subscriber_of, waiting_domain,
+    Ports, block, blocked, blocked_again, deliver, delivered, given_up, has_blocked_send,
+    next_reading, retry, send, subscriber_of, waiting_domain,
 };
-use iox2_fixtures::Weather;
+use iox2_fixtures::{Weather, close_publisher, close_subscriber, slices};
+use iox2_handler_fixtures::Patience;
 use iox2_pubsub::{
     BackpressureAction, BackpressureFn, BackpressureHandler, BackpressureInfo,
-    BackpressureStrategy, DegradationFn, Domain, Publisher, SendError,
+    BackpressureStrategy, BlockedSend, DegradationFn, Domain, Publisher, SendError,
 };
 use std::alloc::Global;
 use std::cell::Cell;
 use std::process::Abort;
 use std::rc::Rc;
 use std::time::Duration;
-
-// Tries a delivery again so many times, and fails it then.
-#[derive(Drop)]
-struct Patience {
-    retries: u64,
-}
-
-impl BackpressureFn for Patience {
-    ghost allows = { λ patience info action. action ≡ cond (nat_lt info.retries patience.retries) Retry DiscardDataAndFail };
-
-    fn call(&self, info: &BackpressureInfo) -> BackpressureAction {
-        if info.retries < self.retries {
-            BackpressureAction::Retry
-        } else {
-            BackpressureAction::DiscardDataAndFail
-        }
-    }
-}
 
 // A publisher that would discard, but that its box tries a delivery again so many times.
 fn patient_publisher(
@@ -44,9 +26,11 @@ fn patient_publisher(
     domain: &mut Weather,
     retries: u64,
 ) -> Publisher {
-    let patience: Box<dyn BackpressureFn> = Box::new(alloc, Patience { retries }).expect(
-        rt, "memory",
-    );
+    let patience = Patience {
+        retries,
+        last_answer: BackpressureAction::DiscardDataAndFail,
+    };
+    let patience: Box<dyn BackpressureFn> = Box::new(alloc, patience).expect(rt, "memory");
     let factory = domain
         .publisher_builder()
         .backpressure_strategy(BackpressureStrategy::DiscardData)
@@ -54,28 +38,37 @@ fn patient_publisher(
     factory.create(domain).expect(rt, "a publisher")
 }
 
+// Such a publisher, and a subscriber for which one message waits, so that a send of the next one is
+// blocked.
+fn patient_ports(rt: &impl Abort, alloc: Global, retries: u64) -> (Ports, BlockedSend) {
+    let mut domain = waiting_domain(rt, alloc);
+    let subscriber = subscriber_of(rt, &mut domain, 1);
+    let publisher = patient_publisher(rt, alloc, &mut domain, retries);
+    assert!(rt; deliver(rt, &mut domain, &publisher, 1) == 1);
+    let waiting = block(rt, &mut domain, &publisher, 2);
+    let ports = Ports {
+        domain,
+        publisher,
+        subscriber,
+    };
+    (ports, waiting)
+}
+
 #[test]
 fn a_box_waits_twice_and_fails_the_send_then(rt: HostRuntime) {
-    let mut domain = waiting_domain(&rt, rt.alloc());
-    let subscriber = subscriber_of(&rt, &mut domain, 1);
-    let publisher = patient_publisher(&rt, rt.alloc(), &mut domain, 2);
-    let first = deliver(&rt, &mut domain, &publisher, 1);
-    let waiting = block(&rt, &mut domain, &publisher, 2);
+    let (mut ports, waiting) = patient_ports(&rt, rt.alloc(), 2);
     let waiting = blocked(
         &rt,
-        retry(&rt, &mut domain, waiting, Duration::from_millis(5)),
+        retry(&rt, &mut ports.domain, waiting, Duration::from_millis(5)),
     );
     let error = failed(
         &rt,
-        retry(&rt, &mut domain, waiting, Duration::from_millis(9)),
+        retry(&rt, &mut ports.domain, waiting, Duration::from_millis(9)),
     );
-    let is_blocked = has_blocked_send(&rt, &domain, &publisher);
-    let read = next_reading(&rt, &mut domain, &subscriber);
-    let nothing = next_reading(&rt, &mut domain, &subscriber);
-    publisher.disown();
-    subscriber.disown();
-    drop(domain);
-    assert!(rt; first == 1);
+    let is_blocked = has_blocked_send(&rt, &ports.domain, &ports.publisher);
+    let read = next_reading(&rt, &mut ports.domain, &ports.subscriber);
+    let nothing = next_reading(&rt, &mut ports.domain, &ports.subscriber);
+    ports.end();
     assert!(rt; error == SendError::UnableToDeliver);
     assert!(rt; !is_blocked);
     assert!(rt; [read, nothing] == [Some(1), None]);
@@ -83,34 +76,29 @@ fn a_box_waits_twice_and_fails_the_send_then(rt: HostRuntime) {
 
 #[test]
 fn what_a_box_waits_for_is_given_up(rt: HostRuntime) {
-    let mut domain = waiting_domain(&rt, rt.alloc());
-    let subscriber = subscriber_of(&rt, &mut domain, 1);
-    let publisher = patient_publisher(&rt, rt.alloc(), &mut domain, 2);
-    let first = deliver(&rt, &mut domain, &publisher, 1);
-    let waiting = block(&rt, &mut domain, &publisher, 2);
-    let second = given_up(&rt, &mut domain, waiting);
-    publisher.disown();
-    subscriber.disown();
-    drop(domain);
-    assert!(rt; [first, second] == [1, 0]);
+    let (mut ports, waiting) = patient_ports(&rt, rt.alloc(), 2);
+    let count = given_up(&rt, &mut ports.domain, waiting);
+    ports.end();
+    assert!(rt; count == 0);
 }
 
 // Asked about it, the box would wait again.
 #[test]
 fn no_box_is_asked_about_a_closed_subscriber(rt: HostRuntime) {
-    let mut domain = waiting_domain(&rt, rt.alloc());
-    let subscriber = subscriber_of(&rt, &mut domain, 1);
-    let publisher = patient_publisher(&rt, rt.alloc(), &mut domain, 2);
-    let first = deliver(&rt, &mut domain, &publisher, 1);
-    let waiting = block(&rt, &mut domain, &publisher, 2);
-    close_subscriber(&rt, &mut domain, subscriber);
-    let second = delivered(
+    let (ports, waiting) = patient_ports(&rt, rt.alloc(), 2);
+    let Ports {
+        mut domain,
+        publisher,
+        subscriber,
+    } = ports;
+    assert!(rt; close_subscriber(&mut domain, subscriber));
+    let count = delivered(
         &rt,
         retry(&rt, &mut domain, waiting, Duration::from_millis(5)),
     );
     publisher.disown();
     drop(domain);
-    assert!(rt; [first, second] == [1, 0]);
+    assert!(rt; count == 0);
 }
 
 // The one box waits, the other one fails the send at once. Neither stays for a publisher that comes
@@ -126,7 +114,7 @@ fn each_publisher_asks_its_own_box(rt: HostRuntime) {
     let second = deliver(&rt, &mut domain, &patient, 3);
     let waiting = block(&rt, &mut domain, &patient, 4);
     let of_patient = failed(&rt, retry(&rt, &mut domain, waiting, Duration::ZERO));
-    close_publisher(&rt, &mut domain, hasty);
+    assert!(rt; close_publisher(&mut domain, hasty));
     let plain = domain
         .publisher_builder()
         .create(&mut domain)
@@ -207,9 +195,13 @@ fn a_handler_of_the_domains_own_type_answers_for_slices(rt: HostRuntime) {
     );
     let factory = domain.slice_subscriber_builder().buffer_size(1);
     let subscriber = factory.create(&mut domain).expect(&rt, "a subscriber");
+    let patience = Patience {
+        retries: 1,
+        last_answer: BackpressureAction::DiscardDataAndFail,
+    };
     let factory = domain
         .slice_publisher_builder()
-        .set_backpressure_handler(BackpressureHandler::Custom(Patience { retries: 1 }));
+        .set_backpressure_handler(BackpressureHandler::Custom(patience));
     let publisher = factory.create(&mut domain).expect(&rt, "a publisher");
     let message = publisher.loan_slice(&mut domain, 1).expect(&rt, "a loan");
     let first = delivered(&rt, message.send(&mut domain));

@@ -1,13 +1,11 @@
 //! Sends to one connection that wait for its subscriber.
 ghost use Rattle.std.specs.Prelude.{◌<◌};
-ghost use Rattle.iox2_store.specs.machine.Limits.{channel_count};
 
 use crate::tests::waiting_publishers::{
-    assert_ready, assert_single_valued, blocked, blocked_again, close_publisher, close_subscriber,
-    deliver, delivered, delivered_at_last, given_up, has_blocked_send, next_reading, subscriber_of,
-    waiting_domain, waiting_publisher,
+    blocked, blocked_again, deliver, delivered, delivered_at_last, given_up, has_blocked_send,
+    message_of, next_reading, subscriber_of, waiting_domain, waiting_publisher,
 };
-use iox2_fixtures::{Reading, Weather, settings};
+use iox2_fixtures::{Weather, close_publisher, close_subscriber, settings};
 use iox2_pubsub::{Domain, Publisher, SendError, SendOutcome};
 use iox2_store::ServiceConfig;
 use std::process::Abort;
@@ -29,10 +27,7 @@ fn send_to(
     channel: usize,
     connection: usize,
 ) -> Result<SendOutcome, SendError> {
-    assert_single_valued(rt, domain);
-    assert_ready(rt, domain, publisher);
-    let loan = publisher.loan_uninit(domain).expect(rt, "a loan");
-    let message = loan.write_payload(domain, Reading { celsius });
+    let message = message_of(rt, domain, publisher, celsius);
     assert!(rt; !message.is_blocked(domain));
     assert!(rt; channel < domain.config().number_of_channels.max(1));
     message.deliver_offset_to_connection(domain, channel, connection)
@@ -61,10 +56,10 @@ fn a_send_to_one_connection_waits_for_its_subscriber_alone(rt: HostRuntime) {
         next_reading(&rt, &mut domain, &third),
         next_reading(&rt, &mut domain, &third),
     ];
-    close_publisher(&rt, &mut domain, publisher);
-    close_subscriber(&rt, &mut domain, first);
-    close_subscriber(&rt, &mut domain, second);
-    close_subscriber(&rt, &mut domain, third);
+    assert!(rt; close_publisher(&mut domain, publisher));
+    assert!(rt; close_subscriber(&mut domain, first));
+    assert!(rt; close_subscriber(&mut domain, second));
+    assert!(rt; close_subscriber(&mut domain, third));
     drop(domain);
     assert!(rt; [all, one] == [3, 1]);
     assert!(rt; [meanwhile, after] == [true, false]);
@@ -91,9 +86,9 @@ fn a_send_to_one_connection_is_given_up(rt: HostRuntime) {
         next_reading(&rt, &mut domain, &second),
         next_reading(&rt, &mut domain, &second),
     ];
-    close_publisher(&rt, &mut domain, publisher);
-    close_subscriber(&rt, &mut domain, first);
-    close_subscriber(&rt, &mut domain, second);
+    assert!(rt; close_publisher(&mut domain, publisher));
+    assert!(rt; close_subscriber(&mut domain, first));
+    assert!(rt; close_subscriber(&mut domain, second));
     drop(domain);
     assert!(rt; [all, none, other] == [2, 0, 1]);
     assert!(rt; !after);
@@ -113,8 +108,8 @@ fn a_send_waits_for_room_in_its_channel(rt: HostRuntime) {
     let none = given_up(&rt, &mut domain, waiting);
     let other = delivered(&rt, send_to(&rt, &mut domain, &publisher, 22, 0, 0));
     let read = next_reading(&rt, &mut domain, &subscriber);
-    close_publisher(&rt, &mut domain, publisher);
-    close_subscriber(&rt, &mut domain, subscriber);
+    assert!(rt; close_publisher(&mut domain, publisher));
+    assert!(rt; close_subscriber(&mut domain, subscriber));
     drop(domain);
     assert!(rt; [first, none, other] == [1, 0, 1]);
     assert!(rt; nothing.is_none() && read == Some(22));

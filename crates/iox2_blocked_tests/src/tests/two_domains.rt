@@ -1,312 +1,205 @@
 //! Two domains in which the same calls were made, so that the same numbers are live in both: each holds
 //! its own handles alone, and none that was spent, also where what that named was used again.
-ghost use Rattle.iox2_pubsub.specs.Live.{IsSingleValued, IsUnwritten, IsWritten};
 
 use crate::tests::waiting_publishers::{
-    assert_ready, assert_single_valued, block, blocked_again, close_publisher, close_subscriber,
-    deliver, delivered, given_up, release, subscriber_of, take, waiting_publisher,
+    Ports, block, blocked_again, deliver, delivered, given_up, lend, message_of, next_reading,
+    release, subscriber_of, take, waiting_publisher,
 };
-use iox2_fixtures::{Reading, Weather, settings};
-use iox2_pubsub::{Domain, Publisher, SampleMut, SampleMutUninit};
+use iox2_fixtures::{Weather, close_publisher, close_subscriber, settings};
+use iox2_pubsub::{BlockedSend, Domain, Publisher, Sample, SampleMut, SampleMutUninit, Subscriber};
 use iox2_store::{Key, ServiceConfig};
 use std::alloc::Global;
 use std::process::Abort;
 
-type Service = Weather;
-
-// A domain of one publisher and one subscriber, of this service.
-fn domain_of(rt: &impl Abort, alloc: Global, service_id: u128) -> Service {
-    let config = ServiceConfig {
-        service_id,
-        ..settings()
-    };
-    Domain::new(alloc, config).expect(rt, "a domain")
-}
-
-// A publisher that waits for a full subscriber, and has so many slots.
-fn publisher_of(rt: &impl Abort, domain: &mut Service, slots: usize) -> Publisher {
-    let factory = domain
-        .publisher_builder()
-        .override_sample_preallocation(move |_| slots);
-    factory.create(domain).expect(rt, "a publisher")
-}
-
-// ---- what is asked
-
-// What a key is asked as.
-#[derive(Clone, Copy)]
+// What a key names.
+#[derive(Clone, Copy, Debug)]
 enum Kind {
     Publisher,
     Subscriber,
     Loan,
+    Message,
     Sample,
     BlockedSend,
 }
 
-fn is_held(kind: Kind, domain: &Service, key: Key) -> bool {
+const KINDS: [Kind; 6] = [
+    Kind::Publisher,
+    Kind::Subscriber,
+    Kind::Loan,
+    Kind::Message,
+    Kind::Sample,
+    Kind::BlockedSend,
+];
+
+// A publisher and a subscriber of this service, in which there may be one more of each. The publisher has
+// one slot, so that each of its loans lies where the one before it lay. Where a send is to be blocked it
+// has another, with a message that waits.
+fn ports_of(rt: &impl Abort, alloc: Global, service_id: u128, kind: Kind) -> Ports {
+    let config = ServiceConfig {
+        service_id,
+        max_publishers: 2,
+        max_subscribers: 2,
+        ..settings()
+    };
+    let mut domain = Domain::new(alloc, config).expect(rt, "a domain");
+    let subscriber = subscriber_of(rt, &mut domain, 1);
+    let is_full = matches!(kind, Kind::BlockedSend);
+    let slots = if is_full { 2 } else { 1 };
+    let factory = domain
+        .publisher_builder()
+        .override_sample_preallocation(move |_| slots);
+    let publisher = factory.create(&mut domain).expect(rt, "a publisher");
+    if is_full {
+        assert!(rt; deliver(rt, &mut domain, &publisher, 20) == 1);
+    }
+    Ports {
+        domain,
+        publisher,
+        subscriber,
+    }
+}
+
+// A handle of each kind.
+enum Handle {
+    Publisher(Publisher),
+    Subscriber(Subscriber),
+    Loan(SampleMutUninit),
+    Message(SampleMut),
+    Sample(Sample),
+    BlockedSend(BlockedSend),
+}
+
+impl Handle {
+    // Makes one. The last message that was sent is released before, so that its slot is free.
+    fn new(rt: &impl Abort, ports: &mut Ports, kind: Kind) -> Handle {
+        let Ports {
+            domain,
+            publisher,
+            subscriber,
+        } = ports;
+        match kind {
+            Kind::Publisher => Handle::Publisher(waiting_publisher(rt, domain)),
+            Kind::Subscriber => Handle::Subscriber(subscriber_of(rt, domain, 1)),
+            Kind::Loan => Handle::Loan(lend(rt, domain, publisher)),
+            Kind::Message => {
+                next_reading(rt, domain, subscriber);
+                Handle::Message(message_of(rt, domain, publisher, 20))
+            }
+            Kind::Sample => {
+                assert!(rt; deliver(rt, domain, publisher, 20) == 1);
+                Handle::Sample(take(rt, domain, subscriber))
+            }
+            Kind::BlockedSend => Handle::BlockedSend(block(rt, domain, publisher, 21)),
+        }
+    }
+
+    fn key(&self) -> Key {
+        match self {
+            Handle::Publisher(publisher) => publisher.key(),
+            Handle::Subscriber(subscriber) => subscriber.key(),
+            Handle::Loan(loan) => loan.key(),
+            Handle::Message(message) => message.key(),
+            Handle::Sample(sample) => sample.key(),
+            Handle::BlockedSend(waiting) => waiting.key(),
+        }
+    }
+
+    // Ends what the handle names: ports are closed, a loan is discarded, a message sent, a sample released,
+    // and a blocked send, which is tried again once, given up.
+    fn end(self, rt: &impl Abort, domain: &mut Weather) {
+        match self {
+            Handle::Publisher(publisher) => assert!(rt; close_publisher(domain, publisher)),
+            Handle::Subscriber(subscriber) => assert!(rt; close_subscriber(domain, subscriber)),
+            Handle::Loan(loan) => {
+                let found = domain.unwritten_of(&loan.into_parts());
+                found.expect(rt, "a loan").discard(domain);
+            }
+            Handle::Message(message) => {
+                let found = domain.written_of(&message.into_parts());
+                let message = found.expect(rt, "a message");
+                assert!(rt; !message.is_blocked(domain));
+                assert!(rt; delivered(rt, message.send(domain)) == 1);
+            }
+            Handle::Sample(sample) => release(rt, domain, sample),
+            Handle::BlockedSend(waiting) => {
+                let waiting = blocked_again(rt, domain, waiting);
+                assert!(rt; domain.holds_blocked(waiting.key()));
+                assert!(rt; given_up(rt, domain, waiting) == 0);
+            }
+        }
+    }
+
+    // Leaves what it names as it is.
+    fn disown(self) {
+        match self {
+            Handle::Publisher(publisher) => publisher.disown(),
+            Handle::Subscriber(subscriber) => subscriber.disown(),
+            Handle::Loan(loan) => loan.disown(),
+            Handle::Message(message) => message.disown(),
+            Handle::Sample(sample) => sample.disown(),
+            Handle::BlockedSend(waiting) => waiting.disown(),
+        }
+    }
+}
+
+fn is_held(kind: Kind, domain: &Weather, key: Key) -> bool {
     match kind {
         Kind::Publisher => domain.holds_publisher(key),
         Kind::Subscriber => domain.holds_subscriber(key),
-        Kind::Loan => domain.holds_loan(key),
+        Kind::Loan | Kind::Message => domain.holds_loan(key),
         Kind::Sample => domain.holds_sample(key),
         Kind::BlockedSend => domain.holds_blocked(key),
     }
 }
 
 // Asserts which of the two keys the domain holds.
-fn assert_held(rt: &impl Abort, kind: Kind, domain: &Service, keys: [Key; 2], held: [bool; 2]) {
+fn assert_held(rt: &impl Abort, kind: Kind, domain: &Weather, keys: [Key; 2], held: [bool; 2]) {
     let [first, second] = keys;
-    assert!(rt; is_held(kind, domain, first) == held[0]);
-    assert!(rt; is_held(kind, domain, second) == held[1]);
-}
-
-// Asserts that the two keys have the same numbers in their services, 1 and 2, and that the second domain
-// holds its own alone.
-fn assert_apart(rt: &impl Abort, kind: Kind, second: &Service, keys: [Key; 2]) {
-    let [key, twin] = keys;
-    assert!(rt; key.service_id == 1);
     assert!(rt;
-        twin == Key {
-            service_id: 2,
-            ..key
-        }
+        is_held(kind, domain, first) == held[0],
+        "the first {kind:?}"
     );
-    assert_held(rt, kind, second, keys, [false, true]);
+    assert!(rt;
+        is_held(kind, domain, second) == held[1],
+        "the second {kind:?}"
+    );
 }
 
-// ---- publishers and subscribers
-
-// The key of a publisher, which stays.
-fn publisher_key(rt: &impl Abort, domain: &mut Service) -> Key {
-    let publisher = waiting_publisher(rt, domain);
-    let key = publisher.key();
-    publisher.disown();
-    key
-}
-
-// Closes a publisher, which the domain holds until then, and makes another. Returns the key of the first.
-fn close_a_publisher(rt: &impl Abort, domain: &mut Service, twin: Key) -> Key {
-    let publisher = waiting_publisher(rt, domain);
-    let key = publisher.key();
-    assert_held(rt, Kind::Publisher, domain, [key, twin], [true, false]);
-    close_publisher(rt, domain, publisher);
-    assert_held(rt, Kind::Publisher, domain, [key, twin], [false, false]);
-    let next = publisher_key(rt, domain);
-    assert_held(rt, Kind::Publisher, domain, [key, twin], [false, false]);
-    assert!(rt; is_held(Kind::Publisher, domain, next));
-    key
-}
-
-#[test]
-fn a_domain_holds_its_own_publisher_until_it_is_closed(rt: HostRuntime) {
-    let mut first = domain_of(&rt, rt.alloc(), 1);
-    let mut second = domain_of(&rt, rt.alloc(), 2);
-    let twin = publisher_key(&rt, &mut second);
-    let key = close_a_publisher(&rt, &mut first, twin);
-    assert_apart(&rt, Kind::Publisher, &second, [key, twin]);
-}
-
-// The key of a subscriber, which stays.
-fn subscriber_key(rt: &impl Abort, domain: &mut Service) -> Key {
-    let subscriber = subscriber_of(rt, domain, 1);
-    let key = subscriber.key();
-    subscriber.disown();
-    key
-}
-
-// Closes a subscriber, which the domain holds until then, and makes another. Returns the key of the first.
-fn close_a_subscriber(rt: &impl Abort, domain: &mut Service, twin: Key) -> Key {
-    let subscriber = subscriber_of(rt, domain, 1);
-    let key = subscriber.key();
-    assert_held(rt, Kind::Subscriber, domain, [key, twin], [true, false]);
-    close_subscriber(rt, domain, subscriber);
-    assert_held(rt, Kind::Subscriber, domain, [key, twin], [false, false]);
-    let next = subscriber_key(rt, domain);
-    assert_held(rt, Kind::Subscriber, domain, [key, twin], [false, false]);
-    assert!(rt; is_held(Kind::Subscriber, domain, next));
-    key
-}
-
-#[test]
-fn a_domain_holds_its_own_subscriber_until_it_is_closed(rt: HostRuntime) {
-    let mut first = domain_of(&rt, rt.alloc(), 1);
-    let mut second = domain_of(&rt, rt.alloc(), 2);
-    let twin = subscriber_key(&rt, &mut second);
-    let key = close_a_subscriber(&rt, &mut first, twin);
-    assert_apart(&rt, Kind::Subscriber, &second, [key, twin]);
-}
-
-// ---- loans, of publishers of one slot
-
-// An unwritten loan.
-fn lent(rt: &impl Abort, domain: &mut Service, publisher: &Publisher) -> SampleMutUninit
-    ensures loan { IsUnwritten domain.new result }
-    ensures single_valued { IsSingleValued domain.new }
-{
-    assert_single_valued(rt, domain);
-    assert_ready(rt, domain, publisher);
-    publisher.loan_uninit(domain).expect(rt, "a loan")
-}
-
-// The key of a loan, which stays out.
-fn loan_key(rt: &impl Abort, domain: &mut Service, publisher: &Publisher) -> Key {
-    let loan = lent(rt, domain, publisher);
-    let key = loan.key();
-    loan.disown();
-    key
-}
-
-// Gives back a loan, which the domain holds until then, and lends again. Returns the key of the first.
-fn discard_a_loan(rt: &impl Abort, domain: &mut Service, twin: Key) -> Key {
-    let publisher = publisher_of(rt, domain, 1);
-    let loan = lent(rt, domain, &publisher);
-    let key = loan.key();
-    assert_held(rt, Kind::Loan, domain, [key, twin], [true, false]);
-    loan.discard(domain);
-    assert_held(rt, Kind::Loan, domain, [key, twin], [false, false]);
-    let next = loan_key(rt, domain, &publisher);
-    publisher.disown();
-    assert_held(rt, Kind::Loan, domain, [key, twin], [false, false]);
-    assert!(rt; is_held(Kind::Loan, domain, next));
-    key
-}
-
-#[test]
-fn a_domain_holds_its_own_loan_until_it_is_given_back(rt: HostRuntime) {
-    let mut first = domain_of(&rt, rt.alloc(), 1);
-    let mut second = domain_of(&rt, rt.alloc(), 2);
-    let publisher = publisher_of(&rt, &mut second, 1);
-    let twin = loan_key(&rt, &mut second, &publisher);
-    publisher.disown();
-    let key = discard_a_loan(&rt, &mut first, twin);
-    assert_apart(&rt, Kind::Loan, &second, [key, twin]);
-}
-
-// A written loan.
-fn written(rt: &impl Abort, domain: &mut Service, publisher: &Publisher) -> SampleMut
-    ensures loan { IsWritten domain.new result }
-    ensures single_valued { IsSingleValued domain.new }
-{
-    let loan = lent(rt, domain, publisher);
-    loan.write_payload(domain, Reading { celsius: 20 })
-}
-
-// Sends a written loan to nobody, which the domain holds until then, and lends again. Returns the key of the
-// first.
-fn send_a_loan(rt: &impl Abort, domain: &mut Service, twin: Key) -> Key {
-    let publisher = publisher_of(rt, domain, 1);
-    let loan = written(rt, domain, &publisher);
-    let key = loan.key();
-    assert_held(rt, Kind::Loan, domain, [key, twin], [true, false]);
-    assert!(rt; !loan.is_blocked(domain));
-    assert!(rt; delivered(rt, loan.send(domain)) == 0);
-    assert_held(rt, Kind::Loan, domain, [key, twin], [false, false]);
-    let next = loan_key(rt, domain, &publisher);
-    publisher.disown();
-    assert_held(rt, Kind::Loan, domain, [key, twin], [false, false]);
-    assert!(rt; is_held(Kind::Loan, domain, next));
-    key
-}
-
-#[test]
-fn a_domain_holds_its_own_written_loan_until_it_is_sent(rt: HostRuntime) {
-    let mut first = domain_of(&rt, rt.alloc(), 1);
-    let mut second = domain_of(&rt, rt.alloc(), 2);
-    let publisher = publisher_of(&rt, &mut second, 1);
-    let loan = written(&rt, &mut second, &publisher);
-    let twin = loan.key();
-    loan.disown();
-    publisher.disown();
-    let key = send_a_loan(&rt, &mut first, twin);
-    assert_apart(&rt, Kind::Loan, &second, [key, twin]);
-}
-
-// ---- samples, of publishers of one slot
-
-// The key of a sample, which stays borrowed.
-fn sample_key(rt: &impl Abort, domain: &mut Service) -> Key {
-    let subscriber = subscriber_of(rt, domain, 1);
-    let publisher = publisher_of(rt, domain, 1);
-    deliver(rt, domain, &publisher, 20);
-    let sample = take(rt, domain, &subscriber);
-    let key = sample.key();
-    sample.disown();
-    publisher.disown();
-    subscriber.disown();
-    key
-}
-
-// Releases a sample, which the domain holds until then, and has another. Returns the key of the first.
-fn release_a_sample(rt: &impl Abort, domain: &mut Service, twin: Key) -> Key {
-    let subscriber = subscriber_of(rt, domain, 1);
-    let publisher = publisher_of(rt, domain, 1);
-    deliver(rt, domain, &publisher, 20);
-    let sample = take(rt, domain, &subscriber);
-    let key = sample.key();
-    assert_held(rt, Kind::Sample, domain, [key, twin], [true, false]);
-    release(rt, domain, sample);
-    assert_held(rt, Kind::Sample, domain, [key, twin], [false, false]);
-    deliver(rt, domain, &publisher, 21);
-    let next = take(rt, domain, &subscriber);
-    assert_held(rt, Kind::Sample, domain, [key, twin], [false, false]);
-    assert!(rt; is_held(Kind::Sample, domain, next.key()));
+// Makes a handle, which the domain holds until it ends, and then another. The domain never holds the twin.
+// Returns the key of the first.
+fn end_one(rt: &impl Abort, ports: &mut Ports, kind: Kind, twin: Key) -> Key {
+    let handle = Handle::new(rt, ports, kind);
+    let key = handle.key();
+    assert_held(rt, kind, &ports.domain, [key, twin], [true, false]);
+    handle.end(rt, &mut ports.domain);
+    assert_held(rt, kind, &ports.domain, [key, twin], [false, false]);
+    let next = Handle::new(rt, ports, kind);
+    assert_held(rt, kind, &ports.domain, [key, twin], [false, false]);
+    assert!(rt;
+        is_held(kind, &ports.domain, next.key()),
+        "the next {kind:?}"
+    );
     next.disown();
-    publisher.disown();
-    subscriber.disown();
     key
 }
 
 #[test]
-fn a_domain_holds_its_own_sample_until_it_is_released(rt: HostRuntime) {
-    let mut first = domain_of(&rt, rt.alloc(), 1);
-    let mut second = domain_of(&rt, rt.alloc(), 2);
-    let twin = sample_key(&rt, &mut second);
-    let key = release_a_sample(&rt, &mut first, twin);
-    assert_apart(&rt, Kind::Sample, &second, [key, twin]);
-}
-
-// ---- blocked sends, of publishers of two slots, of which one has a message that waits
-
-// The key of a send, which stays blocked.
-fn blocked_key(rt: &impl Abort, domain: &mut Service) -> Key {
-    let subscriber = subscriber_of(rt, domain, 1);
-    let publisher = publisher_of(rt, domain, 2);
-    deliver(rt, domain, &publisher, 20);
-    let waiting = block(rt, domain, &publisher, 21);
-    let key = waiting.key();
-    waiting.disown();
-    publisher.disown();
-    subscriber.disown();
-    key
-}
-
-// Gives up a blocked send, which the domain holds until then, and has another blocked. Returns the key of
-// the first.
-fn end_a_blocked_send(rt: &impl Abort, domain: &mut Service, twin: Key) -> Key {
-    let subscriber = subscriber_of(rt, domain, 1);
-    let publisher = publisher_of(rt, domain, 2);
-    deliver(rt, domain, &publisher, 20);
-    let waiting = block(rt, domain, &publisher, 21);
-    let key = waiting.key();
-    assert_held(rt, Kind::BlockedSend, domain, [key, twin], [true, false]);
-    let waiting = blocked_again(rt, domain, waiting);
-    assert_held(rt, Kind::BlockedSend, domain, [key, twin], [true, false]);
-    assert!(rt; given_up(rt, domain, waiting) == 0);
-    assert_held(rt, Kind::BlockedSend, domain, [key, twin], [false, false]);
-    let next = block(rt, domain, &publisher, 22);
-    assert_held(rt, Kind::BlockedSend, domain, [key, twin], [false, false]);
-    assert!(rt; is_held(Kind::BlockedSend, domain, next.key()));
-    next.disown();
-    publisher.disown();
-    subscriber.disown();
-    key
-}
-
-#[test]
-fn a_domain_holds_its_own_blocked_send_until_it_ends(rt: HostRuntime) {
-    let mut first = domain_of(&rt, rt.alloc(), 1);
-    let mut second = domain_of(&rt, rt.alloc(), 2);
-    let twin = blocked_key(&rt, &mut second);
-    let key = end_a_blocked_send(&rt, &mut first, twin);
-    assert_apart(&rt, Kind::BlockedSend, &second, [key, twin]);
+fn a_domain_holds_what_is_its_own_until_it_ends(rt: HostRuntime) {
+    for kind in KINDS {
+        let mut first = ports_of(&rt, rt.alloc(), 1, kind);
+        let mut second = ports_of(&rt, rt.alloc(), 2, kind);
+        let handle = Handle::new(&rt, &mut second, kind);
+        let twin = handle.key();
+        handle.disown();
+        let key = end_one(&rt, &mut first, kind, twin);
+        assert_held(&rt, kind, &second.domain, [key, twin], [false, true]);
+        first.end();
+        second.end();
+        let is_alike = twin
+            == Key {
+                service_id: 2,
+                ..key
+            };
+        assert!(rt; key.service_id == 1 && is_alike, "the keys of a {kind:?}");
+    }
 }

@@ -4,11 +4,16 @@
 //! nothing to carry from one call to the next.
 ghost use Rattle.std.specs.Prelude.{◌≡◌, false};
 ghost use Rattle.std.specs.declared.result.Result.TheVariants.{Ok};
-ghost use Rattle.iox2_pubsub.specs.Live.{IsBlockedSend, IsLiveSubscriber, IsReadyPublisher, IsSingleValued, Stays};
+ghost use Rattle.iox2_pubsub.specs.Live.{IsBlockedSend, IsLiveSubscriber, IsReadyPublisher, IsSingleValued, IsUnwritten, IsWritten, Stays};
 
-use iox2_fixtures::{Reading, Weather, settings};
-use iox2_pubsub::{BlockedSend, Domain, Publisher, Sample, SendError, SendOutcome, Subscriber};
-use iox2_store::{ServiceConfig, TypeVariant};
+use iox2_fixtures::{
+    Reading, Weather, close_publisher, close_subscriber, is_ready, is_single_valued, settings,
+};
+use iox2_pubsub::{
+    BlockedSend, Domain, Publisher, Sample, SampleMut, SampleMutUninit, SendError, SendOutcome,
+    Subscriber,
+};
+use iox2_store::ServiceConfig;
 use std::alloc::Global;
 use std::process::Abort;
 use std::time::Duration;
@@ -44,6 +49,63 @@ pub(crate) fn subscriber_of(rt: &impl Abort, domain: &mut Weather, buffer_size: 
     factory.create(domain).expect(rt, "a subscriber")
 }
 
+/// A domain, a publisher of it and a subscriber.
+pub(crate) struct Ports {
+    /// The domain of both.
+    pub(crate) domain: Weather,
+    /// The publisher.
+    pub(crate) publisher: Publisher,
+    /// The subscriber.
+    pub(crate) subscriber: Subscriber,
+}
+
+impl Ports {
+    /// Ends the domain, with both ports as they are.
+    pub(crate) fn end(self) {
+        let Ports {
+            domain,
+            publisher,
+            subscriber,
+        } = self;
+        publisher.disown();
+        subscriber.disown();
+        drop(domain);
+    }
+
+    /// Ends the domain once both ports are closed.
+    pub(crate) fn close(self, rt: &impl Abort) {
+        let Ports {
+            mut domain,
+            publisher,
+            subscriber,
+        } = self;
+        assert!(rt; close_publisher(&mut domain, publisher));
+        assert!(rt; close_subscriber(&mut domain, subscriber));
+        drop(domain);
+    }
+}
+
+/// A publisher that waits for a full subscriber, and a subscriber for which one message may wait, in
+/// a domain that has room for more of both.
+pub(crate) fn waiting_ports(rt: &impl Abort, alloc: Global) -> Ports {
+    let mut domain = waiting_domain(rt, alloc);
+    let subscriber = subscriber_of(rt, &mut domain, 1);
+    let publisher = waiting_publisher(rt, &mut domain);
+    Ports {
+        domain,
+        publisher,
+        subscriber,
+    }
+}
+
+/// The same, where the message 20 waits for the subscriber, and a send of 21 is blocked.
+pub(crate) fn blocked_ports(rt: &impl Abort, alloc: Global) -> (Ports, BlockedSend) {
+    let mut ports = waiting_ports(rt, alloc);
+    assert!(rt; deliver(rt, &mut ports.domain, &ports.publisher, 20) == 1);
+    let waiting = block(rt, &mut ports.domain, &ports.publisher, 21);
+    (ports, waiting)
+}
+
 /// The send, which is blocked.
 pub(crate) fn blocked(rt: &impl Abort, sent: Result<SendOutcome, SendError>) -> BlockedSend
     ensures { sent ≡ Ok (SendOutcome.Blocked result) }
@@ -71,29 +133,6 @@ pub(crate) fn delivered(rt: &impl Abort, sent: Result<SendOutcome, SendError>) -
 
 // ---- what a call asks for is tested
 
-/// Asserts that messages are single values.
-pub(crate) fn assert_single_valued(rt: &impl Abort, domain: &Weather)
-    ensures { IsSingleValued domain.now }
-{
-    let config = domain.config();
-    assert!(rt; matches!(config.variant, TypeVariant::FixedSize));
-    assert!(rt; config.units_per_element == 1);
-}
-
-/// Asserts that the publisher is one of the domain's that has no blocked send.
-pub(crate) fn assert_ready(rt: &impl Abort, domain: &Weather, publisher: &Publisher)
-    ensures { IsReadyPublisher domain.now publisher.now }
-{
-    assert!(rt; !has_blocked_send(rt, domain, publisher));
-}
-
-/// Asserts that the subscriber is one of the domain's.
-pub(crate) fn assert_live(rt: &impl Abort, domain: &Weather, subscriber: &Subscriber)
-    ensures { IsLiveSubscriber domain.now subscriber.now }
-{
-    assert!(rt; subscriber.is_in(domain));
-}
-
 /// Asserts that the send is one of the domain's that is blocked.
 pub(crate) fn assert_blocked(rt: &impl Abort, domain: &Weather, waiting: &BlockedSend)
     ensures { IsBlockedSend domain.now waiting.now }
@@ -109,6 +148,29 @@ pub(crate) fn has_blocked_send(rt: &impl Abort, domain: &Weather, publisher: &Pu
     publisher.is_blocked(domain)
 }
 
+/// Lends a message.
+pub(crate) fn lend(rt: &impl Abort, domain: &mut Weather, publisher: &Publisher) -> SampleMutUninit
+    ensures loan { IsUnwritten domain.new result }
+    ensures single_valued { IsSingleValued domain.new }
+{
+    assert!(rt; is_single_valued(domain));
+    assert!(rt; is_ready(domain, publisher));
+    publisher.loan_uninit(domain).expect(rt, "a loan")
+}
+
+/// Lends and writes a message.
+pub(crate) fn message_of(
+    rt: &impl Abort,
+    domain: &mut Weather,
+    publisher: &Publisher,
+    celsius: u64,
+) -> SampleMut
+    ensures { IsWritten domain.new result }
+{
+    let loan = lend(rt, domain, publisher);
+    loan.write_payload(domain, Reading { celsius })
+}
+
 /// Sends a value.
 pub(crate) fn send(
     rt: &impl Abort,
@@ -116,8 +178,8 @@ pub(crate) fn send(
     publisher: &Publisher,
     celsius: u64,
 ) -> Result<SendOutcome, SendError> {
-    assert_single_valued(rt, domain);
-    assert_ready(rt, domain, publisher);
+    assert!(rt; is_single_valued(domain));
+    assert!(rt; is_ready(domain, publisher));
     publisher.send_copy(domain, Reading { celsius })
 }
 
@@ -188,7 +250,7 @@ pub(crate) fn given_up(rt: &impl Abort, domain: &mut Weather, waiting: BlockedSe
 
 /// Receives a message, which waits.
 pub(crate) fn take(rt: &impl Abort, domain: &mut Weather, subscriber: &Subscriber) -> Sample {
-    assert_live(rt, domain, subscriber);
+    assert!(rt; subscriber.is_in(domain));
     let received = subscriber.receive(domain).expect(rt, "an answer");
     received.expect(rt, "a message")
 }
@@ -207,19 +269,7 @@ pub(crate) fn next_reading(
 ) -> Option<u64>
     ensures { Stays domain.old domain.new }
 {
-    assert_single_valued(rt, domain);
-    assert_live(rt, domain, subscriber);
+    assert!(rt; is_single_valued(domain));
+    assert!(rt; subscriber.is_in(domain));
     iox2_fixtures::next_reading(domain, subscriber).expect(rt, "an answer")
-}
-
-/// Closes a publisher that has no blocked send.
-pub(crate) fn close_publisher(rt: &impl Abort, domain: &mut Weather, publisher: Publisher) {
-    assert_ready(rt, domain, &publisher);
-    publisher.close(domain);
-}
-
-/// Closes a subscriber.
-pub(crate) fn close_subscriber(rt: &impl Abort, domain: &mut Weather, subscriber: Subscriber) {
-    assert_live(rt, domain, &subscriber);
-    subscriber.close(domain);
 }

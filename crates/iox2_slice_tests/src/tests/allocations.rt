@@ -1,17 +1,19 @@
 //! By which strategy a publisher's memory grows: its factory's, or else the settings'.
 
-use crate::tests::fixtures::{assert_ready, slice_factory};
-use iox2_fixtures::{Numbers, is_sliced, settings};
+use crate::tests::fixtures::slice_factory;
+use iox2_fixtures::{Numbers, is_slice_publisher_ready, is_sliced, slices};
 use iox2_pubsub::{Domain, slice};
-use iox2_store::{AllocationStrategy, LoanError, ServiceConfig, TypeVariant};
+use iox2_store::{AllocationStrategy, LoanError, ServiceConfig};
+use std::alloc::Global;
 use std::process::Abort;
 
-fn slices(strategy: AllocationStrategy) -> ServiceConfig {
-    ServiceConfig {
-        variant: TypeVariant::Dynamic,
+// A domain whose publishers' memory grows by the strategy, where their factories name none.
+fn domain_of(rt: &impl Abort, alloc: Global, strategy: AllocationStrategy) -> Numbers {
+    let config = ServiceConfig {
         publisher_allocation_strategy: strategy,
-        ..settings()
-    }
+        ..slices()
+    };
+    Domain::new(alloc, config).expect(rt, "a domain")
 }
 
 // What a publisher says to a loan of two elements, which is longer than its first slots. The
@@ -23,18 +25,17 @@ fn longer_loan(
 ) -> Result<(), LoanError> {
     let publisher = factory.create(domain).expect(rt, "a publisher");
     assert!(rt; is_sliced(domain));
-    assert_ready(rt, domain, &publisher);
+    assert!(rt; is_slice_publisher_ready(domain, &publisher));
     let loan = publisher.loan_slice_uninit(domain, 2);
     let lent = loan.map(|loan| loan.disown());
-    assert_ready(rt, domain, &publisher);
+    assert!(rt; is_slice_publisher_ready(domain, &publisher));
     publisher.close(domain);
     lent
 }
 
 #[test]
 fn a_factory_begins_with_the_strategy_of_the_settings(rt: HostRuntime) {
-    let growing = slices(AllocationStrategy::PowerOfTwo);
-    let mut domain: Numbers = Domain::new(rt.alloc(), growing).expect(&rt, "a domain");
+    let mut domain = domain_of(&rt, rt.alloc(), AllocationStrategy::PowerOfTwo);
     let factory = slice_factory(&domain);
     let by_settings = longer_loan(&rt, &mut domain, factory);
     let factory = slice_factory(&domain).allocation_strategy(AllocationStrategy::Static);
@@ -47,8 +48,7 @@ fn a_factory_begins_with_the_strategy_of_the_settings(rt: HostRuntime) {
 
 #[test]
 fn the_last_strategy_counts(rt: HostRuntime) {
-    let fixed = slices(AllocationStrategy::Static);
-    let mut domain: Numbers = Domain::new(rt.alloc(), fixed).expect(&rt, "a domain");
+    let mut domain = domain_of(&rt, rt.alloc(), AllocationStrategy::Static);
     let factory = slice_factory(&domain);
     let by_settings = longer_loan(&rt, &mut domain, factory);
     let factory = slice_factory(&domain).allocation_strategy(AllocationStrategy::BestFit);

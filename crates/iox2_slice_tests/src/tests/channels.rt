@@ -3,10 +3,9 @@ ghost use Rattle.std.specs.Prelude.{◌<◌};
 ghost use Rattle.iox2_store.specs.machine.Limits.{channel_count};
 
 use crate::tests::fixtures::{
-    assert_live, assert_ready, lend_slice, receive_slice, send_slice, slice_publisher,
-    slice_subscriber,
+    lend_slice, receive_slice, send_slice, slice_publisher, slice_subscriber,
 };
-use iox2_fixtures::{Numbers, is_sliced, receiver_count, smallest};
+use iox2_fixtures::{Numbers, is_slice_publisher_ready, is_sliced, receiver_count, smallest};
 use iox2_pubsub::slice::{Publisher, Subscriber};
 use iox2_pubsub::{Domain, UpdateConnections};
 use iox2_store::{ServiceConfig, TypeVariant};
@@ -58,7 +57,7 @@ fn sent_to(
 // Whether no slice waits.
 fn gets_nothing(rt: &impl Abort, domain: &mut Numbers, subscriber: &Subscriber) -> bool {
     assert!(rt; is_sliced(domain));
-    assert_live(rt, domain, subscriber);
+    assert!(rt; subscriber.is_in(domain));
     match subscriber.receive(domain).expect(rt, "an answer") {
         Some(sample) => {
             sample.disown();
@@ -76,87 +75,54 @@ fn gets(rt: &impl Abort, domain: &mut Numbers, subscriber: &Subscriber, value: u
     is_it
 }
 
+// The number of a channel, and a state.
+type At = (usize, u64);
+
 // Whether the channel was closed at each of the subscriber's connections. Where it was, it has the
 // state afterwards.
-fn set(
-    rt: &impl Abort,
-    domain: &mut Numbers,
-    subscriber: &Subscriber,
-    channel: usize,
-    state: u64,
-) -> bool {
-    assert_live(rt, domain, subscriber);
-    assert_has_channel(rt, domain, channel);
-    subscriber.set_channel_state(domain, channel, state)
+fn set(rt: &impl Abort, domain: &mut Numbers, subscriber: &Subscriber, at: At) -> bool {
+    assert!(rt; subscriber.is_in(domain));
+    assert_has_channel(rt, domain, at.0);
+    subscriber.set_channel_state(domain, at.0, at.1)
 }
 
 // Closes the subscriber's channels that are in the state.
-fn close(
-    rt: &impl Abort,
-    domain: &mut Numbers,
-    subscriber: &Subscriber,
-    channel: usize,
-    expected: u64,
-) {
-    assert_live(rt, domain, subscriber);
-    assert_has_channel(rt, domain, channel);
-    subscriber.close_channel(domain, channel, expected);
+fn close(rt: &impl Abort, domain: &mut Numbers, subscriber: &Subscriber, at: At) {
+    assert!(rt; subscriber.is_in(domain));
+    assert_has_channel(rt, domain, at.0);
+    subscriber.close_channel(domain, at.0, at.1);
 }
 
 // Hints a disconnect in the subscriber's channels that are in the state.
-fn hint(
-    rt: &impl Abort,
-    domain: &mut Numbers,
-    subscriber: &Subscriber,
-    channel: usize,
-    expected: u64,
-) {
-    assert_live(rt, domain, subscriber);
-    assert_has_channel(rt, domain, channel);
-    subscriber.set_disconnect_hint(domain, channel, expected);
+fn hint(rt: &impl Abort, domain: &mut Numbers, subscriber: &Subscriber, at: At) {
+    assert!(rt; subscriber.is_in(domain));
+    assert_has_channel(rt, domain, at.0);
+    subscriber.set_disconnect_hint(domain, at.0, at.1);
 }
 
 // Whether a channel of the subscriber is in the state.
-fn is_any(
-    rt: &impl Abort,
-    domain: &Numbers,
-    subscriber: &Subscriber,
-    channel: usize,
-    state: u64,
-) -> bool {
-    assert_live(rt, domain, subscriber);
-    assert_has_channel(rt, domain, channel);
-    subscriber.at_least_one_channel_has_state(domain, channel, state)
+fn is_any(rt: &impl Abort, domain: &Numbers, subscriber: &Subscriber, at: At) -> bool {
+    assert!(rt; subscriber.is_in(domain));
+    assert_has_channel(rt, domain, at.0);
+    subscriber.at_least_one_channel_has_state(domain, at.0, at.1)
 }
 
 // Whether the channel of the publisher's first connection is in the state, and whether it has a hint
 // too.
-fn is_first(
-    rt: &impl Abort,
-    domain: &Numbers,
-    publisher: &Publisher,
-    channel: usize,
-    state: u64,
-) -> [bool; 2] {
-    assert_ready(rt, domain, publisher);
-    assert_has_channel(rt, domain, channel);
+fn is_first(rt: &impl Abort, domain: &Numbers, publisher: &Publisher, at: At) -> [bool; 2] {
+    assert!(rt; is_slice_publisher_ready(domain, publisher));
+    assert_has_channel(rt, domain, at.0);
     [
-        publisher.has_channel_state(domain, channel, 0, state),
-        publisher.has_disconnect_hint(domain, channel, 0, state),
+        publisher.has_channel_state(domain, at.0, 0, at.1),
+        publisher.has_disconnect_hint(domain, at.0, 0, at.1),
     ]
 }
 
 // Closes the channel of the publisher's first connection, where it is in the state.
-fn close_first(
-    rt: &impl Abort,
-    domain: &mut Numbers,
-    publisher: &Publisher,
-    channel: usize,
-    expected: u64,
-) {
-    assert_ready(rt, domain, publisher);
-    assert_has_channel(rt, domain, channel);
-    publisher.close_channel(domain, channel, 0, expected);
+fn close_first(rt: &impl Abort, domain: &mut Numbers, publisher: &Publisher, at: At) {
+    assert!(rt; is_slice_publisher_ready(domain, publisher));
+    assert_has_channel(rt, domain, at.0);
+    publisher.close_channel(domain, at.0, 0, at.1);
 }
 
 #[test]
@@ -165,32 +131,32 @@ fn a_closed_channel_takes_no_slice(rt: HostRuntime) {
     let subscriber = slice_subscriber(&rt, &mut domain);
     let publisher = slice_publisher(&rt, &mut domain, 1);
     let unconnected = [
-        set(&rt, &mut domain, &subscriber, 0, 9),
-        is_any(&rt, &domain, &subscriber, 0, 0),
+        set(&rt, &mut domain, &subscriber, (0, 9)),
+        is_any(&rt, &domain, &subscriber, (0, 0)),
     ];
-    assert_live(&rt, &domain, &subscriber);
+    assert!(rt; subscriber.is_in(&domain));
     let updated = subscriber.update_connections(&mut domain).is_ok();
-    assert_ready(&rt, &domain, &publisher);
+    assert!(rt; is_slice_publisher_ready(&domain, &publisher));
     let places = [
         publisher.get_connection_id_of(&domain, 1),
         publisher.get_connection_id_of(&domain, 7),
     ];
-    let further = is_any(&rt, &domain, &subscriber, 1, 0);
-    close(&rt, &mut domain, &subscriber, 0, 5);
-    close(&rt, &mut domain, &subscriber, 0, 0);
-    let closed = is_first(&rt, &domain, &publisher, 0, u64::MAX);
+    let further = is_any(&rt, &domain, &subscriber, (1, 0));
+    close(&rt, &mut domain, &subscriber, (0, 5));
+    close(&rt, &mut domain, &subscriber, (0, 0));
+    let closed = is_first(&rt, &domain, &publisher, (0, u64::MAX));
     let passed = sent(&rt, &mut domain, &publisher, 1);
     let nothing = gets_nothing(&rt, &mut domain, &subscriber);
-    let was_closed = set(&rt, &mut domain, &subscriber, 0, 7);
+    let was_closed = set(&rt, &mut domain, &subscriber, (0, 7));
     let taken = sent(&rt, &mut domain, &publisher, 2);
-    hint(&rt, &mut domain, &subscriber, 0, 0);
-    let unhinted = is_first(&rt, &domain, &publisher, 0, 7);
-    hint(&rt, &mut domain, &subscriber, 0, 7);
-    let hinted = is_first(&rt, &domain, &publisher, 0, 7);
-    let was_open = set(&rt, &mut domain, &subscriber, 0, 3);
-    let still = is_first(&rt, &domain, &publisher, 0, 7);
-    close_first(&rt, &mut domain, &publisher, 0, 7);
-    let closed_again = is_first(&rt, &domain, &publisher, 0, u64::MAX);
+    hint(&rt, &mut domain, &subscriber, (0, 0));
+    let unhinted = is_first(&rt, &domain, &publisher, (0, 7));
+    hint(&rt, &mut domain, &subscriber, (0, 7));
+    let hinted = is_first(&rt, &domain, &publisher, (0, 7));
+    let was_open = set(&rt, &mut domain, &subscriber, (0, 3));
+    let still = is_first(&rt, &domain, &publisher, (0, 7));
+    close_first(&rt, &mut domain, &publisher, (0, 7));
+    let closed_again = is_first(&rt, &domain, &publisher, (0, u64::MAX));
     let second = gets(&rt, &mut domain, &subscriber, 2);
     publisher.disown();
     subscriber.disown();
@@ -212,19 +178,19 @@ fn a_further_channel_of_slices_has_a_state_of_its_own(rt: HostRuntime) {
     let mut domain: Numbers = Domain::new(rt.alloc(), two_channels()).expect(&rt, "a domain");
     let subscriber = slice_subscriber(&rt, &mut domain);
     let publisher = slice_publisher(&rt, &mut domain, 1);
-    assert_live(&rt, &domain, &subscriber);
+    assert!(rt; subscriber.is_in(&domain));
     let updated = subscriber.update_connections(&mut domain).is_ok();
-    hint(&rt, &mut domain, &subscriber, 1, 0);
+    hint(&rt, &mut domain, &subscriber, (1, 0));
     let hinted = [
-        is_first(&rt, &domain, &publisher, 0, 0),
-        is_first(&rt, &domain, &publisher, 1, 0),
+        is_first(&rt, &domain, &publisher, (0, 0)),
+        is_first(&rt, &domain, &publisher, (1, 0)),
     ];
-    close(&rt, &mut domain, &subscriber, 1, 0);
-    let closed = is_first(&rt, &domain, &publisher, 1, u64::MAX);
+    close(&rt, &mut domain, &subscriber, (1, 0));
+    let closed = is_first(&rt, &domain, &publisher, (1, u64::MAX));
     let taken = sent(&rt, &mut domain, &publisher, 1);
-    let was_closed = set(&rt, &mut domain, &subscriber, 1, 4);
-    close_first(&rt, &mut domain, &publisher, 1, 4);
-    let open = is_any(&rt, &domain, &subscriber, 0, 0);
+    let was_closed = set(&rt, &mut domain, &subscriber, (1, 4));
+    close_first(&rt, &mut domain, &publisher, (1, 4));
+    let open = is_any(&rt, &domain, &subscriber, (0, 0));
     publisher.disown();
     subscriber.disown();
     drop(domain);

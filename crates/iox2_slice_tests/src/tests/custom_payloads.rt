@@ -3,8 +3,8 @@ ghost use Rattle.std.specs.Prelude.{◌≡◌, true};
 ghost use Rattle.iox2_store.specs.declared.service_config.TypeVariant.TheVariants.{Dynamic};
 ghost use Rattle.iox2_pubsub.specs.Slices.{IsSliced};
 
-use crate::tests::fixtures::{assert_live, send_slice, slice_publisher, slice_subscriber};
-use iox2_fixtures::settings;
+use crate::tests::fixtures::{send_slice, slice_publisher, slice_subscriber};
+use iox2_fixtures::slices;
 use iox2_pubsub::{CustomHeaderMarker, CustomPayloadMarker, Domain};
 use iox2_store::{LoanError, ServiceConfig, TypeVariant};
 use std::process::Abort;
@@ -15,9 +15,8 @@ fn bytes() -> ServiceConfig
     ensures lists_cells { result.lists_cells ≡ true }
 {
     ServiceConfig {
-        variant: TypeVariant::Dynamic,
         units_per_element: 40,
-        ..settings()
+        ..slices()
     }
 }
 
@@ -38,7 +37,7 @@ fn an_element_has_many_bytes(rt: HostRuntime) {
     let elements = loan.header(&domain).number_of_elements();
     let message = loan.write_from_fn(&mut domain, |index| CustomPayloadMarker(low_byte(index)));
     let takers = send_slice(&rt, &mut domain, message);
-    assert_live(&rt, &domain, &subscriber);
+    assert!(rt; subscriber.is_in(&domain));
     let received = subscriber.receive_custom_payload(&mut domain);
     let sample = received.expect(&rt, "an answer").expect(&rt, "a sample");
     assert_dynamic(&rt, &domain);

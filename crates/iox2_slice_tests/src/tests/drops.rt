@@ -2,12 +2,11 @@
 ghost use Rattle.iox2_pubsub.specs.Live.{IsLiveSample, IsWritten};
 
 use crate::tests::fixtures::{
-    close_publisher, lend_slice, receive_slice, send_slice, slice_factory, slice_subscriber,
+    lend_slice, receive_slice, send_slice, slice_factory, slice_subscriber,
 };
-use iox2_fixtures::settings;
+use iox2_fixtures::{close_publisher, slices};
 use iox2_pubsub::Domain;
 use iox2_pubsub::slice::{Publisher, Sample, SampleMut, SampleMutUninit, Subscriber};
-use iox2_store::{ServiceConfig, TypeVariant};
 use std::alloc::Global;
 use std::process::Abort;
 use std::rc::Rc;
@@ -20,11 +19,7 @@ fn value(rt: &impl Abort, alloc: Global) -> Rc<u8> {
 }
 
 fn domain(rt: &impl Abort, alloc: Global) -> Shares {
-    let slices = ServiceConfig {
-        variant: TypeVariant::Dynamic,
-        ..settings()
-    };
-    Domain::new(alloc, slices).expect(rt, "a domain")
+    Domain::new(alloc, slices()).expect(rt, "a domain")
 }
 
 // A publisher with one slot, in which each of its messages lies.
@@ -109,7 +104,7 @@ fn left_by_close(
     value: &Rc<u8>,
 ) -> [usize; 2] {
     let sample = pass(rt, domain, &publisher, subscriber, value);
-    close_publisher(rt, domain, publisher);
+    assert!(rt; close_publisher(domain, publisher.into_inner()));
     let closed = Rc::strong_count(value);
     assert!(rt; domain.holds_sample(sample.key()));
     sample.release(domain);

@@ -4,13 +4,28 @@
 ghost use Rattle.std.specs.Prelude.{◌≡◌, List, Option, None, length};
 ghost use Rattle.iox2_store.specs.declared.degradation.DegradationAction.TheVariants.{Warn};
 ghost use Rattle.iox2_store.specs.machine.Records.{Fixed};
-ghost use Rattle.iox2_pubsub.specs.Live.{IsLivePublisher, IsLiveSample, IsLiveSubscriber, IsReadyPublisher, IsUnwritten, IsWritten, Stays};
+ghost use Rattle.iox2_pubsub.specs.Live.{IsLivePublisher, IsLiveSample, IsUnwritten, IsWritten, Stays};
 ghost use Rattle.iox2_pubsub.specs.Slices.{HasUnwrittenCells, IsSliced};
 
-use iox2_fixtures::{is_sliced, receiver_count};
-use iox2_pubsub::{Domain, slice};
-use iox2_store::BackpressureStrategy;
+use iox2_fixtures::{holds_slices, is_slice_publisher_ready, is_sliced, receiver_count};
+use iox2_pubsub::{CustomHeaderMarker, CustomPayloadMarker, Domain, slice};
+use iox2_store::{BackpressureStrategy, ServiceConfig};
+use std::alloc::Global;
 use std::process::Abort;
+
+/// A domain of a caller's own bytes.
+pub(crate) type Bytes = Domain<CustomPayloadMarker, CustomHeaderMarker>;
+
+/// A domain with these settings, of elements of 40 bytes each.
+pub(crate) fn byte_domain(rt: &impl Abort, alloc: Global, settings: ServiceConfig) -> Bytes
+    ensures { result.config ≡ record settings { units_per_element = 40 } }
+{
+    let config = ServiceConfig {
+        units_per_element: 40,
+        ..settings
+    };
+    Domain::new(alloc, config).expect(rt, "a domain")
+}
 
 /// A factory of publishers of slices that discard what a full subscriber doesn't take.
 pub(crate) fn slice_factory<T: Drop, U: Default + Drop>(
@@ -51,29 +66,6 @@ pub(crate) fn slice_subscriber<T: Drop, U: Default + Drop>(
 
 // ---- what a call asks for is tested
 
-/// Asserts that the publisher is one of the domain's that has no blocked send.
-pub(crate) fn assert_ready<T: Drop, U: Default + Drop>(
-    rt: &impl Abort,
-    domain: &Domain<T, U>,
-    publisher: &slice::Publisher,
-)
-    ensures { IsReadyPublisher domain.now publisher.now.publisher }
-{
-    assert!(rt; publisher.is_in(domain));
-    assert!(rt; !publisher.is_blocked(domain));
-}
-
-/// Asserts that the subscriber is one of the domain's.
-pub(crate) fn assert_live<T: Drop, U: Default + Drop>(
-    rt: &impl Abort,
-    domain: &Domain<T, U>,
-    subscriber: &slice::Subscriber,
-)
-    ensures { IsLiveSubscriber domain.now subscriber.now.subscriber }
-{
-    assert!(rt; subscriber.is_in(domain));
-}
-
 /// An unwritten loan of a slice of that length.
 pub(crate) fn lend_slice<T: Drop, U: Default + Drop>(
     rt: &impl Abort,
@@ -86,7 +78,7 @@ pub(crate) fn lend_slice<T: Drop, U: Default + Drop>(
     ensures sliced { IsSliced domain.new }
 {
     assert!(rt; is_sliced(domain));
-    assert_ready(rt, domain, publisher);
+    assert!(rt; is_slice_publisher_ready(domain, publisher));
     let loan = publisher.loan_slice_uninit(domain, len);
     loan.expect(rt, "a loan")
 }
@@ -102,7 +94,7 @@ pub(crate) fn lend_defaults<T: Default + Drop, U: Default + Drop>(
     ensures sliced { IsSliced domain.new }
 {
     assert!(rt; is_sliced(domain));
-    assert_ready(rt, domain, publisher);
+    assert!(rt; is_slice_publisher_ready(domain, publisher));
     let loan = publisher.loan_slice(domain, len);
     loan.expect(rt, "a loan")
 }
@@ -120,26 +112,6 @@ pub(crate) fn send_slice<T: Drop, U: Default + Drop>(
     receiver_count(outcome).expect(rt, "a send that isn't blocked")
 }
 
-/// Closes a publisher of slices.
-pub(crate) fn close_publisher<T: Drop, U: Default + Drop>(
-    rt: &impl Abort,
-    domain: &mut Domain<T, U>,
-    publisher: slice::Publisher,
-) {
-    assert_ready(rt, domain, &publisher);
-    publisher.close(domain);
-}
-
-/// Closes a subscriber to slices.
-pub(crate) fn close_subscriber<T: Drop, U: Default + Drop>(
-    rt: &impl Abort,
-    domain: &mut Domain<T, U>,
-    subscriber: slice::Subscriber,
-) {
-    assert_live(rt, domain, &subscriber);
-    subscriber.close(domain);
-}
-
 /// Receives a slice, which waits.
 pub(crate) fn receive_slice<T: Drop, U: Default + Drop>(
     rt: &impl Abort,
@@ -147,10 +119,10 @@ pub(crate) fn receive_slice<T: Drop, U: Default + Drop>(
     subscriber: &slice::Subscriber,
 ) -> slice::Sample
     ensures sample { IsLiveSample domain.new result.sample }
-    ensures sliced { IsSliced domain.new }
+    ensures holds { HoldsSlices domain.new }
 {
-    assert!(rt; is_sliced(domain));
-    assert_live(rt, domain, subscriber);
+    assert!(rt; holds_slices(domain));
+    assert!(rt; subscriber.is_in(domain));
     let received = subscriber.receive(domain).expect(rt, "an answer");
     received.expect(rt, "a sample")
 }

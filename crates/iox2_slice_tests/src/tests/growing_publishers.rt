@@ -5,12 +5,13 @@ ghost use Rattle.iox2_store.specs.declared.service_config.TypeVariant.TheVariant
 ghost use Rattle.std.specs.Prelude.{◌≡◌, IfOk};
 
 use crate::tests::fixtures::{
-    assert_live, assert_ready, close_publisher, close_subscriber, receive_slice, send_slice,
-    slice_factory, slice_subscriber,
+    Bytes, byte_domain, receive_slice, send_slice, slice_factory, slice_subscriber,
 };
-use iox2_fixtures::{Numbers, is_sliced, smallest};
+use iox2_fixtures::{
+    Numbers, close_publisher, close_subscriber, is_slice_publisher_ready, is_sliced, smallest,
+};
+use iox2_pubsub::Domain;
 use iox2_pubsub::slice::{Publisher, Sample, SampleMutUninit};
-use iox2_pubsub::{CustomHeaderMarker, CustomPayloadMarker, Domain};
 use iox2_store::{AllocationStrategy, LoanError, ServiceConfig, TypeVariant};
 use std::alloc::Global;
 use std::process::Abort;
@@ -49,7 +50,7 @@ fn lend(
     ensures stays { Stays domain.old domain.new }
 {
     assert!(rt; is_sliced(domain));
-    assert_ready(rt, domain, publisher);
+    assert!(rt; is_slice_publisher_ready(domain, publisher));
     publisher.loan_slice_uninit(domain, len)
 }
 
@@ -136,17 +137,17 @@ fn lengths_rise_and_fall_around_a_sample_that_is_kept(rt: HostRuntime) {
         kept_length = lengths[value];
         kept_value = value as u64;
     }
-    close_publisher(&rt, &mut domain, publisher);
+    assert!(rt; close_publisher(&mut domain, publisher.into_inner()));
     assert!(rt; reads(&rt, &domain, &kept, kept_length, kept_value));
     assert!(rt; domain.holds_sample(kept.key()));
     kept.release(&mut domain);
-    assert_live(&rt, &domain, &subscriber);
-    close_subscriber(&rt, &mut domain, subscriber);
+    assert!(rt; subscriber.is_in(&domain));
+    assert!(rt; close_subscriber(&mut domain, subscriber.into_inner()));
     assert!(rt; domain.book_count() == 0);
 }
 
 // Asserts that messages are slices, of elements of any number of units.
-fn assert_dynamic(rt: &impl Abort, domain: &Domain<CustomPayloadMarker, CustomHeaderMarker>)
+fn assert_dynamic(rt: &impl Abort, domain: &Bytes)
     ensures sliced { IsSliced domain.now }
     ensures dynamic { (domain.now.config).variant ≡ Dynamic }
 {
@@ -157,17 +158,10 @@ fn assert_dynamic(rt: &impl Abort, domain: &Domain<CustomPayloadMarker, CustomHe
 
 #[test]
 fn bytes_of_elements_with_units_grow_too(rt: HostRuntime) {
-    let bytes = ServiceConfig {
-        units_per_element: 40,
-        ..slices()
-    };
-    let mut domain: Domain<CustomPayloadMarker, CustomHeaderMarker> = Domain::new(
-        rt.alloc(),
-        bytes,
-    ).expect(&rt, "a domain");
+    let mut domain = byte_domain(&rt, rt.alloc(), slices());
     let factory = slice_factory(&domain).allocation_strategy(AllocationStrategy::BestFit);
     let publisher = factory.create(&mut domain).expect(&rt, "a publisher");
-    assert_ready(&rt, &domain, &publisher);
+    assert!(rt; is_slice_publisher_ready(&domain, &publisher));
     assert_dynamic(&rt, &domain);
     let loan = publisher
         .loan_custom_payload(&mut domain, 3)
@@ -175,7 +169,7 @@ fn bytes_of_elements_with_units_grow_too(rt: HostRuntime) {
     assert_dynamic(&rt, &domain);
     let bytes = loan.payload(&domain).len();
     loan.disown();
-    assert_ready(&rt, &domain, &publisher);
+    assert!(rt; is_slice_publisher_ready(&domain, &publisher));
     assert_dynamic(&rt, &domain);
     let unfit = publisher.loan_custom_payload(&mut domain, usize::MAX / 40);
     let unfit = unfit.map(|loan| loan.disown());
@@ -194,7 +188,7 @@ fn kept_below(rt: &impl Abort, alloc: Global, strategy: AllocationStrategy, end:
     let publisher = factory.create(&mut domain).expect(rt, "a publisher");
     for len in 2..end {
         assert!(rt; is_sliced(&domain));
-        assert_ready(rt, &domain, &publisher);
+        assert!(rt; is_slice_publisher_ready(&domain, &publisher));
         let loan = publisher
             .loan_slice_uninit(&mut domain, len)
             .expect(rt, "a loan");

@@ -1,18 +1,9 @@
 //! Loans of slices that are written, and say where their values begin.
 
 use crate::tests::fixtures::{receive_slice, send_slice, slice_publisher, slice_subscriber};
-use iox2_fixtures::{Numbers, is_sliced, settings};
+use iox2_fixtures::{Numbers, is_sliced, slices};
 use iox2_pubsub::Domain;
 use iox2_pubsub::slice::LocatedLoan;
-use iox2_store::{ServiceConfig, TypeVariant};
-
-// The settings of a domain of slices.
-fn slices() -> ServiceConfig {
-    ServiceConfig {
-        variant: TypeVariant::Dynamic,
-        ..settings()
-    }
-}
 
 #[test]
 fn a_loan_of_default_values_says_where_they_begin(rt: HostRuntime) {

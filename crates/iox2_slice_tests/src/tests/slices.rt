@@ -1,18 +1,19 @@
 //! Slices are lent, written, sent and received.
-ghost use Rattle.std.specs.Prelude.{◌≡◌, false};
-ghost use Rattle.iox2_store.specs.Defaults.{default_config};
-ghost use Rattle.iox2_store.specs.declared.service_config.TypeVariant.TheVariants.{Dynamic};
+ghost use Rattle.std.specs.Prelude.{false};
 ghost use Rattle.iox2_pubsub.specs.Slices.{IsSliced};
 ghost use Rattle.iox2_pubsub.specs.Live.{IsUnwritten, IsWritten, Stays};
 
 use crate::tests::fixtures::{
-    assert_live, assert_ready, close_publisher, close_subscriber, lend_defaults, lend_slice,
-    receive_slice, send_slice, slice_factory, slice_publisher, slice_subscriber,
+    lend_defaults, lend_slice, receive_slice, send_slice, slice_factory, slice_publisher,
+    slice_subscriber,
 };
-use iox2_fixtures::{Costly, Numbers, costly_time, is_sliced, micros_since, settings};
-use iox2_pubsub::slice::{Publisher, SampleMut, SampleMutUninit, Subscriber};
+use iox2_fixtures::{
+    Costly, Numbers, close_publisher, close_subscriber, costly_time, is_slice_publisher_ready,
+    is_sliced, micros_since, slices,
+};
+use iox2_pubsub::slice::{Publisher, Sample, SampleMut, SampleMutUninit, Subscriber};
 use iox2_pubsub::{DegradationHandler, Domain, UpdateConnections};
-use iox2_store::{DegradationAction, LoanError, PublisherCreateError, ServiceConfig, TypeVariant};
+use iox2_store::{DegradationAction, LoanError, PublisherCreateError};
 use std::cell::Cell;
 use std::process::Abort;
 use std::time::CpuClock;
@@ -20,16 +21,6 @@ use std::time::CpuClock;
 /// A payload that is neither `Copy` nor `Clone`.
 #[derive(Default, Drop)]
 struct Tag(u64);
-
-// The settings of a domain of slices, with one publisher and one subscriber.
-fn slices() -> ServiceConfig
-    ensures { result ≡ record (default_config 7) { variant = Dynamic; node_id = 3; max_publishers = 1; max_subscribers = 1; enable_safe_overflow = false } }
-{
-    ServiceConfig {
-        variant: TypeVariant::Dynamic,
-        ..settings()
-    }
-}
 
 // Sets one of the values.
 fn set(values: &mut [u64], index: usize, value: u64) {
@@ -67,8 +58,8 @@ fn a_slice_is_sent_as_it_was_written(rt: HostRuntime) {
         42, 1234, 2468, 3702, 4936, 6170, 7404, 8638, 9872, 11106, 12340, 13574,
     ];
     let (is_read, elements) = read_next(&rt, &mut domain, &subscriber, written.as_slice());
-    close_publisher(&rt, &mut domain, publisher);
-    close_subscriber(&rt, &mut domain, subscriber);
+    assert!(rt; close_publisher(&mut domain, publisher.into_inner()));
+    assert!(rt; close_subscriber(&mut domain, subscriber.into_inner()));
     drop(domain);
     assert!(rt; takers == 1);
     assert!(rt; is_read);
@@ -162,7 +153,7 @@ fn lent_length(
     ensures { Stays domain.old domain.new }
 {
     assert!(rt; is_sliced(domain));
-    assert_ready(rt, domain, publisher);
+    assert!(rt; is_slice_publisher_ready(domain, publisher));
     let loan = publisher.loan_slice_uninit(domain, slice_len)?;
     let elements = loan.header(domain).number_of_elements();
     loan.discard(domain);
@@ -283,16 +274,16 @@ fn update_both(
     publisher: &Publisher,
     subscriber: &Subscriber,
 ) -> [bool; 2] {
-    assert_ready(rt, domain, publisher);
+    assert!(rt; is_slice_publisher_ready(domain, publisher));
     let first = publisher.update_connections(domain).is_ok();
-    assert_live(rt, domain, subscriber);
+    assert!(rt; subscriber.is_in(domain));
     let second = subscriber.update_connections(domain).is_ok();
     [first, second]
 }
 
 // Whether messages wait for the subscriber.
 fn waits(rt: &impl Abort, domain: &mut Domain<Tag, Tag>, subscriber: &Subscriber) -> bool {
-    assert_live(rt, domain, subscriber);
+    assert!(rt; subscriber.is_in(domain));
     subscriber.has_samples(domain).expect(rt, "an answer")
 }
 
@@ -312,8 +303,10 @@ fn ports_of_slices_have_the_calls_of_ports(rt: HostRuntime) {
     let buffer_size = subscriber.buffer_size();
     let publisher = Publisher::new(publisher.into_inner());
     let subscriber = Subscriber::new(subscriber.into_inner());
-    close_publisher(&rt, &mut domain, publisher);
-    close_subscriber(&rt, &mut domain, subscriber);
+    assert!(rt; is_slice_publisher_ready(&domain, &publisher));
+    publisher.close(&mut domain);
+    assert!(rt; subscriber.is_in(&domain));
+    subscriber.close(&mut domain);
     drop(domain);
     assert!(rt; ids == [2, 1]);
     assert!(rt; keys == [2, 1]);
@@ -330,16 +323,16 @@ fn ports_of_slices_are_told_of_their_channels(rt: HostRuntime) {
     let subscriber = slice_subscriber(&rt, &mut domain);
     let publisher = slice_publisher(&rt, &mut domain, 1);
     let is_updated = update_both(&rt, &mut domain, &publisher, &subscriber);
-    assert_ready(&rt, &domain, &publisher);
-    assert_live(&rt, &domain, &subscriber);
+    assert!(rt; is_slice_publisher_ready(&domain, &publisher));
+    assert!(rt; subscriber.is_in(&domain));
     let place = publisher.get_connection_id_of(&domain, subscriber.id().value());
     let told = [
         subscriber.at_least_one_channel_has_state(&domain, 0, 0),
         publisher.has_channel_state(&domain, 0, 0, 0),
         publisher.has_disconnect_hint(&domain, 0, 0, 0),
     ];
-    close_publisher(&rt, &mut domain, publisher);
-    close_subscriber(&rt, &mut domain, subscriber);
+    assert!(rt; close_publisher(&mut domain, publisher.into_inner()));
+    assert!(rt; close_subscriber(&mut domain, subscriber.into_inner()));
     assert!(rt; is_updated == [true, true]);
     assert!(rt; place == Some(0));
     assert!(rt; told == [true, true, false]);
@@ -352,7 +345,7 @@ fn is_first(
     publisher: &Publisher,
     state: u64,
 ) -> [bool; 2] {
-    assert_ready(rt, domain, publisher);
+    assert!(rt; is_slice_publisher_ready(domain, publisher));
     [
         publisher.has_channel_state(domain, 0, 0, state),
         publisher.has_disconnect_hint(domain, 0, 0, state),
@@ -365,18 +358,18 @@ fn ports_of_slices_change_their_channels(rt: HostRuntime) {
     let subscriber = slice_subscriber(&rt, &mut domain);
     let publisher = slice_publisher(&rt, &mut domain, 1);
     let is_updated = update_both(&rt, &mut domain, &publisher, &subscriber);
-    assert_live(&rt, &domain, &subscriber);
+    assert!(rt; subscriber.is_in(&domain));
     subscriber.close_channel(&mut domain, 0, 0);
     let closed = is_first(&rt, &domain, &publisher, u64::MAX);
     let loan = lend_defaults(&rt, &mut domain, &publisher, 1);
     let passed = send_slice(&rt, &mut domain, loan);
-    assert_live(&rt, &domain, &subscriber);
+    assert!(rt; subscriber.is_in(&domain));
     let was_closed = subscriber.set_channel_state(&mut domain, 0, 7);
     subscriber.set_disconnect_hint(&mut domain, 0, 7);
     let hinted = is_first(&rt, &domain, &publisher, 7);
     let loan = lend_defaults(&rt, &mut domain, &publisher, 1);
     let taken = send_slice(&rt, &mut domain, loan);
-    assert_ready(&rt, &domain, &publisher);
+    assert!(rt; is_slice_publisher_ready(&domain, &publisher));
     publisher.close_channel(&mut domain, 0, 0, 7);
     let closed_again = is_first(&rt, &domain, &publisher, u64::MAX);
     publisher.disown();
@@ -494,6 +487,31 @@ fn loans_and_samples_of_slices_have_keys(rt: HostRuntime) {
     assert!(rt; [unwritten.port, unwritten.message] == [2, 2]);
     assert!(rt; takers == 1);
     assert!(rt; [borrowed.port, borrowed.message] == [1, 2]);
+}
+
+#[test]
+fn handles_of_slices_are_made_of_those_of_single_values(rt: HostRuntime) {
+    let mut domain: Domain<Tag, Tag> = Domain::new(rt.alloc(), slices()).expect(&rt, "a domain");
+    let subscriber = slice_subscriber(&rt, &mut domain);
+    let publisher = slice_publisher(&rt, &mut domain, 1);
+    let message = lend_defaults(&rt, &mut domain, &publisher, 1);
+    let takers = send_slice(&rt, &mut domain, message);
+    let sample = receive_slice(&rt, &mut domain, &subscriber);
+    let message = lend_defaults(&rt, &mut domain, &publisher, 1);
+    let loan = lend_slice(&rt, &mut domain, &publisher, 1);
+    subscriber.disown();
+    publisher.disown();
+    let keys = [sample.key(), message.key(), loan.key()];
+    let sample = Sample::new(sample.into_inner());
+    let message = SampleMut::new(message.into_inner());
+    let loan = SampleMutUninit::new(loan.into_inner());
+    let again = [sample.key(), message.key(), loan.key()];
+    sample.disown();
+    message.disown();
+    loan.disown();
+    drop(domain);
+    assert!(rt; takers == 1);
+    assert!(rt; keys == again);
 }
 
 #[test]

@@ -5,19 +5,10 @@ ghost use Rattle.iox2_pubsub.specs.Slices.{IsSliced};
 use crate::tests::fixtures::{
     lend_slice, receive_slice, send_slice, slice_publisher, slice_subscriber,
 };
-use iox2_fixtures::{Numbers, settings};
+use iox2_fixtures::{Numbers, slices};
 use iox2_pubsub::Domain;
 use iox2_pubsub::slice::{Publisher, SampleMut};
-use iox2_store::{ServiceConfig, TypeVariant};
 use std::process::Abort;
-
-// The settings of a domain of slices.
-fn slices() -> ServiceConfig {
-    ServiceConfig {
-        variant: TypeVariant::Dynamic,
-        ..settings()
-    }
-}
 
 // Lends a slice of that length, whose values nobody chooses.
 fn lend_unspecified(

@@ -1,22 +1,19 @@
 //! Slices in a domain that hands out no cells.
-ghost use Rattle.iox2_pubsub.specs.Live.{IsLiveSample, IsUnwritten};
+ghost use Rattle.iox2_pubsub.specs.Live.{IsUnwritten};
 ghost use Rattle.iox2_pubsub.specs.Slices.{HoldsSlices};
 
-use crate::tests::fixtures::{
-    assert_live, assert_ready, send_slice, slice_publisher, slice_subscriber,
-};
-use iox2_fixtures::{Numbers, holds_slices, settings};
+use crate::tests::fixtures::{receive_slice, send_slice, slice_publisher, slice_subscriber};
+use iox2_fixtures::{Numbers, holds_slices, is_slice_publisher_ready, slices};
 use iox2_pubsub::Domain;
-use iox2_pubsub::slice::{Publisher, Sample, SampleMutUninit, Subscriber};
-use iox2_store::{ServiceConfig, TypeVariant};
+use iox2_pubsub::slice::{Publisher, SampleMutUninit};
+use iox2_store::ServiceConfig;
 use std::process::Abort;
 
 // The settings of a domain of slices whose cells aren't handed out.
 fn without_cells() -> ServiceConfig {
     ServiceConfig {
-        variant: TypeVariant::Dynamic,
         lists_cells: false,
-        ..settings()
+        ..slices()
     }
 }
 
@@ -26,20 +23,9 @@ fn lend(rt: &impl Abort, domain: &mut Numbers, publisher: &Publisher, len: usize
     ensures holds { HoldsSlices domain.new }
 {
     assert!(rt; holds_slices(domain));
-    assert_ready(rt, domain, publisher);
+    assert!(rt; is_slice_publisher_ready(domain, publisher));
     let loan = publisher.loan_slice_uninit(domain, len);
     loan.expect(rt, "a loan")
-}
-
-// Receives a slice, which waits.
-fn receive(rt: &impl Abort, domain: &mut Numbers, subscriber: &Subscriber) -> Sample
-    ensures sample { IsLiveSample domain.new result.sample }
-    ensures holds { HoldsSlices domain.new }
-{
-    assert!(rt; holds_slices(domain));
-    assert_live(rt, domain, subscriber);
-    let received = subscriber.receive(domain).expect(rt, "an answer");
-    received.expect(rt, "a sample")
 }
 
 #[test]
@@ -50,7 +36,7 @@ fn slices_pass_where_no_cells_are_handed_out(rt: HostRuntime) {
     let loan = lend(&rt, &mut domain, &publisher, 3);
     let message = loan.write_from_fn(&mut domain, |index| index as u64);
     let takers = send_slice(&rt, &mut domain, message);
-    let sample = receive(&rt, &mut domain, &subscriber);
+    let sample = receive_slice(&rt, &mut domain, &subscriber);
     let is_read = sample.payload(&domain) == [0, 1, 2].as_slice();
     sample.disown();
     let loan = lend(&rt, &mut domain, &publisher, 2);

@@ -2,13 +2,11 @@
 
 ghost use Rattle.std.specs.Prelude.{◌<◌};
 ghost use Rattle.iox2_store.specs.machine.Limits.{channel_count};
-ghost use Rattle.iox2_pubsub.specs.Live.{IsLivePublisher};
 
 use crate::tests::fixtures::{
-    assert_live, assert_ready, close_publisher, copied, domain, next_reading, publisher_of,
-    subscriber_of, update, waits,
+    copied, domain, next_reading, publisher_of, subscriber_of, update, waits,
 };
-use iox2_fixtures::{Weather, settings, smallest};
+use iox2_fixtures::{Weather, close_publisher, is_ready, settings, smallest};
 use iox2_pubsub::{
     BackpressureAction, BackpressureHandler, Domain, Publisher, Subscriber, UpdateConnections,
 };
@@ -89,31 +87,31 @@ fn domain_for_two(rt: &impl Abort, alloc: Global) -> Weather {
 // Whether the channel was closed at each of the subscriber's connections. Where it was, it has the
 // state afterwards.
 fn set(rt: &impl Abort, domain: &mut Weather, subscriber: &Subscriber, state: u64) -> bool {
-    assert_live(rt, domain, subscriber);
+    assert!(rt; subscriber.is_in(domain));
     subscriber.set_channel_state(domain, 0, state)
 }
 
 // Closes the subscriber's channels that are in the state.
 fn close(rt: &impl Abort, domain: &mut Weather, subscriber: &Subscriber, expected: u64) {
-    assert_live(rt, domain, subscriber);
+    assert!(rt; subscriber.is_in(domain));
     subscriber.close_channel(domain, 0, expected);
 }
 
 // Hints a disconnect in the subscriber's channels that are in the state.
 fn hint(rt: &impl Abort, domain: &mut Weather, subscriber: &Subscriber, expected: u64) {
-    assert_live(rt, domain, subscriber);
+    assert!(rt; subscriber.is_in(domain));
     subscriber.set_disconnect_hint(domain, 0, expected);
 }
 
 // Whether one of the subscriber's channels is in the state.
 fn is_any(rt: &impl Abort, domain: &Weather, subscriber: &Subscriber, state: u64) -> bool {
-    assert_live(rt, domain, subscriber);
+    assert!(rt; subscriber.is_in(domain));
     subscriber.at_least_one_channel_has_state(domain, 0, state)
 }
 
 // Whether the publisher's first channel is in the state, and whether it has a hint too.
 fn is_first(rt: &impl Abort, domain: &Weather, publisher: &Publisher, state: u64) -> [bool; 2] {
-    assert_ready(rt, domain, publisher);
+    assert!(rt; is_ready(domain, publisher));
     [
         publisher.has_channel_state(domain, 0, 0, state),
         publisher.has_disconnect_hint(domain, 0, 0, state),
@@ -133,9 +131,9 @@ fn a_closed_channel_takes_no_message(rt: HostRuntime) {
         set(&rt, &mut domain, &subscriber, 9),
         is_any(&rt, &domain, &subscriber, 0),
     ];
-    assert_live(&rt, &domain, &subscriber);
+    assert!(rt; subscriber.is_in(&domain));
     let updated = subscriber.update_connections(&mut domain).is_ok();
-    assert_live(&rt, &domain, &subscriber);
+    assert!(rt; subscriber.is_in(&domain));
     assert_has_channel(&rt, &domain, 1);
     let further = subscriber.at_least_one_channel_has_state(&domain, 1, 0);
     close(&rt, &mut domain, &subscriber, 5);
@@ -152,7 +150,7 @@ fn a_closed_channel_takes_no_message(rt: HostRuntime) {
     let hinted = is_first(&rt, &domain, &publisher, 7);
     let was_open = set(&rt, &mut domain, &subscriber, 3);
     let still = is_first(&rt, &domain, &publisher, 7);
-    assert_ready(&rt, &domain, &publisher);
+    assert!(rt; is_ready(&domain, &publisher));
     publisher.close_channel(&mut domain, 0, 0, 7);
     let closed_again = is_first(&rt, &domain, &publisher, u64::MAX);
     let second = next_reading(&rt, &mut domain, &subscriber);
@@ -182,7 +180,7 @@ fn assert_has_channel(rt: &impl Abort, domain: &Weather, channel: usize)
 
 // The number of each of three channels that is in the state at the publisher's first connection.
 fn all_first(rt: &impl Abort, domain: &Weather, publisher: &Publisher, state: u64) -> [bool; 3] {
-    assert_ready(rt, domain, publisher);
+    assert!(rt; is_ready(domain, publisher));
     assert_has_channel(rt, domain, 2);
     [
         publisher.has_channel_state(domain, 0, 0, state),
@@ -199,7 +197,7 @@ fn close_further(
     channel: usize,
     expected: u64,
 ) {
-    assert_live(rt, domain, subscriber);
+    assert!(rt; subscriber.is_in(domain));
     assert_has_channel(rt, domain, channel);
     subscriber.close_channel(domain, channel, expected);
 }
@@ -210,23 +208,23 @@ fn a_further_channel_has_a_state_of_its_own(rt: HostRuntime) {
     let mut domain: Weather = Domain::new(rt.alloc(), three_channels()).expect(&rt, "a domain");
     let subscriber = subscriber_of(&rt, &mut domain);
     let publisher = publisher_of(&rt, &mut domain);
-    assert_live(&rt, &domain, &subscriber);
+    assert!(rt; subscriber.is_in(&domain));
     let updated = subscriber.update_connections(&mut domain).is_ok();
     let open = all_first(&rt, &domain, &publisher, 0);
     close_further(&rt, &mut domain, &subscriber, 1, 5);
     close_further(&rt, &mut domain, &subscriber, 2, 0);
     let closed = all_first(&rt, &domain, &publisher, u64::MAX);
     let taken = copied(&rt, &mut domain, &publisher, 1);
-    assert_live(&rt, &domain, &subscriber);
+    assert!(rt; subscriber.is_in(&domain));
     assert_has_channel(&rt, &domain, 2);
     let were_closed = [
         subscriber.set_channel_state(&mut domain, 2, 7),
         set(&rt, &mut domain, &subscriber, 8),
     ];
-    assert_live(&rt, &domain, &subscriber);
+    assert!(rt; subscriber.is_in(&domain));
     assert_has_channel(&rt, &domain, 2);
     subscriber.set_disconnect_hint(&mut domain, 2, 7);
-    assert_ready(&rt, &domain, &publisher);
+    assert!(rt; is_ready(&domain, &publisher));
     assert_has_channel(&rt, &domain, 2);
     let hinted = [
         publisher.has_disconnect_hint(&domain, 0, 0, 0),
@@ -260,7 +258,7 @@ fn a_channel_that_opens_again_takes_messages(rt: HostRuntime) {
     let second = subscriber_of(&rt, &mut domain);
     let publisher = publisher_of(&rt, &mut domain);
     let before = copied(&rt, &mut domain, &publisher, 1);
-    assert_ready(&rt, &domain, &publisher);
+    assert!(rt; is_ready(&domain, &publisher));
     publisher.close_channel(&mut domain, 0, 2, 0);
     publisher.close_channel(&mut domain, 0, 0, 0);
     let closed = copied(&rt, &mut domain, &publisher, 2);
@@ -322,7 +320,7 @@ fn no_handler_is_asked_of_a_closed_channel(rt: HostRuntime) {
         copied(&rt, &mut domain, &publisher, 1),
         copied(&rt, &mut domain, &publisher, 2),
     ];
-    assert_live(&rt, &domain, &subscriber);
+    assert!(rt; subscriber.is_in(&domain));
     let updated = subscriber.update_connections(&mut domain).is_ok();
     close(&rt, &mut domain, &subscriber, 0);
     let passed = copied(&rt, &mut domain, &publisher, 3);
@@ -342,10 +340,10 @@ fn a_closed_publisher_leaves_its_channel(rt: HostRuntime) {
     let subscriber = subscriber_of(&rt, &mut domain);
     let publisher = publisher_of(&rt, &mut domain);
     let taken = copied(&rt, &mut domain, &publisher, 1);
-    assert_live(&rt, &domain, &subscriber);
+    assert!(rt; subscriber.is_in(&domain));
     let updated = subscriber.update_connections(&mut domain).is_ok();
     close(&rt, &mut domain, &subscriber, 0);
-    close_publisher(&rt, &mut domain, publisher);
+    assert!(rt; close_publisher(&mut domain, publisher));
     let left = is_any(&rt, &domain, &subscriber, u64::MAX);
     let was_closed = set(&rt, &mut domain, &subscriber, 7);
     let changed = is_any(&rt, &domain, &subscriber, 7);

@@ -1,7 +1,5 @@
-use crate::tests::fixtures::{
-    close_publisher, close_subscriber, domain, publisher_of, received, release, sent, subscriber_of,
-};
-use iox2_fixtures::{Reading, receiver_count};
+use crate::tests::fixtures::{domain, publisher_of, received, release, sent, subscriber_of};
+use iox2_fixtures::{Reading, close_publisher, close_subscriber, receiver_count};
 use iox2_pubsub::{SendError, SubscriberCreateError};
 
 // The loans of a publisher that was closed can be read and given back, and are lost at a send.
@@ -30,7 +28,7 @@ fn a_place_is_free_with_the_last_sample(rt: HostRuntime) {
     let publisher = publisher_of(&rt, &mut domain);
     sent(&rt, &mut domain, &publisher, 21);
     let sample = received(&rt, &mut domain, &subscriber).expect(&rt, "a message");
-    close_subscriber(&rt, &mut domain, subscriber);
+    assert!(rt; close_subscriber(&mut domain, subscriber));
     let refused = match domain.subscriber_builder().create(&mut domain) {
         Ok(subscriber) => {
             subscriber.disown();
@@ -41,8 +39,8 @@ fn a_place_is_free_with_the_last_sample(rt: HostRuntime) {
     release(&rt, &mut domain, sample);
     let next = subscriber_of(&rt, &mut domain);
     let id = next.id().value();
-    close_subscriber(&rt, &mut domain, next);
-    close_publisher(&rt, &mut domain, publisher);
+    assert!(rt; close_subscriber(&mut domain, next));
+    assert!(rt; close_publisher(&mut domain, publisher));
     drop(domain);
     assert!(rt; refused == Some(SubscriberCreateError::ExceedsMaxSupportedSubscribers));
     assert!(rt; id == 3);

@@ -1,13 +1,12 @@
 //! Messages that are sent into one channel of one connection.
 ghost use Rattle.std.specs.Prelude.{◌<◌, IfOk};
-ghost use Rattle.iox2_store.specs.machine.Limits.{channel_count};
 ghost use Rattle.iox2_pubsub.specs.Live.{IsWritten};
 
-use crate::tests::fixtures::{
-    assert_live, assert_ready, assert_single_valued, close_publisher, close_subscriber, copied,
-    next_reading, publisher_of, subscriber_of, update, waits,
+use crate::tests::fixtures::{copied, next_reading, publisher_of, subscriber_of, update, waits};
+use iox2_fixtures::{
+    Reading, Weather, close_publisher, close_subscriber, is_ready, is_single_valued,
+    receiver_count, settings,
 };
-use iox2_fixtures::{Reading, Weather, receiver_count, settings};
 use iox2_pubsub::{
     BackpressureAction, BackpressureHandler, Domain, Publisher, SampleMut, SendError, SendOutcome,
     Subscriber, UpdateConnections,
@@ -42,8 +41,8 @@ fn message_of(
 ) -> Result<SampleMut, LoanError>
     ensures { IfOk result (IsWritten domain.new) }
 {
-    assert_single_valued(rt, domain);
-    assert_ready(rt, domain, publisher);
+    assert!(rt; is_single_valued(domain));
+    assert!(rt; is_ready(domain, publisher));
     let loan = publisher.loan_uninit(domain)?;
     Ok(loan.write_payload(domain, Reading { celsius }))
 }
@@ -79,7 +78,7 @@ fn sent_to(
 
 // Closes the channel of each of the subscriber's connections in which it is open.
 fn close_channel(rt: &impl Abort, domain: &mut Weather, subscriber: &Subscriber, channel: usize) {
-    assert_live(rt, domain, subscriber);
+    assert!(rt; subscriber.is_in(domain));
     assert!(rt; channel < domain.config().number_of_channels.max(1));
     subscriber.close_channel(domain, channel, 0);
 }
@@ -169,7 +168,7 @@ fn filled(rt: &impl Abort, alloc: Global, number: usize) -> (usize, bool) {
     let subscriber = subscriber_of(rt, &mut domain);
     let publisher = publisher_of(rt, &mut domain);
     let mut count = copied(rt, &mut domain, &publisher, 1);
-    assert_live(rt, &domain, &subscriber);
+    assert!(rt; subscriber.is_in(&domain));
     let borrowed = subscriber.receive(&mut domain).expect(rt, "an answer");
     for channel in 0..number.min(3) {
         for _ in 0..3 {
@@ -237,7 +236,7 @@ fn a_closed_further_channel_is_passed_alone(rt: HostRuntime) {
     let mut domain = domain_of(&rt, rt.alloc(), channels(2, 1));
     let subscriber = subscriber_of(&rt, &mut domain);
     let publisher = publisher_of(&rt, &mut domain);
-    assert_live(&rt, &domain, &subscriber);
+    assert!(rt; subscriber.is_in(&domain));
     let updated = subscriber.update_connections(&mut domain).is_ok();
     close_channel(&rt, &mut domain, &subscriber, 1);
     let taken = [
@@ -260,16 +259,16 @@ fn a_departed_publisher_leaves_what_waits_in_another_channel(rt: HostRuntime) {
     let mut domain = domain_of(&rt, rt.alloc(), channels(2, 1));
     let subscriber = subscriber_of(&rt, &mut domain);
     let publisher = publisher_of(&rt, &mut domain);
-    assert_live(&rt, &domain, &subscriber);
+    assert!(rt; subscriber.is_in(&domain));
     let updated = subscriber.update_connections(&mut domain).is_ok();
     let taken = sent_to(&rt, &mut domain, &publisher, 1, 1, 0);
-    close_publisher(&rt, &mut domain, publisher);
+    assert!(rt; close_publisher(&mut domain, publisher));
     let kept = domain.connection_count();
     let nothing = next_reading(&rt, &mut domain, &subscriber);
-    assert_live(&rt, &domain, &subscriber);
+    assert!(rt; subscriber.is_in(&domain));
     let updated_again = subscriber.update_connections(&mut domain).is_ok();
     let still = domain.connection_count();
-    close_subscriber(&rt, &mut domain, subscriber);
+    assert!(rt; close_subscriber(&mut domain, subscriber));
     let gone = domain.connection_count();
     drop(domain);
     assert!(rt; updated && taken == 1);
@@ -285,7 +284,7 @@ fn a_closed_publisher_sends_nothing(rt: HostRuntime) {
     let message = message_of(&rt, &mut domain, &publisher, 1).expect(&rt, "a loan");
     let key = message.key();
     let parts = message.into_parts();
-    close_publisher(&rt, &mut domain, publisher);
+    assert!(rt; close_publisher(&mut domain, publisher));
     let message = domain.written_of(&parts).expect(&rt, "a loan");
     let sent = send_there(&rt, &mut domain, message, 1, 0);
     let is_left = domain.holds_loan(key);

@@ -1,8 +1,8 @@
 //! Values that are lent or sent at once.
-use crate::tests::fixtures::{assert_single_valued, publisher_of, receive, send, subscriber_of};
+use crate::tests::fixtures::{publisher_of, receive, send, subscriber_of};
 use iox2_fixtures::{
-    Costly, Reading, Station, Weather, costly_time, factory_for, micros_since, receiver_count,
-    settings,
+    Costly, Reading, Station, Weather, costly_time, factory_for, is_single_valued, micros_since,
+    receiver_count, settings,
 };
 use iox2_pubsub::{Domain, LoanError, SendError};
 use iox2_store::ServiceConfig;
@@ -18,7 +18,7 @@ fn a_value_is_sent_and_received(rt: HostRuntime) {
     let subscriber = subscriber_of(&rt, &mut domain);
     let publisher = publisher_of(&rt, &mut domain);
     let ids = [subscriber.id().value(), publisher.id().value()];
-    assert_single_valued(&rt, &domain);
+    assert!(rt; is_single_valued(&domain));
     let sent = publisher.send_copy(&mut domain, Reading { celsius: 4 });
     publisher.disown();
     let sample = receive(&rt, &mut domain, &subscriber);
@@ -43,7 +43,7 @@ fn no_default_value_is_made_for_a_refused_loan(rt: HostRuntime) {
     );
     let factory = factory_for(&domain).max_loaned_samples(0);
     let publisher = factory.create(&mut domain).expect(&rt, "a publisher");
-    assert_single_valued(&rt, &domain);
+    assert!(rt; is_single_valued(&domain));
     let begun = rt.thread_cpu_time().expect(&rt, "a time");
     let lent = publisher.loan(&mut domain).map(|loan| loan.disown());
     let spent = micros_since(&rt, begun).expect(&rt, "a time");
@@ -61,7 +61,7 @@ fn a_default_value_is_lent_and_sent(rt: HostRuntime) {
     );
     let factory = factory_for(&domain).max_loaned_samples(1);
     let publisher = factory.create(&mut domain).expect(&rt, "a publisher");
-    assert_single_valued(&rt, &domain);
+    assert!(rt; is_single_valued(&domain));
     let message = publisher.loan(&mut domain).expect(&rt, "a loan");
     let numbers = [
         message.payload(&domain).number,

@@ -1,28 +1,14 @@
 //! Ports whose handlers of refused connections are boxes: where no memory is refused, and where no memory holds a buffer.
-ghost use Rattle.std.specs.Prelude.{◌≡◌};
-ghost use Rattle.iox2_store.specs.declared.backpressure.BackpressureAction.TheVariants.{DiscardData};
-ghost use Rattle.iox2_store.specs.declared.degradation.DegradationAction.TheVariants.{DegradeAndFail};
-
 use crate::tests::fixtures::domain;
-use iox2_fixtures::{Reading, Station, Weather, next_reading, receiver_count, settings};
+use iox2_fixtures::{Reading, Station, Weather, next_reading, receiver_count, settings, slices};
+use iox2_handler_fixtures::{Patience, SameAnswer};
 use iox2_pubsub::{
-    BackpressureAction, BackpressureFn, BackpressureHandler, BackpressureInfo, DegradationAction,
-    DegradationCause, DegradationFn, DegradationHandler, DegradationInfo, Domain,
-    UpdateConnections,
+    BackpressureAction, BackpressureFn, BackpressureHandler, DegradationAction, DegradationCause,
+    DegradationFn, DegradationHandler, DegradationInfo, Domain, UpdateConnections,
 };
-use iox2_store::{ServiceConfig, TypeVariant};
-
-// Fails each call that can't make a connection.
-#[derive(Drop)]
-struct Strict;
-
-impl DegradationFn for Strict {
-    ghost allows = { λ _ _ _ action. action ≡ DegradeAndFail };
-
-    fn call(&self, _: DegradationCause, _: &DegradationInfo) -> DegradationAction {
-        DegradationAction::DegradeAndFail
-    }
-}
+use iox2_store::ServiceConfig;
+use std::alloc::Global;
+use std::process::Abort;
 
 // Goes on without a connection from a port to one that was made later, and fails with any other.
 #[derive(Drop)]
@@ -40,32 +26,34 @@ impl DegradationFn for InOrder {
     }
 }
 
-// Passes each full subscriber over.
-#[derive(Drop)]
-struct Hasty;
+// A box that fails each call that can't make a connection.
+fn strict_box(rt: &impl Abort, alloc: Global) -> Box<dyn DegradationFn> {
+    let strict = SameAnswer {
+        answer: DegradationAction::DegradeAndFail,
+    };
+    Box::new(alloc, strict).expect(rt, "memory")
+}
 
-impl BackpressureFn for Hasty {
-    ghost allows = { λ _ _ action. action ≡ DiscardData };
-
-    fn call(&self, _: &BackpressureInfo) -> BackpressureAction {
-        BackpressureAction::DiscardData
-    }
+// A box that passes each full subscriber over.
+fn hasty_box(rt: &impl Abort, alloc: Global) -> Box<dyn BackpressureFn> {
+    let hasty = Patience {
+        retries: 0,
+        last_answer: BackpressureAction::DiscardData,
+    };
+    Box::new(alloc, hasty).expect(rt, "memory")
 }
 
 #[test]
 fn messages_arrive_between_ports_with_boxes(rt: HostRuntime) {
     let mut domain = domain(&rt, rt.alloc());
-    let hasty: Box<dyn BackpressureFn> = Box::new(rt.alloc(), Hasty).expect(&rt, "memory");
-    let strict: Box<dyn DegradationFn> = Box::new(rt.alloc(), Strict).expect(&rt, "memory");
     let factory = domain
         .publisher_builder()
-        .set_backpressure_handler(BackpressureHandler::Custom(hasty))
-        .set_degradation_handler(DegradationHandler::Custom(strict));
+        .set_backpressure_handler(BackpressureHandler::Custom(hasty_box(&rt, rt.alloc())))
+        .set_degradation_handler(DegradationHandler::Custom(strict_box(&rt, rt.alloc())));
     let publisher = factory.create(&mut domain).expect(&rt, "a publisher");
-    let strict: Box<dyn DegradationFn> = Box::new(rt.alloc(), Strict).expect(&rt, "memory");
     let factory = domain
         .subscriber_builder()
-        .set_degradation_handler(DegradationHandler::Custom(strict));
+        .set_degradation_handler(DegradationHandler::Custom(strict_box(&rt, rt.alloc())));
     let subscriber = factory.create(&mut domain).expect(&rt, "a subscriber");
     let updated = publisher.update_connections(&mut domain);
     let sent = publisher.send_copy(&mut domain, Reading { celsius: 21 });
@@ -83,22 +71,18 @@ fn messages_arrive_between_ports_with_boxes(rt: HostRuntime) {
 
 #[test]
 fn factories_of_slices_take_boxes(rt: HostRuntime) {
-    let config = ServiceConfig {
-        variant: TypeVariant::Dynamic,
-        ..settings()
-    };
-    let mut domain: Domain<u64, Station> = Domain::new(rt.alloc(), config).expect(&rt, "a domain");
-    let strict: Box<dyn DegradationFn> = Box::new(rt.alloc(), Strict).expect(&rt, "memory");
+    let mut domain: Domain<u64, Station> = Domain::new(rt.alloc(), slices()).expect(
+        &rt, "a domain",
+    );
     let factory = domain
         .slice_publisher_builder()
-        .set_degradation_handler(DegradationHandler::Custom(strict));
+        .set_degradation_handler(DegradationHandler::Custom(strict_box(&rt, rt.alloc())));
     let copied = factory.internal_partial_clone();
     drop(factory);
     let publisher = copied.create(&mut domain).expect(&rt, "a publisher");
-    let strict: Box<dyn DegradationFn> = Box::new(rt.alloc(), Strict).expect(&rt, "memory");
     let factory = domain
         .slice_subscriber_builder()
-        .set_degradation_handler(DegradationHandler::Custom(strict));
+        .set_degradation_handler(DegradationHandler::Custom(strict_box(&rt, rt.alloc())));
     let subscriber = factory.create(&mut domain).expect(&rt, "a subscriber");
     let waits = subscriber.has_samples(&mut domain);
     publisher.close(&mut domain);

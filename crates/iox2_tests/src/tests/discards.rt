@@ -1,7 +1,7 @@
 ghost use Rattle.iox2_pubsub.specs.Live.{IsLivePublisher, IsSingleValued, Stays};
 
-use crate::tests::fixtures::{domain, lend, subscriber_of};
-use iox2_fixtures::{Reading, Weather, factory_for, publish};
+use crate::tests::fixtures::{domain, lend, subscriber_of, written};
+use iox2_fixtures::{Weather, factory_for, publish};
 use iox2_pubsub::Publisher;
 
 #[test]
@@ -19,8 +19,7 @@ fn an_unwritten_loan_is_given_back(rt: HostRuntime) {
 #[test]
 fn a_written_loan_is_given_back(rt: HostRuntime) {
     let mut domain = domain(&rt, rt.alloc());
-    let loan = lend(&rt, &mut domain);
-    let message = loan.write_payload(&mut domain, Reading { celsius: 20 });
+    let message = written(&rt, &mut domain, 20);
     let key = message.key();
     let before = domain.holds_loan(key);
     message.discard(&mut domain);

@@ -1,8 +1,8 @@
 //! When a single value is dropped, told by the shares of it that are left.
 ghost use Rattle.iox2_pubsub.specs.Live.{IsLiveSample, IsUnwritten};
 
-use crate::tests::fixtures::{assert_ready, assert_single_valued, receive, send, subscriber_of};
-use iox2_fixtures::{factory_for, settings};
+use crate::tests::fixtures::{receive, send, subscriber_of};
+use iox2_fixtures::{factory_for, is_ready, is_single_valued, settings};
 use iox2_pubsub::{Domain, Publisher, Sample, SampleMutUninit, Subscriber};
 use std::alloc::Global;
 use std::process::Abort;
@@ -29,8 +29,8 @@ fn publisher(rt: &impl Abort, domain: &mut Shares) -> Publisher {
 fn lend(rt: &impl Abort, domain: &mut Shares, publisher: &Publisher) -> SampleMutUninit
     ensures { IsUnwritten domain.new result }
 {
-    assert_single_valued(rt, domain);
-    assert_ready(rt, domain, publisher);
+    assert!(rt; is_single_valued(domain));
+    assert!(rt; is_ready(domain, publisher));
     publisher.loan_uninit(domain).expect(rt, "a loan")
 }
 
@@ -46,7 +46,7 @@ fn pass(
 {
     let share = value.clone().expect(rt, "a share");
     let loan = lend(rt, domain, publisher);
-    assert_single_valued(rt, domain);
+    assert!(rt; is_single_valued(domain));
     let message = loan.write_payload(domain, share);
     let takers = send(rt, domain, message);
     assert!(rt; takers == 1);
@@ -76,7 +76,7 @@ fn left_by_discard(
 ) -> usize {
     let share = value.clone().expect(rt, "a share");
     let loan = lend(rt, domain, publisher);
-    assert_single_valued(rt, domain);
+    assert!(rt; is_single_valued(domain));
     loan.write_payload(domain, share).discard(domain);
     Rc::strong_count(value)
 }
@@ -107,7 +107,7 @@ fn left_by_close(
     value: &Rc<u8>,
 ) -> [usize; 2] {
     let sample = pass(rt, domain, &publisher, subscriber, value);
-    assert_ready(rt, domain, &publisher);
+    assert!(rt; is_ready(domain, &publisher));
     publisher.close(domain);
     let closed = Rc::strong_count(value);
     assert!(rt; domain.holds_sample(sample.key()));

@@ -3,13 +3,14 @@
 //! Those below the line test at run time what they ask of their handles, so that a test of many calls
 //! has nothing to carry from one to the next.
 
-ghost use Rattle.iox2_pubsub.specs.Live.{IsLivePublisher, IsLiveSample, IsLiveSubscriber, IsReadyPublisher, IsSingleValued, IsUnwrittenLoan, IsWritten, Stays};
+ghost use Rattle.iox2_pubsub.specs.Live.{IsLivePublisher, IsLiveSample, IsLiveSubscriber, IsSingleValued, IsUnwrittenLoan, IsWritten, IsWrittenLoan, Stays};
 
-use iox2_fixtures::{Reading, Weather, factory_for, receiver_count, settings};
+use iox2_fixtures::{
+    Reading, Weather, factory_for, is_ready, is_single_valued, receiver_count, settings,
+};
 use iox2_pubsub::{
     Domain, Publisher, Sample, SampleMut, SampleMutUninit, Subscriber, UpdateConnections,
 };
-use iox2_store::TypeVariant;
 use std::alloc::Global;
 use std::process::Abort;
 
@@ -57,42 +58,17 @@ pub(crate) fn lend(rt: &impl Abort, domain: &mut Weather) -> SampleMutUninit
     loan
 }
 
+/// A written loan of the domain's first publisher, which is made for it.
+pub(crate) fn written(rt: &impl Abort, domain: &mut Weather, celsius: u64) -> SampleMut
+    requires { IsSingleValued domain.old }
+    ensures message { IsWrittenLoan domain.new result }
+    ensures stays { Stays domain.old domain.new }
+{
+    let loan = lend(rt, domain);
+    loan.write_payload(domain, Reading { celsius })
+}
+
 // ---- what a call asks for is tested
-
-/// Asserts that messages are single values.
-pub(crate) fn assert_single_valued<T: Drop, U: Default + Drop>(
-    rt: &impl Abort,
-    domain: &Domain<T, U>,
-)
-    ensures { IsSingleValued domain.now }
-{
-    let config = domain.config();
-    assert!(rt; matches!(config.variant, TypeVariant::FixedSize));
-    assert!(rt; config.units_per_element == 1);
-}
-
-/// Asserts that the publisher is one of the domain's that has no blocked send.
-pub(crate) fn assert_ready<T: Drop, U: Default + Drop>(
-    rt: &impl Abort,
-    domain: &Domain<T, U>,
-    publisher: &Publisher,
-)
-    ensures { IsReadyPublisher domain.now publisher.now }
-{
-    assert!(rt; publisher.is_in(domain));
-    assert!(rt; !publisher.is_blocked(domain));
-}
-
-/// Asserts that the subscriber is one of the domain's.
-pub(crate) fn assert_live<T: Drop, U: Default + Drop>(
-    rt: &impl Abort,
-    domain: &Domain<T, U>,
-    subscriber: &Subscriber,
-)
-    ensures { IsLiveSubscriber domain.now subscriber.now }
-{
-    assert!(rt; subscriber.is_in(domain));
-}
 
 /// Asserts that the sample is one of the domain's.
 pub(crate) fn assert_borrowed(rt: &impl Abort, domain: &Weather, sample: &Sample)
@@ -123,8 +99,8 @@ pub(crate) fn receive<T: Drop, U: Default + Drop>(
     ensures sample { IsLiveSample domain.new result }
     ensures single_valued { IsSingleValued domain.new }
 {
-    assert_single_valued(rt, domain);
-    assert_live(rt, domain, subscriber);
+    assert!(rt; is_single_valued(domain));
+    assert!(rt; subscriber.is_in(domain));
     let received = subscriber.receive(domain).expect(rt, "an answer");
     received.expect(rt, "a sample")
 }
@@ -136,8 +112,8 @@ pub(crate) fn sent(
     publisher: &Publisher,
     celsius: u64,
 ) -> usize {
-    assert_single_valued(rt, domain);
-    assert_ready(rt, domain, publisher);
+    assert!(rt; is_single_valued(domain));
+    assert!(rt; is_ready(domain, publisher));
     let loan = publisher.loan_uninit(domain).expect(rt, "a loan");
     let message = loan.write_payload(domain, Reading { celsius });
     send(rt, domain, message)
@@ -149,19 +125,19 @@ pub(crate) fn received(
     domain: &mut Weather,
     subscriber: &Subscriber,
 ) -> Option<Sample> {
-    assert_live(rt, domain, subscriber);
+    assert!(rt; subscriber.is_in(domain));
     subscriber.receive(domain).expect(rt, "an answer")
 }
 
 /// Whether messages wait for the subscriber.
 pub(crate) fn waits(rt: &impl Abort, domain: &mut Weather, subscriber: &Subscriber) -> bool {
-    assert_live(rt, domain, subscriber);
+    assert!(rt; subscriber.is_in(domain));
     subscriber.has_samples(domain).expect(rt, "an answer")
 }
 
 /// What the sample reads.
 pub(crate) fn celsius_of(rt: &impl Abort, domain: &Weather, sample: &Sample) -> u64 {
-    assert_single_valued(rt, domain);
+    assert!(rt; is_single_valued(domain));
     assert_borrowed(rt, domain, sample);
     sample.payload(domain).celsius
 }
@@ -191,8 +167,8 @@ pub(crate) fn copied(
     publisher: &Publisher,
     celsius: u64,
 ) -> usize {
-    assert_single_valued(rt, domain);
-    assert_ready(rt, domain, publisher);
+    assert!(rt; is_single_valued(domain));
+    assert!(rt; is_ready(domain, publisher));
     let outcome = publisher
         .send_copy(domain, Reading { celsius })
         .expect(rt, "an outcome");
@@ -201,19 +177,7 @@ pub(crate) fn copied(
 
 /// Updates the publisher's connections.
 pub(crate) fn update(rt: &impl Abort, domain: &mut Weather, publisher: &Publisher) {
-    assert_ready(rt, domain, publisher);
+    assert!(rt; is_ready(domain, publisher));
     let updated = publisher.update_connections(domain);
     assert!(rt; updated.is_ok());
-}
-
-/// Closes a publisher.
-pub(crate) fn close_publisher(rt: &impl Abort, domain: &mut Weather, publisher: Publisher) {
-    assert_ready(rt, domain, &publisher);
-    publisher.close(domain);
-}
-
-/// Closes a subscriber.
-pub(crate) fn close_subscriber(rt: &impl Abort, domain: &mut Weather, subscriber: Subscriber) {
-    assert_live(rt, domain, &subscriber);
-    subscriber.close(domain);
 }

@@ -1,10 +1,9 @@
 //! Publishers of single values whose memory grows.
 
 use crate::tests::fixtures::{
-    celsius_of, close_publisher, close_subscriber, domain, next_reading, received, release, sent,
-    subscriber_of,
+    celsius_of, domain, next_reading, received, release, sent, subscriber_of,
 };
-use iox2_fixtures::{Weather, factory_for};
+use iox2_fixtures::{Weather, close_publisher, close_subscriber, factory_for};
 use iox2_pubsub::Publisher;
 use iox2_store::AllocationStrategy;
 use std::process::Abort;
@@ -39,8 +38,8 @@ fn a_full_publisher_that_grows_sends_on(rt: HostRuntime) {
         next_reading(&rt, &mut domain, &subscriber),
         next_reading(&rt, &mut domain, &subscriber),
     ];
-    close_publisher(&rt, &mut domain, publisher);
-    close_subscriber(&rt, &mut domain, subscriber);
+    assert!(rt; close_publisher(&mut domain, publisher));
+    assert!(rt; close_subscriber(&mut domain, subscriber));
     let books = domain.book_count();
     drop(domain);
     assert!(rt; first == 1 && second == 1 && third == 1);

@@ -1,10 +1,8 @@
 //! Loans whose payload and user header are written where they lie.
 ghost use Rattle.iox2_pubsub.specs.Live.{IsSingleValued, IsUnwritten, IsWritten};
 
-use crate::tests::fixtures::{
-    assert_ready, assert_single_valued, publisher_of, receive, send, subscriber_of,
-};
-use iox2_fixtures::{Reading, Station, Weather, factory_for, settings};
+use crate::tests::fixtures::{publisher_of, receive, send, subscriber_of};
+use iox2_fixtures::{Reading, Station, Weather, factory_for, is_ready, is_single_valued, settings};
 use iox2_pubsub::{Domain, Publisher, SampleMut, SampleMutUninit};
 use iox2_store::ServiceConfig;
 use std::process::Abort;
@@ -74,7 +72,7 @@ fn what_is_left_in_a_loan_is_sent(rt: HostRuntime) {
     let mut domain: Domain<Tag, u64> = Domain::new(rt.alloc(), settings()).expect(&rt, "a domain");
     let subscriber = subscriber_of(&rt, &mut domain);
     let publisher = publisher_of(&rt, &mut domain);
-    assert_single_valued(&rt, &domain);
+    assert!(rt; is_single_valued(&domain));
     let loan = publisher.loan_uninit(&mut domain).expect(&rt, "a loan");
     publisher.disown();
     let mut loan = handed_back(&rt, &mut domain, loan);
@@ -103,8 +101,8 @@ fn lend(rt: &impl Abort, domain: &mut Weather, publisher: &Publisher) -> SampleM
     ensures loan { IsUnwritten domain.new result }
     ensures single_valued { IsSingleValued domain.new }
 {
-    assert_single_valued(rt, domain);
-    assert_ready(rt, domain, publisher);
+    assert!(rt; is_single_valued(domain));
+    assert!(rt; is_ready(domain, publisher));
     publisher.loan_uninit(domain).expect(rt, "a loan")
 }
 

@@ -1,7 +1,9 @@
 //! How many slots a publisher has, by what an override answers.
 
-use crate::tests::fixtures::{assert_ready, assert_single_valued, domain, receive, subscriber_of};
-use iox2_fixtures::{Reading, Weather, factory_for, receiver_count, settings};
+use crate::tests::fixtures::{domain, receive, subscriber_of};
+use iox2_fixtures::{
+    Reading, Weather, factory_for, is_ready, is_single_valued, receiver_count, settings,
+};
 use iox2_pubsub::{Domain, PortFactoryPublisher, Publisher, Subscriber};
 use iox2_store::{LoanError, PublisherCreateError, SendError, ServiceConfig};
 use std::alloc::Global;
@@ -21,8 +23,8 @@ fn eight_slots() -> ServiceConfig {
 
 // Whether a message of the publisher finds a slot.
 fn is_sent(rt: &impl Abort, domain: &mut Weather, publisher: &Publisher) -> bool {
-    assert_single_valued(rt, domain);
-    assert_ready(rt, domain, publisher);
+    assert!(rt; is_single_valued(domain));
+    assert!(rt; is_ready(domain, publisher));
     match publisher.send_copy(domain, Reading { celsius: 1 }) {
         Ok(outcome) => {
             receiver_count(outcome).expect(rt, "a send that isn't blocked");
@@ -37,8 +39,8 @@ fn is_sent(rt: &impl Abort, domain: &mut Weather, publisher: &Publisher) -> bool
 
 // Whether a loan of the publisher, which stays out, finds a slot.
 fn is_lent(rt: &impl Abort, domain: &mut Weather, publisher: &Publisher) -> bool {
-    assert_single_valued(rt, domain);
-    assert_ready(rt, domain, publisher);
+    assert!(rt; is_single_valued(domain));
+    assert!(rt; is_ready(domain, publisher));
     match publisher.loan_uninit(domain) {
         Ok(loan) => {
             loan.disown();
@@ -150,8 +152,8 @@ fn lent_without_slots(rt: &impl Abort, alloc: Global, answer: usize) -> Result<(
         .max_loaned_samples(0)
         .override_sample_preallocation(move |_| answer);
     let publisher = factory.create(&mut domain).expect(rt, "a publisher");
-    assert_single_valued(rt, &domain);
-    assert_ready(rt, &domain, &publisher);
+    assert!(rt; is_single_valued(&domain));
+    assert!(rt; is_ready(&domain, &publisher));
     let loan = publisher.loan_uninit(&mut domain).map(|loan| loan.disown());
     publisher.disown();
     loan

@@ -2,9 +2,9 @@
 ghost use Rattle.std.specs.Prelude.{◌≡◌};
 
 use crate::tests::fixtures::{
-    assert_single_valued, celsius_of, domain, publisher_of, received, release, sent, subscriber_of,
+    celsius_of, domain, publisher_of, received, release, sent, subscriber_of,
 };
-use iox2_fixtures::{Reading, Weather, factory_for, settings};
+use iox2_fixtures::{Reading, Weather, factory_for, is_single_valued, settings};
 use iox2_pubsub::{Domain, LoanParts, PublisherParts, SampleParts, SubscriberParts};
 use iox2_store::ServiceConfig;
 use std::alloc::Global;
@@ -93,7 +93,7 @@ fn marks_of(domain: &Weather, parts: &LoanParts) -> [bool; 2] {
 
 // The numbers of a new loan.
 fn lent(rt: &impl Abort, domain: &mut Weather) -> LoanParts {
-    assert_single_valued(rt, domain);
+    assert!(rt; is_single_valued(domain));
     let factory = factory_for(domain);
     let publisher = factory.create(domain).expect(rt, "a publisher");
     let loan = publisher.loan_uninit(domain).expect(rt, "a loan");
@@ -103,7 +103,7 @@ fn lent(rt: &impl Abort, domain: &mut Weather) -> LoanParts {
 
 // Writes the loan with the numbers.
 fn write(rt: &impl Abort, domain: &mut Weather, parts: &LoanParts) -> LoanParts {
-    assert_single_valued(rt, domain);
+    assert!(rt; is_single_valued(domain));
     let loan = domain.unwritten_of(parts).expect(rt, "a loan");
     let written = loan.write_payload(domain, Reading { celsius: 21 });
     written.into_parts()

@@ -1,5 +1,5 @@
-use crate::tests::fixtures::{close_publisher, domain, publisher_of, subscriber_of};
-use iox2_fixtures::{Weather, factory_for, settings};
+use crate::tests::fixtures::{domain, publisher_of, subscriber_of};
+use iox2_fixtures::{Weather, close_publisher, factory_for, settings};
 use iox2_pubsub::Domain;
 use iox2_store::{Key, PublisherCreateError, ServiceConfig};
 use std::alloc::Global;
@@ -8,13 +8,7 @@ use std::process::Abort;
 // Why a publisher with so many loans isn't made.
 fn refusal(domain: &mut Weather, loans: usize) -> Option<PublisherCreateError> {
     let factory = factory_for(domain).max_loaned_samples(loans);
-    match factory.create(domain) {
-        Ok(publisher) => {
-            publisher.disown();
-            None
-        }
-        Err(error) => Some(error),
-    }
+    factory.create(domain).map(|made| made.disown()).err()
 }
 
 #[test]
@@ -97,7 +91,7 @@ fn a_publisher_with_defaults_is_made_after_larger_ones_were_refused(rt: HostRunt
     let mut domain = domain(&rt, rt.alloc());
     let first = publisher_of(&rt, &mut domain);
     let beside_another = refusal(&mut domain, usize::MAX);
-    close_publisher(&rt, &mut domain, first);
+    assert!(rt; close_publisher(&mut domain, first));
     let alone = refusal(&mut domain, usize::MAX);
     let factory = domain.publisher_builder();
     let publisher = factory.create(&mut domain).expect(&rt, "a publisher");

@@ -4,6 +4,7 @@ use crate::tests::fixtures::{
 use iox2_fixtures::{Reading, Station, Weather, settings};
 use iox2_pubsub::{Domain, Sample, Subscriber};
 use iox2_store::{Header, ServiceConfig};
+use std::alloc::Global;
 use std::process::Abort;
 
 // A subscriber for which a message waits.
@@ -15,6 +16,15 @@ fn subscribed(rt: &impl Abort, domain: &mut Weather) -> Subscriber {
     subscriber
 }
 
+// A domain of which a message is borrowed, with its sample.
+fn with_a_sample(rt: &impl Abort, alloc: Global) -> (Weather, Sample) {
+    let mut domain = domain(rt, alloc);
+    let subscriber = subscribed(rt, &mut domain);
+    let sample = received(rt, &mut domain, &subscriber).expect(rt, "a sample");
+    subscriber.disown();
+    (domain, sample)
+}
+
 // The sample's header.
 fn header_of(rt: &impl Abort, domain: &Weather, sample: &Sample) -> Header {
     assert_borrowed(rt, domain, sample);
@@ -23,10 +33,7 @@ fn header_of(rt: &impl Abort, domain: &Weather, sample: &Sample) -> Header {
 
 #[test]
 fn a_sent_message_is_received_and_read(rt: HostRuntime) {
-    let mut domain = domain(&rt, rt.alloc());
-    let subscriber = subscribed(&rt, &mut domain);
-    let sample = received(&rt, &mut domain, &subscriber).expect(&rt, "a sample");
-    subscriber.disown();
+    let (domain, sample) = with_a_sample(&rt, rt.alloc());
     let celsius = celsius_of(&rt, &domain, &sample);
     let header = header_of(&rt, &domain, &sample);
     let origins = [sample.origin().value(), header.publisher_id.value()];
@@ -50,10 +57,7 @@ fn release_if_live(domain: &mut Weather, sample: Sample) -> bool {
 
 #[test]
 fn a_test_of_its_handle_lets_a_sample_be_released(rt: HostRuntime) {
-    let mut domain = domain(&rt, rt.alloc());
-    let subscriber = subscribed(&rt, &mut domain);
-    let sample = received(&rt, &mut domain, &subscriber).expect(&rt, "a sample");
-    subscriber.disown();
+    let (mut domain, sample) = with_a_sample(&rt, rt.alloc());
     let elsewhere = ServiceConfig {
         service_id: 8,
         ..settings()

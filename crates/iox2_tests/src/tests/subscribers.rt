@@ -11,13 +11,7 @@ const FIRST: Key = Key {
 // Why a subscriber with that buffer isn't made.
 fn refusal(domain: &mut Weather, buffer_size: usize) -> Option<SubscriberCreateError> {
     let factory = domain.subscriber_builder().buffer_size(buffer_size);
-    match factory.create(domain) {
-        Ok(subscriber) => {
-            subscriber.disown();
-            None
-        }
-        Err(error) => Some(error),
-    }
+    factory.create(domain).map(|made| made.disown()).err()
 }
 
 #[test]
