@@ -5,7 +5,7 @@ ghost use Rattle.std.specs.Prelude.{◌≡◌, List, Option, None, length};
 ghost use Rattle.iox2_store.specs.declared.degradation.DegradationAction.TheVariants.{Warn};
 ghost use Rattle.iox2_store.specs.machine.Records.{Fixed};
 ghost use Rattle.iox2_pubsub.specs.Live.{IsLivePublisher, IsLiveSample, IsUnwritten, IsWritten, Stays};
-ghost use Rattle.iox2_pubsub.specs.Slices.{HasUnwrittenCells, IsSliced};
+ghost use Rattle.iox2_pubsub.specs.Slices.{HasUnwrittenCells, HoldsSlices, IsSliced};
 
 use iox2_fixtures::{holds_slices, is_slice_publisher_ready, is_sliced, receiver_count};
 use iox2_pubsub::{CustomHeaderMarker, CustomPayloadMarker, Domain, slice};

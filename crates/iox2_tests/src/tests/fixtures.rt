@@ -62,7 +62,6 @@ pub(crate) fn lend(rt: &impl Abort, domain: &mut Weather) -> SampleMutUninit
 pub(crate) fn written(rt: &impl Abort, domain: &mut Weather, celsius: u64) -> SampleMut
     requires { IsSingleValued domain.old }
     ensures message { IsWrittenLoan domain.new result }
-    ensures stays { Stays domain.old domain.new }
 {
     let loan = lend(rt, domain);
     loan.write_payload(domain, Reading { celsius })
