@@ -219,6 +219,8 @@ int threads_role(const Options &options) {
   if (own < count || checks.good < count) domain.stop_waits(); // so that the sender ends
   sender.join();
   bool flushed = gateway->flush(10s);
+  // The last one is counted once the gateway's own subscriber, which may be full, has taken it too.
+  while (gateway->counts().received < count && seconds_since(start) < 60) std::this_thread::sleep_for(1ms);
   gateway->stop();
   std::printf("{\"own_seen\": %llu, \"all_s\": %.3f, \"flushed\": %d, ", static_cast<unsigned long long>(own), all, flushed);
   checks.print();
