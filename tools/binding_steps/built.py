@@ -52,13 +52,13 @@ def kept_crates(proved, room):
 
 
 def built_here(proved):
-    """The crates of this clone, where `rt lib` or `rt check` has built each."""
-    rt = proved.load_rt()
-    rt.Crate.allowed = rt.handles_of(str(TOP))
-    crate = next(it for it in rt.crates_of(str(TOP)) if it.name == CRATE)
-    lacking = [it.name for it in (*crate.below(), crate) if not it.is_built()]
-    if lacking:
-        raise Failed(f"neither rt ci nor rt lib has built {', '.join(lacking)} as it is: run rt ci")
+    """The crates of this clone, where `rt ci`, `rt lib` or `rt check` left the library of each in its out/."""
+    try:
+        crate = proved.crate_over_left(proved.load_rt(), CRATE)
+        if not proved.is_left(crate, Path(crate.rlib)):
+            raise proved.NotKept(CRATE)
+    except proved.NotKept as lacking:
+        raise Failed(f"neither rt ci nor rt lib has built {lacking} as it is: run rt ci") from lacking
     return crate
 
 
