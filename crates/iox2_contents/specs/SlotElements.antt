@@ -4,8 +4,8 @@ use Rattle.std.specs.List.{refill}
 use Rattle.std.specs.declared.option.Option.{Option}
 use Rattle.std.specs.declared.option.Option.TheVariants.{None}
 
--- The cells of an unwritten loan, the values of a written loan or a sent message, for how many elements there is room, how
--- many lists of cells the publisher keeps, and for how many cells there is room in a list that these have.
+-- The cells of an unwritten loan, the values of a written loan or a sent message, for how many elements there is room, 1 where
+-- the publisher keeps lists of cells or else 0, and for how many cells there is room in a list that these have.
 pub record ElementLists (T : Type 0) : Type 0 where
   pub cells : List (Option T)
   pub values : List T

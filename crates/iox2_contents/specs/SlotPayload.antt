@@ -38,7 +38,7 @@ module _ {T : Type 0} where
   is_in_place (Written value) = true
   is_in_place (Elements elements) = false
 
-  -- How many lists of cells a payload's publisher keeps, where the payload isn't a single value in its slot.
+  -- 1 where a payload's publisher keeps lists of cells, and the payload isn't a single value in its slot, or else 0.
   abbrev pub lists_of : Payload T → ℕ
   lists_of Empty = 0
   lists_of (Unwritten cell) = 0
