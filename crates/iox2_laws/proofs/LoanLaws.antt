@@ -20,6 +20,7 @@ use Rattle.iox2_store.specs.declared.errors.LoanError.{LoanError}
 use Rattle.iox2_laws.specs.Laws.{Advances}
 use Rattle.iox2_laws.proofs.Cases.{by_option}
 use Rattle.iox2_laws.proofs.CallCases.{grant_cases}
+use Rattle.iox2_laws.proofs.OperationWalks.{advance, grant_by_steps}
 use Rattle.iox2_laws.proofs.NumberLemmas.{contains_in_append, contains_left, contains_right, contains_one, absent_from, IsOnce-push, IsOnce-without, contains_in_without, contains-without_same, contains-without_other, length-without_le, size_le, size_le_one_more}
 use Rattle.iox2_laws.proofs.Puts.{put_at-same, put_at-other, at_each, found_put, found_removed}
 use Rattle.iox2_laws.proofs.Altered.{absent_apart, same_state, in_three, in_first, in_second, in_third, altered, uniform, mailbox_moves, loan_moves, publisher_moves, altered_keeps, mailbox_stays, loan_stays, altered_same_row}
@@ -352,9 +353,9 @@ module _ {T U : Type 0} where
 
     -- a grant advances the state
     pub grant_loan_advances : (refusal : Option LoanError) → GrantLoan environment default_header checks_length len s p s' refusal → Advances s s'
-    grant_loan_advances refusal h = grant_cases environment default_header checks_length len s p s' (Advances s s') refusal h
-        (λ e same _. subst (Advances s) (sym same) (record { config = refl; next_port = le_refl s.next_port; next_message = le_refl s.next_message }))
-        (λ x here g. subst (Advances s) (sym g.4) (record { config = refl; next_port = le_refl s.next_port; next_message = omega arith }))
+    grant_loan_advances refusal =
+        grant_by_steps Advances advance environment default_header checks_length len s p s' refusal
+        (λ x here segments. record { config = refl; next_port = le_refl s.next_port; next_message = omega arith })
 
     -- a loan blocks no publisher
     pub grant_loan_unblocked : (refusal : Option LoanError) → GrantLoan environment default_header checks_length len s p s' refusal → is_blocked s p ≡ false → is_blocked s' p ≡ false

@@ -3,6 +3,7 @@ use Rattle.std.proofs.Common.{◌≡◌, ℕ, ◌+◌, ◌≤◌, ◌<◌, true,
 use Rattle.std.proofs.Common.{None, Some, ◌⊎◌, ⊎_elim}
 use Rattle.std.proofs.lemmas.Bool.{eq-eqb, true≢false, ne_eqb, ltb-false, false_from_ne_true}
 use Rattle.std.proofs.lemmas.Option.{none-some, same_Some}
+use Rattle.iox2_laws.proofs.OperationWalks.{advance, create_publisher_by_steps, create_subscriber_by_steps}
 use Rattle.iox2_store.specs.machine.Limits.{buffer_limit, channel_count}
 use Rattle.iox2_store.specs.machine.Numbers.{contains, put_at}
 use Rattle.iox2_store.specs.machine.Places.{occupant, set_place}
@@ -265,25 +266,12 @@ module _ {T U : Type 0} where
   failure_warning_keeps s w warning None = w
   failure_warning_keeps s w warning (Some failure) = with_warning_keeps s w (with_warning s (warning failure)).warnings
 
-  -- Nothing falls where nothing changes.
-  pub advances_refl : (s : State T U) → Advances s s
-  advances_refl s = record { config = refl; next_port = omega arith; next_message = omega arith }
-
   -- What doesn't fall twice doesn't fall in all.
   pub advances_trans : (a b c : State T U) → Advances a b → Advances b c → Advances a c
-  advances_trans a b c f g = record {
-    config = g.config ∙ f.config;
-    next_port = omega (arith, f.next_port, g.next_port);
-    next_message = omega (arith, f.next_message, g.next_message);
-  }
+  advances_trans = advance.trans
 
-  advances_same : (s s' : State T U) → s' ≡ s → Advances s s'
-  advances_same s s' e = subst (Advances s) (sym e) (advances_refl s)
-
-  failure_warning_advances : (s : State T U) (warning : ConnectionFailure → Warning) (failure : Option ConnectionFailure)
-      → Advances s (with_failure_warning s warning failure)
-  failure_warning_advances s warning None = advances_refl s
-  failure_warning_advances s warning (Some failure) = record { config = refl; next_port = omega arith; next_message = omega arith }
+  warned_advances : (s : State T U) (w : Warning) → Advances s (with_warning s w)
+  warned_advances s w = record { config = refl; next_port = omega arith; next_message = omega arith }
 
   make_publisher_keeps : (environment : Environment) (s : State T U) (given : PublisherSettings) (place : ℕ) (s' : State T U)
       → IsWellFormed s → place < (s.config).max_publishers → occupant s.publisher_places place ≡ None → FirstPublisherUpdate environment (with_new_publisher s given place) s.next_port s'
@@ -294,14 +282,6 @@ module _ {T U : Type 0} where
       (new_publisher_keeps s w given place low free) (new_publisher_unblocked s given place) h.2)
       (PublisherPartlyConnected s.next_port) h.1)
 
-  make_publisher_advances : (environment : Environment) (s : State T U) (given : PublisherSettings) (place : ℕ) (s' : State T U)
-      → FirstPublisherUpdate environment (with_new_publisher s given place) s.next_port s' → Advances s s'
-  make_publisher_advances environment s given place s' h =
-      subst (Advances s) (sym h.3) (advances_trans s h.0 (with_failure_warning h.0 (PublisherPartlyConnected s.next_port) h.1)
-      (advances_trans s (with_new_publisher s given place) h.0 (record { config = refl; next_port = omega arith; next_message = omega arith })
-      (update_publisher_advances environment (with_new_publisher s given place) s.next_port h.0 h.1 h.2))
-      (failure_warning_advances h.0 (PublisherPartlyConnected s.next_port) h.1))
-
   make_subscriber_keeps : (environment : Environment) (s : State T U) (given : SubscriberSettings) (place : ℕ) (s' : State T U)
       → IsWellFormed s → buffer_for given ≤ buffer_limit s.config → place < (s.config).max_subscribers → occupant s.subscriber_places place ≡ None
       → FirstSubscriberUpdate environment (with_new_subscriber s given place) s.next_port s' → IsWellFormed s'
@@ -309,14 +289,6 @@ module _ {T U : Type 0} where
       subst IsWellFormed (sym h.3) (failure_warning_keeps h.0
       (update_subscriber_keeps environment (with_new_subscriber s given place) s.next_port h.0 h.1 (new_subscriber_keeps s w given place fits low free) h.2)
       (SubscriberPartlyConnected s.next_port) h.1)
-
-  make_subscriber_advances : (environment : Environment) (s : State T U) (given : SubscriberSettings) (place : ℕ) (s' : State T U)
-      → FirstSubscriberUpdate environment (with_new_subscriber s given place) s.next_port s' → Advances s s'
-  make_subscriber_advances environment s given place s' h =
-      subst (Advances s) (sym h.3) (advances_trans s h.0 (with_failure_warning h.0 (SubscriberPartlyConnected s.next_port) h.1)
-      (advances_trans s (with_new_subscriber s given place) h.0 (record { config = refl; next_port = omega arith; next_message = omega arith })
-      (update_subscriber_advances environment (with_new_subscriber s given place) s.next_port h.0 h.1 h.2))
-      (failure_warning_advances h.0 (SubscriberPartlyConnected s.next_port) h.1))
 
 -- A publisher that is made, or refused, leaves the state well-formed.
 pub create_publisher_keeps : {T U : Type 0} (environment : Environment) (s : State T U) (given : PublisherSettings)
@@ -332,9 +304,9 @@ create_publisher_keeps environment s given s' refusal w h =
 pub create_publisher_advances : {T U : Type 0} (environment : Environment) (s : State T U) (given : PublisherSettings)
     (s' : State T U) (refusal : Option PublisherCreateError)
     → CreatePublisher environment s given s' refusal → Advances s s'
-create_publisher_advances environment s given s' refusal h =
-    publisher_cases environment s given s' (Advances s s') refusal h (λ e same _. advances_same s s' same)
-    (λ place makes. make_publisher_advances environment s given place s' makes.2)
+create_publisher_advances environment s given s' refusal =
+    create_publisher_by_steps Advances advance environment s given s' refusal
+    (λ place. record { config = refl; next_port = omega arith; next_message = omega arith }) (update_publisher_advances environment) warned_advances
 
 -- A subscriber that is made, or refused, leaves the state well-formed.
 pub create_subscriber_keeps : {T U : Type 0} (environment : Environment) (s : State T U) (given : SubscriberSettings)
@@ -350,6 +322,6 @@ create_subscriber_keeps environment s given s' refusal w h =
 pub create_subscriber_advances : {T U : Type 0} (environment : Environment) (s : State T U) (given : SubscriberSettings)
     (s' : State T U) (refusal : Option SubscriberCreateError)
     → CreateSubscriber environment s given s' refusal → Advances s s'
-create_subscriber_advances environment s given s' refusal h =
-    subscriber_cases environment s given s' (Advances s s') refusal h (λ e same _. advances_same s s' same)
-    (λ place makes. make_subscriber_advances environment s given place s' makes.3)
+create_subscriber_advances environment s given s' refusal =
+    create_subscriber_by_steps Advances advance environment s given s' refusal
+    (λ place. record { config = refl; next_port = omega arith; next_message = omega arith }) (update_subscriber_advances environment) warned_advances

@@ -14,6 +14,7 @@ use Rattle.iox2_store.specs.machine.WellFormed.{LeadsTo, publisher_place, IsWell
 use Rattle.iox2_store.specs.declared.errors.ConnectionFailure.{ConnectionFailure}
 use Rattle.iox2_laws.specs.Laws.{Advances}
 use Rattle.iox2_laws.proofs.Cases.{by_option, by_bool}
+use Rattle.iox2_laws.proofs.OperationWalks.{advance, publisher_update_by_steps}
 use Rattle.iox2_laws.proofs.Puts.{put_at-same, put_at-other, at_each, found_put}
 use Rattle.iox2_laws.proofs.NumberLemmas.{contains_in_append, contains_left, contains_right, absent_from, size_le, contains_in_flat_map, contains-flat_map}
 use Rattle.iox2_laws.proofs.PlaceLemmas.{contains-occupants}
@@ -240,11 +241,9 @@ module _ {T U : Type 0} where
   -- A publisher's update leaves the configuration and the counters.
   pub update_publisher_advances : (environment : Environment) (s : State T U) (p : ℕ) (s' : State T U) (failure : Option ConnectionFailure)
       → UpdatePublisher environment s p s' failure → Advances s s'
-  update_publisher_advances environment s p s' failure h =
-      by_option (Advances s s') (s.publishers p) _ _ h (λ _ v. absurd v) (λ x present h.
-      by_bool (Advances s s') x.is_due _ _ h
-      (λ _ h. subst (Advances s) (sym h.2) (record { config = refl; next_port = omega arith; next_message = omega arith }))
-      (λ _ h. subst (Advances s) (sym h.0) (record { config = refl; next_port = omega arith; next_message = omega arith })))
+  update_publisher_advances environment s p s' failure =
+      publisher_update_by_steps Advances advance environment s p s' failure
+      (λ x present side _. record { config = refl; next_port = omega arith; next_message = omega arith })
 
   abbrev LeavesPublisher : State T U → (p : ℕ) → Publisher → State T U → Type 0
   LeavesPublisher s p x s' =
