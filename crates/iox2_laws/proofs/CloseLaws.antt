@@ -24,7 +24,7 @@ use Rattle.iox2_laws.proofs.PlaceLemmas.{occupant-vacated, vacated_keeps, length
 use Rattle.iox2_laws.proofs.PlaceLemmas.{injective_places_kept, is_port-true}
 use Rattle.iox2_laws.proofs.MailboxLemmas.{has_numbers-borrows, has_numbers-waiting, has_numbers_dropped, IsWithin-dropped, OthersWithin-dropped, contains_in_dropped}
 use Rattle.iox2_laws.proofs.Freed.{freed_if_unused_keeps, freed_if_unused_advances}
-use Rattle.iox2_laws.proofs.PortChanges.{changed, places_agree_by, place_of_publisher, place_of_subscriber, publisher_kept, subscriber_kept, loan_kept, sender_reset_keeps, receiver_reset_keeps}
+use Rattle.iox2_laws.proofs.PortChanges.{changed, places_agree_by, place_of_publisher, place_of_subscriber, publisher_kept, subscriber_kept, subscriber_marked, loan_kept, sender_reset_keeps, receiver_reset_keeps}
 use Rattle.iox2_laws.proofs.PortChanges.{RestIsWellFormed, IsNearlyWellFormed, publishers_due_nearly, subscribers_due_keeps}
 use Rattle.iox2_laws.proofs.PortLaws.{advances_trans}
 
@@ -269,22 +269,7 @@ module _ {T U : Type 0} where
 
   -- A subscriber would be well-formed if it were open.
   opened_is : (s : State T U) (q : ℕ) (y : Subscriber) → SubscriberIsWellFormed s q y → SubscriberIsWellFormed s q (record y { is_open = true })
-  opened_is s q y w = record {
-    is_known = w.is_known;
-    some_room = w.some_room;
-    buffer_bound = w.buffer_bound;
-    ends_bound = w.ends_bound;
-    ends_apart = w.ends_apart;
-    ends_known = w.ends_known;
-    ends_stand = w.ends_stand;
-    expired_bound = w.expired_bound;
-    expired_once = w.expired_once;
-    expired_apart = w.expired_apart;
-    expired_known = w.expired_known;
-    expired_gone = w.expired_gone;
-    expired_kept = w.expired_kept;
-    is_used = λ closed. absurd (true≢false closed);
-  }
+  opened_is s q y w = subscriber_marked s q y true y.is_due w (λ closed. absurd (true≢false closed))
 
   -- The subscriber q is closed and has forgotten what departed; nobody is due for it yet.
   abbrev shut_and_pruned : State T U → (q : ℕ) → Subscriber → State T U

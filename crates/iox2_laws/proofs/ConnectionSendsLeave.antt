@@ -1,5 +1,5 @@
 -- What a send to one connection leaves as it was, and what it changes of its loan.
-use Rattle.std.proofs.Common.{◌≡◌, ℕ, List, false, drop, take, sym, ap, ◌∙◌, Option, None}
+use Rattle.std.proofs.Common.{◌≡◌, ℕ, List, false, drop, take, refl, sym, ap, ◌∙◌, Option, None}
 use Rattle.iox2_store.specs.machine.Numbers.{put_at}
 use Rattle.iox2_store.specs.machine.Records.{Loan, Publisher, Environment}
 use Rattle.iox2_store.specs.machine.State.{State, with_loan}

@@ -178,22 +178,22 @@ module _ {T U : Type 0} (R : State T U → State T U → Type 0) (order : IsPreo
   -- A publisher that is made, or refused, by its steps.
   pub create_publisher_by_steps : (environment : Environment) (s : State T U) (given : PublisherSettings) (s' : State T U) (refusal : Option PublisherCreateError)
       → ((place : ℕ) → R s (with_new_publisher s given place))
-      → ((a b : State T U) (p : ℕ) (failure : Option ConnectionFailure) → UpdatePublisher environment a p b failure → R a b)
+      → ((a : State T U) (p : ℕ) (b : State T U) (failure : Option ConnectionFailure) → UpdatePublisher environment a p b failure → R a b)
       → ((t : State T U) (w : Warning) → R t (with_warning t w)) → CreatePublisher environment s given s' refusal → R s s'
   create_publisher_by_steps environment s given s' refusal enters updates warns h =
       publisher_cases environment s given s' (R s s') refusal h (λ e same _. unchanged s s' same) (λ place makes.
       let new : State T U = with_new_publisher s given place in
-      order.trans s new s' (enters place) (first_publisher_update_by_steps environment new s.next_port s' (λ t. updates new t s.next_port) warns makes.2))
+      order.trans s new s' (enters place) (first_publisher_update_by_steps environment new s.next_port s' (updates new s.next_port) warns makes.2))
 
   -- A subscriber that is made, or refused, by its steps.
   pub create_subscriber_by_steps : (environment : Environment) (s : State T U) (given : SubscriberSettings) (s' : State T U) (refusal : Option SubscriberCreateError)
       → ((place : ℕ) → R s (with_new_subscriber s given place))
-      → ((a b : State T U) (q : ℕ) (failure : Option ConnectionFailure) → UpdateSubscriber environment a q b failure → R a b)
+      → ((a : State T U) (q : ℕ) (b : State T U) (failure : Option ConnectionFailure) → UpdateSubscriber environment a q b failure → R a b)
       → ((t : State T U) (w : Warning) → R t (with_warning t w)) → CreateSubscriber environment s given s' refusal → R s s'
   create_subscriber_by_steps environment s given s' refusal enters updates warns h =
       subscriber_cases environment s given s' (R s s') refusal h (λ e same _. unchanged s s' same) (λ place makes.
       let new : State T U = with_new_subscriber s given place in
-      order.trans s new s' (enters place) (first_subscriber_update_by_steps environment new s.next_port s' (λ t. updates new t s.next_port) warns makes.3))
+      order.trans s new s' (enters place) (first_subscriber_update_by_steps environment new s.next_port s' (updates new s.next_port) warns makes.3))
 
   -- A grant by what it changes.
   pub grant_by_steps : (environment : Environment) (default_header : U) (checks_length : Bool) (len : ℕ) (s : State T U) (p : ℕ) (s' : State T U) (refusal : Option LoanError)

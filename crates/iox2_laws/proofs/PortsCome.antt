@@ -77,7 +77,7 @@ module _ {T U : Type 0} where
         let v = b.subscribers q y low' e o in let u = a.subscribers q v.0 low v.1 v.2 in (u.0, u.1, u.2, v.3 ∙ u.3);
   }
 
-  come : IsPreorder PortsCome
+  come : IsPreorder {T = T} {U = U} PortsCome
   come = record { itself = ports_come_themselves; trans = ports_come_trans }
 
   -- the ports are the same

@@ -74,7 +74,7 @@ module _ {T U : Type 0} where
     borrowed = λ p q. b.borrowed p q ∙ a.borrowed p q;
   }
 
-  stay : IsPreorder PortsStay
+  stay : IsPreorder {T = T} {U = U} PortsStay
   stay = record { itself = ports_stay_themselves; trans = ports_stay_trans }
 
   -- the ports are the same, and so is what is borrowed
