@@ -3,14 +3,13 @@ use Rattle.std.proofs.Common.{◌≡◌, ℕ, le_refl, ◌≤◌, ◌<◌, true,
 use Rattle.std.specs.Option.{MatchOption, option_map}
 use Rattle.std.proofs.lemmas.Bool.{eqb-true, ne_eqb}
 use Rattle.std.proofs.lemmas.Option.{none-some, same_Some}
-use Rattle.iox2_store.specs.machine.Limits.{buffer_limit, channel_count}
 use Rattle.iox2_store.specs.machine.Numbers.{put_at, contains}
-use Rattle.iox2_store.specs.machine.Mailbox.{Mailbox, numbers_in, has_numbers, has_borrows, has_waiting, waiting_count, IsWithin, OthersWithin}
+use Rattle.iox2_store.specs.machine.Mailbox.{Mailbox, numbers_in, has_numbers, has_borrows}
 use Rattle.iox2_store.specs.machine.Records.{Loan, Publisher}
 use Rattle.iox2_store.specs.machine.State.{State}
 use Rattle.iox2_store.specs.machine.WellFormed.{LeadsTo, publisher_place, PublisherIsWellFormed, MailboxIsWellFormed, LoanIsWellFormed, IsWellFormed}
 use Rattle.iox2_laws.proofs.NumberLemmas.{contains_in_append, contains_left, contains_right}
-use Rattle.iox2_laws.proofs.PortChanges.{FewerNumbers, publisher_in, subscriber_in, loan_in}
+use Rattle.iox2_laws.proofs.PortChanges.{FewerNumbers, publisher_in, subscriber_in, mailbox_in, loan_in}
 use Rattle.iox2_laws.proofs.Puts.{put_at-same, put_at-other, at_each, found_put}
 
 -- an absent port isn't a present one
@@ -71,17 +70,9 @@ module _ {T U : Type 0} where
     -- a mailbox stays well-formed where it and its publisher stay the same
     pub mailbox_moves : (p q : ℕ) → publishers p ≡ s.publishers p → mailboxes p q ≡ s.mailboxes p q → MailboxIsWellFormed s p q
         → MailboxIsWellFormed (rewritten s publishers mailboxes loans next) p q
-    mailbox_moves p q same box w = record {
-      within = subst (λ (m : Mailbox). IsWithin (buffer_limit s.config) (s.config).subscriber_max_borrowed_samples m) (sym box) w.within;
-      others = subst (λ (m : Mailbox). OthersWithin (channel_count s.config) (buffer_limit s.config) m) (sym box) w.others;
-      room = λ y e. subst (λ (m : Mailbox). waiting_count m ≤ y.buffer) (sym box) (w.room y e);
-      others_room = λ y e. subst (λ (m : Mailbox). OthersWithin (channel_count s.config) y.buffer m) (sym box) (w.others_room y e);
-      below = λ n h. let low : n < s.next_message = w.below n (ap (λ m. contains (numbers_in m) n) (sym box) ∙ h) in omega arith;
-      known = λ h. w.known (ap has_numbers (sym box) ∙ h);
-      sender_end = λ x e h. w.sender_end x (sym same ∙ e) (ap has_numbers (sym box) ∙ h);
-      receiver_end = λ h. w.receiver_end (ap has_borrows (sym box) ∙ h);
-      departed = λ gone h. w.departed (sym same ∙ gone) (ap has_waiting (sym box) ∙ h);
-    }
+    mailbox_moves p q same box w =
+        mailbox_in s (rewritten s publishers mailboxes loans next) p q w (le_refl s.next_port) more box (λ y e. (w.room y e, w.others_room y e))
+        (λ x e. w.sender_end x (sym same ∙ e)) w.receiver_end (λ gone. w.departed (sym same ∙ gone))
 
     -- mailboxes that stay the same get no numbers
     same_numbers : (p : ℕ) → mailboxes p ≡ s.mailboxes p → (q : ℕ) → FewerNumbers s (rewritten s publishers mailboxes loans next) p q
@@ -172,18 +163,10 @@ module _ {T U : Type 0} where
       (more : s.next_message ≤ next) where
     -- a mailbox that stays the same is well-formed where the publisher keeps its ends
     pub mailbox_stays : (q : ℕ) → x'.ends ≡ x.ends → boxes q ≡ s.mailboxes p q → MailboxIsWellFormed s p q → MailboxIsWellFormed (uniform s x' boxes loans next) p q
-    mailbox_stays q ends box w = record {
-      within = subst (λ (m : Mailbox). IsWithin (buffer_limit s.config) (s.config).subscriber_max_borrowed_samples m) (sym box) w.within;
-      others = subst (λ (m : Mailbox). OthersWithin (channel_count s.config) (buffer_limit s.config) m) (sym box) w.others;
-      room = λ y e. subst (λ (m : Mailbox). waiting_count m ≤ y.buffer) (sym box) (w.room y e);
-      others_room = λ y e. subst (λ (m : Mailbox). OthersWithin (channel_count s.config) y.buffer m) (sym box) (w.others_room y e);
-      below = λ n h. let low : n < s.next_message = w.below n (ap (λ m. contains (numbers_in m) n) (sym box) ∙ h) in omega arith;
-      known = λ h. w.known (ap has_numbers (sym box) ∙ h);
-      sender_end = λ v e h. subst (λ (u : Publisher). LeadsTo u.ends q) (same_Some x' v e)
-          (subst (λ places. LeadsTo places q) (sym ends) (w.sender_end x here (ap has_numbers (sym box) ∙ h)));
-      receiver_end = λ h. w.receiver_end (ap has_borrows (sym box) ∙ h);
-      departed = λ gone _. absurd (none-some x' (sym gone));
-    }
+    mailbox_stays q ends box w =
+        mailbox_in s (uniform s x' boxes loans next) p q w (le_refl s.next_port) more box (λ y e. (w.room y e, w.others_room y e))
+        (λ v e h. subst (λ (u : Publisher). LeadsTo u.ends q) (same_Some x' v e) (subst (λ places. LeadsTo places q) (sym ends) (w.sender_end x here h)))
+        w.receiver_end (λ gone _. absurd (none-some x' (sym gone)))
 
     -- a loan of the publisher stays well-formed where it stays out, and enters neither the history nor a mailbox
     pub loan_stays : (n : ℕ) (l : Loan T U) → l.publisher ≡ p → (contains x.loans n ≡ true → contains x'.loans n ≡ true)

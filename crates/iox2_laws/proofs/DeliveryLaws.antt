@@ -385,13 +385,13 @@ module _ {T U : Type 0} (s : State T U) (w : IsWellFormed s) (p : ℕ) (x : Publ
         | false ↦ λ apart. inl (held_still m apart h)
       ] refl)
       (λ b2 e. subst (λ (v : BlockedSend). BlockedIsWellFormed (uniform s (record x { history = history; blocked = Some b }) boxes loans s.next_message) p
-        (record x { history = history; blocked = Some b }) v) (same_Some b b2 e) (record {
-          is_out = ap (contains x.loans) (d.message b stopped) ∙ u.is_out;
-          unheld = ap loans (d.message b stopped) ∙ u.unheld;
-          ends = d.remain b stopped;
-          channel = subst (λ k. k < channel_count s.config) (sym (d.channel_is b stopped)) known;
-          unserved = λ q h. ap (λ (k : Mailbox). contains (numbers_in k) b.message) (d.unserved b stopped q h)
-              ∙ ap (contains (numbers_in (s.mailboxes p q))) (d.message b stopped) ∙ u.unserved q (d.within b stopped q h);
-          waits = d.waits b stopped;
-          count_bound = d.count_bound b stopped;
-        })))
+      (record x { history = history; blocked = Some b }) v) (same_Some b b2 e) (record {
+        is_out = ap (contains x.loans) (d.message b stopped) ∙ u.is_out;
+        unheld = ap loans (d.message b stopped) ∙ u.unheld;
+        ends = d.remain b stopped;
+        channel = subst (λ k. k < channel_count s.config) (sym (d.channel_is b stopped)) known;
+        unserved = λ q h. ap (λ (k : Mailbox). contains (numbers_in k) b.message) (d.unserved b stopped q h)
+            ∙ ap (contains (numbers_in (s.mailboxes p q))) (d.message b stopped) ∙ u.unserved q (d.within b stopped q h);
+        waits = d.waits b stopped;
+        count_bound = d.count_bound b stopped;
+      })))

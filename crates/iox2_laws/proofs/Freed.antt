@@ -8,7 +8,7 @@ use Rattle.iox2_laws.proofs.Puts.{put_at-other, found_removed}
 use Rattle.iox2_laws.proofs.NumberLemmas.{contains_left, contains_right}
 use Rattle.iox2_laws.proofs.FilterLemmas.{passes_all, some_fails}
 use Rattle.iox2_laws.proofs.PlaceLemmas.{occupant-vacated, vacated_keeps, length-vacated, contains-occupants}
-use Rattle.iox2_laws.proofs.PortChanges.{publisher_in, subscriber_in, subscriber_marked, loan_kept, RestIsWellFormed, IsNearlyWellFormed, with_rest, publishers_due_keeps}
+use Rattle.iox2_laws.proofs.PortChanges.{publisher_in, subscriber_in, subscriber_marked, mailbox_in, loan_kept, RestIsWellFormed, IsNearlyWellFormed, with_rest, publishers_due_keeps}
 use Rattle.iox2_laws.specs.Laws.{Advances}
 use Rattle.iox2_store.specs.machine.Numbers.{put_at, contains}
 use Rattle.iox2_store.specs.machine.Places.{occupant, occupants, vacated}
@@ -44,26 +44,22 @@ module _ {T U : Type 0} where
   removed_mailbox : (s : State T U) (q : ℕ) (places : List (Option ℕ)) (p r : ℕ) → (has_borrows (s.mailboxes p q) ≡ true → ⊥)
       → (s.publishers p ≡ None → has_waiting (s.mailboxes p q) ≡ true → ⊥) → MailboxIsWellFormed s p r
       → MailboxIsWellFormed (record s { subscribers = put_at s.subscribers q None; subscriber_places = places }) p r
-  removed_mailbox s q places p r nothing lost b = record {
-    within = b.within;
-    below = b.below;
-    known = b.known;
-    sender_end = b.sender_end;
-    others = b.others;
-    room = λ y e. found_removed s.subscribers q r y (waiting_count (s.mailboxes p r) ≤ y.buffer) e (λ _ f. b.room y f);
-    others_room = λ y e. found_removed s.subscribers q r y (OthersWithin (channel_count s.config) y.buffer (s.mailboxes p r)) e (λ _ f. b.others_room y f);
-    receiver_end = λ h.
-        elim (eqb r q) as (λ c. eqb r q ≡ c → (y : Subscriber) × (cond c None (s.subscribers r) ≡ Some y) × ((contains y.expired p ≡ true) ⊎ LeadsTo y.ends p)) [
-          | true ↦ λ same. absurd (nothing (ap (λ k. has_borrows (s.mailboxes p k)) (sym (eqb-true r q same)) ∙ h))
-          | false ↦ λ _. b.receiver_end h
-        ] refl;
-    departed = λ gone h.
-        elim (eqb r q) as (λ c. eqb r q ≡ c
-        → (y : Subscriber) × (cond c None (s.subscribers r) ≡ Some y) × (y.is_open ≡ true) × ((contains y.expired p ≡ true) ⊎ LeadsTo y.ends p)) [
-          | true ↦ λ same. absurd (lost gone (ap (λ k. has_waiting (s.mailboxes p k)) (sym (eqb-true r q same)) ∙ h))
-          | false ↦ λ _. b.departed gone h
-        ] refl;
-  }
+  removed_mailbox s q places p r nothing lost b =
+      mailbox_in s (record s { subscribers = put_at s.subscribers q None; subscriber_places = places }) p r b (le_refl s.next_port) (le_refl s.next_message) refl
+      (λ y e. found_removed s.subscribers q r y ((waiting_count (s.mailboxes p r) ≤ y.buffer) × OthersWithin (channel_count s.config) y.buffer (s.mailboxes p r)) e
+      (λ _ f. (b.room y f, b.others_room y f)))
+      b.sender_end
+      (λ h.
+      elim (eqb r q) as (λ c. eqb r q ≡ c → (y : Subscriber) × (cond c None (s.subscribers r) ≡ Some y) × ((contains y.expired p ≡ true) ⊎ LeadsTo y.ends p)) [
+        | true ↦ λ same. absurd (nothing (ap (λ k. has_borrows (s.mailboxes p k)) (sym (eqb-true r q same)) ∙ h))
+        | false ↦ λ _. b.receiver_end h
+      ] refl)
+      (λ gone h.
+      elim (eqb r q) as (λ c. eqb r q ≡ c
+      → (y : Subscriber) × (cond c None (s.subscribers r) ≡ Some y) × (y.is_open ≡ true) × ((contains y.expired p ≡ true) ⊎ LeadsTo y.ends p)) [
+        | true ↦ λ same. absurd (lost gone (ap (λ k. has_waiting (s.mailboxes p k)) (sym (eqb-true r q same)) ∙ h))
+        | false ↦ λ _. b.departed gone h
+      ] refl)
 
   -- A subscriber that has borrowed nothing, and for which nothing waits from departed publishers, may go.
   pub subscriber_removed_keeps : (s : State T U) (q : ℕ) → IsNearlyWellFormed s q → ((p : ℕ) → has_borrows (s.mailboxes p q) ≡ true → ⊥)

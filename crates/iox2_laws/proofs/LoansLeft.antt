@@ -25,9 +25,10 @@ use Rattle.iox2_store.specs.declared.errors.ConnectionFailure.{ConnectionFailure
 use Rattle.iox2_store.specs.declared.errors.PublisherCreateError.{PublisherCreateError}
 use Rattle.iox2_store.specs.declared.errors.SubscriberCreateError.{SubscriberCreateError}
 use Rattle.iox2_store.specs.declared.warning.Warning.{Warning}
+use Rattle.iox2_store.specs.declared.warning.Warning.TheVariants.{PublisherPartlyConnected}
 use Rattle.iox2_store.specs.declared.service_config.ServiceConfig.{ServiceConfig}
 use Rattle.iox2_store.specs.declared.service_config.TypeVariant.TheVariants.{FixedSize}
-use Rattle.iox2_laws.proofs.OperationWalks.{IsPreorder, DeliverySteps, publisher_update_by_steps, subscriber_update_by_steps, first_publisher_update_by_steps, create_publisher_by_steps, create_subscriber_by_steps, receive_by_steps, forgotten_by_steps, retry_by_steps, give_up_by_steps, send_by_steps}
+use Rattle.iox2_laws.proofs.OperationWalks.{IsPreorder, DeliverySteps, publisher_update_by_steps, subscriber_update_by_steps, first_update_by_steps, create_publisher_by_steps, create_subscriber_by_steps, receive_by_steps, forgotten_by_steps, retry_by_steps, give_up_by_steps, send_by_steps}
 use Rattle.iox2_laws.proofs.CallCases.{grant_cases, publisher_cases}
 use Rattle.iox2_laws.proofs.NumberLemmas.{length-without}
 use Rattle.iox2_laws.proofs.PortsClose.{publisher_closed_others}
@@ -160,8 +161,8 @@ module _ {T U : Type 0} where
   made_kept : (environment : Environment) (s : State T U) (given : PublisherSettings) (place : ℕ) (s' : State T U) → FirstPublisherUpdate environment (with_new_publisher s given place) s.next_port s'
       → LoansKept (with_new_publisher s given place) s'
   made_kept environment s given place s' =
-      first_publisher_update_by_steps LoansKept keep environment (with_new_publisher s given place) s.next_port s'
-      (update_publisher_kept environment (with_new_publisher s given place) s.next_port) warned_kept
+      let new : State T U = with_new_publisher s given place in
+      first_update_by_steps LoansKept keep new s' (UpdatePublisher environment new s.next_port) (PublisherPartlyConnected s.next_port) (update_publisher_kept environment new s.next_port) warned_kept
 
   pub create_publisher_kept : (environment : Environment) (s : State T U) → IsWellFormed s → (given : PublisherSettings) (s' : State T U) (refusal : Option PublisherCreateError)
       → CreatePublisher environment s given s' refusal → LoansKept s s'
@@ -200,19 +201,13 @@ module _ {T U : Type 0} where
   pub created_longest : (environment : Environment) (s : State T U) (given : PublisherSettings) (s' : State T U) → CreatePublisher environment s given s' None
       → (x : Publisher) × (s'.publishers s.next_port ≡ Some x) × (x.initial_max_slice_len ≡ given.initial_max_slice_len)
   created_longest environment s given s' h =
-      let made = created_stands environment s given s' h in
-      let there = made.1 in
-      let terms : KeepsTerms (new_publisher s given made.0) there.0 = there.2 in
-      (there.0, there.1, terms.longest)
+      let made = created_stands environment s given s' h in ((made.1).0, (made.1).1, ((made.1).2).longest)
 
   -- Its memory grows as it was asked for.
   pub created_grows : (environment : Environment) (s : State T U) (given : PublisherSettings) (s' : State T U) → CreatePublisher environment s given s' None
       → (x : Publisher) × (s'.publishers s.next_port ≡ Some x) × (x.allocation_strategy ≡ given.allocation_strategy)
   created_grows environment s given s' h =
-      let made = created_stands environment s given s' h in
-      let there = made.1 in
-      let terms : KeepsTerms (new_publisher s given made.0) there.0 = there.2 in
-      (there.0, there.1, terms.allocation)
+      let made = created_stands environment s given s' h in ((made.1).0, (made.1).1, ((made.1).2).allocation)
 
   pub create_subscriber_kept : (environment : Environment) (s : State T U) (given : SubscriberSettings) (s' : State T U) (refusal : Option SubscriberCreateError)
       → CreateSubscriber environment s given s' refusal → LoansKept s s'

@@ -12,7 +12,7 @@ use Rattle.iox2_store.specs.machine.PublisherUpdate.{SenderSide, sender_side, wi
 use Rattle.iox2_store.specs.machine.SubscriberUpdate.{ReceiverSide, receiver_side, with_receiver_side, UpdateReceiverSide, UpdateSubscriber}
 use Rattle.iox2_store.specs.machine.Loans.{GrantLoan, loan_granted, loan_discarded}
 use Rattle.iox2_store.specs.machine.Sends.{Send, SendToConnection, Retry, GiveUp, DeliverAndConclude, ConcludeSend, SendResult, Blocked_send, Delivered_to, Send_error, send_ended, send_blocked, with_mailboxes, published, more_retries}
-use Rattle.iox2_store.specs.machine.Ports.{CreatePublisher, CreateSubscriber, FirstPublisherUpdate, FirstSubscriberUpdate, with_new_publisher, with_new_subscriber, with_failure_warning}
+use Rattle.iox2_store.specs.machine.Ports.{CreatePublisher, CreateSubscriber, with_new_publisher, with_new_subscriber, with_failure_warning}
 use Rattle.iox2_store.specs.machine.Receives.{Receive, TakeSample, ReceiveResult, Got_sample, No_sample, Receive_error}
 use Rattle.iox2_store.specs.machine.Releases.{subscriber_pruned, freed_if_unused, place_freed, is_unused}
 use Rattle.iox2_store.specs.declared.errors.ConnectionFailure.{ConnectionFailure}
@@ -161,19 +161,12 @@ module _ {T U : Type 0} (R : State T U → State T U → Type 0) (order : IsPreo
   warning_by_steps warns s warning None = order.itself s
   warning_by_steps warns s warning (Some failure) = warns s (warning failure)
 
-  -- A new publisher's first update by its steps.
-  pub first_publisher_update_by_steps : (environment : Environment) (s : State T U) (p : ℕ) (s' : State T U)
-      → ((t : State T U) (failure : Option ConnectionFailure) → UpdatePublisher environment s p t failure → R s t)
-      → ((t : State T U) (w : Warning) → R t (with_warning t w)) → FirstPublisherUpdate environment s p s' → R s s'
-  first_publisher_update_by_steps environment s p s' updates warns h =
-      subst (R s) (sym h.3) (order.trans s h.0 _ (updates h.0 h.1 h.2) (warning_by_steps warns h.0 (PublisherPartlyConnected p) h.1))
-
-  -- A new subscriber's first update by its steps.
-  pub first_subscriber_update_by_steps : (environment : Environment) (s : State T U) (q : ℕ) (s' : State T U)
-      → ((t : State T U) (failure : Option ConnectionFailure) → UpdateSubscriber environment s q t failure → R s t)
-      → ((t : State T U) (w : Warning) → R t (with_warning t w)) → FirstSubscriberUpdate environment s q s' → R s s'
-  first_subscriber_update_by_steps environment s q s' updates warns h =
-      subst (R s) (sym h.3) (order.trans s h.0 _ (updates h.0 h.1 h.2) (warning_by_steps warns h.0 (SubscriberPartlyConnected q) h.1))
+  -- A first update, whose failure is a warning, by its steps.
+  pub first_update_by_steps : (s s' : State T U) (Updates : State T U → Option ConnectionFailure → Type 0) (warning : ConnectionFailure → Warning)
+      → ((t : State T U) (failure : Option ConnectionFailure) → Updates t failure → R s t) → ((t : State T U) (w : Warning) → R t (with_warning t w))
+      → (mid : State T U) × (failure : Option ConnectionFailure) × Updates mid failure × (s' ≡ with_failure_warning mid warning failure) → R s s'
+  first_update_by_steps s s' Updates warning updates warns h =
+      subst (R s) (sym h.3) (order.trans s h.0 _ (updates h.0 h.1 h.2) (warning_by_steps warns h.0 warning h.1))
 
   -- A publisher that is made, or refused, by its steps.
   pub create_publisher_by_steps : (environment : Environment) (s : State T U) (given : PublisherSettings) (s' : State T U) (refusal : Option PublisherCreateError)
@@ -183,7 +176,7 @@ module _ {T U : Type 0} (R : State T U → State T U → Type 0) (order : IsPreo
   create_publisher_by_steps environment s given s' refusal enters updates warns h =
       publisher_cases environment s given s' (R s s') refusal h (λ e same _. unchanged s s' same) (λ place makes.
       let new : State T U = with_new_publisher s given place in
-      order.trans s new s' (enters place) (first_publisher_update_by_steps environment new s.next_port s' (updates new s.next_port) warns makes.2))
+      order.trans s new s' (enters place) (first_update_by_steps new s' (UpdatePublisher environment new s.next_port) (PublisherPartlyConnected s.next_port) (updates new s.next_port) warns makes.2))
 
   -- A subscriber that is made, or refused, by its steps.
   pub create_subscriber_by_steps : (environment : Environment) (s : State T U) (given : SubscriberSettings) (s' : State T U) (refusal : Option SubscriberCreateError)
@@ -193,7 +186,7 @@ module _ {T U : Type 0} (R : State T U → State T U → Type 0) (order : IsPreo
   create_subscriber_by_steps environment s given s' refusal enters updates warns h =
       subscriber_cases environment s given s' (R s s') refusal h (λ e same _. unchanged s s' same) (λ place makes.
       let new : State T U = with_new_subscriber s given place in
-      order.trans s new s' (enters place) (first_subscriber_update_by_steps environment new s.next_port s' (updates new s.next_port) warns makes.3))
+      order.trans s new s' (enters place) (first_update_by_steps new s' (UpdateSubscriber environment new s.next_port) (SubscriberPartlyConnected s.next_port) (updates new s.next_port) warns makes.3))
 
   -- A grant by what it changes.
   pub grant_by_steps : (environment : Environment) (default_header : U) (checks_length : Bool) (len : ℕ) (s : State T U) (p : ℕ) (s' : State T U) (refusal : Option LoanError)

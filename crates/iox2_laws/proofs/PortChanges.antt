@@ -7,14 +7,14 @@ use Rattle.std.proofs.lemmas.Option.{none-some, same_Some}
 use Rattle.iox2_store.specs.machine.Numbers.{contains, size}
 use Rattle.iox2_store.specs.machine.Places.{occupant, occupants}
 use Rattle.iox2_store.specs.machine.Channel.{Channel}
-use Rattle.iox2_store.specs.machine.Mailbox.{Mailbox, numbers_in, has_numbers, has_borrows, waiting_count, OthersWithin}
+use Rattle.iox2_store.specs.machine.Mailbox.{Mailbox, numbers_in, has_numbers, has_borrows, has_waiting, waiting_count, IsWithin, OthersWithin}
 use Rattle.iox2_store.specs.machine.Records.{BlockedSend, Loan, Publisher, Subscriber}
 use Rattle.iox2_store.specs.machine.State.{State, Warnings, publishers_due, subscribers_due, sender_channels_reset, receiver_channels_reset}
 use Rattle.iox2_store.specs.machine.WellFormed.{LeadsTo, PlacesAgree, publisher_place, subscriber_place, BlockedIsWellFormed, PublisherIsWellFormed}
 use Rattle.iox2_store.specs.machine.WellFormed.{SubscriberIsWellFormed, MailboxIsWellFormed, LoanIsWellFormed, IsWellFormed}
 use Rattle.iox2_laws.proofs.Puts.{found_mapped}
 use Rattle.iox2_laws.proofs.NumberLemmas.{contains_in_append, contains_left, contains_right, contains_in_flat_map, contains-flat_map, size_le, absent_from}
-use Rattle.iox2_store.specs.machine.Limits.{channel_count}
+use Rattle.iox2_store.specs.machine.Limits.{buffer_limit, channel_count}
 
 -- ---- places
 
@@ -220,6 +220,27 @@ module _ {T U : Type 0} where
       → LoanIsWellFormed (changed s t) n l
   loan_kept s t n l w more = loan_in s (changed s t) n l w more (le_refl s.next_message)
 
+  -- A mailbox that stays the same is well-formed in another state where it has room at its subscriber, its publisher has its end, and
+  -- what is borrowed and what waits from a departed publisher is somebody's.
+  pub mailbox_in : (s t : State T U) (p q : ℕ) → MailboxIsWellFormed s p q → s.next_port ≤ t.next_port → s.next_message ≤ t.next_message → t.mailboxes p q ≡ s.mailboxes p q
+      → ((y : Subscriber) → t.subscribers q ≡ Some y → (waiting_count (s.mailboxes p q) ≤ y.buffer) × OthersWithin (channel_count s.config) y.buffer (s.mailboxes p q))
+      → ((x : Publisher) → t.publishers p ≡ Some x → has_numbers (s.mailboxes p q) ≡ true → LeadsTo x.ends q)
+      → (has_borrows (s.mailboxes p q) ≡ true → (y : Subscriber) × (t.subscribers q ≡ Some y) × ((contains y.expired p ≡ true) ⊎ LeadsTo y.ends p))
+      → (t.publishers p ≡ None → has_waiting (s.mailboxes p q) ≡ true
+      → (y : Subscriber) × (t.subscribers q ≡ Some y) × (y.is_open ≡ true) × ((contains y.expired p ≡ true) ⊎ LeadsTo y.ends p))
+      → MailboxIsWellFormed (configured s t) p q
+  mailbox_in s t p q w ports messages same room sender receiver departed = record {
+    within = subst (λ (m : Mailbox). IsWithin (buffer_limit s.config) (s.config).subscriber_max_borrowed_samples m) (sym same) w.within;
+    others = subst (λ (m : Mailbox). OthersWithin (channel_count s.config) (buffer_limit s.config) m) (sym same) w.others;
+    room = λ y e. subst (λ (m : Mailbox). waiting_count m ≤ y.buffer) (sym same) (room y e).0;
+    others_room = λ y e. subst (λ (m : Mailbox). OthersWithin (channel_count s.config) y.buffer m) (sym same) (room y e).1;
+    below = λ n h. let low : n < s.next_message = w.below n (ap (λ m. contains (numbers_in m) n) (sym same) ∙ h) in omega arith;
+    known = λ h. let old : (p < s.next_port) × (q < s.next_port) = w.known (ap has_numbers (sym same) ∙ h) in (omega (arith, old.0), omega (arith, old.1));
+    sender_end = λ x e h. sender x e (ap has_numbers (sym same) ∙ h);
+    receiver_end = λ h. receiver (ap has_borrows (sym same) ∙ h);
+    departed = λ gone h. departed gone (ap has_waiting (sym same) ∙ h);
+  }
+
   -- ---- all but the subscribers
 
   -- What makes a state well-formed, but for what it says of the subscribers.
@@ -286,23 +307,17 @@ module _ {T U : Type 0} where
         subst (SubscriberIsWellFormed s' q) (sym g)
         (let v : SubscriberIsWellFormed s' q z = subscriber_kept s s' q z (w.subscribers q z f) (omega arith) (λ p. refl) (λ p _. refl) in
         subscriber_marked s' q z z.is_open true v v.is_used));
-    mailboxes = λ p q. let v : MailboxIsWellFormed s p q = w.mailboxes p q in record {
-      within = v.within;
-      below = v.below;
-      known = v.known;
-      sender_end = v.sender_end;
-      room = λ y e. found_mapped due_subscriber (s.subscribers q) y (waiting_count (s.mailboxes p q) ≤ y.buffer) e
-          (λ z f g. subst (λ (u : Subscriber). waiting_count (s.mailboxes p q) ≤ u.buffer) (sym g) (v.room z f));
-      others = v.others;
-      others_room = λ y e. found_mapped due_subscriber (s.subscribers q) y (OthersWithin (channel_count s.config) y.buffer (s.mailboxes p q)) e
-          (λ z f g. subst (λ (u : Subscriber). OthersWithin (channel_count s.config) u.buffer (s.mailboxes p q)) (sym g) (v.others_room z f));
-      receiver_end = λ h. let found : (y : Subscriber) × (s.subscribers q ≡ Some y) × ((contains y.expired p ≡ true) ⊎ LeadsTo y.ends p) = v.receiver_end h in
-          (due_subscriber found.0, ap (λ o. option_map due_subscriber o) found.1, found.2);
-      departed = λ gone h.
-          let found : (y : Subscriber) × (s.subscribers q ≡ Some y) × (y.is_open ≡ true) × ((contains y.expired p ≡ true) ⊎ LeadsTo y.ends p) =
-          v.departed gone h in
-          (due_subscriber found.0, ap (λ o. option_map due_subscriber o) found.1, found.2, found.3);
-    };
+    mailboxes = λ p q. let v : MailboxIsWellFormed s p q = w.mailboxes p q in
+        mailbox_in s s' p q v (le_refl s.next_port) (le_refl s.next_message) refl
+        (λ y e. found_mapped due_subscriber (s.subscribers q) y
+        ((waiting_count (s.mailboxes p q) ≤ y.buffer) × OthersWithin (channel_count s.config) y.buffer (s.mailboxes p q)) e
+        (λ z f g. subst (λ (u : Subscriber). (waiting_count (s.mailboxes p q) ≤ u.buffer) × OthersWithin (channel_count s.config) u.buffer (s.mailboxes p q)) (sym g)
+        (v.room z f, v.others_room z f)))
+        v.sender_end
+        (λ h. let found : (y : Subscriber) × (s.subscribers q ≡ Some y) × ((contains y.expired p ≡ true) ⊎ LeadsTo y.ends p) = v.receiver_end h in
+        (due_subscriber found.0, ap (λ o. option_map due_subscriber o) found.1, found.2))
+        (λ gone h. let found : (y : Subscriber) × (s.subscribers q ≡ Some y) × (y.is_open ≡ true) × ((contains y.expired p ≡ true) ⊎ LeadsTo y.ends p) = v.departed gone h in
+        (due_subscriber found.0, ap (λ o. option_map due_subscriber o) found.1, found.2, found.3));
     loans = λ n l e. loan_kept s s' n l (w.loans n l e) (omega arith) (λ q n h. h) (w.loans n l e).is_out;
   }
     where
@@ -317,18 +332,10 @@ module _ {T U : Type 0} where
     publishers = λ p x e. found_mapped due_publisher (s.publishers p) x (PublisherIsWellFormed s' p x) e (λ z f g.
         subst (PublisherIsWellFormed s' p) (sym g)
         (publisher_due s' p z (publisher_kept s s' p z (w.publishers p z f) (omega arith) (λ q n h. h) (w.publishers p z f).ends_stand)));
-    mailboxes = λ p q. let v : MailboxIsWellFormed s p q = w.mailboxes p q in record {
-      within = v.within;
-      others = v.others;
-      room = v.room;
-      others_room = v.others_room;
-      below = v.below;
-      known = v.known;
-      receiver_end = v.receiver_end;
-      sender_end = λ x e h. found_mapped due_publisher (s.publishers p) x (LeadsTo x.ends q) e
-          (λ z f g. subst (λ (u : Publisher). LeadsTo u.ends q) (sym g) (v.sender_end z f h));
-      departed = λ gone h. v.departed (none_before (s.publishers p) gone) h;
-    };
+    mailboxes = λ p q. let v : MailboxIsWellFormed s p q = w.mailboxes p q in
+        mailbox_in s s' p q v (le_refl s.next_port) (le_refl s.next_message) refl (λ y e. (v.room y e, v.others_room y e))
+        (λ x e h. found_mapped due_publisher (s.publishers p) x (LeadsTo x.ends q) e (λ z f g. subst (λ (u : Publisher). LeadsTo u.ends q) (sym g) (v.sender_end z f h)))
+        v.receiver_end (λ gone. v.departed (none_before (s.publishers p) gone));
     loans = λ n l e. loan_kept s s' n l (w.loans n l e) (omega arith) (λ q n h. h)
         (λ x found. found_mapped due_publisher (s.publishers l.publisher) x ((contains x.loans n ≡ true) × (contains x.history n ≡ false)) found
         (λ z f g. subst (λ (u : Publisher). (contains u.loans n ≡ true) × (contains u.history n ≡ false)) (sym g) ((w.loans n l e).is_out z f)));

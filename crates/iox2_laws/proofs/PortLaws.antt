@@ -1,5 +1,5 @@
 -- What making a port keeps.
-use Rattle.std.proofs.Common.{◌≡◌, ℕ, ◌+◌, ◌≤◌, ◌<◌, true, false, cond, List, length, refl, sym, ap, subst, ◌∙◌, arith, eqb, lt_irrefl, Option}
+use Rattle.std.proofs.Common.{le_refl, ◌≡◌, ℕ, ◌+◌, ◌≤◌, ◌<◌, true, false, cond, List, length, refl, sym, ap, subst, ◌∙◌, arith, eqb, lt_irrefl, Option}
 use Rattle.std.proofs.Common.{None, Some, ◌⊎◌, ⊎_elim}
 use Rattle.std.proofs.lemmas.Bool.{eq-eqb, true≢false, ne_eqb, ltb-false, false_from_ne_true}
 use Rattle.std.proofs.lemmas.Option.{none-some, same_Some}
@@ -26,7 +26,7 @@ use Rattle.iox2_laws.proofs.PlaceLemmas.{occupant-set_place, length-set_place_le
 use Rattle.iox2_laws.proofs.MailboxLemmas.{has_numbers-borrows, has_numbers-waiting, nothing_anywhere, OthersWithin-none}
 use Rattle.iox2_laws.proofs.PublisherUpdates.{update_publisher_keeps, update_publisher_advances}
 use Rattle.iox2_laws.proofs.SubscriberUpdates.{update_subscriber_keeps, update_subscriber_advances}
-use Rattle.iox2_laws.proofs.PortChanges.{places_agree_by, place_of_publisher, place_of_subscriber, publisher_kept, subscriber_kept, loan_kept}
+use Rattle.iox2_laws.proofs.PortChanges.{places_agree_by, place_of_publisher, place_of_subscriber, publisher_kept, subscriber_kept, mailbox_in, loan_kept}
 use Rattle.iox2_laws.proofs.PortChanges.{subscribers_due_keeps, publishers_due_keeps}
 pub use Rattle.iox2_laws.proofs.PortChanges.{with_warning_keeps}
 
@@ -128,21 +128,14 @@ module _ {T U : Type 0} where
     subscribers = λ q y e. subscriber_kept s s' q y (w.subscribers q y e)
         (omega arith) (λ p. refl)
         (λ p known. ap place_of_publisher (put_at-other s.publishers s.next_port (Some (new_publisher s given place)) p (ne_eqb p s.next_port (λ same. omega arith))));
-    mailboxes = λ p q. let v : MailboxIsWellFormed s p q = w.mailboxes p q in record {
-      within = v.within;
-      others = v.others;
-      room = v.room;
-      others_room = v.others_room;
-      below = v.below;
-      receiver_end = v.receiver_end;
-      known = λ h. (omega (arith, (v.known h).0), omega (arith, (v.known h).1));
-      sender_end = λ x e h. found_put s.publishers s.next_port (new_publisher s given place) (λ p x. LeadsTo x.ends q) p x e
-          (λ same. absurd (omega (arith, (v.known h).0)))
-          (λ _ old. v.sender_end x old h);
-      departed = λ gone h. v.departed
-          (at_each s.publishers s.next_port (Some (new_publisher s given place)) (λ i o. o ≡ None → s.publishers i ≡ None) p
-          (λ _ e. absurd (none-some (new_publisher s given place) (sym e))) (λ _ e. e) gone) h;
-    };
+    mailboxes = λ p q. let v : MailboxIsWellFormed s p q = w.mailboxes p q in
+        mailbox_in s s' p q v (omega arith) (le_refl s.next_message) refl (λ y e. (v.room y e, v.others_room y e))
+        (λ x e h. found_put s.publishers s.next_port (new_publisher s given place) (λ p x. LeadsTo x.ends q) p x e
+        (λ same. absurd (omega (arith, (v.known h).0))) (λ _ old. v.sender_end x old h))
+        v.receiver_end
+        (λ gone. v.departed
+        (at_each s.publishers s.next_port (Some (new_publisher s given place)) (λ i o. o ≡ None → s.publishers i ≡ None) p
+        (λ _ e. absurd (none-some (new_publisher s given place) (sym e))) (λ _ e. e) gone));
     loans = λ n l e. loan_kept s s' n l (w.loans n l e)
         (omega arith) (λ q n h. h)
         (λ x found. (w.loans n l e).is_out x (sym (put_at-other s.publishers s.next_port (Some (new_publisher s given place)) l.publisher
@@ -217,25 +210,20 @@ module _ {T U : Type 0} where
         (λ _. new_subscriber_is s given place fits)
         (λ _ old. subscriber_kept s s' q y (w.subscribers q y old)
         (omega arith) (λ p. refl) (λ p _. refl));
-    mailboxes = λ p q. let v : MailboxIsWellFormed s p q = w.mailboxes p q in record {
-      within = v.within;
-      below = v.below;
-      sender_end = v.sender_end;
-      known = λ h. (omega (arith, (v.known h).0), omega (arith, (v.known h).1));
-      room = λ y e. found_put s.subscribers s.next_port (new_subscriber given place) (λ q y. waiting_count (s.mailboxes p q) ≤ y.buffer) q y e
-          (λ _. omega (arith, none_waits (s.mailboxes p s.next_port) (nothing_yet p)))
-          (λ _ old. v.room y old);
-      others = v.others;
-      others_room = λ y e. found_put s.subscribers s.next_port (new_subscriber given place) (λ q y. OthersWithin (channel_count s.config) y.buffer (s.mailboxes p q)) q y e
-          (λ _. OthersWithin-none (channel_count s.config) (buffer_for given) (s.mailboxes p s.next_port) (nothing_anywhere (s.mailboxes p s.next_port) (nothing_yet p)).0)
-          (λ _ old. v.others_room y old);
-      receiver_end = λ h. let found : (y : Subscriber) × (s.subscribers q ≡ Some y) × ((contains y.expired p ≡ true) ⊎ LeadsTo y.ends p) = v.receiver_end h in
-          (found.0, old_stays q (v.known (has_numbers-borrows (s.mailboxes p q) h)).1 ∙ found.1, found.2);
-      departed = λ gone h.
-          let found : (y : Subscriber) × (s.subscribers q ≡ Some y) × (y.is_open ≡ true) × ((contains y.expired p ≡ true) ⊎ LeadsTo y.ends p) =
-          v.departed gone h in
-          (found.0, old_stays q (v.known (has_numbers-waiting (s.mailboxes p q) h)).1 ∙ found.1, found.2, found.3);
-    };
+    mailboxes = λ p q. let v : MailboxIsWellFormed s p q = w.mailboxes p q in
+        mailbox_in s s' p q v (omega arith) (le_refl s.next_message) refl
+        (λ y e. found_put s.subscribers s.next_port (new_subscriber given place)
+        (λ q y. (waiting_count (s.mailboxes p q) ≤ y.buffer) × OthersWithin (channel_count s.config) y.buffer (s.mailboxes p q)) q y e
+        (λ _. (
+          omega (arith, none_waits (s.mailboxes p s.next_port) (nothing_yet p)),
+          OthersWithin-none (channel_count s.config) (buffer_for given) (s.mailboxes p s.next_port) (nothing_anywhere (s.mailboxes p s.next_port) (nothing_yet p)).0,
+        ))
+        (λ _ old. (v.room y old, v.others_room y old)))
+        v.sender_end
+        (λ h. let found : (y : Subscriber) × (s.subscribers q ≡ Some y) × ((contains y.expired p ≡ true) ⊎ LeadsTo y.ends p) = v.receiver_end h in
+        (found.0, old_stays q (v.known (has_numbers-borrows (s.mailboxes p q) h)).1 ∙ found.1, found.2))
+        (λ gone h. let found : (y : Subscriber) × (s.subscribers q ≡ Some y) × (y.is_open ≡ true) × ((contains y.expired p ≡ true) ⊎ LeadsTo y.ends p) = v.departed gone h in
+        (found.0, old_stays q (v.known (has_numbers-waiting (s.mailboxes p q) h)).1 ∙ found.1, found.2, found.3));
     loans = λ n l e. loan_kept s s' n l (w.loans n l e)
         (omega arith) (λ q n h. h) (w.loans n l e).is_out;
   }
