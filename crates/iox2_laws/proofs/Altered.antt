@@ -1,17 +1,15 @@
 -- A state whose publisher, mailboxes of that publisher, and loans change: what is to be shown for it to stay well-formed.
-use Rattle.std.proofs.Common.{◌≡◌, ℕ, le_refl, ◌≤◌, ◌<◌, true, false, cond, List, ◌++◌, refl, sym, ap, subst, ◌∙◌, arith, eqb, ⊎_elim, ◌⊎◌, inl, inr, Option, None, Some}
+use Rattle.std.proofs.Common.{◌≡◌, ℕ, le_refl, ◌≤◌, ◌<◌, true, false, cond, List, ◌++◌, refl, sym, ap, subst, ◌∙◌, arith, eqb, ⊎_elim, ◌⊎◌, Option, None, Some}
 use Rattle.std.specs.Option.{MatchOption, option_map}
-use Rattle.std.specs.List.{flat_map}
 use Rattle.std.proofs.lemmas.Bool.{eqb-true, ne_eqb}
 use Rattle.std.proofs.lemmas.Option.{none-some, same_Some}
-use Rattle.iox2_store.specs.machine.Limits.{buffer_limit, channel_count}
-use Rattle.iox2_store.specs.machine.Numbers.{put_at, contains, size}
-use Rattle.iox2_store.specs.machine.Places.{occupants}
-use Rattle.iox2_store.specs.machine.Mailbox.{Mailbox, numbers_in, has_numbers, has_borrows, has_waiting, waiting_count, IsWithin, OthersWithin}
+use Rattle.iox2_store.specs.machine.Numbers.{put_at, contains}
+use Rattle.iox2_store.specs.machine.Mailbox.{Mailbox, numbers_in, has_numbers, has_borrows}
 use Rattle.iox2_store.specs.machine.Records.{Loan, Publisher}
 use Rattle.iox2_store.specs.machine.State.{State}
-use Rattle.iox2_store.specs.machine.WellFormed.{LeadsTo, publisher_place, BlockedIsWellFormed, PublisherIsWellFormed, SubscriberIsWellFormed, MailboxIsWellFormed, LoanIsWellFormed, IsWellFormed}
+use Rattle.iox2_store.specs.machine.WellFormed.{LeadsTo, publisher_place, PublisherIsWellFormed, MailboxIsWellFormed, LoanIsWellFormed, IsWellFormed}
 use Rattle.iox2_laws.proofs.NumberLemmas.{contains_in_append, contains_left, contains_right}
+use Rattle.iox2_laws.proofs.PortChanges.{FewerNumbers, publisher_in, subscriber_in, mailbox_in, loan_in}
 use Rattle.iox2_laws.proofs.Puts.{put_at-same, put_at-other, at_each, found_put}
 
 -- an absent port isn't a present one
@@ -72,64 +70,28 @@ module _ {T U : Type 0} where
     -- a mailbox stays well-formed where it and its publisher stay the same
     pub mailbox_moves : (p q : ℕ) → publishers p ≡ s.publishers p → mailboxes p q ≡ s.mailboxes p q → MailboxIsWellFormed s p q
         → MailboxIsWellFormed (rewritten s publishers mailboxes loans next) p q
-    mailbox_moves p q same box w = record {
-      within = subst (λ (m : Mailbox). IsWithin (buffer_limit s.config) (s.config).subscriber_max_borrowed_samples m) (sym box) w.within;
-      others = subst (λ (m : Mailbox). OthersWithin (channel_count s.config) (buffer_limit s.config) m) (sym box) w.others;
-      room = λ y e. subst (λ (m : Mailbox). waiting_count m ≤ y.buffer) (sym box) (w.room y e);
-      others_room = λ y e. subst (λ (m : Mailbox). OthersWithin (channel_count s.config) y.buffer m) (sym box) (w.others_room y e);
-      below = λ n h. let low : n < s.next_message = w.below n (ap (λ m. contains (numbers_in m) n) (sym box) ∙ h) in omega arith;
-      known = λ h. w.known (ap has_numbers (sym box) ∙ h);
-      sender_end = λ x e h. w.sender_end x (sym same ∙ e) (ap has_numbers (sym box) ∙ h);
-      receiver_end = λ h. w.receiver_end (ap has_borrows (sym box) ∙ h);
-      departed = λ gone h. w.departed (sym same ∙ gone) (ap has_waiting (sym box) ∙ h);
-    }
+    mailbox_moves p q same box w =
+        mailbox_in s (rewritten s publishers mailboxes loans next) p q w (le_refl s.next_port) more box (λ y e. (w.room y e, w.others_room y e))
+        (λ x e. w.sender_end x (sym same ∙ e)) w.receiver_end (λ gone. w.departed (sym same ∙ gone))
+
+    -- mailboxes that stay the same get no numbers
+    same_numbers : (p : ℕ) → mailboxes p ≡ s.mailboxes p → (q : ℕ) → FewerNumbers s (rewritten s publishers mailboxes loans next) p q
+    same_numbers p row q n h = ap (λ (m : ℕ → Mailbox). contains (numbers_in (m q)) n) (sym row) ∙ h
 
     -- a loan stays well-formed where its publisher and that one's mailboxes stay the same
     pub loan_moves : (n : ℕ) (l : Loan T U) → publishers l.publisher ≡ s.publishers l.publisher → mailboxes l.publisher ≡ s.mailboxes l.publisher
         → LoanIsWellFormed s n l
         → LoanIsWellFormed (rewritten s publishers mailboxes loans next) n l
-    loan_moves n l same row w = record {
-      below = omega (arith, w.below);
-      known = w.known;
-      origin = w.origin;
-      cells = w.cells;
-      complete = w.complete;
-      is_out = λ x e. w.is_out x (sym same ∙ e);
-      unsent = λ q. ap (λ (m : ℕ → Mailbox). contains (numbers_in (m q)) n) row ∙ w.unsent q;
-    }
+    loan_moves n l same row w =
+        loan_in s (rewritten s publishers mailboxes loans next) n l w (le_refl s.next_port) more (λ q. same_numbers l.publisher row q) (λ x e. w.is_out x (sym same ∙ e))
 
     -- a publisher stays well-formed where its mailboxes stay the same and its loans stay its own
     pub publisher_moves : (p : ℕ) (x : Publisher) → mailboxes p ≡ s.mailboxes p
         → ((n : ℕ) (l : Loan T U) → s.loans n ≡ Some l → l.publisher ≡ p → (l' : Loan T U) × (loans n ≡ Some l') × (l'.publisher ≡ p))
         → ((n : ℕ) → n < s.next_message → s.loans n ≡ None → loans n ≡ None)
         → PublisherIsWellFormed s p x → PublisherIsWellFormed (rewritten s publishers mailboxes loans next) p x
-    publisher_moves p x row own none w = record {
-      is_known = w.is_known;
-      loans_bound = w.loans_bound;
-      loans_once = w.loans_once;
-      loans_below = λ n h. omega (arith, w.loans_below n h);
-      loans_held = λ n h. ⊎_elim (λ held. inl (own n held.0 held.1 held.2)) (λ waits. inr waits) (w.loans_held n h);
-      history_bound = w.history_bound;
-      history_once = w.history_once;
-      history_below = λ n h. omega (arith, w.history_below n h);
-      ends_bound = w.ends_bound;
-      ends_apart = w.ends_apart;
-      ends_known = w.ends_known;
-      ends_stand = w.ends_stand;
-      slots_bound = λ static. subst (λ (m : ℕ → Mailbox). size (x.loans ++ x.history ++ flat_map (λ q. numbers_in (m q)) (occupants x.ends)) ≤ x.slots)
-          (sym row) (w.slots_bound static);
-      some_segment = w.some_segment;
-      segments_bound = w.segments_bound;
-      blocked = λ b e. let v : BlockedIsWellFormed s p x b = w.blocked b e in record {
-        is_out = v.is_out;
-        unheld = none b.message (w.loans_below b.message v.is_out) v.unheld;
-        ends = v.ends;
-        channel = v.channel;
-        unserved = λ q leads. ap (λ (m : ℕ → Mailbox). contains (numbers_in (m q)) b.message) row ∙ v.unserved q leads;
-        waits = v.waits;
-        count_bound = v.count_bound;
-      };
-    }
+    publisher_moves p x row own none w =
+        publisher_in s (rewritten s publishers mailboxes loans next) p x w (le_refl s.next_port) more (same_numbers p row) w.ends_stand own none
 
   module _ (s : State T U) (p : ℕ) (x x' : Publisher) (boxes : ℕ → Mailbox) (loans : ℕ → Option (Loan T U)) (next : ℕ) where
     -- where nothing but the publisher's record changes, and that keeps its place, every place has its port
@@ -173,27 +135,11 @@ module _ {T U : Type 0} where
           (λ apart e. publisher_moves s (put_at s.publishers p (Some x')) (put_at s.mailboxes p boxes) loans next more i v
           (put_at-other s.mailboxes p boxes i apart)
           (λ n l e k. (l, other_loans n l e (ap (λ j. eqb j p) k ∙ apart), k)) none (w.publishers i v e));
-      subscribers = λ q y e. let v : SubscriberIsWellFormed s q y = w.subscribers q y e in record {
-        is_known = v.is_known;
-        some_room = v.some_room;
-        buffer_bound = v.buffer_bound;
-        ends_bound = v.ends_bound;
-        ends_apart = v.ends_apart;
-        ends_known = v.ends_known;
-        ends_stand = λ at i h. subscriber_end_stands here place at i q (v.ends_stand at i h);
-        expired_bound = v.expired_bound;
-        expired_once = v.expired_once;
-        expired_apart = v.expired_apart;
-        expired_known = v.expired_known;
-        expired_gone = λ i h. put_at-other s.publishers p (Some x') i (absent_apart s.publishers i p x (v.expired_gone i h) here) ∙ v.expired_gone i h;
-        expired_kept = λ i h. ap (λ (m : ℕ → Mailbox). has_numbers (m q))
-            (put_at-other s.mailboxes p boxes i (absent_apart s.publishers i p x (v.expired_gone i h) here)) ∙ v.expired_kept i h;
-        is_used = λ closed. let used : (i : ℕ) × (has_borrows (s.mailboxes i q) ≡ true) = v.is_used closed in (
-          used.0,
-          at_each s.mailboxes p boxes (λ i (m : ℕ → Mailbox). has_borrows (s.mailboxes i q) ≡ true → has_borrows (m q) ≡ true) used.0
-              (λ _. still q) (λ _ h. h) used.1,
-        );
-      };
+      subscribers = λ q y e. subscriber_in s (altered s p x' boxes loans next) q y (w.subscribers q y e) (le_refl s.next_port)
+          (λ at i _. subscriber_end_stands here place at i q)
+          (λ i _ gone. put_at-other s.publishers p (Some x') i (absent_apart s.publishers i p x gone here) ∙ gone)
+          (λ i gone h. ap (λ (m : ℕ → Mailbox). has_numbers (m q)) (put_at-other s.mailboxes p boxes i (absent_apart s.publishers i p x gone here)) ∙ h)
+          (λ i. at_each s.mailboxes p boxes (λ i (m : ℕ → Mailbox). has_borrows (s.mailboxes i q) ≡ true → has_borrows (m q) ≡ true) i (λ _. still q) (λ _ h. h));
       mailboxes = λ i q.
           elim (eqb i p) as (λ b. eqb i p ≡ b → MailboxIsWellFormed (altered s p x' boxes loans next) i q) [
             | true ↦ λ e. subst (λ j. MailboxIsWellFormed (altered s p x' boxes loans next) j q) (sym (eqb-true i p e))
@@ -217,18 +163,10 @@ module _ {T U : Type 0} where
       (more : s.next_message ≤ next) where
     -- a mailbox that stays the same is well-formed where the publisher keeps its ends
     pub mailbox_stays : (q : ℕ) → x'.ends ≡ x.ends → boxes q ≡ s.mailboxes p q → MailboxIsWellFormed s p q → MailboxIsWellFormed (uniform s x' boxes loans next) p q
-    mailbox_stays q ends box w = record {
-      within = subst (λ (m : Mailbox). IsWithin (buffer_limit s.config) (s.config).subscriber_max_borrowed_samples m) (sym box) w.within;
-      others = subst (λ (m : Mailbox). OthersWithin (channel_count s.config) (buffer_limit s.config) m) (sym box) w.others;
-      room = λ y e. subst (λ (m : Mailbox). waiting_count m ≤ y.buffer) (sym box) (w.room y e);
-      others_room = λ y e. subst (λ (m : Mailbox). OthersWithin (channel_count s.config) y.buffer m) (sym box) (w.others_room y e);
-      below = λ n h. let low : n < s.next_message = w.below n (ap (λ m. contains (numbers_in m) n) (sym box) ∙ h) in omega arith;
-      known = λ h. w.known (ap has_numbers (sym box) ∙ h);
-      sender_end = λ v e h. subst (λ (u : Publisher). LeadsTo u.ends q) (same_Some x' v e)
-          (subst (λ places. LeadsTo places q) (sym ends) (w.sender_end x here (ap has_numbers (sym box) ∙ h)));
-      receiver_end = λ h. w.receiver_end (ap has_borrows (sym box) ∙ h);
-      departed = λ gone _. absurd (none-some x' (sym gone));
-    }
+    mailbox_stays q ends box w =
+        mailbox_in s (uniform s x' boxes loans next) p q w (le_refl s.next_port) more box (λ y e. (w.room y e, w.others_room y e))
+        (λ v e h. subst (λ (u : Publisher). LeadsTo u.ends q) (same_Some x' v e) (subst (λ places. LeadsTo places q) (sym ends) (w.sender_end x here h)))
+        w.receiver_end (λ gone _. absurd (none-some x' (sym gone)))
 
     -- a loan of the publisher stays well-formed where it stays out, and enters neither the history nor a mailbox
     pub loan_stays : (n : ℕ) (l : Loan T U) → l.publisher ≡ p → (contains x.loans n ≡ true → contains x'.loans n ≡ true)

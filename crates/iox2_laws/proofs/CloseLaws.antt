@@ -24,7 +24,7 @@ use Rattle.iox2_laws.proofs.PlaceLemmas.{occupant-vacated, vacated_keeps, length
 use Rattle.iox2_laws.proofs.PlaceLemmas.{injective_places_kept, is_port-true}
 use Rattle.iox2_laws.proofs.MailboxLemmas.{has_numbers-borrows, has_numbers-waiting, has_numbers_dropped, IsWithin-dropped, OthersWithin-dropped, contains_in_dropped}
 use Rattle.iox2_laws.proofs.Freed.{freed_if_unused_keeps, freed_if_unused_advances}
-use Rattle.iox2_laws.proofs.PortChanges.{changed, places_agree_by, place_of_publisher, place_of_subscriber, publisher_kept, subscriber_kept, loan_kept, sender_reset_keeps, receiver_reset_keeps}
+use Rattle.iox2_laws.proofs.PortChanges.{changed, places_agree_by, place_of_publisher, place_of_subscriber, publisher_kept, subscriber_kept, subscriber_marked, loan_kept, sender_reset_keeps, receiver_reset_keeps}
 use Rattle.iox2_laws.proofs.PortChanges.{RestIsWellFormed, IsNearlyWellFormed, publishers_due_nearly, subscribers_due_keeps}
 use Rattle.iox2_laws.proofs.PortLaws.{advances_trans}
 
@@ -269,22 +269,7 @@ module _ {T U : Type 0} where
 
   -- A subscriber would be well-formed if it were open.
   opened_is : (s : State T U) (q : ℕ) (y : Subscriber) → SubscriberIsWellFormed s q y → SubscriberIsWellFormed s q (record y { is_open = true })
-  opened_is s q y w = record {
-    is_known = w.is_known;
-    some_room = w.some_room;
-    buffer_bound = w.buffer_bound;
-    ends_bound = w.ends_bound;
-    ends_apart = w.ends_apart;
-    ends_known = w.ends_known;
-    ends_stand = w.ends_stand;
-    expired_bound = w.expired_bound;
-    expired_once = w.expired_once;
-    expired_apart = w.expired_apart;
-    expired_known = w.expired_known;
-    expired_gone = w.expired_gone;
-    expired_kept = w.expired_kept;
-    is_used = λ closed. absurd (true≢false closed);
-  }
+  opened_is s q y w = subscriber_marked s q y true y.is_due w (λ closed. absurd (true≢false closed))
 
   -- The subscriber q is closed and has forgotten what departed; nobody is due for it yet.
   abbrev shut_and_pruned : State T U → (q : ℕ) → Subscriber → State T U
@@ -303,90 +288,83 @@ module _ {T U : Type 0} where
       present None b = refl
       present (Some x) b = refl
 
-  shut_and_pruned_rest : (s : State T U) → IsWellFormed s → (q : ℕ) (y : Subscriber) → s.subscribers q ≡ Some y → RestIsWellFormed (shut_and_pruned s q y)
-  shut_and_pruned_rest s w q y here = record {
-    publisher_places = w.publisher_places;
-    subscriber_places = places_agree_by (s.config).max_subscribers s.subscriber_places (subscriber_place s) (subscriber_place s') w.subscriber_places place_stays;
-    publishers = λ p x e. publisher_kept s s' p x (w.publishers p x e)
-        (omega arith) (λ r. loss_has_fewer (s.mailboxes p r) (s'.mailboxes p r) (shut_loses s q p r))
-        (λ place r v at found. found_put s.subscribers q new (λ r v. occupant x.ends place ≡ Some r → v.place ≡ place) r v found
-        (λ _ at. (w.publishers p x e).ends_stand place q y at here)
-        (λ _ old at. (w.publishers p x e).ends_stand place r v at old) at);
-    mailboxes = λ p r. mailbox_kept s s' p r (w.mailboxes p r)
-        (omega arith) (λ p x e. e) (shut_loses s q p r)
-        (λ v e. found_put s.subscribers q new
-        (λ r v. (waiting_count (s.mailboxes p r) ≤ v.buffer) × OthersWithin (channel_count s.config) v.buffer (s.mailboxes p r)) r v e
-        (λ _. ((w.mailboxes p q).room y here, (w.mailboxes p q).others_room y here)) (λ _ old. ((w.mailboxes p r).room v old, (w.mailboxes p r).others_room v old)))
-        (λ h before. receiver_end_stays p r h ((w.mailboxes p r).receiver_end before))
-        (departed_waits p r);
-    loans = λ n l e. loan_kept s s' n l (w.loans n l e)
-        (omega arith) (λ r. loss_has_fewer (s.mailboxes l.publisher r) (s'.mailboxes l.publisher r) (shut_loses s q l.publisher r)) (w.loans n l e).is_out;
-  }
-    where
-      t : State T U
-      t = subscriber_shut s q y
+  -- the subscriber q is closed
+  module _ (s : State T U) (w : IsWellFormed s) (q : ℕ) (y : Subscriber) (here : s.subscribers q ≡ Some y) where
+    abbrev shut : State T U
+    shut = subscriber_shut s q y
 
-      s' : State T U
-      s' = shut_and_pruned s q y
+    abbrev after : State T U
+    after = shut_and_pruned s q y
 
-      new : Subscriber
-      new = pruned t q (record y { is_open = false })
+    abbrev port : Subscriber
+    port = pruned shut q (record y { is_open = false })
 
-      place_stays : (r : ℕ) → subscriber_place s' r ≡ subscriber_place s r
-      place_stays r =
-          elim (eqb r q) as (λ b. eqb r q ≡ b → place_of_subscriber (cond b (Some new) (s.subscribers r)) ≡ subscriber_place s r) [
-            | true ↦ λ same. ap place_of_subscriber (sym here) ∙ ap (subscriber_place s) (sym (eqb-true r q same))
-            | false ↦ λ _. refl
-          ] refl
+    shut_and_pruned_rest : RestIsWellFormed (shut_and_pruned s q y)
+    shut_and_pruned_rest = record {
+      publisher_places = w.publisher_places;
+      subscriber_places = places_agree_by (s.config).max_subscribers s.subscriber_places (subscriber_place s) (subscriber_place after) w.subscriber_places place_stays;
+      publishers = λ p x e. publisher_kept s after p x (w.publishers p x e)
+          (omega arith) (λ r. loss_has_fewer (s.mailboxes p r) (after.mailboxes p r) (shut_loses s q p r))
+          (λ place r v at found. found_put s.subscribers q port (λ r v. occupant x.ends place ≡ Some r → v.place ≡ place) r v found
+          (λ _ at. (w.publishers p x e).ends_stand place q y at here)
+          (λ _ old at. (w.publishers p x e).ends_stand place r v at old) at);
+      mailboxes = λ p r. mailbox_kept s after p r (w.mailboxes p r)
+          (omega arith) (λ p x e. e) (shut_loses s q p r)
+          (λ v e. found_put s.subscribers q port
+          (λ r v. (waiting_count (s.mailboxes p r) ≤ v.buffer) × OthersWithin (channel_count s.config) v.buffer (s.mailboxes p r)) r v e
+          (λ _. ((w.mailboxes p q).room y here, (w.mailboxes p q).others_room y here)) (λ _ old. ((w.mailboxes p r).room v old, (w.mailboxes p r).others_room v old)))
+          (λ h before. receiver_end_stays p r h ((w.mailboxes p r).receiver_end before))
+          (departed_waits p r);
+      loans = λ n l e. loan_kept s after n l (w.loans n l e)
+          (omega arith) (λ r. loss_has_fewer (s.mailboxes l.publisher r) (after.mailboxes l.publisher r) (shut_loses s q l.publisher r)) (w.loans n l e).is_out;
+    }
+      where
+        place_stays : (r : ℕ) → subscriber_place after r ≡ subscriber_place s r
+        place_stays r =
+            elim (eqb r q) as (λ b. eqb r q ≡ b → place_of_subscriber (cond b (Some port) (s.subscribers r)) ≡ subscriber_place s r) [
+              | true ↦ λ same. ap place_of_subscriber (sym here) ∙ ap (subscriber_place s) (sym (eqb-true r q same))
+              | false ↦ λ _. refl
+            ] refl
 
-      receiver_end_stays : (p r : ℕ) → has_borrows (s'.mailboxes p r) ≡ true
-          → (v : Subscriber) × (s.subscribers r ≡ Some v) × ((contains v.expired p ≡ true) ⊎ LeadsTo v.ends p)
-          → (v : Subscriber) × (s'.subscribers r ≡ Some v) × ((contains v.expired p ≡ true) ⊎ LeadsTo v.ends p)
-      receiver_end_stays p r h found =
-          elim (eqb r q) as (λ b. eqb r q ≡ b → (v : Subscriber) × (cond b (Some new) (s.subscribers r) ≡ Some v) × ((contains v.expired p ≡ true) ⊎ LeadsTo v.ends p)) [
-            | true ↦ λ same. (
-              new,
-              refl,
-              receiver_end_left (is_connected t q) y.expired y.ends p
-                  (connected_by_numbers (s.publishers p) (s'.mailboxes p q) (is_connected t q p) (shut_connected s q y p)
-                  (has_numbers-borrows (s'.mailboxes p q) (subst (λ j. has_borrows (s'.mailboxes p j) ≡ true) (eqb-true r q same) h)))
-                  (subst (λ (u : Subscriber). (contains u.expired p ≡ true) ⊎ LeadsTo u.ends p)
-                  (same_Some found.0 y (sym found.1 ∙ ap s.subscribers (eqb-true r q same) ∙ here)) found.2),
-            )
-            | false ↦ λ _. found
-          ] refl
+        receiver_end_stays : (p r : ℕ) → has_borrows (after.mailboxes p r) ≡ true
+            → (v : Subscriber) × (s.subscribers r ≡ Some v) × ((contains v.expired p ≡ true) ⊎ LeadsTo v.ends p)
+            → (v : Subscriber) × (after.subscribers r ≡ Some v) × ((contains v.expired p ≡ true) ⊎ LeadsTo v.ends p)
+        receiver_end_stays p r h found =
+            elim (eqb r q) as (λ b. eqb r q ≡ b → (v : Subscriber) × (cond b (Some port) (s.subscribers r) ≡ Some v) × ((contains v.expired p ≡ true) ⊎ LeadsTo v.ends p)) [
+              | true ↦ λ same. (
+                port,
+                refl,
+                receiver_end_left (is_connected shut q) y.expired y.ends p
+                    (connected_by_numbers (s.publishers p) (after.mailboxes p q) (is_connected shut q p) (shut_connected s q y p)
+                    (has_numbers-borrows (after.mailboxes p q) (subst (λ j. has_borrows (after.mailboxes p j) ≡ true) (eqb-true r q same) h)))
+                    (subst (λ (u : Subscriber). (contains u.expired p ≡ true) ⊎ LeadsTo u.ends p)
+                    (same_Some found.0 y (sym found.1 ∙ ap s.subscribers (eqb-true r q same) ∙ here)) found.2),
+              )
+              | false ↦ λ _. found
+            ] refl
 
-      -- what waits from a departed publisher waits for another subscriber
-      departed_waits : (p r : ℕ) → s.publishers p ≡ None → has_waiting (s'.mailboxes p r) ≡ true
-          → (v : Subscriber) × (s'.subscribers r ≡ Some v) × (v.is_open ≡ true) × ((contains v.expired p ≡ true) ⊎ LeadsTo v.ends p)
-      departed_waits p r gone h =
-          elim (eqb r q) as (λ b. eqb r q ≡ b → has_waiting (cond b (mailbox_after_subscriber s q p) (s.mailboxes p r)) ≡ true
-          → (v : Subscriber) × (cond b (Some new) (s.subscribers r) ≡ Some v) × (v.is_open ≡ true) × ((contains v.expired p ≡ true) ⊎ LeadsTo v.ends p)) [
-            | true ↦ λ _ h. absurd (true≢false (sym h
-                ∙ ap (λ (o : Option Publisher). has_waiting (cond (is_some o) (s.mailboxes p q) (waiting_dropped (s.mailboxes p q)))) gone))
-            | false ↦ λ _ h. (w.mailboxes p r).departed gone h
-          ] refl h
+        -- what waits from a departed publisher waits for another subscriber
+        departed_waits : (p r : ℕ) → s.publishers p ≡ None → has_waiting (after.mailboxes p r) ≡ true
+            → (v : Subscriber) × (after.subscribers r ≡ Some v) × (v.is_open ≡ true) × ((contains v.expired p ≡ true) ⊎ LeadsTo v.ends p)
+        departed_waits p r gone h =
+            elim (eqb r q) as (λ b. eqb r q ≡ b → has_waiting (cond b (mailbox_after_subscriber s q p) (s.mailboxes p r)) ≡ true
+            → (v : Subscriber) × (cond b (Some port) (s.subscribers r) ≡ Some v) × (v.is_open ≡ true) × ((contains v.expired p ≡ true) ⊎ LeadsTo v.ends p)) [
+              | true ↦ λ _ h. absurd (true≢false (sym h
+                  ∙ ap (λ (o : Option Publisher). has_waiting (cond (is_some o) (s.mailboxes p q) (waiting_dropped (s.mailboxes p q)))) gone))
+              | false ↦ λ _ h. (w.mailboxes p r).departed gone h
+            ] refl h
 
-  -- A subscriber that is closed and has forgotten what departed leaves the state nearly well-formed.
-  shut_and_pruned_nearly : (s : State T U) → IsWellFormed s → (q : ℕ) (y : Subscriber) → s.subscribers q ≡ Some y → IsNearlyWellFormed (shut_and_pruned s q y) q
-  shut_and_pruned_nearly s w q y here = record {
-    rest = shut_and_pruned_rest s w q y here;
-    others = λ r v apart e. subscriber_kept s s' r v (w.subscribers r v (sym (put_at-other s.subscribers q (Some new) r apart) ∙ e))
-        (omega arith) (λ p. put_at-other (s.mailboxes p) q (mailbox_after_subscriber s q p) r apart) (λ p _. refl);
-    own = λ v e. subst (λ (u : Subscriber). SubscriberIsWellFormed s' q (record u { is_open = true }))
-        (same_Some new v (sym (put_at-same s.subscribers q (Some new)) ∙ e))
-        (pruned_is s s' (is_connected t q) q (record y { is_open = true }) (opened_is s q y (w.subscribers q y here)) (omega arith) (λ p x e. e)
-        (shut_connected s q y) (λ closed. absurd (true≢false closed)));
-  }
-    where
-      t : State T U
-      t = subscriber_shut s q y
-
-      s' : State T U
-      s' = shut_and_pruned s q y
-
-      new : Subscriber
-      new = pruned t q (record y { is_open = false })
+    -- A subscriber that is closed and has forgotten what departed leaves the state nearly well-formed.
+    shut_and_pruned_nearly : IsNearlyWellFormed (shut_and_pruned s q y) q
+    shut_and_pruned_nearly = record {
+      rest = shut_and_pruned_rest;
+      others = λ r v apart e. subscriber_kept s after r v (w.subscribers r v (sym (put_at-other s.subscribers q (Some port) r apart) ∙ e))
+          (omega arith) (λ p. put_at-other (s.mailboxes p) q (mailbox_after_subscriber s q p) r apart) (λ p _. refl);
+      own = λ v e. subst (λ (u : Subscriber). SubscriberIsWellFormed after q (record u { is_open = true }))
+          (same_Some port v (sym (put_at-same s.subscribers q (Some port)) ∙ e))
+          (pruned_is s after (is_connected shut q) q (record y { is_open = true }) (opened_is s q y (w.subscribers q y here)) (omega arith) (λ p x e. e)
+          (shut_connected s q y) (λ closed. absurd (true≢false closed)));
+    }
 
   -- It is the same whether the publishers are due before the subscriber forgets, or after.
   shut_then_pruned : (s : State T U) (q : ℕ) (y : Subscriber) → publishers_due (shut_and_pruned s q y) ≡ subscriber_pruned (subscriber_shut s q y) q

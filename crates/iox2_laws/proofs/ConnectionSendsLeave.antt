@@ -1,5 +1,5 @@
 -- What a send to one connection leaves as it was, and what it changes of its loan.
-use Rattle.std.proofs.Common.{◌≡◌, ℕ, List, false, drop, take, sym, ap, subst, ◌∙◌, Option, None}
+use Rattle.std.proofs.Common.{◌≡◌, ℕ, List, false, drop, take, refl, sym, ap, ◌∙◌, Option, None}
 use Rattle.iox2_store.specs.machine.Numbers.{put_at}
 use Rattle.iox2_store.specs.machine.Records.{Loan, Publisher, Environment}
 use Rattle.iox2_store.specs.machine.State.{State, with_loan}
@@ -7,12 +7,13 @@ use Rattle.iox2_store.specs.machine.Delivery.{no_time}
 use Rattle.iox2_store.specs.machine.SingleCalls.{HoldsBlocked}
 use Rattle.iox2_store.specs.machine.Sends.{SendResult, Send_error, Blocked_send, SendToConnection}
 use Rattle.iox2_laws.proofs.Cases.{by_option}
+use Rattle.iox2_laws.proofs.OperationWalks.{connection_send_by_steps}
 use Rattle.iox2_laws.proofs.LoanKeeping.{LoansFollow, removed_loans_follow, deliver_and_conclude_loans}
-use Rattle.iox2_laws.proofs.LoansLeft.{LoansKept, LoanEnds, kept_trans, kept_ends, kept_gone, set_kept, delivered_kept, delivered_ends}
-use Rattle.iox2_laws.proofs.PortsStay.{PortsStay, ports_stay_trans, loan_set_stays, delivered_stays}
-use Rattle.iox2_laws.proofs.SendsRemain.{PortsRemain, ports_remain, ports_remain_trans, delivered_remains, delivered_waits_with}
-use Rattle.iox2_laws.proofs.UpToDate.{goes_on_subscribers}
-use Rattle.iox2_laws.proofs.Waits.{Waits, loan_set_waits, waits_trans, delivered_waits}
+use Rattle.iox2_laws.proofs.LoansLeft.{LoansKept, LoanEnds, kept_trans, kept_ends, kept_gone, set_kept, deliveries_keep, deliveries_end}
+use Rattle.iox2_laws.proofs.PortsStay.{PortsStay, ports_stay_trans, loan_set_stays, deliveries_stay}
+use Rattle.iox2_laws.proofs.SendsRemain.{PortsRemain, ports_remain, ports_remain_trans, deliveries_remain, delivered_waits_with}
+use Rattle.iox2_laws.proofs.UpToDate.{SameSubscribers, deliveries_stay_subscribed}
+use Rattle.iox2_laws.proofs.Waits.{Waits, loan_set_waits, waits_trans, deliveries_wait}
 
 module _ {T U : Type 0} (environment : Environment) (s : State T U) (n : ℕ) (l : Loan T U) (channel place : ℕ) (s' : State T U) (result : SendResult)
     (h : SendToConnection environment s n l channel place s' result) where
@@ -38,38 +39,27 @@ module _ {T U : Type 0} (environment : Environment) (s : State T U) (n : ℕ) (l
   -- Where it isn't blocked it no longer counts as a loan of its publisher.
   pub send_to_connection_ends : (result ≡ Blocked_send → ⊥) → LoanEnds l.publisher n s s'
   send_to_connection_ends free =
-      by_option (LoanEnds l.publisher n s s') (s.publishers l.publisher) _ _ h
-      (λ gone k. subst (LoanEnds l.publisher n s) (sym k.0) (kept_gone l.publisher n s before gone (set_kept s n None)))
-      (λ x _ k.
-      kept_ends l.publisher n s before s' (set_kept s n None)
-      (delivered_ends environment before l.publisher n channel 0 no_time place (end_of x) 0 false s' result free k))
+      connection_send_by_steps LoansKept (LoanEnds l.publisher n) (kept_ends l.publisher n) environment s n l channel place s' result
+      (deliveries_end environment l.publisher n result free) (set_kept s n None) (λ gone e _. kept_gone l.publisher n s before gone (set_kept s n None)) h
 
   -- Where it is blocked it still does.
   pub send_to_connection_blocked_kept : result ≡ Blocked_send → LoansKept s s'
   send_to_connection_blocked_kept is =
-      by_option (LoansKept s s') (s.publishers l.publisher) _ _ h
-      (λ _ k. absurd (let no : Send_error _ ≡ Blocked_send = sym k.1 ∙ is in cc))
-      (λ x _ k.
-      kept_trans s before s' (set_kept s n None)
-      (delivered_kept environment before l.publisher n channel 0 no_time place (end_of x) 0 false s' result is k))
+      connection_send_by_steps LoansKept LoansKept kept_trans environment s n l channel place s' result
+      (deliveries_keep environment l.publisher n result is) (set_kept s n None) (λ gone e k. absurd (let no : Send_error e ≡ Blocked_send = sym k ∙ is in cc)) h
 
   -- Where it isn't blocked all ports stay as they are.
   pub send_to_connection_stays : (result ≡ Blocked_send → ⊥) → PortsStay s s'
   send_to_connection_stays free =
-      by_option (PortsStay s s') (s.publishers l.publisher) _ _ h
-      (λ _ k. subst (PortsStay s) (sym k.0) (loan_set_stays s n None))
-      (λ x _ k.
-      ports_stay_trans s before s' (loan_set_stays s n None)
-      (delivered_stays environment before l.publisher n channel 0 no_time place (end_of x) 0 false s' result k free))
+      connection_send_by_steps PortsStay PortsStay ports_stay_trans environment s n l channel place s' result
+      (deliveries_stay environment l.publisher n result free) (loan_set_stays s n None) (λ gone e _. loan_set_stays s n None) h
 
   -- No port goes, and what is borrowed stays so.
   pub send_to_connection_remains : PortsRemain s s'
   send_to_connection_remains =
-      by_option (PortsRemain s s') (s.publishers l.publisher) _ _ h
-      (λ _ k. subst (PortsRemain s) (sym k.0) (ports_remain s before (loan_set_stays s n None)))
-      (λ x _ k.
-      ports_remain_trans s before s' (ports_remain s before (loan_set_stays s n None))
-      (delivered_remains environment before l.publisher n channel 0 no_time place (end_of x) 0 false s' result k))
+      let set : PortsRemain s before = ports_remain s before (loan_set_stays s n None) in
+      connection_send_by_steps PortsRemain PortsRemain ports_remain_trans environment s n l channel place s' result
+      (deliveries_remain environment l.publisher n result) set (λ gone e _. set) h
 
   -- Where it is blocked its publisher waits with it.
   pub send_to_connection_waits_with : result ≡ Blocked_send → HoldsBlocked s' l.publisher n
@@ -81,15 +71,11 @@ module _ {T U : Type 0} (environment : Environment) (s : State T U) (n : ℕ) (l
   -- Subscribers stay as they are.
   pub send_to_connection_subscribers : s'.subscribers ≡ s.subscribers
   send_to_connection_subscribers =
-      by_option (s'.subscribers ≡ s.subscribers) (s.publishers l.publisher) _ _ h
-      (λ _ k. ap (λ (t : State T U). t.subscribers) k.0)
-      (λ x _ k. goes_on_subscribers environment before l.publisher n channel 0 no_time place (end_of x) 0 false s' result k)
+      connection_send_by_steps SameSubscribers SameSubscribers (λ a b c f g. g ∙ f) environment s n l channel place s' result
+      (deliveries_stay_subscribed environment l.publisher n result) refl (λ gone e _. refl) h
 
   -- All ports wait as they did, but for publishers that are spared, of which its own is one.
   pub send_to_connection_waits : (Spared : ℕ → Type 0) → Spared l.publisher → Waits Spared s s'
   send_to_connection_waits Spared spared =
-      by_option (Waits Spared s s') (s.publishers l.publisher) _ _ h
-      (λ _ k. subst (Waits Spared s) (sym k.0) (loan_set_waits Spared s n None))
-      (λ x _ k.
-      waits_trans Spared s before s' (loan_set_waits Spared s n None)
-      (delivered_waits Spared l.publisher spared environment before n channel 0 no_time place (end_of x) 0 false s' result k))
+      connection_send_by_steps (Waits Spared) (Waits Spared) (waits_trans Spared) environment s n l channel place s' result
+      (deliveries_wait Spared l.publisher spared environment n result) (loan_set_waits Spared s n None) (λ gone e _. loan_set_waits Spared s n None) h

@@ -337,43 +337,21 @@ module _ {T U : Type 0} (s : State T U) (w : IsWellFormed s) (p : ℕ) (x : Publ
   held_still m apart h =
       let old : (l : Loan T U) × (s.loans m ≡ Some l) × (l.publisher ≡ p) = u.held m apart h in (old.0, u.others m apart ∙ old.1, old.2)
 
-  -- the send ends: its message is out no more
-  pub ended_keeps : IsWellFormed (altered s p (record x { loans = without n x.loans; history = history; blocked = None }) boxes loans s.next_message)
-  ended_keeps = concluded_keeps (record x { loans = without n x.loans; history = history; blocked = None }) refl refl refl
-      (λ m. contains-without_other n m x.loans) (record {
-        is_known = publisher.is_known;
-        loans_bound = omega (arith, length-without_le n x.loans, publisher.loans_bound);
-        loans_once = IsOnce-without n x.loans publisher.loans_once;
-        loans_below = λ m h. publisher.loans_below m (contains_in_without n m x.loans h);
-        loans_held = λ m h. inl (held_still m
-            (ne_eqb m n (λ same. true≢false (sym h ∙ ap (contains (without n x.loans)) same ∙ contains-without_same n x.loans)))
-            (contains_in_without n m x.loans h));
-        history_bound = u.history_bound;
-        history_once = u.history_once;
-        history_below = history_below;
-        ends_bound = publisher.ends_bound;
-        ends_apart = publisher.ends_apart;
-        ends_known = publisher.ends_known;
-        ends_stand = publisher.ends_stand;
-        slots_bound = λ static. omega (arith, holds_fewer (without n x.loans) (λ m h. contains_in_without n m x.loans h), publisher.slots_bound static);
-        some_segment = publisher.some_segment;
-        segments_bound = publisher.segments_bound;
-        blocked = λ b e. absurd (none-some b e);
-      })
-
-  -- the send waits for a receiver
-  pub blocked_keeps : (b : BlockedSend) → how ≡ Suspended b → IsWellFormed (altered s p (record x { history = history; blocked = Some b }) boxes loans s.next_message)
-  blocked_keeps b stopped = concluded_keeps (record x { history = history; blocked = Some b }) refl refl refl (λ m _ h. h) (record {
+  -- the publisher with these loans out and that send blocked, where the loans are some of those before
+  sent_is : (out : List ℕ) (waits : Option BlockedSend) → length out ≤ length x.loans → IsOnce out → ((m : ℕ) → contains out m ≡ true → contains x.loans m ≡ true)
+      → ((m : ℕ) → contains out m ≡ true
+      → ((l : Loan T U) × (loans m ≡ Some l) × (l.publisher ≡ p)) ⊎ ((b : BlockedSend) × (waits ≡ Some b) × (b.message ≡ m)))
+      → ((b : BlockedSend) → waits ≡ Some b
+      → BlockedIsWellFormed (uniform s (record x { loans = out; history = history; blocked = waits }) boxes loans s.next_message) p
+      (record x { loans = out; history = history; blocked = waits }) b)
+      → PublisherIsWellFormed (uniform s (record x { loans = out; history = history; blocked = waits }) boxes loans s.next_message) p
+      (record x { loans = out; history = history; blocked = waits })
+  sent_is out waits fewer once still held blocked = record {
     is_known = publisher.is_known;
-    loans_bound = publisher.loans_bound;
-    loans_once = publisher.loans_once;
-    loans_below = publisher.loans_below;
-    loans_held = λ m h.
-        elim (eqb m n) as (λ t. eqb m n ≡ t → ((l : Loan T U) × (loans m ≡ Some l) × (l.publisher ≡ p))
-        ⊎ ((b' : BlockedSend) × (Some b ≡ Some b') × (b'.message ≡ m))) [
-          | true ↦ λ same. inr (b, refl, d.message b stopped ∙ sym (eqb-true m n same))
-          | false ↦ λ apart. inl (held_still m apart h)
-        ] refl;
+    loans_bound = omega (arith, fewer, publisher.loans_bound);
+    loans_once = once;
+    loans_below = λ m h. publisher.loans_below m (still m h);
+    loans_held = held;
     history_bound = u.history_bound;
     history_once = u.history_once;
     history_below = history_below;
@@ -381,18 +359,39 @@ module _ {T U : Type 0} (s : State T U) (w : IsWellFormed s) (p : ℕ) (x : Publ
     ends_apart = publisher.ends_apart;
     ends_known = publisher.ends_known;
     ends_stand = publisher.ends_stand;
-    slots_bound = λ static. omega (arith, holds_fewer x.loans (λ m h. h), publisher.slots_bound static);
+    slots_bound = λ static. omega (arith, holds_fewer out still, publisher.slots_bound static);
     some_segment = publisher.some_segment;
     segments_bound = publisher.segments_bound;
-    blocked = λ b2 e. subst (λ (v : BlockedSend). BlockedIsWellFormed (uniform s (record x { history = history; blocked = Some b }) boxes loans s.next_message) p
-        (record x { history = history; blocked = Some b }) v) (same_Some b b2 e) (record {
-          is_out = ap (contains x.loans) (d.message b stopped) ∙ u.is_out;
-          unheld = ap loans (d.message b stopped) ∙ u.unheld;
-          ends = d.remain b stopped;
-          channel = subst (λ k. k < channel_count s.config) (sym (d.channel_is b stopped)) known;
-          unserved = λ q h. ap (λ (k : Mailbox). contains (numbers_in k) b.message) (d.unserved b stopped q h)
-              ∙ ap (contains (numbers_in (s.mailboxes p q))) (d.message b stopped) ∙ u.unserved q (d.within b stopped q h);
-          waits = d.waits b stopped;
-          count_bound = d.count_bound b stopped;
-        });
-  })
+    blocked = blocked;
+  }
+
+  -- the send ends: its message is out no more
+  pub ended_keeps : IsWellFormed (altered s p (record x { loans = without n x.loans; history = history; blocked = None }) boxes loans s.next_message)
+  ended_keeps = concluded_keeps (record x { loans = without n x.loans; history = history; blocked = None }) refl refl refl
+      (λ m. contains-without_other n m x.loans)
+      (sent_is (without n x.loans) None (length-without_le n x.loans) (IsOnce-without n x.loans publisher.loans_once) (λ m. contains_in_without n m x.loans)
+      (λ m h. inl (held_still m
+      (ne_eqb m n (λ same. true≢false (sym h ∙ ap (contains (without n x.loans)) same ∙ contains-without_same n x.loans)))
+      (contains_in_without n m x.loans h)))
+      (λ b e. absurd (none-some b e)))
+
+  -- the send waits for a receiver
+  pub blocked_keeps : (b : BlockedSend) → how ≡ Suspended b → IsWellFormed (altered s p (record x { history = history; blocked = Some b }) boxes loans s.next_message)
+  blocked_keeps b stopped = concluded_keeps (record x { history = history; blocked = Some b }) refl refl refl (λ m _ h. h)
+      (sent_is x.loans (Some b) (le_refl (length x.loans)) publisher.loans_once (λ m h. h)
+      (λ m h. elim (eqb m n) as (λ t. eqb m n ≡ t → ((l : Loan T U) × (loans m ≡ Some l) × (l.publisher ≡ p))
+      ⊎ ((b' : BlockedSend) × (Some b ≡ Some b') × (b'.message ≡ m))) [
+        | true ↦ λ same. inr (b, refl, d.message b stopped ∙ sym (eqb-true m n same))
+        | false ↦ λ apart. inl (held_still m apart h)
+      ] refl)
+      (λ b2 e. subst (λ (v : BlockedSend). BlockedIsWellFormed (uniform s (record x { history = history; blocked = Some b }) boxes loans s.next_message) p
+      (record x { history = history; blocked = Some b }) v) (same_Some b b2 e) (record {
+        is_out = ap (contains x.loans) (d.message b stopped) ∙ u.is_out;
+        unheld = ap loans (d.message b stopped) ∙ u.unheld;
+        ends = d.remain b stopped;
+        channel = subst (λ k. k < channel_count s.config) (sym (d.channel_is b stopped)) known;
+        unserved = λ q h. ap (λ (k : Mailbox). contains (numbers_in k) b.message) (d.unserved b stopped q h)
+            ∙ ap (contains (numbers_in (s.mailboxes p q))) (d.message b stopped) ∙ u.unserved q (d.within b stopped q h);
+        waits = d.waits b stopped;
+        count_bound = d.count_bound b stopped;
+      })))

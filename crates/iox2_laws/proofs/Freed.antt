@@ -1,5 +1,5 @@
 -- A closed subscriber that has borrowed nothing goes.
-use Rattle.std.proofs.Common.{◌≡◌, ℕ, ◌≤◌, Bool, true, false, cond, not, ◌&&◌, List, refl, sym, ap, subst, ◌∙◌, arith, eqb, Option, None, Some, ◌⊎◌, ⊎_elim}
+use Rattle.std.proofs.Common.{◌≡◌, ℕ, ◌≤◌, Bool, true, false, cond, not, ◌&&◌, List, refl, sym, ap, subst, ◌∙◌, arith, eqb, Option, None, Some, ◌⊎◌, ⊎_elim, le_refl}
 use Rattle.std.specs.List.{list_all}
 use Rattle.std.specs.Option.{option_map, option_map_or}
 use Rattle.std.proofs.lemmas.Bool.{true≢false, eqb-true, and_parts, and_cases, cond_both, not-false, not-true}
@@ -8,7 +8,7 @@ use Rattle.iox2_laws.proofs.Puts.{put_at-other, found_removed}
 use Rattle.iox2_laws.proofs.NumberLemmas.{contains_left, contains_right}
 use Rattle.iox2_laws.proofs.FilterLemmas.{passes_all, some_fails}
 use Rattle.iox2_laws.proofs.PlaceLemmas.{occupant-vacated, vacated_keeps, length-vacated, contains-occupants}
-use Rattle.iox2_laws.proofs.PortChanges.{RestIsWellFormed, IsNearlyWellFormed, with_rest, publishers_due_keeps}
+use Rattle.iox2_laws.proofs.PortChanges.{publisher_in, subscriber_in, subscriber_marked, mailbox_in, loan_kept, RestIsWellFormed, IsNearlyWellFormed, with_rest, publishers_due_keeps}
 use Rattle.iox2_laws.specs.Laws.{Advances}
 use Rattle.iox2_store.specs.machine.Numbers.{put_at, contains}
 use Rattle.iox2_store.specs.machine.Places.{occupant, occupants, vacated}
@@ -16,7 +16,7 @@ use Rattle.iox2_store.specs.machine.Mailbox.{has_borrows, has_waiting, waiting_c
 use Rattle.iox2_store.specs.machine.Records.{Publisher, Subscriber}
 use Rattle.iox2_store.specs.machine.State.{State, connected_publishers}
 use Rattle.iox2_store.specs.machine.Releases.{is_unused, place_freed, freed_if_unused}
-use Rattle.iox2_store.specs.machine.WellFormed.{LeadsTo, PlacesAgree, BlockedIsWellFormed, PublisherIsWellFormed, SubscriberIsWellFormed, MailboxIsWellFormed, LoanIsWellFormed, IsWellFormed}
+use Rattle.iox2_store.specs.machine.WellFormed.{LeadsTo, PlacesAgree, PublisherIsWellFormed, SubscriberIsWellFormed, MailboxIsWellFormed, IsWellFormed}
 use Rattle.iox2_store.specs.machine.Limits.{channel_count}
 
 module _ {T U : Type 0} where
@@ -37,56 +37,29 @@ module _ {T U : Type 0} where
 
   removed_publisher : (s : State T U) (q : ℕ) (places : List (Option ℕ)) (p : ℕ) (x : Publisher) → PublisherIsWellFormed s p x
       → PublisherIsWellFormed (record s { subscribers = put_at s.subscribers q None; subscriber_places = places }) p x
-  removed_publisher s q places p x b = record {
-    is_known = b.is_known;
-    loans_bound = b.loans_bound;
-    loans_once = b.loans_once;
-    loans_below = b.loans_below;
-    loans_held = b.loans_held;
-    history_bound = b.history_bound;
-    history_once = b.history_once;
-    history_below = b.history_below;
-    ends_bound = b.ends_bound;
-    ends_apart = b.ends_apart;
-    ends_known = b.ends_known;
-    ends_stand = λ place r y h e. found_removed s.subscribers q r y (y.place ≡ place) e (λ _ f. b.ends_stand place r y h f);
-    slots_bound = b.slots_bound;
-    some_segment = b.some_segment;
-    segments_bound = b.segments_bound;
-    blocked = λ c e. let old : BlockedIsWellFormed s p x c = b.blocked c e in record {
-      is_out = old.is_out;
-      unheld = old.unheld;
-      ends = old.ends;
-      channel = old.channel;
-      unserved = old.unserved;
-      waits = old.waits;
-      count_bound = old.count_bound;
-    };
-  }
+  removed_publisher s q places p x b =
+      publisher_in s (record s { subscribers = put_at s.subscribers q None; subscriber_places = places }) p x b (le_refl s.next_port) (le_refl s.next_message) (λ r n h. h)
+      (λ place r y h e. found_removed s.subscribers q r y (y.place ≡ place) e (λ _ f. b.ends_stand place r y h f)) (λ n l e own. (l, e, own)) (λ n _ e. e)
 
   removed_mailbox : (s : State T U) (q : ℕ) (places : List (Option ℕ)) (p r : ℕ) → (has_borrows (s.mailboxes p q) ≡ true → ⊥)
       → (s.publishers p ≡ None → has_waiting (s.mailboxes p q) ≡ true → ⊥) → MailboxIsWellFormed s p r
       → MailboxIsWellFormed (record s { subscribers = put_at s.subscribers q None; subscriber_places = places }) p r
-  removed_mailbox s q places p r nothing lost b = record {
-    within = b.within;
-    below = b.below;
-    known = b.known;
-    sender_end = b.sender_end;
-    others = b.others;
-    room = λ y e. found_removed s.subscribers q r y (waiting_count (s.mailboxes p r) ≤ y.buffer) e (λ _ f. b.room y f);
-    others_room = λ y e. found_removed s.subscribers q r y (OthersWithin (channel_count s.config) y.buffer (s.mailboxes p r)) e (λ _ f. b.others_room y f);
-    receiver_end = λ h.
-        elim (eqb r q) as (λ c. eqb r q ≡ c → (y : Subscriber) × (cond c None (s.subscribers r) ≡ Some y) × ((contains y.expired p ≡ true) ⊎ LeadsTo y.ends p)) [
-          | true ↦ λ same. absurd (nothing (ap (λ k. has_borrows (s.mailboxes p k)) (sym (eqb-true r q same)) ∙ h))
-          | false ↦ λ _. b.receiver_end h
-        ] refl;
-    departed = λ gone h.
-        elim (eqb r q) as (λ c. eqb r q ≡ c
-        → (y : Subscriber) × (cond c None (s.subscribers r) ≡ Some y) × (y.is_open ≡ true) × ((contains y.expired p ≡ true) ⊎ LeadsTo y.ends p)) [
-          | true ↦ λ same. absurd (lost gone (ap (λ k. has_waiting (s.mailboxes p k)) (sym (eqb-true r q same)) ∙ h))
-          | false ↦ λ _. b.departed gone h
-        ] refl;
-  }
+  removed_mailbox s q places p r nothing lost b =
+      mailbox_in s (record s { subscribers = put_at s.subscribers q None; subscriber_places = places }) p r b (le_refl s.next_port) (le_refl s.next_message) refl
+      (λ y e. found_removed s.subscribers q r y ((waiting_count (s.mailboxes p r) ≤ y.buffer) × OthersWithin (channel_count s.config) y.buffer (s.mailboxes p r)) e
+      (λ _ f. (b.room y f, b.others_room y f)))
+      b.sender_end
+      (λ h.
+      elim (eqb r q) as (λ c. eqb r q ≡ c → (y : Subscriber) × (cond c None (s.subscribers r) ≡ Some y) × ((contains y.expired p ≡ true) ⊎ LeadsTo y.ends p)) [
+        | true ↦ λ same. absurd (nothing (ap (λ k. has_borrows (s.mailboxes p k)) (sym (eqb-true r q same)) ∙ h))
+        | false ↦ λ _. b.receiver_end h
+      ] refl)
+      (λ gone h.
+      elim (eqb r q) as (λ c. eqb r q ≡ c
+      → (y : Subscriber) × (cond c None (s.subscribers r) ≡ Some y) × (y.is_open ≡ true) × ((contains y.expired p ≡ true) ⊎ LeadsTo y.ends p)) [
+        | true ↦ λ same. absurd (lost gone (ap (λ k. has_waiting (s.mailboxes p k)) (sym (eqb-true r q same)) ∙ h))
+        | false ↦ λ _. b.departed gone h
+      ] refl)
 
   -- A subscriber that has borrowed nothing, and for which nothing waits from departed publishers, may go.
   pub subscriber_removed_keeps : (s : State T U) (q : ℕ) → IsNearlyWellFormed s q → ((p : ℕ) → has_borrows (s.mailboxes p q) ≡ true → ⊥)
@@ -101,26 +74,12 @@ module _ {T U : Type 0} where
     publishers = λ p x e. removed_publisher s q (vacated q s.subscriber_places) p x (w.publishers p x e);
     subscribers = λ r y e.
         let b : SubscriberIsWellFormed s r y = found_removed s.subscribers q r y (SubscriberIsWellFormed s r y) e (λ apart f. nearly.others r y apart f) in
-        record {
-          is_known = b.is_known;
-          some_room = b.some_room;
-          buffer_bound = b.buffer_bound;
-          ends_bound = b.ends_bound;
-          ends_apart = b.ends_apart;
-          ends_known = b.ends_known;
-          ends_stand = b.ends_stand;
-          expired_bound = b.expired_bound;
-          expired_once = b.expired_once;
-          expired_apart = b.expired_apart;
-          expired_known = b.expired_known;
-          expired_gone = b.expired_gone;
-          expired_kept = b.expired_kept;
-          is_used = b.is_used;
-        };
+        subscriber_in s (record s { subscribers = put_at s.subscribers q None; subscriber_places = vacated q s.subscriber_places }) r y b (le_refl s.next_port)
+        (λ place p _ h. h) (λ p _ h. h) (λ p _ h. h) (λ p h. h);
     mailboxes = λ p r. removed_mailbox s q (vacated q s.subscriber_places) p r (nothing p) (lost p) (w.mailboxes p r);
     loans = λ n l e.
-        let b : LoanIsWellFormed s n l = w.loans n l e in
-        record { below = b.below; known = b.known; origin = b.origin; cells = b.cells; complete = b.complete; is_out = b.is_out; unsent = b.unsent };
+        loan_kept s (record s { subscribers = put_at s.subscribers q None; subscriber_places = vacated q s.subscriber_places }) n l (w.loans n l e) (le_refl s.next_port)
+        (λ r m h. h) (w.loans n l e).is_out;
   }
 
   -- Nothing of a subscriber's publishers is borrowed, and it is closed.
@@ -166,22 +125,7 @@ module _ {T U : Type 0} where
 
   used_subscriber : (s : State T U) (q : ℕ) (y : Subscriber) → SubscriberIsWellFormed s q (record y { is_open = true })
       → (y.is_open ≡ false → (p : ℕ) × (has_borrows (s.mailboxes p q) ≡ true)) → SubscriberIsWellFormed s q y
-  used_subscriber s q y b used = record {
-    is_known = b.is_known;
-    some_room = b.some_room;
-    buffer_bound = b.buffer_bound;
-    ends_bound = b.ends_bound;
-    ends_apart = b.ends_apart;
-    ends_known = b.ends_known;
-    ends_stand = b.ends_stand;
-    expired_bound = b.expired_bound;
-    expired_once = b.expired_once;
-    expired_apart = b.expired_apart;
-    expired_known = b.expired_known;
-    expired_gone = b.expired_gone;
-    expired_kept = b.expired_kept;
-    is_used = used;
-  }
+  used_subscriber s q y b used = subscriber_marked s q (record y { is_open = true }) y.is_open y.is_due b used
 
   -- A closed subscriber that has borrowed nothing goes, and the state is well-formed.
   pub freed_if_unused_keeps : (s : State T U) (q : ℕ) → IsNearlyWellFormed s q → IsWellFormed (freed_if_unused s q)

@@ -1,5 +1,6 @@
 pub mod Cases
 pub mod CallCases
+pub mod OperationWalks
 pub mod Sizes
 pub mod Puts
 pub mod NumberLemmas

@@ -3,26 +3,25 @@ use Rattle.std.proofs.Common.{◌≡◌, ◌⊎◌, inl, inr, ℕ, ◌+◌, ◌�
 use Rattle.std.specs.declared.time.Duration.{Duration}
 use Rattle.std.proofs.lemmas.Bool.{cond_both}
 use Rattle.iox2_store.specs.machine.Numbers.{put_at}
-use Rattle.iox2_store.specs.machine.Mailbox.{Mailbox}
 use Rattle.iox2_store.specs.machine.Records.{Loan, Publisher, Subscriber, PublisherSettings, SubscriberSettings, Environment, BlockedSend}
 use Rattle.iox2_store.specs.machine.State.{State, with_loan}
-use Rattle.iox2_store.specs.machine.Delivery.{DeliveryEnd, Complete, Suspended, no_time}
+use Rattle.iox2_store.specs.machine.Delivery.{no_time}
 use Rattle.iox2_store.specs.machine.PublisherUpdate.{UpdatePublisher}
 use Rattle.iox2_store.specs.machine.SubscriberUpdate.{UpdateSubscriber}
 use Rattle.iox2_store.specs.machine.Loans.{loan_granted, GrantLoan, written, loan_discarded}
 use Rattle.iox2_store.specs.machine.SingleCalls.{GrantWrittenLoan}
-use Rattle.iox2_store.specs.machine.Sends.{SendResult, ConcludeSend, with_mailboxes, published, more_retries, DeliverAndConclude, Send, Retry, GiveUp}
-use Rattle.iox2_store.specs.machine.Receives.{ReceiveResult, Got_sample, No_sample, Receive_error, TakeSample, Receive, HasSamples}
+use Rattle.iox2_store.specs.machine.Sends.{SendResult, published, more_retries, DeliverAndConclude, Send, Retry, GiveUp}
+use Rattle.iox2_store.specs.machine.Receives.{ReceiveResult, Receive, HasSamples}
 use Rattle.iox2_store.specs.machine.Releases.{is_unused, place_freed, freed_if_unused, subscriber_pruned, unborrowed, released}
-use Rattle.iox2_store.specs.machine.Ports.{with_new_publisher, with_new_subscriber, with_failure_warning, FirstPublisherUpdate, FirstSubscriberUpdate, CreatePublisher, CreateSubscriber, subscriber_shut, publisher_closed, subscriber_closed}
+use Rattle.iox2_store.specs.machine.Ports.{CreatePublisher, CreateSubscriber, subscriber_shut, publisher_closed, subscriber_closed}
 use Rattle.iox2_store.specs.declared.errors.ConnectionFailure.{ConnectionFailure}
 use Rattle.iox2_store.specs.declared.errors.LoanError.{LoanError}
 use Rattle.iox2_store.specs.declared.errors.PublisherCreateError.{PublisherCreateError}
 use Rattle.iox2_store.specs.declared.errors.SubscriberCreateError.{SubscriberCreateError}
-use Rattle.iox2_store.specs.declared.warning.Warning.{Warning}
 use Rattle.iox2_laws.specs.Laws.{Advances}
-use Rattle.iox2_laws.proofs.Cases.{by_option, by_bool}
-use Rattle.iox2_laws.proofs.CallCases.{grant_cases, publisher_cases, subscriber_cases}
+use Rattle.iox2_laws.proofs.Cases.{by_option}
+use Rattle.iox2_laws.proofs.CallCases.{grant_cases}
+use Rattle.iox2_laws.proofs.OperationWalks.{IsPreorder, publisher_update_by_steps, subscriber_update_by_steps, receive_by_steps, create_publisher_by_steps, create_subscriber_by_steps, delivery_by_steps}
 use Rattle.iox2_laws.proofs.Puts.{put_at-same, found_put, found_removed}
 use Rattle.iox2_laws.proofs.LoanLaws.{grant_loan_advances}
 
@@ -36,6 +35,13 @@ module _ {T U : Type 0} where
   -- Where the loans stay the same, none appears.
   pub same_loans_follow : (s s' : State T U) → s'.loans ≡ s.loans → LoansFollow s s'
   same_loans_follow s s' same n l' e = inl (l', sym (ap (λ (f : ℕ → Option (Loan T U)). f n) same) ∙ e)
+
+  -- The loans stay the same.
+  abbrev SameLoans : State T U → State T U → Type 0
+  SameLoans s s' = s'.loans ≡ s.loans
+
+  loans_stay : IsPreorder SameLoans
+  loans_stay = record { itself = λ s. refl; trans = λ a b c h k. k ∙ h }
 
   -- Where one loan leaves, none appears.
   pub removed_loans_follow : (s s' : State T U) (k : ℕ) → s'.loans ≡ put_at s.loans k None → LoansFollow s s'
@@ -95,20 +101,12 @@ module _ {T U : Type 0} where
   -- A publisher's update leaves the loans.
   pub update_publisher_loans : (environment : Environment) (s : State T U) (p : ℕ) (s' : State T U) (failure : Option ConnectionFailure)
       → UpdatePublisher environment s p s' failure → s'.loans ≡ s.loans
-  update_publisher_loans environment s p s' failure h =
-      by_option (s'.loans ≡ s.loans) (s.publishers p) _ _ h (λ _ v. absurd v) (λ x here h.
-      by_bool (s'.loans ≡ s.loans) x.is_due _ _ h
-      (λ _ h. ap (λ (t : State T U). t.loans) h.2)
-      (λ _ h. ap (λ (t : State T U). t.loans) h.0))
+  update_publisher_loans environment s p s' failure = publisher_update_by_steps SameLoans loans_stay environment s p s' failure (λ x here side _. refl)
 
   -- A subscriber's update leaves the loans.
   pub update_subscriber_loans : (environment : Environment) (s : State T U) (q : ℕ) (s' : State T U) (failure : Option ConnectionFailure)
       → UpdateSubscriber environment s q s' failure → s'.loans ≡ s.loans
-  update_subscriber_loans environment s q s' failure h =
-      by_option (s'.loans ≡ s.loans) (s.subscribers q) _ _ h (λ _ v. absurd v) (λ y here h.
-      by_bool (s'.loans ≡ s.loans) y.is_due _ _ h
-      (λ _ h. ap (λ (t : State T U). t.loans) h.2)
-      (λ _ h. ap (λ (t : State T U). t.loans) h.0))
+  update_subscriber_loans environment s q s' failure = subscriber_update_by_steps SameLoans loans_stay environment s q s' failure (λ y here side _. refl)
 
   -- No loan appears at a publisher's update.
   pub update_publisher_follows : (environment : Environment) (s : State T U) (p : ℕ) (s' : State T U) (failure : Option ConnectionFailure)
@@ -122,20 +120,10 @@ module _ {T U : Type 0} where
 
   -- ---- a receive, a question and a release
 
-  -- Taking a sample leaves the loans.
-  take_sample_loans : (s : State T U) (q : ℕ) (y : Subscriber) (s' : State T U) (result : ReceiveResult) → TakeSample s q y s' result → s'.loans ≡ s.loans
-  take_sample_loans s q y s' (Got_sample p n) h = ap (λ (t : State T U). t.loans) h.3
-  take_sample_loans s q y s' No_sample h = ap (λ (t : State T U). t.loans) h.1
-  take_sample_loans s q y s' (Receive_error e) h = ap (λ (t : State T U). t.loans) h.3
-
   -- A receive leaves the loans.
   pub receive_loans : (environment : Environment) (s : State T U) (q : ℕ) (s' : State T U) (result : ReceiveResult)
       → Receive environment s q s' result → s'.loans ≡ s.loans
-  receive_loans environment s q s' result h =
-      let mid : (h.0).loans ≡ s.loans = update_subscriber_loans environment s q h.0 h.1 h.2 in
-      by_option (s'.loans ≡ s.loans) h.1 _ _ h.3
-      (λ _ k. by_option (s'.loans ≡ s.loans) ((h.0).subscribers q) _ _ k (λ _ v. absurd v) (λ y here k. take_sample_loans h.0 q y s' result k ∙ mid))
-      (λ e _ k. ap (λ (t : State T U). t.loans) k.0 ∙ mid)
+  receive_loans environment s q s' result = receive_by_steps SameLoans loans_stay environment s q s' result (update_subscriber_loans environment s q) (λ t p box. refl)
 
   -- The question whether anything waits leaves the loans.
   pub has_samples_loans : (environment : Environment) (s : State T U) (q : ℕ) (s' : State T U) (failure : Option ConnectionFailure) (result : Bool)
@@ -166,27 +154,17 @@ module _ {T U : Type 0} where
 
   -- ---- ports
 
-  -- A warning leaves the loans.
-  failure_warning_loans : (s : State T U) (warning : ConnectionFailure → Warning) (failure : Option ConnectionFailure)
-      → (with_failure_warning s warning failure).loans ≡ s.loans
-  failure_warning_loans s warning None = refl
-  failure_warning_loans s warning (Some failure) = refl
-
   -- A publisher that is made, or refused, leaves the loans.
   pub create_publisher_loans : (environment : Environment) (s : State T U) (given : PublisherSettings) (s' : State T U) (refusal : Option PublisherCreateError)
       → CreatePublisher environment s given s' refusal → s'.loans ≡ s.loans
-  create_publisher_loans environment s given s' refusal h =
-      publisher_cases environment s given s' (s'.loans ≡ s.loans) refusal h (λ e same _. ap (λ (t : State T U). t.loans) same) (λ place makes.
-      let first : FirstPublisherUpdate environment (with_new_publisher s given place) s.next_port s' = makes.2 in
-      ap (λ (t : State T U). t.loans) first.3 ∙ failure_warning_loans first.0 _ first.1 ∙ update_publisher_loans environment (with_new_publisher s given place) s.next_port first.0 first.1 first.2)
+  create_publisher_loans environment s given s' refusal =
+      create_publisher_by_steps SameLoans loans_stay environment s given s' refusal (λ place. refl) (update_publisher_loans environment) (λ t w. refl)
 
   -- A subscriber that is made, or refused, leaves the loans.
   pub create_subscriber_loans : (environment : Environment) (s : State T U) (given : SubscriberSettings) (s' : State T U) (refusal : Option SubscriberCreateError)
       → CreateSubscriber environment s given s' refusal → s'.loans ≡ s.loans
-  create_subscriber_loans environment s given s' refusal h =
-      subscriber_cases environment s given s' (s'.loans ≡ s.loans) refusal h (λ e same _. ap (λ (t : State T U). t.loans) same) (λ place makes.
-      let first : FirstSubscriberUpdate environment (with_new_subscriber s given place) s.next_port s' = makes.3 in
-      ap (λ (t : State T U). t.loans) first.3 ∙ failure_warning_loans first.0 _ first.1 ∙ update_subscriber_loans environment (with_new_subscriber s given place) s.next_port first.0 first.1 first.2)
+  create_subscriber_loans environment s given s' refusal =
+      create_subscriber_by_steps SameLoans loans_stay environment s given s' refusal (λ place. refl) (update_subscriber_loans environment) (λ t w. refl)
 
   -- A publisher that is closed leaves the loans: its users keep theirs.
   pub publisher_closed_loans : (s : State T U) (p : ℕ) (x : Publisher) → (publisher_closed s p x).loans ≡ s.loans
@@ -220,12 +198,9 @@ module _ {T U : Type 0} where
   pub deliver_and_conclude_loans : (environment : Environment) (s : State T U) (p n channel retries : ℕ) (elapsed : Duration) (place : ℕ) (ends : List (Option ℕ))
       (count : ℕ) (has_failed : Bool) (s' : State T U) (result : SendResult)
       → DeliverAndConclude environment s p n channel retries elapsed place ends count has_failed s' result → s'.loans ≡ s.loans
-  deliver_and_conclude_loans environment s p n channel retries elapsed place ends count has_failed s' result h =
-      by_option (s'.loans ≡ s.loans) (s.publishers p) _ _ h (λ _ v. absurd v) (λ x _ h. conclude h.0 h.1 h.3)
-    where
-      conclude : (how : DeliveryEnd) (boxes : ℕ → Mailbox) → ConcludeSend (with_mailboxes s p boxes) p n how s' result → s'.loans ≡ s.loans
-      conclude (Complete count has_failed) boxes h = ap (λ (t : State T U). t.loans) h.0
-      conclude (Suspended b) boxes h = ap (λ (t : State T U). t.loans) h.0
+  deliver_and_conclude_loans environment s p n channel retries elapsed place ends count has_failed s' result =
+      delivery_by_steps SameLoans SameLoans (loans_stay.trans) environment s p n channel retries elapsed place ends count has_failed s' result
+      (record { delivers = λ a boxes _. refl; ended = λ a _. refl; blocked = λ a b _. refl })
 
   -- A blocked send that is tried again leaves the loans.
   pub retry_loans : (environment : Environment) (s : State T U) (p : ℕ) (b : BlockedSend) (elapsed : Duration) (s' : State T U) (result : SendResult)

@@ -14,14 +14,16 @@ use Rattle.iox2_store.specs.machine.Records.{Loan, Publisher, Environment}
 use Rattle.iox2_store.specs.machine.State.{State, held, with_loan, is_blocked}
 use Rattle.iox2_store.specs.machine.Loans.{is_static, loan_granted, GrantLoan, written, with_cell, is_initialized, initialized, loan_discarded}
 use Rattle.iox2_store.specs.machine.SingleCalls.{GrantWrittenLoan}
-use Rattle.iox2_store.specs.machine.WellFormed.{BlockedIsWellFormed, PublisherIsWellFormed, SubscriberIsWellFormed, LoanIsWellFormed, IsWellFormed}
+use Rattle.iox2_store.specs.machine.WellFormed.{BlockedIsWellFormed, PublisherIsWellFormed, LoanIsWellFormed, IsWellFormed}
 use Rattle.iox2_store.specs.declared.header.Header.{Header}
 use Rattle.iox2_store.specs.declared.errors.LoanError.{LoanError}
 use Rattle.iox2_laws.specs.Laws.{Advances}
 use Rattle.iox2_laws.proofs.Cases.{by_option}
 use Rattle.iox2_laws.proofs.CallCases.{grant_cases}
+use Rattle.iox2_laws.proofs.OperationWalks.{advance, grant_by_steps}
 use Rattle.iox2_laws.proofs.NumberLemmas.{contains_in_append, contains_left, contains_right, contains_one, absent_from, IsOnce-push, IsOnce-without, contains_in_without, contains-without_same, contains-without_other, length-without_le, size_le, size_le_one_more}
 use Rattle.iox2_laws.proofs.Puts.{put_at-same, put_at-other, at_each, found_put, found_removed}
+use Rattle.iox2_laws.proofs.PortChanges.{subscriber_in}
 use Rattle.iox2_laws.proofs.Altered.{absent_apart, same_state, in_three, in_first, in_second, in_third, altered, uniform, mailbox_moves, loan_moves, publisher_moves, altered_keeps, mailbox_stays, loan_stays, altered_same_row}
 
 -- cells that are all written
@@ -53,22 +55,8 @@ module _ {T U : Type 0} where
         (λ n l h same. let found : (l' : Loan T U) × (loans n ≡ Some l') × (l'.publisher ≡ l.publisher) = stays n l x h (ap s.publishers same ∙ e) in
         (found.0, found.1, found.2 ∙ same))
         (λ n _ h. none n h) (w.publishers p x e);
-    subscribers = λ q y e. let v : SubscriberIsWellFormed s q y = w.subscribers q y e in record {
-      is_known = v.is_known;
-      some_room = v.some_room;
-      buffer_bound = v.buffer_bound;
-      ends_bound = v.ends_bound;
-      ends_apart = v.ends_apart;
-      ends_known = v.ends_known;
-      ends_stand = v.ends_stand;
-      expired_bound = v.expired_bound;
-      expired_once = v.expired_once;
-      expired_apart = v.expired_apart;
-      expired_known = v.expired_known;
-      expired_gone = v.expired_gone;
-      expired_kept = v.expired_kept;
-      is_used = v.is_used;
-    };
+    subscribers = λ q y e. subscriber_in s (record s { loans = loans }) q y (w.subscribers q y e) (le_refl s.next_port)
+        (λ place p _ h. h) (λ p _ h. h) (λ p _ h. h) (λ p h. h);
     mailboxes = λ p q. mailbox_moves s s.publishers s.mailboxes loans s.next_message (le_refl s.next_message) p q refl refl (w.mailboxes p q);
     loans = λ n l e. loan_moves s s.publishers s.mailboxes loans s.next_message (le_refl s.next_message) n l refl refl (own n l e);
   }
@@ -352,9 +340,9 @@ module _ {T U : Type 0} where
 
     -- a grant advances the state
     pub grant_loan_advances : (refusal : Option LoanError) → GrantLoan environment default_header checks_length len s p s' refusal → Advances s s'
-    grant_loan_advances refusal h = grant_cases environment default_header checks_length len s p s' (Advances s s') refusal h
-        (λ e same _. subst (Advances s) (sym same) (record { config = refl; next_port = le_refl s.next_port; next_message = le_refl s.next_message }))
-        (λ x here g. subst (Advances s) (sym g.4) (record { config = refl; next_port = le_refl s.next_port; next_message = omega arith }))
+    grant_loan_advances refusal =
+        grant_by_steps Advances advance environment default_header checks_length len s p s' refusal
+        (λ x here segments. record { config = refl; next_port = le_refl s.next_port; next_message = omega arith })
 
     -- a loan blocks no publisher
     pub grant_loan_unblocked : (refusal : Option LoanError) → GrantLoan environment default_header checks_length len s p s' refusal → is_blocked s p ≡ false → is_blocked s' p ≡ false

@@ -1,5 +1,5 @@
 -- What operations leave of the loans that publishers may still take.
-use Rattle.std.proofs.Common.{◌≡◌, ℕ, suc, ◌+◌, ◌<◌, ◌≤◌, Bool, true, false, List, [], ◌∷◌, ◌++◌, length, cond, drop, refl, sym, ap, subst, ◌∙◌, arith, Option, None, Some}
+use Rattle.std.proofs.Common.{◌≡◌, ℕ, suc, ◌+◌, ◌<◌, ◌≤◌, Bool, true, false, List, [], ◌∷◌, ◌++◌, length, refl, sym, ap, subst, ◌∙◌, arith, Option, None, Some}
 use Rattle.std.specs.Prelude.{◌≢◌, max}
 use Rattle.std.specs.Option.{option_map}
 use Rattle.std.proofs.lemmas.Bool.{ne_eqb}
@@ -9,29 +9,27 @@ use Rattle.iox2_store.specs.machine.Limits.{worst_case}
 use Rattle.iox2_store.specs.machine.Numbers.{put_at, contains, without, last_n}
 use Rattle.iox2_store.specs.machine.Mailbox.{Mailbox}
 use Rattle.iox2_store.specs.machine.Records.{Loan, Publisher, Subscriber, Environment, BlockedSend, PublisherSettings, SubscriberSettings}
-use Rattle.iox2_store.specs.machine.State.{State, with_loan, publisher_changed, receiver_channels_reset}
-use Rattle.iox2_store.specs.machine.Delivery.{DeliveryEnd, Complete, Suspended}
+use Rattle.iox2_store.specs.machine.State.{State, with_loan, publisher_changed, receiver_channels_reset, with_warning}
 use Rattle.iox2_store.specs.machine.PublisherUpdate.{UpdatePublisher}
 use Rattle.iox2_store.specs.machine.SubscriberUpdate.{UpdateSubscriber}
 use Rattle.iox2_store.specs.machine.Loans.{GrantLoan, is_static, loan_granted, loan_discarded}
 use Rattle.iox2_store.specs.machine.LoansLeft.{CanLend, LendsValues}
-use Rattle.iox2_store.specs.machine.Ports.{CreatePublisher, CreateSubscriber, FirstPublisherUpdate, FirstSubscriberUpdate, with_new_publisher, with_new_subscriber, new_publisher, with_failure_warning, slots_for, publisher_closed, subscriber_shut, subscriber_closed}
-use Rattle.iox2_store.specs.machine.Receives.{ReceiveResult, Got_sample, No_sample, Receive_error, TakeSample, Receive}
-use Rattle.iox2_store.specs.machine.Releases.{place_freed, unborrowed, subscriber_pruned, is_unused, freed_if_unused, released}
+use Rattle.iox2_store.specs.machine.Ports.{CreatePublisher, CreateSubscriber, FirstPublisherUpdate, with_new_publisher, with_new_subscriber, new_publisher, slots_for, publisher_closed, subscriber_shut, subscriber_closed}
+use Rattle.iox2_store.specs.machine.Receives.{ReceiveResult, Receive}
+use Rattle.iox2_store.specs.machine.Releases.{place_freed, unborrowed, subscriber_pruned, freed_if_unused, released}
 use Rattle.std.specs.declared.time.Duration.{Duration}
-use Rattle.iox2_store.specs.machine.Delivery.{no_time}
-use Rattle.iox2_store.specs.machine.Sends.{Send, Retry, GiveUp, DeliverAndConclude, ConcludeSend, SendResult, Blocked_send, Delivered_to, Send_error, published, with_mailboxes, more_retries}
-use Rattle.iox2_store.specs.declared.errors.SendError.TheVariants.{UnableToDeliver}
+use Rattle.iox2_store.specs.machine.Sends.{Send, Retry, GiveUp, SendResult, Blocked_send, Send_error, published, with_mailboxes, send_ended}
+use Rattle.iox2_store.specs.declared.errors.SendError.{SendError}
 use Rattle.iox2_store.specs.machine.WellFormed.{IsWellFormed}
 use Rattle.iox2_store.specs.declared.errors.ConnectionFailure.{ConnectionFailure}
 use Rattle.iox2_store.specs.declared.errors.PublisherCreateError.{PublisherCreateError}
 use Rattle.iox2_store.specs.declared.errors.SubscriberCreateError.{SubscriberCreateError}
 use Rattle.iox2_store.specs.declared.warning.Warning.{Warning}
-use Rattle.iox2_store.specs.declared.warning.Warning.TheVariants.{PublisherPartlyConnected, SubscriberPartlyConnected}
+use Rattle.iox2_store.specs.declared.warning.Warning.TheVariants.{PublisherPartlyConnected}
 use Rattle.iox2_store.specs.declared.service_config.ServiceConfig.{ServiceConfig}
 use Rattle.iox2_store.specs.declared.service_config.TypeVariant.TheVariants.{FixedSize}
-use Rattle.iox2_laws.proofs.Cases.{by_option, by_bool}
-use Rattle.iox2_laws.proofs.CallCases.{grant_cases, publisher_cases, subscriber_cases}
+use Rattle.iox2_laws.proofs.OperationWalks.{IsPreorder, DeliverySteps, publisher_update_by_steps, subscriber_update_by_steps, first_update_by_steps, create_publisher_by_steps, create_subscriber_by_steps, receive_by_steps, forgotten_by_steps, retry_by_steps, give_up_by_steps, send_by_steps}
+use Rattle.iox2_laws.proofs.CallCases.{grant_cases, publisher_cases}
 use Rattle.iox2_laws.proofs.NumberLemmas.{length-without}
 use Rattle.iox2_laws.proofs.PortsClose.{publisher_closed_others}
 use Rattle.iox2_laws.proofs.Puts.{at_each, put_at-same, put_at-other}
@@ -71,6 +69,13 @@ module _ {T U : Type 0} where
   values_kept s s' x x' config allocation longest lends = λ grows single.
       subst (λ (n : ℕ). 1 ≤ n) (sym longest) (lends (sym (ap is_static allocation) ∙ grows) (sym (ap (λ (c : ServiceConfig). c.variant) config) ∙ single))
 
+  -- one with as many slots and loans has the worst case of slots as before
+  slots_kept : (s s' : State T U) (x x' : Publisher) → s'.config ≡ s.config → x'.max_loaned_samples ≡ x.max_loaned_samples → x'.slots ≡ x.slots
+      → worst_case s.config x.max_loaned_samples ≤ x.slots → worst_case s'.config x'.max_loaned_samples ≤ x'.slots
+  slots_kept s s' x x' config most slots enough =
+      subst (λ (k : ℕ). worst_case s'.config x'.max_loaned_samples ≤ k) (sym slots)
+      (subst (λ (k : ℕ). worst_case s'.config k ≤ x.slots) (sym most) (subst (λ (c : ServiceConfig). worst_case c x.max_loaned_samples ≤ x.slots) (sym config) enough))
+
   -- ---- what leaves all of them
 
   -- Each publisher keeps its terms and its loans, and no message number is used.
@@ -89,8 +94,8 @@ module _ {T U : Type 0} where
     publishers = λ p x e. let y = h.publishers p x e in let z = k.publishers p y.0 y.1 in (z.0, z.1, terms_trans x y.0 z.0 y.2 z.2);
   }
 
-  kept_same : (s s' : State T U) → s' ≡ s → LoansKept s s'
-  kept_same s s' e = subst (LoansKept s) (sym e) (kept_itself s)
+  keep : IsPreorder LoansKept
+  keep = record { itself = kept_itself; trans = kept_trans }
 
   pub set_kept : (s : State T U) (n : ℕ) (l : Option (Loan T U)) → LoansKept s (with_loan s n l)
   set_kept s n l = record { config = refl; numbers = refl; publishers = λ p x e. (x, e, same_terms x) }
@@ -99,64 +104,50 @@ module _ {T U : Type 0} where
   changed_kept s i change keeps = record { config = refl; numbers = refl; publishers = changed_terms s.publishers i change keeps }
 
   pub update_publisher_kept : (environment : Environment) (s : State T U) (p : ℕ) (s' : State T U) (failure : Option ConnectionFailure) → UpdatePublisher environment s p s' failure → LoansKept s s'
-  update_publisher_kept environment s p s' failure h =
-      by_option (LoansKept s s') (s.publishers p) _ _ h (λ _ v. absurd v) (λ x present h.
-      by_bool (LoansKept s s') x.is_due _ _ h
-      (λ _ h. subst (LoansKept s) (sym h.2) (record {
+  update_publisher_kept environment s p s' failure =
+      publisher_update_by_steps LoansKept keep environment s p s' failure (λ x present side _. record {
         config = refl;
         numbers = refl;
-        publishers = put_terms s.publishers p (record x { ends = (h.0).ends; is_due = false })
-            (λ z e. subst (λ (v : Publisher). KeepsTerms v (record x { ends = (h.0).ends; is_due = false })) (same_Some x z (sym present ∙ e)) (record { allocation = refl; most = refl; slots = refl; longest = refl; loans = refl }));
-      }))
-      (λ _ h. kept_same s s' h.0))
+        publishers = put_terms s.publishers p (record x { ends = side.ends; is_due = false })
+            (λ z e. subst (λ (v : Publisher). KeepsTerms v (record x { ends = side.ends; is_due = false })) (same_Some x z (sym present ∙ e)) (record { allocation = refl; most = refl; slots = refl; longest = refl; loans = refl }));
+      })
 
   pub update_subscriber_kept : (environment : Environment) (s : State T U) (q : ℕ) (s' : State T U) (failure : Option ConnectionFailure) → UpdateSubscriber environment s q s' failure → LoansKept s s'
-  update_subscriber_kept environment s q s' failure h =
-      by_option (LoansKept s s') (s.subscribers q) _ _ h (λ _ v. absurd v) (λ y present h.
-      by_bool (LoansKept s s') y.is_due _ _ h
-      (λ _ h. subst (LoansKept s) (sym h.2) (record { config = refl; numbers = refl; publishers = λ p x e. (x, e, same_terms x) }))
-      (λ _ h. kept_same s s' h.0))
-
-  taken_kept : (s : State T U) (q : ℕ) (y : Subscriber) (s' : State T U) (result : ReceiveResult) → TakeSample s q y s' result → LoansKept s s'
-  taken_kept s q y s' (Got_sample p n) h = subst (LoansKept s) (sym h.3) (record { config = refl; numbers = refl; publishers = λ p x e. (x, e, same_terms x) })
-  taken_kept s q y s' No_sample h = kept_same s s' h.1
-  taken_kept s q y s' (Receive_error e) h = kept_same s s' h.3
+  update_subscriber_kept environment s q s' failure =
+      subscriber_update_by_steps LoansKept keep environment s q s' failure (λ y present side _. record { config = refl; numbers = refl; publishers = λ p x e. (x, e, same_terms x) })
 
   pub receive_kept : (environment : Environment) (s : State T U) (q : ℕ) (s' : State T U) (result : ReceiveResult) → Receive environment s q s' result → LoansKept s s'
-  receive_kept environment s q s' result h =
-      let first : LoansKept s h.0 = update_subscriber_kept environment s q h.0 h.1 h.2 in
-      by_option (LoansKept s s') h.1 _ _ h.3
-      (λ _ k. by_option (LoansKept s s') ((h.0).subscribers q) _ _ k (λ _ v. absurd v) (λ y _ k. kept_trans s h.0 s' first (taken_kept h.0 q y s' result k)))
-      (λ e _ k. kept_trans s h.0 s' first (kept_same h.0 s' k.0))
+  receive_kept environment s q s' result =
+      receive_by_steps LoansKept keep environment s q s' result (update_subscriber_kept environment s q)
+      (λ t p box. record { config = refl; numbers = refl; publishers = λ p x e. (x, e, same_terms x) })
 
-  freed_kept : (s : State T U) (q : ℕ) → LoansKept s (receiver_channels_reset (freed_if_unused s q) q)
-  freed_kept s q = at (is_unused s q) where
-    at : (b : Bool) → LoansKept s (receiver_channels_reset (cond b (place_freed s q) s) q)
-    at true = record {
-      config = refl;
-      numbers = refl;
-      publishers = λ p x e. (record x { is_due = true }, ap (option_map {T = Publisher} (λ z. record z { is_due = true })) e, record { allocation = refl; most = refl; slots = refl; longest = refl; loans = refl });
-    }
-    at false = record { config = refl; numbers = refl; publishers = λ p x e. (x, e, same_terms x) }
+  -- every publisher is due
+  due_kept : (s s' : State T U) → s'.config ≡ s.config → s'.next_message ≡ s.next_message → s'.publishers ≡ (λ p. option_map {T = Publisher} (λ z. record z { is_due = true }) (s.publishers p)) → LoansKept s s'
+  due_kept s s' config numbers publishers = record {
+    config = config;
+    numbers = numbers;
+    publishers = λ p x e. (
+      record x { is_due = true },
+      ap (λ (f : ℕ → Option Publisher). f p) publishers ∙ ap (option_map {T = Publisher} (λ z. record z { is_due = true })) e,
+      record { allocation = refl; most = refl; slots = refl; longest = refl; loans = refl },
+    );
+  }
+
+  -- a subscriber that forgets publishers is gone where it is unused
+  forgotten_kept : (s : State T U) (q : ℕ) → LoansKept s (receiver_channels_reset (freed_if_unused (subscriber_pruned s q) q) q)
+  forgotten_kept s q =
+      forgotten_by_steps LoansKept keep s q (λ t. record { config = refl; numbers = refl; publishers = λ p x e. (x, e, same_terms x) })
+      (λ t. due_kept t (receiver_channels_reset (place_freed t q) q) refl refl refl)
+      (λ t. record { config = refl; numbers = refl; publishers = λ p x e. (x, e, same_terms x) })
 
   pub released_kept : (s : State T U) (p q n : ℕ) → LoansKept s (released s p q n)
-  released_kept s p q n =
-      kept_trans s (subscriber_pruned (unborrowed s p q n) q) (released s p q n) (record { config = refl; numbers = refl; publishers = λ p x e. (x, e, same_terms x) })
-      (freed_kept (subscriber_pruned (unborrowed s p q n) q) q)
+  released_kept s p q n = kept_trans s (unborrowed s p q n) (released s p q n) (record { config = refl; numbers = refl; publishers = λ p x e. (x, e, same_terms x) }) (forgotten_kept (unborrowed s p q n) q)
 
   pub subscriber_closed_kept : (s : State T U) (q : ℕ) (y : Subscriber) → LoansKept s (subscriber_closed s q y)
-  subscriber_closed_kept s q y =
-      kept_trans s (subscriber_pruned (subscriber_shut s q y) q) (subscriber_closed s q y)
-      (record {
-        config = refl;
-        numbers = refl;
-        publishers = λ p x e. (record x { is_due = true }, ap (option_map {T = Publisher} (λ z. record z { is_due = true })) e, record { allocation = refl; most = refl; slots = refl; longest = refl; loans = refl });
-      })
-      (freed_kept (subscriber_pruned (subscriber_shut s q y) q) q)
+  subscriber_closed_kept s q y = kept_trans s (subscriber_shut s q y) (subscriber_closed s q y) (due_kept s (subscriber_shut s q y) refl refl refl) (forgotten_kept (subscriber_shut s q y) q)
 
-  warning_kept : (s : State T U) (warning : ConnectionFailure → Warning) (failure : Option ConnectionFailure) → LoansKept s (with_failure_warning s warning failure)
-  warning_kept s warning None = kept_itself s
-  warning_kept s warning (Some failure) = record { config = refl; numbers = refl; publishers = λ p x e. (x, e, same_terms x) }
+  warned_kept : (s : State T U) (w : Warning) → LoansKept s (with_warning s w)
+  warned_kept s w = record { config = refl; numbers = refl; publishers = λ p x e. (x, e, same_terms x) }
 
   new_publisher_kept : (s : State T U) → IsWellFormed s → (given : PublisherSettings) (place : ℕ) → LoansKept s (with_new_publisher s given place)
   new_publisher_kept s w given place = record {
@@ -169,15 +160,14 @@ module _ {T U : Type 0} where
   -- a publisher is made
   made_kept : (environment : Environment) (s : State T U) (given : PublisherSettings) (place : ℕ) (s' : State T U) → FirstPublisherUpdate environment (with_new_publisher s given place) s.next_port s'
       → LoansKept (with_new_publisher s given place) s'
-  made_kept environment s given place s' h =
-      subst (LoansKept (with_new_publisher s given place)) (sym h.3)
-      (kept_trans (with_new_publisher s given place) h.0 _ (update_publisher_kept environment (with_new_publisher s given place) s.next_port h.0 h.1 h.2) (warning_kept h.0 (PublisherPartlyConnected s.next_port) h.1))
+  made_kept environment s given place s' =
+      let new : State T U = with_new_publisher s given place in
+      first_update_by_steps LoansKept keep new s' (UpdatePublisher environment new s.next_port) (PublisherPartlyConnected s.next_port) (update_publisher_kept environment new s.next_port) warned_kept
 
   pub create_publisher_kept : (environment : Environment) (s : State T U) → IsWellFormed s → (given : PublisherSettings) (s' : State T U) (refusal : Option PublisherCreateError)
       → CreatePublisher environment s given s' refusal → LoansKept s s'
-  create_publisher_kept environment s w given s' refusal h =
-      publisher_cases environment s given s' (LoansKept s s') refusal h (λ e same _. kept_same s s' same)
-      (λ place makes. kept_trans s (with_new_publisher s given place) s' (new_publisher_kept s w given place) (made_kept environment s given place s' makes.2))
+  create_publisher_kept environment s w given s' refusal =
+      create_publisher_by_steps LoansKept keep environment s given s' refusal (new_publisher_kept s w given) (update_publisher_kept environment) warned_kept
 
   -- The publisher that was made stands, on the terms that it was given.
   pub created_stands : (environment : Environment) (s : State T U) (given : PublisherSettings) (s' : State T U) → CreatePublisher environment s given s' None
@@ -202,8 +192,7 @@ module _ {T U : Type 0} where
       record {
         port = there.0;
         stands = there.1;
-        slots = subst (λ (k : ℕ). worst_case s'.config (there.0).max_loaned_samples ≤ k) (sym terms.slots)
-            (subst (λ (k : ℕ). worst_case s'.config k ≤ slots_for s.config given) (sym terms.most) (subst (λ (c : ServiceConfig). worst_case c given.max_loaned_samples ≤ slots_for s.config given) (sym made.2) slots));
+        slots = slots_kept s s' (new_publisher s given made.0) there.0 made.2 terms.most terms.slots slots;
         few = omega (arith, none, terms.most);
         values = values_kept s s' (new_publisher s given made.0) there.0 made.2 terms.allocation terms.longest values;
       }
@@ -212,50 +201,37 @@ module _ {T U : Type 0} where
   pub created_longest : (environment : Environment) (s : State T U) (given : PublisherSettings) (s' : State T U) → CreatePublisher environment s given s' None
       → (x : Publisher) × (s'.publishers s.next_port ≡ Some x) × (x.initial_max_slice_len ≡ given.initial_max_slice_len)
   created_longest environment s given s' h =
-      let made = created_stands environment s given s' h in
-      let there = made.1 in
-      let terms : KeepsTerms (new_publisher s given made.0) there.0 = there.2 in
-      (there.0, there.1, terms.longest)
+      let made = created_stands environment s given s' h in ((made.1).0, (made.1).1, ((made.1).2).longest)
 
   -- Its memory grows as it was asked for.
   pub created_grows : (environment : Environment) (s : State T U) (given : PublisherSettings) (s' : State T U) → CreatePublisher environment s given s' None
       → (x : Publisher) × (s'.publishers s.next_port ≡ Some x) × (x.allocation_strategy ≡ given.allocation_strategy)
   created_grows environment s given s' h =
-      let made = created_stands environment s given s' h in
-      let there = made.1 in
-      let terms : KeepsTerms (new_publisher s given made.0) there.0 = there.2 in
-      (there.0, there.1, terms.allocation)
+      let made = created_stands environment s given s' h in ((made.1).0, (made.1).1, ((made.1).2).allocation)
 
   pub create_subscriber_kept : (environment : Environment) (s : State T U) (given : SubscriberSettings) (s' : State T U) (refusal : Option SubscriberCreateError)
       → CreateSubscriber environment s given s' refusal → LoansKept s s'
-  create_subscriber_kept environment s given s' refusal h =
-      subscriber_cases environment s given s' (LoansKept s s') refusal h (λ e same _. kept_same s s' same) (λ place makes.
-      let new : State T U = with_new_subscriber s given place in
-      let first : FirstSubscriberUpdate environment new s.next_port s' = makes.3 in
-      subst (LoansKept s) (sym first.3) (kept_trans s new _
-      (record {
-        config = refl;
-        numbers = refl;
-        publishers = λ p x e. (record x { is_due = true }, ap (option_map {T = Publisher} (λ z. record z { is_due = true })) e, record { allocation = refl; most = refl; slots = refl; longest = refl; loans = refl });
-      })
-      (kept_trans new first.0 _ (update_subscriber_kept environment new s.next_port first.0 first.1 first.2) (warning_kept first.0 (SubscriberPartlyConnected s.next_port) first.1))))
+  create_subscriber_kept environment s given s' refusal =
+      create_subscriber_by_steps LoansKept keep environment s given s' refusal (λ place. due_kept s (with_new_subscriber s given place) refl refl refl) (update_subscriber_kept environment) warned_kept
 
   -- ---- what leaves the loans that may be taken
 
-  -- where terms and loans are kept
-  pub kept_lends : (s s' : State T U) → LoansKept s s' → (p n : ℕ) → CanLend s p n → CanLend s' p n
-  kept_lends s s' h p n can =
-      let there = h.publishers p can.port can.stands in
+  -- where a publisher keeps its terms and its loans
+  kept_at_lends : (s s' : State T U) → s'.config ≡ s.config → (p n : ℕ) (can : CanLend s p n) → Kept_at can.port (s'.publishers p) → CanLend s' p n
+  kept_at_lends s s' config p n can there =
       let terms : KeepsTerms can.port there.0 = there.2 in
       let loans : length (there.0).loans ≡ length (can.port).loans = ap (λ (ns : List ℕ). length ns) terms.loans in
       record {
         port = there.0;
         stands = there.1;
-        slots = subst (λ (k : ℕ). worst_case s'.config (there.0).max_loaned_samples ≤ k) (sym terms.slots)
-            (subst (λ (k : ℕ). worst_case s'.config k ≤ (can.port).slots) (sym terms.most) (subst (λ (c : ServiceConfig). worst_case c (can.port).max_loaned_samples ≤ (can.port).slots) (sym h.config) can.slots));
+        slots = slots_kept s s' can.port there.0 config terms.most terms.slots can.slots;
         few = omega (arith, loans, terms.most, can.few);
-        values = values_kept s s' can.port there.0 h.config terms.allocation terms.longest can.values;
+        values = values_kept s s' can.port there.0 config terms.allocation terms.longest can.values;
       }
+
+  -- where terms and loans are kept
+  pub kept_lends : (s s' : State T U) → LoansKept s s' → (p n : ℕ) → CanLend s p n → CanLend s' p n
+  kept_lends s s' h p n can = kept_at_lends s s' h.config p n can (h.publishers p can.port can.stands)
 
   -- another publisher's close
   pub closed_lends : (s : State T U) (p : ℕ) (x : Publisher) (i n : ℕ) → i ≢ p → CanLend s i n → CanLend (publisher_closed s p x) i n
@@ -345,8 +321,8 @@ module _ {T U : Type 0} where
     others = λ i x away e. (x, put_at-other s.publishers p _ i (ne_eqb i p away) ∙ e, same_terms x);
   }
 
-  concluded_ends : (s : State T U) (p n : ℕ) (how : DeliveryEnd) (s' : State T U) (result : SendResult) → (result ≡ Blocked_send → ⊥) → ConcludeSend s p n how s' result → LoanEnds p n s s'
-  concluded_ends s p n (Complete count has_failed) s' result free h = subst (LoanEnds p n s) (sym h.0) (record {
+  ended_ends : (s : State T U) (p n : ℕ) → LoanEnds p n s (send_ended s p n)
+  ended_ends s p n = record {
     config = refl;
     numbers = refl;
     own = λ x e. (
@@ -359,8 +335,7 @@ module _ {T U : Type 0} where
       refl,
     );
     others = λ i x away e. (x, put_at-other s.publishers p _ i (ne_eqb i p away) ∙ e, same_terms x);
-  })
-  concluded_ends s p n (Suspended b) s' result free h = absurd (free h.1)
+  }
 
   pub discarded_ends : (s : State T U) (n : ℕ) (l : Loan T U) → LoanEnds l.publisher n s (loan_discarded s n l)
   discarded_ends s n l = kept_ends l.publisher n s (with_loan s n None) (loan_discarded s n l) (set_kept s n None) (returned_ends (with_loan s n None) l.publisher n)
@@ -373,79 +348,68 @@ module _ {T U : Type 0} where
   mailboxes_kept : (s : State T U) (p : ℕ) (boxes : ℕ → Mailbox) → LoansKept s (with_mailboxes s p boxes)
   mailboxes_kept s p boxes = record { config = refl; numbers = refl; publishers = λ p x e. (x, e, same_terms x) }
 
+  -- a delivery in which the send ends
+  pub deliveries_end : (environment : Environment) (p n : ℕ) (result : SendResult) → (result ≡ Blocked_send → ⊥) → DeliverySteps {T = T} {U = U} environment p n LoansKept (LoanEnds p n) result
+  deliveries_end environment p n result free = record {
+    delivers = λ s boxes _. mailboxes_kept s p boxes;
+    ended = λ s _. ended_ends s p n;
+    blocked = λ s b is. absurd (free is);
+  }
+
   pub send_ends : (environment : Environment) (s : State T U) (n : ℕ) (l : Loan T U) (s' : State T U) (result : SendResult) → (result ≡ Blocked_send → ⊥)
       → Send environment s n l s' result → LoanEnds l.publisher n s s'
-  send_ends environment s n l s' result free h =
-      by_option Ends (s.publishers l.publisher) _ _ h
-      (λ gone k. subst (LoanEnds l.publisher n s) (sym k.0) (kept_gone l.publisher n s (with_loan s n None) gone (set_kept s n None)))
-      (λ x _ k.
-      let first : LoansKept s k.0 = update_publisher_kept environment s l.publisher k.0 k.1 k.2 in
-      by_option Ends k.1 _ _ k.3
-      (λ _ j. by_option Ends ((k.0).publishers l.publisher) _ _ j (λ _ v. absurd v) (λ z _ j.
-      by_option Ends ((published k.0 l.publisher n).publishers l.publisher) _ _ j (λ _ v. absurd v) (λ w _ j.
-      let before : State T U = published k.0 l.publisher n in
-      let boxed : State T U = with_mailboxes before l.publisher j.1 in
-      kept_ends l.publisher n s boxed s'
-      (kept_trans s k.0 boxed first (kept_trans k.0 before boxed (published_kept k.0 l.publisher n) (mailboxes_kept before l.publisher j.1)))
-      (concluded_ends boxed l.publisher n j.0 s' result free j.3))))
-      (λ e _ j. kept_ends l.publisher n s k.0 s' first (subst (LoanEnds l.publisher n k.0) (sym j.0) (discarded_ends k.0 n l))))
-    where
-      Ends : Type 0
-      Ends = LoanEnds l.publisher n s s'
+  send_ends environment s n l s' result free =
+      send_by_steps LoansKept (LoanEnds l.publisher n) (kept_ends l.publisher n) environment s n l s' result (record {
+        delivery = deliveries_end environment l.publisher n result free;
+        updates = λ a. update_publisher_kept environment a l.publisher;
+        publishes = λ a. published_kept a l.publisher n;
+        lost = λ a gone e _. kept_gone l.publisher n a (with_loan a n None) gone (set_kept a n None);
+        discards = λ a k same e _. subst (λ (p : ℕ). LoanEnds p n a (loan_discarded a n k)) same (discarded_ends a n k);
+      })
 
   -- ---- a send that is blocked
 
-  concluded_kept : (s : State T U) (p n : ℕ) (how : DeliveryEnd) (s' : State T U) (result : SendResult) → result ≡ Blocked_send → ConcludeSend s p n how s' result → LoansKept s s'
-  concluded_kept s p n (Complete count has_failed) s' result is h = absurd (ended has_failed (sym h.1 ∙ is)) where
-    ended : (failed : Bool) → cond failed (Send_error UnableToDeliver) (Delivered_to count) ≡ Blocked_send → ⊥
-    ended true e = absurd cc
-    ended false e = absurd cc
-  concluded_kept s p n (Suspended b) s' result is h =
-      subst (LoansKept s) (sym h.0) (changed_kept s p (λ x. record x { blocked = Some b }) (λ x. record { allocation = refl; most = refl; slots = refl; longest = refl; loans = refl }))
-
-  pub delivered_kept : (environment : Environment) (s : State T U) (p n channel retries : ℕ) (elapsed : Duration) (place : ℕ) (ends : List (Option ℕ)) (count : ℕ) (has_failed : Bool) (s' : State T U)
-      (result : SendResult) → result ≡ Blocked_send → DeliverAndConclude environment s p n channel retries elapsed place ends count has_failed s' result → LoansKept s s'
-  delivered_kept environment s p n channel retries elapsed place ends count has_failed s' result is h =
-      by_option (LoansKept s s') (s.publishers p) _ _ h (λ _ v. absurd v)
-      (λ x _ k. kept_trans s (with_mailboxes s p k.1) s' (mailboxes_kept s p k.1) (concluded_kept (with_mailboxes s p k.1) p n k.0 s' result is k.3))
-
-  pub delivered_ends : (environment : Environment) (s : State T U) (p n channel retries : ℕ) (elapsed : Duration) (place : ℕ) (ends : List (Option ℕ)) (count : ℕ) (has_failed : Bool) (s' : State T U)
-      (result : SendResult) → (result ≡ Blocked_send → ⊥) → DeliverAndConclude environment s p n channel retries elapsed place ends count has_failed s' result → LoanEnds p n s s'
-  delivered_ends environment s p n channel retries elapsed place ends count has_failed s' result free h =
-      by_option (LoanEnds p n s s') (s.publishers p) _ _ h (λ _ v. absurd v)
-      (λ x _ k. kept_ends p n s (with_mailboxes s p k.1) s' (mailboxes_kept s p k.1) (concluded_ends (with_mailboxes s p k.1) p n k.0 s' result free k.3))
+  -- a delivery in which the send is blocked
+  pub deliveries_keep : (environment : Environment) (p n : ℕ) (result : SendResult) → result ≡ Blocked_send → DeliverySteps {T = T} {U = U} environment p n LoansKept LoansKept result
+  deliveries_keep environment p n result is = record {
+    delivers = λ s boxes _. mailboxes_kept s p boxes;
+    ended = λ s no. absurd (no is);
+    blocked = λ s b _. changed_kept s p (λ x. record x { blocked = Some b }) (λ x. record { allocation = refl; most = refl; slots = refl; longest = refl; loans = refl });
+  }
 
   -- its loan still counts
   pub send_blocked_kept : (environment : Environment) (s : State T U) (n : ℕ) (l : Loan T U) (s' : State T U) (result : SendResult) → result ≡ Blocked_send
       → Send environment s n l s' result → LoansKept s s'
-  send_blocked_kept environment s n l s' result is h =
-      by_option (LoansKept s s') (s.publishers l.publisher) _ _ h
-      (λ _ k. absurd (let no : Send_error _ ≡ Blocked_send = sym k.1 ∙ is in cc))
-      (λ x _ k.
-      let first : LoansKept s k.0 = update_publisher_kept environment s l.publisher k.0 k.1 k.2 in
-      by_option (LoansKept s s') k.1 _ _ k.3
-      (λ _ j. by_option (LoansKept s s') ((k.0).publishers l.publisher) _ _ j (λ _ v. absurd v) (λ x1 _ i.
-      let mid : State T U = published k.0 l.publisher n in
-      kept_trans s mid s' (kept_trans s k.0 mid first (published_kept k.0 l.publisher n))
-      (delivered_kept environment mid l.publisher n 0 0 no_time 0 x1.ends 0 false s' result is i)))
-      (λ e _ j. absurd (let no : Send_error _ ≡ Blocked_send = sym j.1 ∙ is in cc)))
+  send_blocked_kept environment s n l s' result is =
+      send_by_steps LoansKept LoansKept kept_trans environment s n l s' result (record {
+        delivery = deliveries_keep environment l.publisher n result is;
+        updates = λ a. update_publisher_kept environment a l.publisher;
+        publishes = λ a. published_kept a l.publisher n;
+        lost = λ a _ e k. absurd (failed e k);
+        discards = λ a k _ e f. absurd (failed e f);
+      })
+    where
+      failed : (e : SendError) → result ≡ Send_error e → ⊥
+      failed e k = let no : Send_error e ≡ Blocked_send = sym k ∙ is in cc
 
   pub retry_blocked_kept : (environment : Environment) (s : State T U) (p : ℕ) (b : BlockedSend) (elapsed : Duration) (s' : State T U) (result : SendResult) → result ≡ Blocked_send
       → Retry environment s p b elapsed s' result → LoansKept s s'
-  retry_blocked_kept environment s p b elapsed = delivered_kept environment s p b.message b.channel (more_retries b.retries) elapsed b.place b.ends b.count b.has_failed
+  retry_blocked_kept environment s p b elapsed s' result is = retry_by_steps LoansKept LoansKept kept_trans environment s p b elapsed s' result (deliveries_keep environment p b.message result is)
 
   pub give_up_blocked_kept : (environment : Environment) (s : State T U) (p : ℕ) (b : BlockedSend) (s' : State T U) (result : SendResult) → result ≡ Blocked_send
       → GiveUp environment s p b s' result → LoansKept s s'
-  give_up_blocked_kept environment s p b = delivered_kept environment s p b.message b.channel 0 no_time (b.place + 1) (drop 1 b.ends) b.count b.has_failed
+  give_up_blocked_kept environment s p b s' result is = give_up_by_steps LoansKept LoansKept kept_trans environment s p b s' result (deliveries_keep environment p b.message result is)
 
   -- until the send ends
   pub retry_ends : (environment : Environment) (s : State T U) (p : ℕ) (b : BlockedSend) (elapsed : Duration) (s' : State T U) (result : SendResult) → (result ≡ Blocked_send → ⊥)
       → Retry environment s p b elapsed s' result → LoanEnds p b.message s s'
-  retry_ends environment s p b elapsed = delivered_ends environment s p b.message b.channel (more_retries b.retries) elapsed b.place b.ends b.count b.has_failed
+  retry_ends environment s p b elapsed s' result free =
+      retry_by_steps LoansKept (LoanEnds p b.message) (kept_ends p b.message) environment s p b elapsed s' result (deliveries_end environment p b.message result free)
 
   pub give_up_ends : (environment : Environment) (s : State T U) (p : ℕ) (b : BlockedSend) (s' : State T U) (result : SendResult) → (result ≡ Blocked_send → ⊥)
       → GiveUp environment s p b s' result → LoanEnds p b.message s s'
-  give_up_ends environment s p b = delivered_ends environment s p b.message b.channel 0 no_time (b.place + 1) (drop 1 b.ends) b.count b.has_failed
+  give_up_ends environment s p b s' result free =
+      give_up_by_steps LoansKept (LoanEnds p b.message) (kept_ends p b.message) environment s p b s' result (deliveries_end environment p b.message result free)
 
   -- Its publisher, among whose loans it was, may take one loan more.
   pub counted_lends : (p n : ℕ) (s s' : State T U) → IsWellFormed s → (x : Publisher) → s.publishers p ≡ Some x → contains x.loans n ≡ true → LoanEnds p n s s'
@@ -458,8 +422,7 @@ module _ {T U : Type 0} where
       record {
         port = there.0;
         stands = there.1;
-        slots = subst (λ (k : ℕ). worst_case s'.config (there.0).max_loaned_samples ≤ k) (sym there.4)
-            (subst (λ (k : ℕ). worst_case s'.config k ≤ (can.port).slots) (sym there.3) (subst (λ (c : ServiceConfig). worst_case c (can.port).max_loaned_samples ≤ (can.port).slots) (sym h.config) can.slots));
+        slots = slots_kept s s' can.port there.0 h.config there.3 there.4 can.slots;
         few = omega (arith, one, left, there.3, can.few);
         values = values_kept s s' can.port there.0 h.config there.2 there.6 can.values;
       }
@@ -477,18 +440,7 @@ module _ {T U : Type 0} where
 
   -- each other publisher may take as many as before
   pub others_lend : (p n : ℕ) (s s' : State T U) → LoanEnds p n s s' → (i more : ℕ) → i ≢ p → CanLend s i more → CanLend s' i more
-  others_lend p n s s' h i more away can =
-      let there = h.others i can.port away can.stands in
-      let terms : KeepsTerms can.port there.0 = there.2 in
-      let loans : length (there.0).loans ≡ length (can.port).loans = ap (λ (ns : List ℕ). length ns) terms.loans in
-      record {
-        port = there.0;
-        stands = there.1;
-        slots = subst (λ (k : ℕ). worst_case s'.config (there.0).max_loaned_samples ≤ k) (sym terms.slots)
-            (subst (λ (k : ℕ). worst_case s'.config k ≤ (can.port).slots) (sym terms.most) (subst (λ (c : ServiceConfig). worst_case c (can.port).max_loaned_samples ≤ (can.port).slots) (sym h.config) can.slots));
-        few = omega (arith, loans, terms.most, can.few);
-        values = values_kept s s' can.port there.0 h.config terms.allocation terms.longest can.values;
-      }
+  others_lend p n s s' h i more away can = kept_at_lends s s' h.config i more can (h.others i can.port away can.stands)
 
 -- fewer than may be taken may be taken
 pub lends_fewer : {T U : Type 0} (s : State T U) (p n more : ℕ) → n ≤ more → CanLend s p more → CanLend s p n

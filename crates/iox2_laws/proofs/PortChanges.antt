@@ -1,5 +1,5 @@
 -- What every change of ports, mailboxes and places keeps; ports that become due; warnings.
-use Rattle.std.proofs.Common.{◌≡◌, ℕ, ◌≤◌, ◌<◌, true, false, eqb, List, ◌++◌, refl, sym, ap, subst, ◌∙◌, arith, Option, None, Some, ◌⊎◌, ⊎_elim}
+use Rattle.std.proofs.Common.{◌≡◌, ℕ, ◌≤◌, ◌<◌, Bool, true, false, eqb, List, ◌++◌, refl, sym, ap, subst, ◌∙◌, le_refl, arith, Option, None, Some, ◌⊎◌, inl, inr, ⊎_elim}
 use Rattle.std.specs.List.{flat_map}
 use Rattle.std.specs.Option.{MatchOption, option_map}
 use Rattle.std.proofs.lemmas.Bool.{true≢false}
@@ -7,14 +7,14 @@ use Rattle.std.proofs.lemmas.Option.{none-some, same_Some}
 use Rattle.iox2_store.specs.machine.Numbers.{contains, size}
 use Rattle.iox2_store.specs.machine.Places.{occupant, occupants}
 use Rattle.iox2_store.specs.machine.Channel.{Channel}
-use Rattle.iox2_store.specs.machine.Mailbox.{Mailbox, numbers_in, has_numbers, has_borrows, waiting_count, OthersWithin}
-use Rattle.iox2_store.specs.machine.Records.{Loan, Publisher, Subscriber}
+use Rattle.iox2_store.specs.machine.Mailbox.{Mailbox, numbers_in, has_numbers, has_borrows, has_waiting, waiting_count, IsWithin, OthersWithin}
+use Rattle.iox2_store.specs.machine.Records.{BlockedSend, Loan, Publisher, Subscriber}
 use Rattle.iox2_store.specs.machine.State.{State, Warnings, publishers_due, subscribers_due, sender_channels_reset, receiver_channels_reset}
 use Rattle.iox2_store.specs.machine.WellFormed.{LeadsTo, PlacesAgree, publisher_place, subscriber_place, BlockedIsWellFormed, PublisherIsWellFormed}
 use Rattle.iox2_store.specs.machine.WellFormed.{SubscriberIsWellFormed, MailboxIsWellFormed, LoanIsWellFormed, IsWellFormed}
 use Rattle.iox2_laws.proofs.Puts.{found_mapped}
 use Rattle.iox2_laws.proofs.NumberLemmas.{contains_in_append, contains_left, contains_right, contains_in_flat_map, contains-flat_map, size_le, absent_from}
-use Rattle.iox2_store.specs.machine.Limits.{channel_count}
+use Rattle.iox2_store.specs.machine.Limits.{buffer_limit, channel_count}
 
 -- ---- places
 
@@ -96,19 +96,27 @@ module _ {T U : Type 0} where
       → contains (numbers_in (t.mailboxes p q)) n ≡ false
   fewer_absent s t p q n fewer absent = absent_from (numbers_in (t.mailboxes p q)) n (λ h. true≢false (sym (fewer n h) ∙ absent))
 
-  -- A publisher stays well-formed where its mailboxes get no numbers and its ends still stand at their subscribers' places.
-  pub publisher_kept : (s t : State T U) (p : ℕ) (x : Publisher) → PublisherIsWellFormed s p x → s.next_port ≤ t.next_port → ((q : ℕ) → FewerNumbers s t p q)
+  -- The later state with the configuration of the earlier one.
+  abbrev pub configured : (s t : State T U) → State T U
+  configured s t = record t { config = s.config }
+
+  -- A publisher is well-formed in another state where its mailboxes get no numbers, its ends still stand at their subscribers' places,
+  -- its loans stay its own and no loan appears.
+  pub publisher_in : (s t : State T U) (p : ℕ) (x : Publisher) → PublisherIsWellFormed s p x → s.next_port ≤ t.next_port → s.next_message ≤ t.next_message
+      → ((q : ℕ) → FewerNumbers s t p q)
       → ((place q : ℕ) (y : Subscriber) → occupant x.ends place ≡ Some q → t.subscribers q ≡ Some y → y.place ≡ place)
-      → PublisherIsWellFormed (changed s t) p x
-  publisher_kept s t p x w more fewer stand = record {
+      → ((n : ℕ) (l : Loan T U) → s.loans n ≡ Some l → l.publisher ≡ p → (l' : Loan T U) × (t.loans n ≡ Some l') × (l'.publisher ≡ p))
+      → ((n : ℕ) → n < s.next_message → s.loans n ≡ None → t.loans n ≡ None)
+      → PublisherIsWellFormed (configured s t) p x
+  publisher_in s t p x w ports messages fewer stand own none = record {
     is_known = omega (arith, w.is_known);
     loans_bound = w.loans_bound;
     loans_once = w.loans_once;
-    loans_below = w.loans_below;
-    loans_held = w.loans_held;
+    loans_below = λ n h. omega (arith, w.loans_below n h);
+    loans_held = λ n h. ⊎_elim (λ held. inl (own n held.0 held.1 held.2)) (λ waits. inr waits) (w.loans_held n h);
     history_bound = w.history_bound;
     history_once = w.history_once;
-    history_below = w.history_below;
+    history_below = λ n h. omega (arith, w.history_below n h);
     ends_bound = w.ends_bound;
     ends_apart = w.ends_apart;
     ends_known = λ q h. omega (arith, w.ends_known q h);
@@ -122,7 +130,7 @@ module _ {T U : Type 0} where
     segments_bound = w.segments_bound;
     blocked = λ b e. let v : BlockedIsWellFormed s p x b = w.blocked b e in record {
       is_out = v.is_out;
-      unheld = v.unheld;
+      unheld = none b.message (w.loans_below b.message v.is_out) v.unheld;
       ends = v.ends;
       channel = v.channel;
       unserved = λ q h. fewer_absent s t p q b.message (fewer q) (v.unserved q h);
@@ -131,81 +139,106 @@ module _ {T U : Type 0} where
     };
   }
 
+  -- So where loans and the counter of messages stay the same.
+  pub publisher_kept : (s t : State T U) (p : ℕ) (x : Publisher) → PublisherIsWellFormed s p x → s.next_port ≤ t.next_port → ((q : ℕ) → FewerNumbers s t p q)
+      → ((place q : ℕ) (y : Subscriber) → occupant x.ends place ≡ Some q → t.subscribers q ≡ Some y → y.place ≡ place)
+      → PublisherIsWellFormed (changed s t) p x
+  publisher_kept s t p x w more fewer stand =
+      publisher_in s (changed s t) p x w more (le_refl s.next_message) fewer stand (λ n l e own. (l, e, own)) (λ n _ e. e)
+
   -- A publisher that is due is as well-formed as before.
   publisher_due : (s : State T U) (p : ℕ) (x : Publisher) → PublisherIsWellFormed s p x → PublisherIsWellFormed s p (record x { is_due = true })
-  publisher_due s p x w = record {
-    is_known = w.is_known;
-    loans_bound = w.loans_bound;
-    loans_once = w.loans_once;
-    loans_below = w.loans_below;
-    loans_held = w.loans_held;
-    history_bound = w.history_bound;
-    history_once = w.history_once;
-    history_below = w.history_below;
-    ends_bound = w.ends_bound;
-    ends_apart = w.ends_apart;
-    ends_known = w.ends_known;
-    ends_stand = w.ends_stand;
-    slots_bound = w.slots_bound;
-    some_segment = w.some_segment;
-    segments_bound = w.segments_bound;
-    blocked = λ b e. let v : BlockedIsWellFormed s p x b = w.blocked b e in
-        record { is_out = v.is_out; unheld = v.unheld; ends = v.ends; channel = v.channel; unserved = v.unserved; waits = v.waits; count_bound = v.count_bound };
-  }
+  publisher_due s p x w =
+      let blocked : (b : BlockedSend) → x.blocked ≡ Some b → BlockedIsWellFormed s p (record x { is_due = true }) b = λ b e.
+      (let v : BlockedIsWellFormed s p x b = w.blocked b e in assumption) in
+      assumption
 
-  -- A subscriber that is due is as well-formed as before.
-  subscriber_due : (s : State T U) (q : ℕ) (y : Subscriber) → SubscriberIsWellFormed s q y → SubscriberIsWellFormed s q (record y { is_due = true })
-  subscriber_due s q y w = record {
-    is_known = w.is_known;
-    some_room = w.some_room;
-    buffer_bound = w.buffer_bound;
-    ends_bound = w.ends_bound;
-    ends_apart = w.ends_apart;
-    ends_known = w.ends_known;
-    ends_stand = w.ends_stand;
-    expired_bound = w.expired_bound;
-    expired_once = w.expired_once;
-    expired_apart = w.expired_apart;
-    expired_known = w.expired_known;
-    expired_gone = w.expired_gone;
-    expired_kept = w.expired_kept;
-    is_used = w.is_used;
-  }
+  -- A subscriber is well-formed, open or closed and due or not, where it has something borrowed if it is closed.
+  pub subscriber_marked : (s : State T U) (q : ℕ) (y : Subscriber) (is_open is_due : Bool) → SubscriberIsWellFormed s q y
+      → (is_open ≡ false → (p : ℕ) × (has_borrows (s.mailboxes p q) ≡ true)) → SubscriberIsWellFormed s q (record y { is_open = is_open; is_due = is_due })
+  subscriber_marked s q y is_open is_due w is_used = assumption
 
-  -- A subscriber stays well-formed where its mailboxes are the same and the publishers that it knows keep their places.
-  pub subscriber_kept : (s t : State T U) (q : ℕ) (y : Subscriber) → SubscriberIsWellFormed s q y → s.next_port ≤ t.next_port
-      → ((p : ℕ) → t.mailboxes p q ≡ s.mailboxes p q) → ((p : ℕ) → p < s.next_port → publisher_place t p ≡ publisher_place s p)
-      → SubscriberIsWellFormed (changed s t) q y
-  subscriber_kept s t q y w more same places = record {
+  -- What stands at an end of q is a publisher that has that place, or a departed one with some message left.
+  abbrev EndStands : (s : State T U) (q place p : ℕ) → Type 0
+  EndStands s q place p = MatchOption (s.publishers p) (has_numbers (s.mailboxes p q) ≡ true) (λ x. x.place ≡ place)
+
+  -- A subscriber is well-formed in another state where its ends still stand, departed publishers don't come back, and of its messages
+  -- none is lost that it has borrowed, and of departed publishers not the last.
+  pub subscriber_in : (s t : State T U) (q : ℕ) (y : Subscriber) → SubscriberIsWellFormed s q y → s.next_port ≤ t.next_port
+      → ((place p : ℕ) → p < s.next_port → EndStands s q place p → EndStands t q place p)
+      → ((p : ℕ) → p < s.next_port → s.publishers p ≡ None → t.publishers p ≡ None)
+      → ((p : ℕ) → s.publishers p ≡ None → has_numbers (s.mailboxes p q) ≡ true → has_numbers (t.mailboxes p q) ≡ true)
+      → ((p : ℕ) → has_borrows (s.mailboxes p q) ≡ true → has_borrows (t.mailboxes p q) ≡ true)
+      → SubscriberIsWellFormed (configured s t) q y
+  subscriber_in s t q y w more stand gone left borrowed = record {
     is_known = omega (arith, w.is_known);
     some_room = w.some_room;
     buffer_bound = w.buffer_bound;
     ends_bound = w.ends_bound;
     ends_apart = w.ends_apart;
     ends_known = λ p h. omega (arith, w.ends_known p h);
-    ends_stand = λ place p e. at_place (has_numbers (t.mailboxes p q) ≡ true) place (s.publishers p) (t.publishers p) (places p (w.ends_known p (place, e)))
-        (subst (λ (box : Mailbox). MatchOption (s.publishers p) (has_numbers box ≡ true) (λ x. x.place ≡ place)) (sym (same p)) (w.ends_stand place p e));
+    ends_stand = λ place p e. stand place p (w.ends_known p (place, e)) (w.ends_stand place p e);
     expired_bound = w.expired_bound;
     expired_once = w.expired_once;
     expired_apart = w.expired_apart;
     expired_known = λ p h. omega (arith, w.expired_known p h);
-    expired_gone = λ p h. still_none (s.publishers p) (t.publishers p) (places p (w.expired_known p h)) (w.expired_gone p h);
-    expired_kept = λ p h. subst (λ (box : Mailbox). has_numbers box ≡ true) (sym (same p)) (w.expired_kept p h);
-    is_used = λ closed. let used : (p : ℕ) × (has_borrows (s.mailboxes p q) ≡ true) = w.is_used closed in (used.0, ap has_borrows (same used.0) ∙ used.1);
+    expired_gone = λ p h. gone p (w.expired_known p h) (w.expired_gone p h);
+    expired_kept = λ p h. left p (w.expired_gone p h) (w.expired_kept p h);
+    is_used = λ closed. let used : (p : ℕ) × (has_borrows (s.mailboxes p q) ≡ true) = w.is_used closed in (used.0, borrowed used.0 used.1);
   }
 
-  -- A loan stays well-formed where its publisher's mailboxes get no numbers, and where it is still out.
-  pub loan_kept : (s t : State T U) (n : ℕ) (l : Loan T U) → LoanIsWellFormed s n l → s.next_port ≤ t.next_port → ((q : ℕ) → FewerNumbers s t l.publisher q)
+  -- A subscriber stays well-formed where its mailboxes are the same and the publishers that it knows keep their places.
+  pub subscriber_kept : (s t : State T U) (q : ℕ) (y : Subscriber) → SubscriberIsWellFormed s q y → s.next_port ≤ t.next_port
+      → ((p : ℕ) → t.mailboxes p q ≡ s.mailboxes p q) → ((p : ℕ) → p < s.next_port → publisher_place t p ≡ publisher_place s p)
+      → SubscriberIsWellFormed (changed s t) q y
+  subscriber_kept s t q y w more same places =
+      subscriber_in s (changed s t) q y w more
+      (λ place p known h. at_place (has_numbers (t.mailboxes p q) ≡ true) place (s.publishers p) (t.publishers p) (places p known)
+      (subst (λ (box : Mailbox). MatchOption (s.publishers p) (has_numbers box ≡ true) (λ x. x.place ≡ place)) (sym (same p)) h))
+      (λ p known. still_none (s.publishers p) (t.publishers p) (places p known))
+      (λ p _ h. ap has_numbers (same p) ∙ h)
+      (λ p h. ap has_borrows (same p) ∙ h)
+
+  -- A loan is well-formed in another state where its publisher's mailboxes get no numbers, and where it is still out.
+  pub loan_in : (s t : State T U) (n : ℕ) (l : Loan T U) → LoanIsWellFormed s n l → s.next_port ≤ t.next_port → s.next_message ≤ t.next_message
+      → ((q : ℕ) → FewerNumbers s t l.publisher q)
       → ((x : Publisher) → t.publishers l.publisher ≡ Some x → (contains x.loans n ≡ true) × (contains x.history n ≡ false))
-      → LoanIsWellFormed (changed s t) n l
-  loan_kept s t n l w more fewer out = record {
-    below = w.below;
+      → LoanIsWellFormed (configured s t) n l
+  loan_in s t n l w ports messages fewer out = record {
+    below = omega (arith, w.below);
     known = omega (arith, w.known);
     origin = w.origin;
     cells = w.cells;
     complete = w.complete;
     is_out = out;
     unsent = λ q. fewer_absent s t l.publisher q n (fewer q) (w.unsent q);
+  }
+
+  -- So where the counter of messages stays the same.
+  pub loan_kept : (s t : State T U) (n : ℕ) (l : Loan T U) → LoanIsWellFormed s n l → s.next_port ≤ t.next_port → ((q : ℕ) → FewerNumbers s t l.publisher q)
+      → ((x : Publisher) → t.publishers l.publisher ≡ Some x → (contains x.loans n ≡ true) × (contains x.history n ≡ false))
+      → LoanIsWellFormed (changed s t) n l
+  loan_kept s t n l w more = loan_in s (changed s t) n l w more (le_refl s.next_message)
+
+  -- A mailbox that stays the same is well-formed in another state where it has room at its subscriber, its publisher has its end, and
+  -- what is borrowed and what waits from a departed publisher is somebody's.
+  pub mailbox_in : (s t : State T U) (p q : ℕ) → MailboxIsWellFormed s p q → s.next_port ≤ t.next_port → s.next_message ≤ t.next_message → t.mailboxes p q ≡ s.mailboxes p q
+      → ((y : Subscriber) → t.subscribers q ≡ Some y → (waiting_count (s.mailboxes p q) ≤ y.buffer) × OthersWithin (channel_count s.config) y.buffer (s.mailboxes p q))
+      → ((x : Publisher) → t.publishers p ≡ Some x → has_numbers (s.mailboxes p q) ≡ true → LeadsTo x.ends q)
+      → (has_borrows (s.mailboxes p q) ≡ true → (y : Subscriber) × (t.subscribers q ≡ Some y) × ((contains y.expired p ≡ true) ⊎ LeadsTo y.ends p))
+      → (t.publishers p ≡ None → has_waiting (s.mailboxes p q) ≡ true
+      → (y : Subscriber) × (t.subscribers q ≡ Some y) × (y.is_open ≡ true) × ((contains y.expired p ≡ true) ⊎ LeadsTo y.ends p))
+      → MailboxIsWellFormed (configured s t) p q
+  mailbox_in s t p q w ports messages same room sender receiver departed = record {
+    within = subst (λ (m : Mailbox). IsWithin (buffer_limit s.config) (s.config).subscriber_max_borrowed_samples m) (sym same) w.within;
+    others = subst (λ (m : Mailbox). OthersWithin (channel_count s.config) (buffer_limit s.config) m) (sym same) w.others;
+    room = λ y e. subst (λ (m : Mailbox). waiting_count m ≤ y.buffer) (sym same) (room y e).0;
+    others_room = λ y e. subst (λ (m : Mailbox). OthersWithin (channel_count s.config) y.buffer m) (sym same) (room y e).1;
+    below = λ n h. let low : n < s.next_message = w.below n (ap (λ m. contains (numbers_in m) n) (sym same) ∙ h) in omega arith;
+    known = λ h. let old : (p < s.next_port) × (q < s.next_port) = w.known (ap has_numbers (sym same) ∙ h) in (omega (arith, old.0), omega (arith, old.1));
+    sender_end = λ x e h. sender x e (ap has_numbers (sym same) ∙ h);
+    receiver_end = λ h. receiver (ap has_borrows (sym same) ∙ h);
+    departed = λ gone h. departed gone (ap has_waiting (sym same) ∙ h);
   }
 
   -- ---- all but the subscribers
@@ -226,74 +259,33 @@ module _ {T U : Type 0} where
 
   -- A well-formed state without what it says of the subscribers.
   pub rest_of : (s : State T U) → IsWellFormed s → RestIsWellFormed s
-  rest_of s w = record {
-    publisher_places = w.publisher_places;
-    subscriber_places = w.subscriber_places;
-    publishers = w.publishers;
-    mailboxes = w.mailboxes;
-    loans = w.loans;
-  }
+  rest_of s w = assumption
 
   -- With well-formed subscribers the state is well-formed.
   pub with_rest : (s : State T U) → RestIsWellFormed s → ((q : ℕ) (y : Subscriber) → s.subscribers q ≡ Some y → SubscriberIsWellFormed s q y) → IsWellFormed s
-  with_rest s w subscribers = record {
-    publisher_places = w.publisher_places;
-    subscriber_places = w.subscriber_places;
-    publishers = w.publishers;
-    subscribers = subscribers;
-    mailboxes = w.mailboxes;
-    loans = w.loans;
-  }
+  with_rest s w subscribers = assumption
 
   -- ---- warnings, and ports that become due
 
-  -- Warnings don't matter.
-  pub with_warning_keeps : (s : State T U) → IsWellFormed s → (ws : Warnings) → IsWellFormed (record s { warnings = ws })
-  with_warning_keeps s w ws = record {
+  -- Channels and warnings don't matter.
+  told_keeps : (s : State T U) → IsWellFormed s → (channels : ℕ → ℕ → ℕ → Channel) (ws : Warnings) → IsWellFormed (record s { channels = channels; warnings = ws })
+  told_keeps s w channels ws = record {
     publisher_places = w.publisher_places;
     subscriber_places = w.subscriber_places;
     publishers = λ p x e. publisher_kept s s' p x (w.publishers p x e) (omega arith) (λ q n h. h) (w.publishers p x e).ends_stand;
     subscribers = λ q y e. subscriber_kept s s' q y (w.subscribers q y e) (omega arith) (λ p. refl) (λ p _. refl);
-    mailboxes = λ p q. let v : MailboxIsWellFormed s p q = w.mailboxes p q in record {
-      within = v.within;
-      others = v.others;
-      room = v.room;
-      others_room = v.others_room;
-      below = v.below;
-      known = v.known;
-      sender_end = v.sender_end;
-      receiver_end = v.receiver_end;
-      departed = v.departed;
-    };
+    mailboxes = λ p q. let v : MailboxIsWellFormed s p q = w.mailboxes p q in assumption;
     loans = λ n l e. loan_kept s s' n l (w.loans n l e) (omega arith) (λ q n h. h) (w.loans n l e).is_out;
   }
     where
       s' : State T U
-      s' = record s { warnings = ws }
+      s' = record s { channels = channels; warnings = ws }
 
-  -- Nor do channels.
+  pub with_warning_keeps : (s : State T U) → IsWellFormed s → (ws : Warnings) → IsWellFormed (record s { warnings = ws })
+  with_warning_keeps s w ws = told_keeps s w s.channels ws
+
   pub with_all_channels_keeps : (s : State T U) → IsWellFormed s → (channels : ℕ → ℕ → ℕ → Channel) → IsWellFormed (record s { channels = channels })
-  with_all_channels_keeps s w channels = record {
-    publisher_places = w.publisher_places;
-    subscriber_places = w.subscriber_places;
-    publishers = λ p x e. publisher_kept s s' p x (w.publishers p x e) (omega arith) (λ q n h. h) (w.publishers p x e).ends_stand;
-    subscribers = λ q y e. subscriber_kept s s' q y (w.subscribers q y e) (omega arith) (λ p. refl) (λ p _. refl);
-    mailboxes = λ p q. let v : MailboxIsWellFormed s p q = w.mailboxes p q in record {
-      within = v.within;
-      others = v.others;
-      room = v.room;
-      others_room = v.others_room;
-      below = v.below;
-      known = v.known;
-      sender_end = v.sender_end;
-      receiver_end = v.receiver_end;
-      departed = v.departed;
-    };
-    loans = λ n l e. loan_kept s s' n l (w.loans n l e) (omega arith) (λ q n h. h) (w.loans n l e).is_out;
-  }
-    where
-      s' : State T U
-      s' = record s { channels = channels }
+  with_all_channels_keeps s w channels = told_keeps s w channels s.warnings
 
   -- So a state stays well-formed where the channels of ports that aren't connected become new.
   pub sender_reset_keeps : (s : State T U) (p : ℕ) → IsWellFormed s → IsWellFormed (sender_channels_reset s p)
@@ -313,24 +305,19 @@ module _ {T U : Type 0} where
         (λ z f g. ap (λ (v : Subscriber). v.place) g ∙ (w.publishers p x e).ends_stand place q z at f));
     subscribers = λ q y e. found_mapped due_subscriber (s.subscribers q) y (SubscriberIsWellFormed s' q y) e (λ z f g.
         subst (SubscriberIsWellFormed s' q) (sym g)
-        (subscriber_due s' q z (subscriber_kept s s' q z (w.subscribers q z f) (omega arith) (λ p. refl) (λ p _. refl))));
-    mailboxes = λ p q. let v : MailboxIsWellFormed s p q = w.mailboxes p q in record {
-      within = v.within;
-      below = v.below;
-      known = v.known;
-      sender_end = v.sender_end;
-      room = λ y e. found_mapped due_subscriber (s.subscribers q) y (waiting_count (s.mailboxes p q) ≤ y.buffer) e
-          (λ z f g. subst (λ (u : Subscriber). waiting_count (s.mailboxes p q) ≤ u.buffer) (sym g) (v.room z f));
-      others = v.others;
-      others_room = λ y e. found_mapped due_subscriber (s.subscribers q) y (OthersWithin (channel_count s.config) y.buffer (s.mailboxes p q)) e
-          (λ z f g. subst (λ (u : Subscriber). OthersWithin (channel_count s.config) u.buffer (s.mailboxes p q)) (sym g) (v.others_room z f));
-      receiver_end = λ h. let found : (y : Subscriber) × (s.subscribers q ≡ Some y) × ((contains y.expired p ≡ true) ⊎ LeadsTo y.ends p) = v.receiver_end h in
-          (due_subscriber found.0, ap (λ o. option_map due_subscriber o) found.1, found.2);
-      departed = λ gone h.
-          let found : (y : Subscriber) × (s.subscribers q ≡ Some y) × (y.is_open ≡ true) × ((contains y.expired p ≡ true) ⊎ LeadsTo y.ends p) =
-          v.departed gone h in
-          (due_subscriber found.0, ap (λ o. option_map due_subscriber o) found.1, found.2, found.3);
-    };
+        (let v : SubscriberIsWellFormed s' q z = subscriber_kept s s' q z (w.subscribers q z f) (omega arith) (λ p. refl) (λ p _. refl) in
+        subscriber_marked s' q z z.is_open true v v.is_used));
+    mailboxes = λ p q. let v : MailboxIsWellFormed s p q = w.mailboxes p q in
+        mailbox_in s s' p q v (le_refl s.next_port) (le_refl s.next_message) refl
+        (λ y e. found_mapped due_subscriber (s.subscribers q) y
+        ((waiting_count (s.mailboxes p q) ≤ y.buffer) × OthersWithin (channel_count s.config) y.buffer (s.mailboxes p q)) e
+        (λ z f g. subst (λ (u : Subscriber). (waiting_count (s.mailboxes p q) ≤ u.buffer) × OthersWithin (channel_count s.config) u.buffer (s.mailboxes p q)) (sym g)
+        (v.room z f, v.others_room z f)))
+        v.sender_end
+        (λ h. let found : (y : Subscriber) × (s.subscribers q ≡ Some y) × ((contains y.expired p ≡ true) ⊎ LeadsTo y.ends p) = v.receiver_end h in
+        (due_subscriber found.0, ap (λ o. option_map due_subscriber o) found.1, found.2))
+        (λ gone h. let found : (y : Subscriber) × (s.subscribers q ≡ Some y) × (y.is_open ≡ true) × ((contains y.expired p ≡ true) ⊎ LeadsTo y.ends p) = v.departed gone h in
+        (due_subscriber found.0, ap (λ o. option_map due_subscriber o) found.1, found.2, found.3));
     loans = λ n l e. loan_kept s s' n l (w.loans n l e) (omega arith) (λ q n h. h) (w.loans n l e).is_out;
   }
     where
@@ -345,18 +332,10 @@ module _ {T U : Type 0} where
     publishers = λ p x e. found_mapped due_publisher (s.publishers p) x (PublisherIsWellFormed s' p x) e (λ z f g.
         subst (PublisherIsWellFormed s' p) (sym g)
         (publisher_due s' p z (publisher_kept s s' p z (w.publishers p z f) (omega arith) (λ q n h. h) (w.publishers p z f).ends_stand)));
-    mailboxes = λ p q. let v : MailboxIsWellFormed s p q = w.mailboxes p q in record {
-      within = v.within;
-      others = v.others;
-      room = v.room;
-      others_room = v.others_room;
-      below = v.below;
-      known = v.known;
-      receiver_end = v.receiver_end;
-      sender_end = λ x e h. found_mapped due_publisher (s.publishers p) x (LeadsTo x.ends q) e
-          (λ z f g. subst (λ (u : Publisher). LeadsTo u.ends q) (sym g) (v.sender_end z f h));
-      departed = λ gone h. v.departed (none_before (s.publishers p) gone) h;
-    };
+    mailboxes = λ p q. let v : MailboxIsWellFormed s p q = w.mailboxes p q in
+        mailbox_in s s' p q v (le_refl s.next_port) (le_refl s.next_message) refl (λ y e. (v.room y e, v.others_room y e))
+        (λ x e h. found_mapped due_publisher (s.publishers p) x (LeadsTo x.ends q) e (λ z f g. subst (λ (u : Publisher). LeadsTo u.ends q) (sym g) (v.sender_end z f h)))
+        v.receiver_end (λ gone. v.departed (none_before (s.publishers p) gone));
     loans = λ n l e. loan_kept s s' n l (w.loans n l e) (omega arith) (λ q n h. h)
         (λ x found. found_mapped due_publisher (s.publishers l.publisher) x ((contains x.loans n ≡ true) × (contains x.history n ≡ false)) found
         (λ z f g. subst (λ (u : Publisher). (contains u.loans n ≡ true) × (contains u.history n ≡ false)) (sym g) ((w.loans n l e).is_out z f)));

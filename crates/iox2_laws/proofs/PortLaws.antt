@@ -1,8 +1,9 @@
 -- What making a port keeps.
-use Rattle.std.proofs.Common.{◌≡◌, ℕ, ◌+◌, ◌≤◌, ◌<◌, true, false, cond, List, length, refl, sym, ap, subst, ◌∙◌, arith, eqb, lt_irrefl, Option}
+use Rattle.std.proofs.Common.{le_refl, ◌≡◌, ℕ, ◌+◌, ◌≤◌, ◌<◌, true, false, cond, List, length, refl, sym, ap, subst, ◌∙◌, arith, eqb, lt_irrefl, Option}
 use Rattle.std.proofs.Common.{None, Some, ◌⊎◌, ⊎_elim}
 use Rattle.std.proofs.lemmas.Bool.{eq-eqb, true≢false, ne_eqb, ltb-false, false_from_ne_true}
 use Rattle.std.proofs.lemmas.Option.{none-some, same_Some}
+use Rattle.iox2_laws.proofs.OperationWalks.{advance, create_publisher_by_steps, create_subscriber_by_steps}
 use Rattle.iox2_store.specs.machine.Limits.{buffer_limit, channel_count}
 use Rattle.iox2_store.specs.machine.Numbers.{contains, put_at}
 use Rattle.iox2_store.specs.machine.Places.{occupant, set_place}
@@ -25,7 +26,7 @@ use Rattle.iox2_laws.proofs.PlaceLemmas.{occupant-set_place, length-set_place_le
 use Rattle.iox2_laws.proofs.MailboxLemmas.{has_numbers-borrows, has_numbers-waiting, nothing_anywhere, OthersWithin-none}
 use Rattle.iox2_laws.proofs.PublisherUpdates.{update_publisher_keeps, update_publisher_advances}
 use Rattle.iox2_laws.proofs.SubscriberUpdates.{update_subscriber_keeps, update_subscriber_advances}
-use Rattle.iox2_laws.proofs.PortChanges.{places_agree_by, place_of_publisher, place_of_subscriber, publisher_kept, subscriber_kept, loan_kept}
+use Rattle.iox2_laws.proofs.PortChanges.{places_agree_by, place_of_publisher, place_of_subscriber, publisher_kept, subscriber_kept, mailbox_in, loan_kept}
 use Rattle.iox2_laws.proofs.PortChanges.{subscribers_due_keeps, publishers_due_keeps}
 pub use Rattle.iox2_laws.proofs.PortChanges.{with_warning_keeps}
 
@@ -127,21 +128,14 @@ module _ {T U : Type 0} where
     subscribers = λ q y e. subscriber_kept s s' q y (w.subscribers q y e)
         (omega arith) (λ p. refl)
         (λ p known. ap place_of_publisher (put_at-other s.publishers s.next_port (Some (new_publisher s given place)) p (ne_eqb p s.next_port (λ same. omega arith))));
-    mailboxes = λ p q. let v : MailboxIsWellFormed s p q = w.mailboxes p q in record {
-      within = v.within;
-      others = v.others;
-      room = v.room;
-      others_room = v.others_room;
-      below = v.below;
-      receiver_end = v.receiver_end;
-      known = λ h. (omega (arith, (v.known h).0), omega (arith, (v.known h).1));
-      sender_end = λ x e h. found_put s.publishers s.next_port (new_publisher s given place) (λ p x. LeadsTo x.ends q) p x e
-          (λ same. absurd (omega (arith, (v.known h).0)))
-          (λ _ old. v.sender_end x old h);
-      departed = λ gone h. v.departed
-          (at_each s.publishers s.next_port (Some (new_publisher s given place)) (λ i o. o ≡ None → s.publishers i ≡ None) p
-          (λ _ e. absurd (none-some (new_publisher s given place) (sym e))) (λ _ e. e) gone) h;
-    };
+    mailboxes = λ p q. let v : MailboxIsWellFormed s p q = w.mailboxes p q in
+        mailbox_in s s' p q v (omega arith) (le_refl s.next_message) refl (λ y e. (v.room y e, v.others_room y e))
+        (λ x e h. found_put s.publishers s.next_port (new_publisher s given place) (λ p x. LeadsTo x.ends q) p x e
+        (λ same. absurd (omega (arith, (v.known h).0))) (λ _ old. v.sender_end x old h))
+        v.receiver_end
+        (λ gone. v.departed
+        (at_each s.publishers s.next_port (Some (new_publisher s given place)) (λ i o. o ≡ None → s.publishers i ≡ None) p
+        (λ _ e. absurd (none-some (new_publisher s given place) (sym e))) (λ _ e. e) gone));
     loans = λ n l e. loan_kept s s' n l (w.loans n l e)
         (omega arith) (λ q n h. h)
         (λ x found. (w.loans n l e).is_out x (sym (put_at-other s.publishers s.next_port (Some (new_publisher s given place)) l.publisher
@@ -216,25 +210,20 @@ module _ {T U : Type 0} where
         (λ _. new_subscriber_is s given place fits)
         (λ _ old. subscriber_kept s s' q y (w.subscribers q y old)
         (omega arith) (λ p. refl) (λ p _. refl));
-    mailboxes = λ p q. let v : MailboxIsWellFormed s p q = w.mailboxes p q in record {
-      within = v.within;
-      below = v.below;
-      sender_end = v.sender_end;
-      known = λ h. (omega (arith, (v.known h).0), omega (arith, (v.known h).1));
-      room = λ y e. found_put s.subscribers s.next_port (new_subscriber given place) (λ q y. waiting_count (s.mailboxes p q) ≤ y.buffer) q y e
-          (λ _. omega (arith, none_waits (s.mailboxes p s.next_port) (nothing_yet p)))
-          (λ _ old. v.room y old);
-      others = v.others;
-      others_room = λ y e. found_put s.subscribers s.next_port (new_subscriber given place) (λ q y. OthersWithin (channel_count s.config) y.buffer (s.mailboxes p q)) q y e
-          (λ _. OthersWithin-none (channel_count s.config) (buffer_for given) (s.mailboxes p s.next_port) (nothing_anywhere (s.mailboxes p s.next_port) (nothing_yet p)).0)
-          (λ _ old. v.others_room y old);
-      receiver_end = λ h. let found : (y : Subscriber) × (s.subscribers q ≡ Some y) × ((contains y.expired p ≡ true) ⊎ LeadsTo y.ends p) = v.receiver_end h in
-          (found.0, old_stays q (v.known (has_numbers-borrows (s.mailboxes p q) h)).1 ∙ found.1, found.2);
-      departed = λ gone h.
-          let found : (y : Subscriber) × (s.subscribers q ≡ Some y) × (y.is_open ≡ true) × ((contains y.expired p ≡ true) ⊎ LeadsTo y.ends p) =
-          v.departed gone h in
-          (found.0, old_stays q (v.known (has_numbers-waiting (s.mailboxes p q) h)).1 ∙ found.1, found.2, found.3);
-    };
+    mailboxes = λ p q. let v : MailboxIsWellFormed s p q = w.mailboxes p q in
+        mailbox_in s s' p q v (omega arith) (le_refl s.next_message) refl
+        (λ y e. found_put s.subscribers s.next_port (new_subscriber given place)
+        (λ q y. (waiting_count (s.mailboxes p q) ≤ y.buffer) × OthersWithin (channel_count s.config) y.buffer (s.mailboxes p q)) q y e
+        (λ _. (
+          omega (arith, none_waits (s.mailboxes p s.next_port) (nothing_yet p)),
+          OthersWithin-none (channel_count s.config) (buffer_for given) (s.mailboxes p s.next_port) (nothing_anywhere (s.mailboxes p s.next_port) (nothing_yet p)).0,
+        ))
+        (λ _ old. (v.room y old, v.others_room y old)))
+        v.sender_end
+        (λ h. let found : (y : Subscriber) × (s.subscribers q ≡ Some y) × ((contains y.expired p ≡ true) ⊎ LeadsTo y.ends p) = v.receiver_end h in
+        (found.0, old_stays q (v.known (has_numbers-borrows (s.mailboxes p q) h)).1 ∙ found.1, found.2))
+        (λ gone h. let found : (y : Subscriber) × (s.subscribers q ≡ Some y) × (y.is_open ≡ true) × ((contains y.expired p ≡ true) ⊎ LeadsTo y.ends p) = v.departed gone h in
+        (found.0, old_stays q (v.known (has_numbers-waiting (s.mailboxes p q) h)).1 ∙ found.1, found.2, found.3));
     loans = λ n l e. loan_kept s s' n l (w.loans n l e)
         (omega arith) (λ q n h. h) (w.loans n l e).is_out;
   }
@@ -265,25 +254,12 @@ module _ {T U : Type 0} where
   failure_warning_keeps s w warning None = w
   failure_warning_keeps s w warning (Some failure) = with_warning_keeps s w (with_warning s (warning failure)).warnings
 
-  -- Nothing falls where nothing changes.
-  pub advances_refl : (s : State T U) → Advances s s
-  advances_refl s = record { config = refl; next_port = omega arith; next_message = omega arith }
-
   -- What doesn't fall twice doesn't fall in all.
   pub advances_trans : (a b c : State T U) → Advances a b → Advances b c → Advances a c
-  advances_trans a b c f g = record {
-    config = g.config ∙ f.config;
-    next_port = omega (arith, f.next_port, g.next_port);
-    next_message = omega (arith, f.next_message, g.next_message);
-  }
+  advances_trans = advance.trans
 
-  advances_same : (s s' : State T U) → s' ≡ s → Advances s s'
-  advances_same s s' e = subst (Advances s) (sym e) (advances_refl s)
-
-  failure_warning_advances : (s : State T U) (warning : ConnectionFailure → Warning) (failure : Option ConnectionFailure)
-      → Advances s (with_failure_warning s warning failure)
-  failure_warning_advances s warning None = advances_refl s
-  failure_warning_advances s warning (Some failure) = record { config = refl; next_port = omega arith; next_message = omega arith }
+  warned_advances : (s : State T U) (w : Warning) → Advances s (with_warning s w)
+  warned_advances s w = record { config = refl; next_port = omega arith; next_message = omega arith }
 
   make_publisher_keeps : (environment : Environment) (s : State T U) (given : PublisherSettings) (place : ℕ) (s' : State T U)
       → IsWellFormed s → place < (s.config).max_publishers → occupant s.publisher_places place ≡ None → FirstPublisherUpdate environment (with_new_publisher s given place) s.next_port s'
@@ -294,14 +270,6 @@ module _ {T U : Type 0} where
       (new_publisher_keeps s w given place low free) (new_publisher_unblocked s given place) h.2)
       (PublisherPartlyConnected s.next_port) h.1)
 
-  make_publisher_advances : (environment : Environment) (s : State T U) (given : PublisherSettings) (place : ℕ) (s' : State T U)
-      → FirstPublisherUpdate environment (with_new_publisher s given place) s.next_port s' → Advances s s'
-  make_publisher_advances environment s given place s' h =
-      subst (Advances s) (sym h.3) (advances_trans s h.0 (with_failure_warning h.0 (PublisherPartlyConnected s.next_port) h.1)
-      (advances_trans s (with_new_publisher s given place) h.0 (record { config = refl; next_port = omega arith; next_message = omega arith })
-      (update_publisher_advances environment (with_new_publisher s given place) s.next_port h.0 h.1 h.2))
-      (failure_warning_advances h.0 (PublisherPartlyConnected s.next_port) h.1))
-
   make_subscriber_keeps : (environment : Environment) (s : State T U) (given : SubscriberSettings) (place : ℕ) (s' : State T U)
       → IsWellFormed s → buffer_for given ≤ buffer_limit s.config → place < (s.config).max_subscribers → occupant s.subscriber_places place ≡ None
       → FirstSubscriberUpdate environment (with_new_subscriber s given place) s.next_port s' → IsWellFormed s'
@@ -309,14 +277,6 @@ module _ {T U : Type 0} where
       subst IsWellFormed (sym h.3) (failure_warning_keeps h.0
       (update_subscriber_keeps environment (with_new_subscriber s given place) s.next_port h.0 h.1 (new_subscriber_keeps s w given place fits low free) h.2)
       (SubscriberPartlyConnected s.next_port) h.1)
-
-  make_subscriber_advances : (environment : Environment) (s : State T U) (given : SubscriberSettings) (place : ℕ) (s' : State T U)
-      → FirstSubscriberUpdate environment (with_new_subscriber s given place) s.next_port s' → Advances s s'
-  make_subscriber_advances environment s given place s' h =
-      subst (Advances s) (sym h.3) (advances_trans s h.0 (with_failure_warning h.0 (SubscriberPartlyConnected s.next_port) h.1)
-      (advances_trans s (with_new_subscriber s given place) h.0 (record { config = refl; next_port = omega arith; next_message = omega arith })
-      (update_subscriber_advances environment (with_new_subscriber s given place) s.next_port h.0 h.1 h.2))
-      (failure_warning_advances h.0 (SubscriberPartlyConnected s.next_port) h.1))
 
 -- A publisher that is made, or refused, leaves the state well-formed.
 pub create_publisher_keeps : {T U : Type 0} (environment : Environment) (s : State T U) (given : PublisherSettings)
@@ -332,9 +292,9 @@ create_publisher_keeps environment s given s' refusal w h =
 pub create_publisher_advances : {T U : Type 0} (environment : Environment) (s : State T U) (given : PublisherSettings)
     (s' : State T U) (refusal : Option PublisherCreateError)
     → CreatePublisher environment s given s' refusal → Advances s s'
-create_publisher_advances environment s given s' refusal h =
-    publisher_cases environment s given s' (Advances s s') refusal h (λ e same _. advances_same s s' same)
-    (λ place makes. make_publisher_advances environment s given place s' makes.2)
+create_publisher_advances environment s given s' refusal =
+    create_publisher_by_steps Advances advance environment s given s' refusal
+    (λ place. record { config = refl; next_port = omega arith; next_message = omega arith }) (update_publisher_advances environment) warned_advances
 
 -- A subscriber that is made, or refused, leaves the state well-formed.
 pub create_subscriber_keeps : {T U : Type 0} (environment : Environment) (s : State T U) (given : SubscriberSettings)
@@ -350,6 +310,6 @@ create_subscriber_keeps environment s given s' refusal w h =
 pub create_subscriber_advances : {T U : Type 0} (environment : Environment) (s : State T U) (given : SubscriberSettings)
     (s' : State T U) (refusal : Option SubscriberCreateError)
     → CreateSubscriber environment s given s' refusal → Advances s s'
-create_subscriber_advances environment s given s' refusal h =
-    subscriber_cases environment s given s' (Advances s s') refusal h (λ e same _. advances_same s s' same)
-    (λ place makes. make_subscriber_advances environment s given place s' makes.3)
+create_subscriber_advances environment s given s' refusal =
+    create_subscriber_by_steps Advances advance environment s given s' refusal
+    (λ place. record { config = refl; next_port = omega arith; next_message = omega arith }) (update_subscriber_advances environment) warned_advances

@@ -1,5 +1,5 @@
 -- Each operation but a close leaves ports there, and each but a receive and a release leaves borrowed what is, and nothing else.
-use Rattle.std.proofs.Common.{◌≡◌, ℕ, Bool, true, false, List, [], ◌∷◌, ◌++◌, refl, sym, ap, subst, ◌∙◌, Option, None, Some}
+use Rattle.std.proofs.Common.{◌≡◌, ℕ, Bool, true, false, [], ◌∷◌, ◌++◌, refl, sym, ap, ◌∙◌, Option, None, Some}
 use Rattle.std.specs.Prelude.{max}
 use Rattle.std.specs.Option.{option_map}
 use Rattle.std.proofs.lemmas.Option.{same_Some}
@@ -7,22 +7,18 @@ use Rattle.iox2_store.specs.machine.Limits.{expired_limit}
 use Rattle.iox2_store.specs.machine.Numbers.{put_at, without, last_n}
 use Rattle.iox2_store.specs.machine.Mailbox.{Mailbox}
 use Rattle.iox2_store.specs.machine.Records.{Loan, Publisher, Subscriber, Environment, PublisherSettings, SubscriberSettings}
-use Rattle.iox2_store.specs.machine.State.{State, receiving_buffer, channel_buffer, has_receiver_end, has_sender_end, with_loan, publisher_changed}
-use Rattle.iox2_store.specs.machine.Delivery.{DeliveryEnd, Complete, Suspended, no_time}
+use Rattle.iox2_store.specs.machine.State.{State, receiving_buffer, channel_buffer, has_receiver_end, has_sender_end, with_loan, with_warning, publisher_changed}
 use Rattle.iox2_store.specs.machine.PublisherUpdate.{sender_side, history_for, UpdatePublisher}
 use Rattle.iox2_store.specs.machine.SubscriberUpdate.{receiver_side, UpdateSubscriber}
 use Rattle.iox2_store.specs.machine.Loans.{GrantLoan, loan_granted, loan_discarded}
-use Rattle.iox2_store.specs.machine.Sends.{Send, Publish, DeliverAndConclude, ConcludeSend, SendResult, Blocked_send, with_mailboxes, published}
-use Rattle.iox2_store.specs.machine.Ports.{CreatePublisher, CreateSubscriber, FirstPublisherUpdate, FirstSubscriberUpdate, with_new_publisher, with_new_subscriber, new_publisher, new_subscriber, with_failure_warning}
-use Rattle.std.specs.declared.time.Duration.{Duration}
+use Rattle.iox2_store.specs.machine.Sends.{Send, SendResult, Blocked_send, with_mailboxes, published}
+use Rattle.iox2_store.specs.machine.Ports.{CreatePublisher, CreateSubscriber, with_new_publisher, with_new_subscriber, new_publisher, new_subscriber, with_failure_warning}
 use Rattle.iox2_store.specs.declared.errors.ConnectionFailure.{ConnectionFailure}
 use Rattle.iox2_store.specs.declared.errors.LoanError.{LoanError}
 use Rattle.iox2_store.specs.declared.errors.PublisherCreateError.{PublisherCreateError}
 use Rattle.iox2_store.specs.declared.errors.SubscriberCreateError.{SubscriberCreateError}
 use Rattle.iox2_store.specs.declared.warning.Warning.{Warning}
-use Rattle.iox2_store.specs.declared.warning.Warning.TheVariants.{PublisherPartlyConnected, SubscriberPartlyConnected}
-use Rattle.iox2_laws.proofs.Cases.{by_option, by_bool}
-use Rattle.iox2_laws.proofs.CallCases.{grant_cases, publisher_cases, subscriber_cases}
+use Rattle.iox2_laws.proofs.OperationWalks.{IsPreorder, DeliveryPoint, Delivers, DeliverySteps, publisher_update_by_steps, subscriber_update_by_steps, warning_by_steps, create_publisher_by_steps, create_subscriber_by_steps, grant_by_steps, send_by_steps}
 use Rattle.iox2_laws.proofs.Puts.{at_each}
 use Rattle.iox2_laws.proofs.MailboxWalks.{sender_side_keeps, receiver_side_keeps, deliver_keeps}
 use Rattle.iox2_laws.proofs.MailboxLemmas.{borrowed-appended}
@@ -78,56 +74,63 @@ module _ {T U : Type 0} where
     borrowed = λ p q. b.borrowed p q ∙ a.borrowed p q;
   }
 
-  -- the state is the same
-  same_stays : (s s' : State T U) → s' ≡ s → PortsStay s s'
-  same_stays s s' e = subst (PortsStay s) (sym e) (ports_stay_themselves s)
+  stay : IsPreorder {T = T} {U = U} PortsStay
+  stay = record { itself = ports_stay_themselves; trans = ports_stay_trans }
+
+  -- the ports are the same, and so is what is borrowed
+  same_ports : (s s' : State T U) → s'.config ≡ s.config → s'.publishers ≡ s.publishers → s'.subscribers ≡ s.subscribers
+      → ((p q : ℕ) → (s'.mailboxes p q).borrowed ≡ (s.mailboxes p q).borrowed) → PortsStay s s'
+  same_ports s s' config publishers subscribers borrowed = record {
+    remain = record {
+      config = config;
+      publishers = λ p x e. (x, ap (λ (f : ℕ → Option Publisher). f p) publishers ∙ e, λ free. free);
+      subscribers = λ q y e o. (y, ap (λ (f : ℕ → Option Subscriber). f q) subscribers ∙ e, o);
+    };
+    borrowed = borrowed;
+  }
 
   -- ---- updates
 
   pub update_publisher_stays : (environment : Environment) (s : State T U) (p : ℕ) (s' : State T U) (failure : Option ConnectionFailure)
       → UpdatePublisher environment s p s' failure → PortsStay s s'
-  update_publisher_stays environment s p s' failure h =
-      by_option (PortsStay s s') (s.publishers p) _ _ h (λ _ v. absurd v) (λ x present h.
-      by_bool (PortsStay s s') x.is_due _ _ h
-      (λ _ h.
-      let are : (q : ℕ) → SameBorrowed (s.mailboxes p) q ((h.0).mailboxes q) =
+  update_publisher_stays environment s p s' failure =
+      publisher_update_by_steps PortsStay stay environment s p s' failure (λ x present side walk.
+      let are : (q : ℕ) → SameBorrowed (s.mailboxes p) q (side.mailboxes q) =
       sender_side_keeps (SameBorrowed (s.mailboxes p)) (λ i box same. same) environment (s.config).service_id p x.degradation_handler (history_for s p x)
-      (receiving_buffer s) (has_receiver_end s p) (λ i buffer box same. same) s.subscriber_places (sender_side s p x) h.0 failure (λ i. refl) h.1 in
-      subst (PortsStay s) (sym h.2) (record {
+      (receiving_buffer s) (has_receiver_end s p) (λ i buffer box same. same) s.subscriber_places (sender_side s p x) side failure (λ i. refl) walk in
+      record {
         remain = record {
           config = refl;
-          publishers = put_publisher s.publishers p (record x { ends = (h.0).ends; is_due = false }) (λ z e. same_publisher s.publishers p x z present e);
+          publishers = put_publisher s.publishers p (record x { ends = side.ends; is_due = false }) (λ z e. same_publisher s.publishers p x z present e);
           subscribers = λ q y e o. (y, e, o);
         };
-        borrowed = λ i q. at_each s.mailboxes p (h.0).mailboxes (λ i row. (row q).borrowed ≡ (s.mailboxes i q).borrowed) i (λ _. are q) (λ _. refl);
-      }))
-      (λ _ h. subst (PortsStay s) (sym h.0) (ports_stay_themselves s)))
+        borrowed = λ i q. at_each s.mailboxes p side.mailboxes (λ i row. (row q).borrowed ≡ (s.mailboxes i q).borrowed) i (λ _. are q) (λ _. refl);
+      })
 
   pub update_subscriber_stays : (environment : Environment) (s : State T U) (q : ℕ) (s' : State T U) (failure : Option ConnectionFailure)
       → UpdateSubscriber environment s q s' failure → PortsStay s s'
-  update_subscriber_stays environment s q s' failure h =
-      by_option (PortsStay s s') (s.subscribers q) _ _ h (λ _ v. absurd v) (λ y present h.
-      by_bool (PortsStay s s') y.is_due _ _ h
-      (λ _ h.
-      let are : (p : ℕ) → SameBorrowed (λ p. s.mailboxes p q) p ((h.0).mailboxes p) =
+  update_subscriber_stays environment s q s' failure =
+      subscriber_update_by_steps PortsStay stay environment s q s' failure (λ y present side walk.
+      let are : (p : ℕ) → SameBorrowed (λ p. s.mailboxes p q) p (side.mailboxes p) =
       receiver_side_keeps (SameBorrowed (λ p. s.mailboxes p q)) (λ i box same. same) environment (s.config).service_id q y.degradation_handler (expired_limit s.config)
-      (λ p. has_sender_end s p q) s.publisher_places (receiver_side s q y) h.0 failure (λ i. refl) h.1 in
-      subst (PortsStay s) (sym h.2) (record {
+      (λ p. has_sender_end s p q) s.publisher_places (receiver_side s q y) side failure (λ i. refl) walk in
+      record {
         remain = record {
           config = refl;
           publishers = λ p x e. (x, e, λ free. free);
-          subscribers = put_subscriber s.subscribers q (record y { ends = (h.0).ends; expired = (h.0).expired; is_due = (h.0).is_due })
+          subscribers = put_subscriber s.subscribers q (record y { ends = side.ends; expired = side.expired; is_due = side.is_due })
               (λ z e o. ap (λ (v : Subscriber). v.is_open) (same_Some y z (sym present ∙ e)) ∙ o);
         };
-        borrowed = λ p i. at_each (s.mailboxes p) q ((h.0).mailboxes p) (λ i box. box.borrowed ≡ (s.mailboxes p i).borrowed) i (λ _. are p) (λ _. refl);
-      }))
-      (λ _ h. subst (PortsStay s) (sym h.0) (ports_stay_themselves s)))
+        borrowed = λ p i. at_each (s.mailboxes p) q (side.mailboxes p) (λ i box. box.borrowed ≡ (s.mailboxes p i).borrowed) i (λ _. are p) (λ _. refl);
+      })
 
   -- ---- ports are made
 
+  warned_stays : (s : State T U) (w : Warning) → PortsStay s (with_warning s w)
+  warned_stays s w = same_ports s (with_warning s w) refl refl refl (λ p q. refl)
+
   pub warning_stays : (s : State T U) (warning : ConnectionFailure → Warning) (failure : Option ConnectionFailure) → PortsStay s (with_failure_warning s warning failure)
-  warning_stays s warning None = ports_stay_themselves s
-  warning_stays s warning (Some failure) = record { remain = record { config = refl; publishers = λ p x e. (x, e, λ free. free); subscribers = λ q y e o. (y, e, o) }; borrowed = λ p q. refl }
+  warning_stays = warning_by_steps PortsStay stay warned_stays
 
   new_publisher_stays : (s : State T U) (given : PublisherSettings) (place : ℕ) → PortsStay s (with_new_publisher s given place)
   new_publisher_stays s given place = record {
@@ -151,21 +154,13 @@ module _ {T U : Type 0} where
 
   pub create_publisher_stays : (environment : Environment) (s : State T U) (given : PublisherSettings) (s' : State T U) (refusal : Option PublisherCreateError)
       → CreatePublisher environment s given s' refusal → PortsStay s s'
-  create_publisher_stays environment s given s' refusal h =
-      publisher_cases environment s given s' (PortsStay s s') refusal h (λ e same _. same_stays s s' same) (λ place makes.
-      let new : State T U = with_new_publisher s given place in
-      let first : FirstPublisherUpdate environment new s.next_port s' = makes.2 in
-      subst (PortsStay s) (sym first.3) (ports_stay_trans s new _ (new_publisher_stays s given place)
-      (ports_stay_trans new first.0 _ (update_publisher_stays environment new s.next_port first.0 first.1 first.2) (warning_stays first.0 (PublisherPartlyConnected s.next_port) first.1))))
+  create_publisher_stays environment s given s' refusal =
+      create_publisher_by_steps PortsStay stay environment s given s' refusal (new_publisher_stays s given) (update_publisher_stays environment) warned_stays
 
   pub create_subscriber_stays : (environment : Environment) (s : State T U) (given : SubscriberSettings) (s' : State T U) (refusal : Option SubscriberCreateError)
       → CreateSubscriber environment s given s' refusal → PortsStay s s'
-  create_subscriber_stays environment s given s' refusal h =
-      subscriber_cases environment s given s' (PortsStay s s') refusal h (λ e same _. same_stays s s' same) (λ place makes.
-      let new : State T U = with_new_subscriber s given place in
-      let first : FirstSubscriberUpdate environment new s.next_port s' = makes.3 in
-      subst (PortsStay s) (sym first.3) (ports_stay_trans s new _ (new_subscriber_stays s given place)
-      (ports_stay_trans new first.0 _ (update_subscriber_stays environment new s.next_port first.0 first.1 first.2) (warning_stays first.0 (SubscriberPartlyConnected s.next_port) first.1))))
+  create_subscriber_stays environment s given s' refusal =
+      create_subscriber_by_steps PortsStay stay environment s given s' refusal (new_subscriber_stays s given) (update_subscriber_stays environment) warned_stays
 
   -- ---- loans
 
@@ -180,7 +175,7 @@ module _ {T U : Type 0} where
   }
 
   pub loan_set_stays : (s : State T U) (n : ℕ) (l : Option (Loan T U)) → PortsStay s (with_loan s n l)
-  loan_set_stays s n l = record { remain = record { config = refl; publishers = λ p x e. (x, e, λ free. free); subscribers = λ q y e o. (y, e, o) }; borrowed = λ p q. refl }
+  loan_set_stays s n l = same_ports s (with_loan s n l) refl refl refl (λ p q. refl)
 
   -- a publisher that may be there is changed
   pub publisher_changed_stays : (s : State T U) (i : ℕ) (f : Publisher → Publisher) → ((x : Publisher) → x.blocked ≡ None → (f x).blocked ≡ None) → PortsStay s (publisher_changed s i f)
@@ -196,38 +191,29 @@ module _ {T U : Type 0} where
 
   -- ---- sends
 
-  concluded_stays : (s : State T U) (p n : ℕ) (how : DeliveryEnd) (s' : State T U) (result : SendResult) → (result ≡ Blocked_send → ⊥) → ConcludeSend s p n how s' result → PortsStay s s'
-  concluded_stays s p n (Complete count has_failed) s' result ends h =
-      subst (PortsStay s) (sym h.0) (publisher_changed_stays s p (λ x. record x { loans = without n x.loans; blocked = None }) (λ x free. refl))
-  concluded_stays s p n (Suspended b) s' result ends h = absurd (ends h.1)
+  -- a delivery borrows nothing
+  pub delivered_borrowed : (environment : Environment) (s : State T U) (p n : ℕ) (boxes : ℕ → Mailbox) → Delivers environment p n s boxes
+      → (i q : ℕ) → ((with_mailboxes s p boxes).mailboxes i q).borrowed ≡ (s.mailboxes i q).borrowed
+  delivered_borrowed environment s p n boxes d i q =
+      let x : Publisher = d.0 in
+      let at : DeliveryPoint = d.1 in
+      let are : (q : ℕ) → SameBorrowed (s.mailboxes p) q (boxes q) =
+      (deliver_keeps (SameBorrowed (s.mailboxes p)) (λ i box same. same) environment s.config p x.backpressure_strategy x.backpressure_handler (channel_buffer s p at.channel) n at.channel
+      (λ i buffer box same. borrowed-appended at.channel buffer n box ∙ same) at.retries at.elapsed at.place at.ends at.count at.has_failed (s.mailboxes p) d.2 boxes (λ q. refl) d.3).0 in
+      at_each s.mailboxes p boxes (λ i row. (row q).borrowed ≡ (s.mailboxes i q).borrowed) i (λ _. are q) (λ _. refl)
 
-  pub delivered_stays : (environment : Environment) (s : State T U) (p n channel retries : ℕ) (elapsed : Duration) (place : ℕ) (ends : List (Option ℕ)) (count : ℕ)
-      (has_failed : Bool) (s' : State T U) (result : SendResult)
-      → DeliverAndConclude environment s p n channel retries elapsed place ends count has_failed s' result → (result ≡ Blocked_send → ⊥) → PortsStay s s'
-  delivered_stays environment s p n channel retries elapsed place ends count has_failed s' result h free =
-      by_option (PortsStay s s') (s.publishers p) _ _ h (λ _ v. absurd v) (λ x present h.
-      let are : (q : ℕ) → SameBorrowed (s.mailboxes p) q (h.1 q) =
-      (deliver_keeps (SameBorrowed (s.mailboxes p)) (λ i box same. same) environment s.config p x.backpressure_strategy x.backpressure_handler (channel_buffer s p channel) n channel
-      (λ i buffer box same. borrowed-appended channel buffer n box ∙ same) retries elapsed place ends count has_failed (s.mailboxes p) h.0 h.1 (λ q. refl) h.2).0 in
-      let mid : State T U = with_mailboxes s p h.1 in
-      let first : PortsStay s mid = record {
-        remain = record {
-          config = refl;
-          publishers = λ p x e. (x, e, λ free. free);
-          subscribers = λ q y e o. (y, e, o);
-        };
-        borrowed = λ i q. at_each s.mailboxes p h.1 (λ i row. (row q).borrowed ≡ (s.mailboxes i q).borrowed) i (λ _. are q) (λ _. refl);
-      } in
-      ports_stay_trans s mid s' first (concluded_stays mid p n h.0 s' result free h.3))
+  -- a delivery in which the send ends
+  pub deliveries_stay : (environment : Environment) (p n : ℕ) (result : SendResult) → (result ≡ Blocked_send → ⊥) → DeliverySteps {T = T} {U = U} environment p n PortsStay PortsStay result
+  deliveries_stay environment p n result free = record {
+    delivers = λ s boxes d. same_ports s (with_mailboxes s p boxes) refl refl refl (delivered_borrowed environment s p n boxes d);
+    ended = λ s _. publisher_changed_stays s p (λ x. record x { loans = without n x.loans; blocked = None }) (λ x _. refl);
+    blocked = λ s b is. absurd (free is);
+  }
 
-  pub publish_stays : (environment : Environment) (s : State T U) (p n : ℕ) (s' : State T U) (result : SendResult) → Publish environment s p n s' result → (result ≡ Blocked_send → ⊥) → PortsStay s s'
-  publish_stays environment s p n s' result h free =
-      by_option (PortsStay s s') (s.publishers p) _ _ h (λ _ v. absurd v) (λ x present h.
-      let mid : State T U = published s p n in
-      let first : PortsStay s mid =
-      ports_stay_trans s (with_loan s n None) mid (loan_set_stays s n None)
-      (publisher_changed_stays (with_loan s n None) p (λ x. record x { history = last_n (s.config).history_size (x.history ++ n ∷ []) }) (λ x free. free)) in
-      ports_stay_trans s mid s' first (delivered_stays environment mid p n 0 0 no_time 0 x.ends 0 false s' result h free))
+  published_stays : (s : State T U) (p n : ℕ) → PortsStay s (published s p n)
+  published_stays s p n =
+      ports_stay_trans s (with_loan s n None) (published s p n) (loan_set_stays s n None)
+      (publisher_changed_stays (with_loan s n None) p (λ x. record x { history = last_n (s.config).history_size (x.history ++ n ∷ []) }) (λ x free. free))
 
   pub loan_discarded_stays : (s : State T U) (n : ℕ) (l : Loan T U) → PortsStay s (loan_discarded s n l)
   loan_discarded_stays s n l =
@@ -236,18 +222,18 @@ module _ {T U : Type 0} where
 
   pub send_stays : (environment : Environment) (s : State T U) (n : ℕ) (l : Loan T U) (s' : State T U) (result : SendResult) → Send environment s n l s' result → (result ≡ Blocked_send → ⊥) → PortsStay s s'
   send_stays environment s n l s' result h free =
-      by_option (PortsStay s s') (s.publishers l.publisher) _ _ h
-      (λ _ k. subst (PortsStay s) (sym k.0) (loan_set_stays s n None))
-      (λ x _ k.
-      let first : PortsStay s k.0 = update_publisher_stays environment s l.publisher k.0 k.1 k.2 in
-      by_option (PortsStay s s') k.1 _ _ k.3
-      (λ _ j. ports_stay_trans s k.0 s' first (publish_stays environment k.0 l.publisher n s' result j free))
-      (λ e _ j. ports_stay_trans s k.0 s' first (subst (PortsStay k.0) (sym j.0) (loan_discarded_stays k.0 n l))))
+      send_by_steps PortsStay PortsStay ports_stay_trans environment s n l s' result (record {
+        delivery = deliveries_stay environment l.publisher n result free;
+        updates = λ a. update_publisher_stays environment a l.publisher;
+        publishes = λ a. published_stays a l.publisher n;
+        lost = λ a _ e _. loan_set_stays a n None;
+        discards = λ a k _ e _. loan_discarded_stays a n k;
+      }) h
 
   -- ---- a loan is asked for
 
   pub grant_loan_stays : (environment : Environment) (default_header : U) (checks_length : Bool) (len : ℕ) (s : State T U) (p : ℕ) (s' : State T U) (refusal : Option LoanError)
       → GrantLoan environment default_header checks_length len s p s' refusal → PortsStay s s'
-  grant_loan_stays environment default_header checks_length len s p s' refusal h =
-      grant_cases environment default_header checks_length len s p s' (PortsStay s s') refusal h (λ e same _. same_stays s s' same)
-      (λ x present grants. subst (PortsStay s) (sym grants.4) (granted_stays default_header s p x present len grants.0))
+  grant_loan_stays environment default_header checks_length len s p s' refusal =
+      grant_by_steps PortsStay stay environment default_header checks_length len s p s' refusal
+      (λ x present segments. granted_stays default_header s p x present len segments)

@@ -1,5 +1,5 @@
 -- A publisher's update keeps a well-formed state.
-use Rattle.std.proofs.Common.{◌≡◌, ℕ, ◌≤◌, ◌<◌, Bool, true, false, List, ◌++◌, refl, sym, ap, subst, ◌∙◌, arith, eqb, Option, None, Some, ◌⊎◌, ⊎_elim}
+use Rattle.std.proofs.Common.{◌≡◌, ℕ, ◌≤◌, ◌<◌, Bool, true, false, List, ◌++◌, refl, sym, ap, subst, ◌∙◌, arith, eqb, Option, None, Some, ◌⊎◌, ⊎_elim, le_refl}
 use Rattle.std.specs.List.{flat_map}
 use Rattle.std.specs.Option.{option_map, is_some, MatchOption}
 use Rattle.std.proofs.lemmas.Bool.{true≢false, ne_eqb}
@@ -10,16 +10,17 @@ use Rattle.iox2_store.specs.machine.Mailbox.{Mailbox, numbers_in, has_numbers, h
 use Rattle.iox2_store.specs.machine.Records.{Publisher, Subscriber, BlockedSend, Loan, Environment}
 use Rattle.iox2_store.specs.machine.State.{State, held, is_blocked}
 use Rattle.iox2_store.specs.machine.PublisherUpdate.{SenderSide, with_sender_side, UpdatePublisher}
-use Rattle.iox2_store.specs.machine.WellFormed.{LeadsTo, publisher_place, IsWellFormed, BlockedIsWellFormed, PublisherIsWellFormed, SubscriberIsWellFormed, MailboxIsWellFormed, LoanIsWellFormed}
+use Rattle.iox2_store.specs.machine.WellFormed.{LeadsTo, publisher_place, IsWellFormed, PublisherIsWellFormed, SubscriberIsWellFormed, MailboxIsWellFormed, LoanIsWellFormed}
 use Rattle.iox2_store.specs.declared.errors.ConnectionFailure.{ConnectionFailure}
 use Rattle.iox2_laws.specs.Laws.{Advances}
 use Rattle.iox2_laws.proofs.Cases.{by_option, by_bool}
+use Rattle.iox2_laws.proofs.OperationWalks.{advance, publisher_update_by_steps}
 use Rattle.iox2_laws.proofs.Puts.{put_at-same, put_at-other, at_each, found_put}
 use Rattle.iox2_laws.proofs.NumberLemmas.{contains_in_append, contains_left, contains_right, absent_from, size_le, contains_in_flat_map, contains-flat_map}
 use Rattle.iox2_laws.proofs.PlaceLemmas.{contains-occupants}
 use Rattle.iox2_laws.proofs.MailboxLemmas.{has_numbers-contains}
 use Rattle.iox2_laws.proofs.SenderSides.{KeepsLimits, FitsBuffer, OthersKeepLimits, OthersFit, SenderSideIsWellFormed, sender_side_keeps}
-use Rattle.iox2_laws.proofs.PortChanges.{sender_reset_keeps}
+use Rattle.iox2_laws.proofs.PortChanges.{publisher_in, subscriber_in, sender_reset_keeps}
 
 module _ {T U : Type 0} where
   -- ---- the state with another side of the publisher p, which isn't blocked
@@ -83,33 +84,9 @@ module _ {T U : Type 0} where
     same_boxes p' other = put_at-other s.mailboxes p side.mailboxes p' other
 
     other_publisher_keeps : (p' : ℕ) (z : Publisher) → eqb p' p ≡ false → PublisherIsWellFormed s p' z → PublisherIsWellFormed after p' z
-    other_publisher_keeps p' z other u = record {
-      is_known = u.is_known;
-      loans_bound = u.loans_bound;
-      loans_once = u.loans_once;
-      loans_below = u.loans_below;
-      loans_held = u.loans_held;
-      history_bound = u.history_bound;
-      history_once = u.history_once;
-      history_below = u.history_below;
-      ends_bound = u.ends_bound;
-      ends_apart = u.ends_apart;
-      ends_known = u.ends_known;
-      ends_stand = u.ends_stand;
-      slots_bound = λ static. subst (λ (m : ℕ → Mailbox). size (z.loans ++ z.history ++ flat_map (λ q. numbers_in (m q)) (occupants z.ends)) ≤ z.slots)
-          (sym (same_boxes p' other)) (u.slots_bound static);
-      some_segment = u.some_segment;
-      segments_bound = u.segments_bound;
-      blocked = λ b e. let v : BlockedIsWellFormed s p' z b = u.blocked b e in record {
-        is_out = v.is_out;
-        unheld = v.unheld;
-        ends = v.ends;
-        channel = v.channel;
-        unserved = λ q l. subst (λ (m : ℕ → Mailbox). contains (numbers_in (m q)) b.message ≡ false) (sym (same_boxes p' other)) (v.unserved q l);
-        waits = v.waits;
-        count_bound = v.count_bound;
-      };
-    }
+    other_publisher_keeps p' z other u =
+        publisher_in s after p' z u (le_refl s.next_port) (le_refl s.next_message)
+        (λ q n h. ap (λ (m : ℕ → Mailbox). contains (numbers_in (m q)) n) (sym (same_boxes p' other)) ∙ h) u.ends_stand (λ n l e own. (l, e, own)) (λ n _ e. e)
 
     -- a publisher that is gone was gone before
     gone_before : (p' : ℕ) → after.publishers p' ≡ None → (s.publishers p' ≡ None) × (eqb p' p ≡ false)
@@ -121,33 +98,19 @@ module _ {T U : Type 0} where
     still_gone p' h = (put_at-other s.publishers p (Some updated) p' (apart p' h) ∙ h, same_boxes p' (apart p' h))
 
     subscriber_keeps : (q : ℕ) (y : Subscriber) → SubscriberIsWellFormed s q y → SubscriberIsWellFormed after q y
-    subscriber_keeps q y v = record {
-      is_known = v.is_known;
-      some_room = v.some_room;
-      buffer_bound = v.buffer_bound;
-      ends_bound = v.ends_bound;
-      ends_apart = v.ends_apart;
-      ends_known = v.ends_known;
-      ends_stand = λ place p' h.
-          let old : MatchOption (s.publishers p') (has_numbers (s.mailboxes p' q) ≡ true) (λ (z : Publisher). z.place ≡ place) = v.ends_stand place p' h in
-          at_each s.publishers p (Some updated) (λ i o. MatchOption (s.publishers i) (has_numbers (s.mailboxes i q) ≡ true) (λ (z : Publisher). z.place ≡ place)
-          → MatchOption o (has_numbers (put_at s.mailboxes p side.mailboxes i q) ≡ true) (λ (z : Publisher). z.place ≡ place)) p'
-          (λ _ old. subst (λ (o : Option Publisher). MatchOption o (has_numbers (s.mailboxes p q) ≡ true) (λ (z : Publisher). z.place ≡ place)) present old)
-          (λ other old. subst (λ (m : ℕ → Mailbox). MatchOption (s.publishers p') (has_numbers (m q) ≡ true) (λ (z : Publisher). z.place ≡ place))
-          (sym (same_boxes p' other)) old)
-          old;
-      expired_bound = v.expired_bound;
-      expired_once = v.expired_once;
-      expired_apart = v.expired_apart;
-      expired_known = v.expired_known;
-      expired_gone = λ p' h. (still_gone p' (v.expired_gone p' h)).0;
-      expired_kept = λ p' h. subst (λ (m : ℕ → Mailbox). has_numbers (m q) ≡ true) (sym (still_gone p' (v.expired_gone p' h)).1) (v.expired_kept p' h);
-      is_used = λ closed. let used : (i : ℕ) × (has_borrows (s.mailboxes i q) ≡ true) = v.is_used closed in (
-        used.0,
-        at_each s.mailboxes p side.mailboxes (λ i (m : ℕ → Mailbox). has_borrows (s.mailboxes i q) ≡ true → has_borrows (m q) ≡ true) used.0
-            (λ _. k.borrowed q) (λ _ h. h) used.1,
-      );
-    }
+    subscriber_keeps q y v =
+        subscriber_in s after q y v (le_refl s.next_port)
+        (λ place p' _ old.
+        at_each s.publishers p (Some updated) (λ i o. MatchOption (s.publishers i) (has_numbers (s.mailboxes i q) ≡ true) (λ (z : Publisher). z.place ≡ place)
+        → MatchOption o (has_numbers (put_at s.mailboxes p side.mailboxes i q) ≡ true) (λ (z : Publisher). z.place ≡ place)) p'
+        (λ _ old. subst (λ (o : Option Publisher). MatchOption o (has_numbers (s.mailboxes p q) ≡ true) (λ (z : Publisher). z.place ≡ place)) present old)
+        (λ other old. subst (λ (m : ℕ → Mailbox). MatchOption (s.publishers p') (has_numbers (m q) ≡ true) (λ (z : Publisher). z.place ≡ place))
+        (sym (same_boxes p' other)) old)
+        old)
+        (λ p' _ gone. (still_gone p' gone).0)
+        (λ p' gone h. ap (λ (m : ℕ → Mailbox). has_numbers (m q)) (still_gone p' gone).1 ∙ h)
+        (λ i. at_each s.mailboxes p side.mailboxes (λ i (m : ℕ → Mailbox). has_borrows (s.mailboxes i q) ≡ true → has_borrows (m q) ≡ true) i
+        (λ _. k.borrowed q) (λ _ h. h))
 
     -- a number in a mailbox of p was given out
     below : (q n : ℕ) → contains (numbers_in (side.mailboxes q)) n ≡ true → n < s.next_message
@@ -240,11 +203,9 @@ module _ {T U : Type 0} where
   -- A publisher's update leaves the configuration and the counters.
   pub update_publisher_advances : (environment : Environment) (s : State T U) (p : ℕ) (s' : State T U) (failure : Option ConnectionFailure)
       → UpdatePublisher environment s p s' failure → Advances s s'
-  update_publisher_advances environment s p s' failure h =
-      by_option (Advances s s') (s.publishers p) _ _ h (λ _ v. absurd v) (λ x present h.
-      by_bool (Advances s s') x.is_due _ _ h
-      (λ _ h. subst (Advances s) (sym h.2) (record { config = refl; next_port = omega arith; next_message = omega arith }))
-      (λ _ h. subst (Advances s) (sym h.0) (record { config = refl; next_port = omega arith; next_message = omega arith })))
+  update_publisher_advances environment s p s' failure =
+      publisher_update_by_steps Advances advance environment s p s' failure
+      (λ x present side _. record { config = refl; next_port = omega arith; next_message = omega arith })
 
   abbrev LeavesPublisher : State T U → (p : ℕ) → Publisher → State T U → Type 0
   LeavesPublisher s p x s' =

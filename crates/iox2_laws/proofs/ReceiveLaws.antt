@@ -1,5 +1,6 @@
 -- A receive, and the question whether anything waits, keep a state well-formed.
-use Rattle.std.proofs.Common.{◌≡◌, ℕ, Bool, true, refl, sym, subst, ◌∙◌, arith, Option, None, Some, ◌⊎◌, inl, inr, le_trans}
+use Rattle.std.proofs.Common.{◌≡◌, ℕ, Bool, true, refl, sym, subst, arith, Option, None, Some, ◌⊎◌, inl, inr}
+use Rattle.iox2_laws.proofs.OperationWalks.{advance, receive_by_steps}
 use Rattle.iox2_laws.proofs.Cases.{by_option, by_bool}
 use Rattle.iox2_laws.proofs.MailboxLemmas.{IsWithin-borrowed, OthersWithin-borrowed, waiting_count-borrowed, contains_in_borrowed, has_numbers-borrowed, has_waiting-borrowed, has_borrows-borrowed}
 use Rattle.iox2_laws.proofs.PlaceLemmas.{leads_to}
@@ -68,12 +69,6 @@ module _ {T U : Type 0} where
   take_sample_keeps s w q y s' No_sample here h = subst IsWellFormed (sym h.1) w
   take_sample_keeps s w q y s' (Receive_error e) here h = subst IsWellFormed (sym h.3) w
 
-  -- No counter falls where a sample is taken.
-  pub take_sample_advances : (s : State T U) (q : ℕ) (y : Subscriber) (s' : State T U) (result : ReceiveResult) → TakeSample s q y s' result → Advances s s'
-  take_sample_advances s q y s' (Got_sample p n) h = subst (Advances s) (sym h.3) (record { config = refl; next_port = omega arith; next_message = omega arith })
-  take_sample_advances s q y s' No_sample h = subst (Advances s) (sym h.1) (record { config = refl; next_port = omega arith; next_message = omega arith })
-  take_sample_advances s q y s' (Receive_error e) h = subst (Advances s) (sym h.3) (record { config = refl; next_port = omega arith; next_message = omega arith })
-
   -- A receive keeps a state well-formed.
   pub receive_keeps : (environment : Environment) (s : State T U) (q : ℕ) (s' : State T U) (result : ReceiveResult)
       → IsWellFormed s → Receive environment s q s' result → IsWellFormed s'
@@ -86,13 +81,9 @@ module _ {T U : Type 0} where
   -- No counter falls at a receive.
   pub receive_advances : (environment : Environment) (s : State T U) (q : ℕ) (s' : State T U) (result : ReceiveResult)
       → Receive environment s q s' result → Advances s s'
-  receive_advances environment s q s' result h =
-      let mid : Advances s h.0 = update_subscriber_advances environment s q h.0 h.1 h.2 in
-      by_option (Advances s s') h.1 _ _ h.3
-      (λ _ k. by_option (Advances s s') ((h.0).subscribers q) _ _ k (λ _ v. absurd v) (λ y here k.
-      let later : Advances h.0 s' = take_sample_advances h.0 q y s' result k in
-      record { config = later.config ∙ mid.config; next_port = le_trans mid.next_port later.next_port; next_message = le_trans mid.next_message later.next_message }))
-      (λ e _ k. subst (Advances s) (sym k.0) mid)
+  receive_advances environment s q s' result =
+      receive_by_steps Advances advance environment s q s' result (update_subscriber_advances environment s q)
+      (λ t p box. record { config = refl; next_port = omega arith; next_message = omega arith })
 
   -- The question whether anything waits keeps a state well-formed.
   pub has_samples_keeps : (environment : Environment) (s : State T U) (q : ℕ) (s' : State T U) (failure : Option ConnectionFailure) (result : Bool)

@@ -140,20 +140,7 @@ module _ {T U : Type 0} where
   -- Its mark and the warnings don't matter.
   pub receiver_side_marked : (s : State T U) (q : ℕ) (side : ReceiverSide) (is_due : Bool) (warnings : Warnings) → ReceiverSideIsWellFormed s q side
       → ReceiverSideIsWellFormed s q (record side { is_due = is_due; warnings = warnings })
-  receiver_side_marked s q side is_due warnings b = record {
-    ends_bound = b.ends_bound;
-    ends_apart = b.ends_apart;
-    ends_known = b.ends_known;
-    ends_stand = b.ends_stand;
-    expired_bound = b.expired_bound;
-    expired_once = b.expired_once;
-    expired_apart = b.expired_apart;
-    expired_known = b.expired_known;
-    expired_gone = b.expired_gone;
-    expired_kept = b.expired_kept;
-    boxes = b.boxes;
-    knows = b.knows;
-  }
+  receiver_side_marked s q side is_due warnings b = assumption
 
   -- An end is made at a place where nothing stands, to the publisher that has that place.
   pub end_made_keeps : (s : State T U) → IsWellFormed s → (q : ℕ) (side : ReceiverSide) (place p : ℕ) → ReceiverSideIsWellFormed s q side

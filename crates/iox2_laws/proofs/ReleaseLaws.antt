@@ -1,24 +1,24 @@
 -- Subscribers and mailboxes in which nothing is new: a released sample keeps a state well-formed.
-use Rattle.std.proofs.Common.{◌≡◌, ℕ, ◌≤◌, Bool, true, false, cond, ◌||◌, List, ◌++◌, length, refl, sym, ap, subst, ◌∙◌, arith, eqb, Option, None, Some, ◌⊎◌, inl, inr, ⊎_elim, MatchOption, is_some, le_trans}
+use Rattle.std.proofs.Common.{◌≡◌, ℕ, ◌≤◌, Bool, true, false, cond, ◌||◌, List, ◌++◌, length, refl, sym, ap, subst, ◌∙◌, arith, eqb, Option, None, Some, ◌⊎◌, inl, inr, ⊎_elim, MatchOption, is_some, le_trans, le_refl}
 use Rattle.std.specs.List.{flat_map, filter}
 use Rattle.std.specs.Option.{option_map}
 use Rattle.std.proofs.lemmas.Bool.{true≢false, or_right, eqb-true, eqb-false}
 use Rattle.iox2_laws.proofs.Puts.{put_at-other, at_each, found_mapped}
-use Rattle.iox2_laws.proofs.NumberLemmas.{contains_in_append, contains_left, contains_right, absent_from, size_le, contains_in_flat_map, contains-flat_map}
-use Rattle.iox2_laws.proofs.PortChanges.{RestIsWellFormed, IsNearlyWellFormed, with_rest, receiver_reset_keeps}
+use Rattle.iox2_laws.proofs.NumberLemmas.{contains_in_append, contains_left, contains_right, absent_from, contains_in_flat_map, contains-flat_map}
+use Rattle.iox2_laws.proofs.PortChanges.{publisher_in, subscriber_in, loan_kept, RestIsWellFormed, IsNearlyWellFormed, with_rest, receiver_reset_keeps}
 use Rattle.iox2_laws.proofs.Freed.{freed_if_unused_keeps, freed_if_unused_advances}
 use Rattle.iox2_laws.proofs.FilterLemmas.{contains_in_filter, contains-filter, IsOnce-filter, length-filter_le}
 use Rattle.iox2_laws.proofs.PlaceLemmas.{occupant-places_kept, places_kept_keeps, length-places_kept, injective_places_kept}
 use Rattle.iox2_laws.proofs.MailboxLemmas.{has_numbers-borrows, has_numbers-waiting, IsWithin-released, contains_in_released, has_borrows_before_release, has_numbers_before_release}
 use Rattle.iox2_laws.specs.Laws.{Advances}
 use Rattle.iox2_store.specs.machine.Limits.{buffer_limit, channel_count, expired_limit}
-use Rattle.iox2_store.specs.machine.Numbers.{put_at, contains, size}
-use Rattle.iox2_store.specs.machine.Places.{occupant, occupants}
+use Rattle.iox2_store.specs.machine.Numbers.{put_at, contains}
+use Rattle.iox2_store.specs.machine.Places.{occupant}
 use Rattle.iox2_store.specs.machine.Mailbox.{Mailbox, numbers_in, has_numbers, has_borrows, has_waiting, waiting_count, with_released, IsWithin, OthersWithin}
 use Rattle.iox2_store.specs.machine.Records.{Publisher, Subscriber}
-use Rattle.iox2_store.specs.machine.State.{State, Warnings, held, is_present}
+use Rattle.iox2_store.specs.machine.State.{State, Warnings, is_present}
 use Rattle.iox2_store.specs.machine.Releases.{is_connected, pruned, unborrowed, subscriber_pruned, released, freed_if_unused}
-use Rattle.iox2_store.specs.machine.WellFormed.{LeadsTo, subscriber_place, BlockedIsWellFormed, PublisherIsWellFormed, SubscriberIsWellFormed, MailboxIsWellFormed, LoanIsWellFormed, IsWellFormed}
+use Rattle.iox2_store.specs.machine.WellFormed.{LeadsTo, subscriber_place, PublisherIsWellFormed, SubscriberIsWellFormed, MailboxIsWellFormed, IsWellFormed}
 
 -- ---- less in the mailboxes
 
@@ -97,42 +97,12 @@ module _ {T U : Type 0} where
   publisher_agrees : (s : State T U) (subscribers : ℕ → Option Subscriber) (boxes : ℕ → ℕ → Mailbox) (warnings : Warnings)
       → ReceiversAgree s subscribers boxes warnings
       → (p : ℕ) (x : Publisher) → PublisherIsWellFormed s p x → PublisherIsWellFormed (with_receivers s subscribers boxes warnings) p x
-  publisher_agrees s subscribers boxes warnings a p x b = record {
-    is_known = b.is_known;
-    loans_bound = b.loans_bound;
-    loans_once = b.loans_once;
-    loans_below = b.loans_below;
-    loans_held = b.loans_held;
-    history_bound = b.history_bound;
-    history_once = b.history_once;
-    history_below = b.history_below;
-    ends_bound = b.ends_bound;
-    ends_apart = b.ends_apart;
-    ends_known = b.ends_known;
-    ends_stand = λ place q y e f.
-        let g : (z : Subscriber) × (s.subscribers q ≡ Some z) × (y.place ≡ z.place) × (y.buffer ≡ z.buffer) = a.stays q y f in
-        g.2 ∙ b.ends_stand place q g.0 e g.1;
-    slots_bound = λ static.
-        let old : size (held s p x) ≤ x.slots = b.slots_bound static in
-        let less : size (held (with_receivers s subscribers boxes warnings) p x) ≤ size (held s p x) =
-        size_le (held (with_receivers s subscribers boxes warnings) p x) (held s p x)
-        (held_shrinks x.loans x.history (occupants x.ends) (λ q. numbers_in (boxes p q)) (λ q. numbers_in (s.mailboxes p q))
-        (λ q n h. (a.shrinks p q).numbers n h)) in
-        omega arith;
-    some_segment = b.some_segment;
-    segments_bound = b.segments_bound;
-    blocked = λ c e.
-        let old : BlockedIsWellFormed s p x c = b.blocked c e in
-        record {
-          is_out = old.is_out;
-          unheld = old.unheld;
-          ends = old.ends;
-          channel = old.channel;
-          unserved = λ q l. absent_still s boxes p q c.message (a.shrinks p q) (old.unserved q l);
-          waits = old.waits;
-          count_bound = old.count_bound;
-        };
-  }
+  publisher_agrees s subscribers boxes warnings a p x b =
+      publisher_in s (with_receivers s subscribers boxes warnings) p x b (le_refl s.next_port) (le_refl s.next_message) (λ q. (a.shrinks p q).numbers)
+      (λ place q y e f.
+      let g : (z : Subscriber) × (s.subscribers q ≡ Some z) × (y.place ≡ z.place) × (y.buffer ≡ z.buffer) = a.stays q y f in
+      g.2 ∙ b.ends_stand place q g.0 e g.1)
+      (λ n l e own. (l, e, own)) (λ n _ e. e)
 
   mailbox_agrees : (s : State T U) (subscribers : ℕ → Option Subscriber) (boxes : ℕ → ℕ → Mailbox) (warnings : Warnings) → ReceiversAgree s subscribers boxes warnings
       → (p q : ℕ) → MailboxIsWellFormed s p q → MailboxIsWellFormed (with_receivers s subscribers boxes warnings) p q
@@ -169,16 +139,7 @@ module _ {T U : Type 0} where
     publishers = λ p x e. publisher_agrees s subscribers boxes warnings a p x (w.publishers p x e);
     mailboxes = λ p q. mailbox_agrees s subscribers boxes warnings a p q (w.mailboxes p q);
     loans = λ n l e.
-        let b : LoanIsWellFormed s n l = w.loans n l e in
-        record {
-          below = b.below;
-          known = b.known;
-          origin = b.origin;
-          cells = b.cells;
-          complete = b.complete;
-          is_out = b.is_out;
-          unsent = λ q. absent_still s boxes l.publisher q n (a.shrinks l.publisher q) (b.unsent q);
-        };
+        loan_kept s (with_receivers s subscribers boxes warnings) n l (w.loans n l e) (le_refl s.next_port) (λ q. (a.shrinks l.publisher q).numbers) (w.loans n l e).is_out;
   }
 
   -- What agrees with a well-formed state is well-formed where its subscribers are.
@@ -194,23 +155,10 @@ module _ {T U : Type 0} where
       → SubscriberIsWellFormed s q y → ((p : ℕ) → has_numbers (s.mailboxes p q) ≡ true → has_numbers (boxes p q) ≡ true)
       → ((p : ℕ) → has_borrows (s.mailboxes p q) ≡ true → has_borrows (boxes p q) ≡ true)
       → SubscriberIsWellFormed (with_receivers s subscribers boxes warnings) q y
-  subscriber_keeps s subscribers boxes warnings q y b left borrowed = record {
-    is_known = b.is_known;
-    some_room = b.some_room;
-    buffer_bound = b.buffer_bound;
-    ends_bound = b.ends_bound;
-    ends_apart = b.ends_apart;
-    ends_known = b.ends_known;
-    ends_stand = λ place p h. stands_with (s.publishers p) (has_numbers (s.mailboxes p q) ≡ true) (has_numbers (boxes p q) ≡ true) (λ x. x.place ≡ place)
-        (b.ends_stand place p h) (left p);
-    expired_bound = b.expired_bound;
-    expired_once = b.expired_once;
-    expired_apart = b.expired_apart;
-    expired_known = b.expired_known;
-    expired_gone = b.expired_gone;
-    expired_kept = λ p h. left p (b.expired_kept p h);
-    is_used = λ closed. let used : (p : ℕ) × (has_borrows (s.mailboxes p q) ≡ true) = b.is_used closed in (used.0, borrowed used.0 used.1);
-  }
+  subscriber_keeps s subscribers boxes warnings q y b left borrowed =
+      subscriber_in s (with_receivers s subscribers boxes warnings) q y b (le_refl s.next_port)
+      (λ place p _ h. stands_with (s.publishers p) (has_numbers (s.mailboxes p q) ≡ true) (has_numbers (boxes p q) ≡ true) (λ x. x.place ≡ place) h (left p))
+      (λ p _ gone. gone) (λ p _. left p) borrowed
 
   -- ---- a sample is released
 

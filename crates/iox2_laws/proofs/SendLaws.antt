@@ -14,6 +14,7 @@ use Rattle.iox2_store.specs.machine.Sends.{SendResult, more_retries, published, 
 use Rattle.iox2_store.specs.machine.WellFormed.{LeadsTo, IsInjective, BlockedIsWellFormed, PublisherIsWellFormed, IsWellFormed}
 use Rattle.iox2_laws.specs.Laws.{Advances}
 use Rattle.iox2_laws.proofs.Cases.{by_option}
+use Rattle.iox2_laws.proofs.OperationWalks.{advance, DeliverySteps, delivery_by_steps, send_by_steps}
 use Rattle.iox2_laws.proofs.Puts.{put_at-same, put_at-other, at_each}
 use Rattle.iox2_laws.proofs.NumberLemmas.{contains_in_append, contains_one, contains_in_last_n, length-last_n, IsOnce-last_n, IsOnce-push}
 use Rattle.iox2_laws.proofs.PlaceLemmas.{occupant-drop}
@@ -228,18 +229,19 @@ module _ {T U : Type 0} where
   -- ---- counters
 
   -- a delivery leaves the configuration and the counters
+  deliveries_advance : (environment : Environment) (p n : ℕ) (result : SendResult) → DeliverySteps {T = T} {U = U} environment p n Advances Advances result
+  deliveries_advance environment p n result = record {
+    delivers = λ s boxes _. record { config = refl; next_port = le_refl s.next_port; next_message = le_refl s.next_message };
+    ended = λ s _. record { config = refl; next_port = le_refl s.next_port; next_message = le_refl s.next_message };
+    blocked = λ s b _. record { config = refl; next_port = le_refl s.next_port; next_message = le_refl s.next_message };
+  }
+
   pub deliver_and_conclude_advances : (environment : Environment) (s : State T U) (p n channel retries : ℕ) (elapsed : Duration) (place : ℕ) (ends : List (Option ℕ))
       (count : ℕ) (has_failed : Bool)
       (s' : State T U) (result : SendResult)
       → DeliverAndConclude environment s p n channel retries elapsed place ends count has_failed s' result → Advances s s'
-  deliver_and_conclude_advances environment s p n channel retries elapsed place ends count has_failed s' result h =
-      by_option (Advances s s') (s.publishers p) _ _ h (λ _ v. absurd v) (λ x _ h. conclude h.0 h.1 h.3)
-    where
-      conclude : (how : DeliveryEnd) (boxes : ℕ → Mailbox) → ConcludeSend (with_mailboxes s p boxes) p n how s' result → Advances s s'
-      conclude (Complete count has_failed) boxes h = subst (Advances s) (sym h.0)
-          (record { config = refl; next_port = le_refl s.next_port; next_message = le_refl s.next_message })
-      conclude (Suspended b) boxes h = subst (Advances s) (sym h.0)
-          (record { config = refl; next_port = le_refl s.next_port; next_message = le_refl s.next_message })
+  deliver_and_conclude_advances environment s p n channel retries elapsed place ends count has_failed s' result =
+      delivery_by_steps Advances Advances (advance.trans) environment s p n channel retries elapsed place ends count has_failed s' result (deliveries_advance environment p n result)
 
   -- a blocked send that is tried again advances the state
   pub retry_advances : (environment : Environment) (s : State T U) (p : ℕ) (b : BlockedSend) (elapsed : Duration) (s' : State T U) (result : SendResult)
@@ -256,19 +258,11 @@ module _ {T U : Type 0} where
   -- a send advances the state
   pub send_advances : (environment : Environment) (s : State T U) (n : ℕ) (l : Loan T U) (s' : State T U) (result : SendResult)
       → Send environment s n l s' result → Advances s s'
-  send_advances environment s n l s' result h =
-      by_option (Advances s s') (s.publishers l.publisher) _ _ h
-      (λ _ h. subst (Advances s) (sym h.0)
-      (record { config = refl; next_port = le_refl s.next_port; next_message = le_refl s.next_message }))
-      (λ x _ h.
-      let v : Advances s h.0 = update_publisher_advances environment s l.publisher h.0 h.1 h.2 in
-      by_option (Advances s s') h.1 _ _ h.3
-      (λ _ k. by_option (Advances s s') ((h.0).publishers l.publisher) _ _ k (λ _ v. absurd v) (λ x1 _ k.
-      let later : Advances (published h.0 l.publisher n) s' =
-      deliver_and_conclude_advances environment (published h.0 l.publisher n) l.publisher n 0 0 no_time 0 x1.ends 0 false s' result k in
-      record {
-        config = later.config ∙ v.config;
-        next_port = omega (arith, v.next_port, later.next_port);
-        next_message = omega (arith, v.next_message, later.next_message);
-      }))
-      (λ e _ k. subst (Advances s) (sym k.0) (record { config = v.config; next_port = v.next_port; next_message = v.next_message })))
+  send_advances environment s n l s' result =
+      send_by_steps Advances Advances (advance.trans) environment s n l s' result (record {
+        delivery = deliveries_advance environment l.publisher n result;
+        updates = λ a. update_publisher_advances environment a l.publisher;
+        publishes = λ a. record { config = refl; next_port = le_refl a.next_port; next_message = le_refl a.next_message };
+        lost = λ a _ e _. record { config = refl; next_port = le_refl a.next_port; next_message = le_refl a.next_message };
+        discards = λ a k _ e _. record { config = refl; next_port = le_refl a.next_port; next_message = le_refl a.next_message };
+      })

@@ -14,14 +14,10 @@ use Rattle.iox2_store.specs.machine.PublisherUpdate.{SenderSide, SenderAction, K
 use Rattle.iox2_store.specs.machine.WellFormed.{LeadsTo, IsInjective, subscriber_place, IsWellFormed, PublisherIsWellFormed, SubscriberIsWellFormed}
 use Rattle.iox2_store.specs.declared.errors.ConnectionFailure.{ConnectionFailure}
 use Rattle.iox2_laws.proofs.Puts.{at_each}
+use Rattle.iox2_laws.proofs.NumberLemmas.{false_from}
 use Rattle.iox2_laws.proofs.PlaceLemmas.{length-set_place_le, occupant-set_place, is_port-true, is_port-false, injective_removed, injective_set, found_set}
 use Rattle.iox2_laws.proofs.MailboxLemmas.{has_numbers-borrows, has_numbers_dropped, IsWithin-dropped, contains_in_dropped, OthersWithin-dropped, IsWithin-history, waiting_count-history, contains_in_history, has_borrows-history}
 use Rattle.iox2_laws.proofs.Walks.{for_each_place_keeps}
-
--- what isn't true is false
-not_true : (b : Bool) → (b ≡ true → ⊥) → b ≡ false
-not_true true h = absurd (h refl)
-not_true false h = refl
 
 -- an end at another place stays where one is set
 pub end_stays : (ends : List (Option ℕ)) (place i r : ℕ) (end : Option ℕ) → (i ≡ place → ⊥) → occupant ends i ≡ Some r
@@ -205,7 +201,7 @@ module _ {T U : Type 0} where
         let nowhere : (i : ℕ) → occupant side.ends i ≡ Some q → ⊥ = λ i h.
         let same : i ≡ place = sym (k.ends_stand i q found.0 h found.1) ∙ place_is s w q place found.0 found.1 at in
         none-some q (sym free ∙ ap (occupant side.ends) (sym same) ∙ h) in
-        let empty : has_numbers (side.mailboxes q) ≡ false = not_true _ (λ h. let l : LeadsTo side.ends q = k.sender_end q h in nowhere l.0 l.1) in
+        let empty : has_numbers (side.mailboxes q) ≡ false = false_from _ (λ h. let l : LeadsTo side.ends q = k.sender_end q h in nowhere l.0 l.1) in
         let new : Mailbox = with_waiting (last_n buffer ns) (side.mailboxes q) in
         record {
           ends_bound = length-set_place_le side.ends place (Some q) (omega (arith, (w.subscriber_places).bound)) k.ends_bound;

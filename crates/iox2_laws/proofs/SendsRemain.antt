@@ -1,9 +1,10 @@
 -- What each send leaves, also one that is blocked, tried again or given up: the ports stay, and what is borrowed is what was. A
 -- publisher with a blocked send waits with its message.
-use Rattle.std.proofs.Common.{◌≡◌, ℕ, ◌+◌, ◌||◌, Bool, true, false, List, cond, [], ◌∷◌, ◌++◌, drop, refl, sym, ap, subst, ◌∙◌, arith, Option, None, Some}
+use Rattle.std.proofs.Common.{◌≡◌, ℕ, ◌+◌, ◌||◌, Bool, true, false, List, [], ◌∷◌, ◌++◌, drop, refl, sym, ap, subst, ◌∙◌, arith, Option, None, Some}
 use Rattle.std.specs.Option.{option_map}
 use Rattle.std.specs.declared.time.Duration.{Duration}
 use Rattle.std.proofs.lemmas.Option.{none-some, same_Some}
+use Rattle.iox2_store.specs.machine.Loans.{loan_discarded}
 use Rattle.iox2_store.specs.machine.Numbers.{without, last_n}
 use Rattle.iox2_store.specs.machine.Mailbox.{Mailbox}
 use Rattle.iox2_store.specs.machine.Records.{Loan, Publisher, PublisherSettings, Subscriber, Environment, BlockedSend, Handler}
@@ -15,18 +16,16 @@ use Rattle.iox2_laws.proofs.PublisherUpdates.{update_publisher_leaves}
 use Rattle.iox2_laws.proofs.Waits.{update_publisher_waits}
 use Rattle.iox2_store.specs.machine.State.{State, channel_buffer, with_loan, publisher_changed}
 use Rattle.iox2_store.specs.machine.Delivery.{DeliveryEnd, Complete, Suspended, accepted_count, is_failed, is_blocking, no_time, DeliverIn}
-use Rattle.iox2_store.specs.machine.Sends.{Send, Publish, Retry, GiveUp, DeliverAndConclude, ConcludeSend, SendResult, Blocked_send, Delivered_to, Send_error, with_mailboxes, published, more_retries}
+use Rattle.iox2_store.specs.machine.Sends.{Send, Retry, GiveUp, DeliverAndConclude, ConcludeSend, SendResult, Blocked_send, Send_error, with_mailboxes, published, more_retries}
 use Rattle.iox2_store.specs.machine.SingleCalls.{HoldsBlocked}
 use Rattle.iox2_store.specs.declared.backpressure.BackpressureStrategy.{BackpressureStrategy}
 use Rattle.iox2_store.specs.declared.backpressure.BackpressureAction.{BackpressureAction}
-use Rattle.iox2_store.specs.declared.errors.SendError.TheVariants.{UnableToDeliver}
 use Rattle.iox2_store.specs.declared.service_config.ServiceConfig.{ServiceConfig}
 use Rattle.iox2_laws.proofs.Cases.{by_option, by_bool}
 use Rattle.iox2_laws.proofs.CallCases.{publisher_cases}
-use Rattle.iox2_laws.proofs.MailboxWalks.{deliver_keeps}
-use Rattle.iox2_laws.proofs.PortsStay.{PortsStay, update_publisher_stays, loan_set_stays, loan_discarded_stays}
+use Rattle.iox2_laws.proofs.OperationWalks.{DeliverySteps, delivered-unblocked, retry_by_steps, give_up_by_steps, send_by_steps}
+use Rattle.iox2_laws.proofs.PortsStay.{PortsStay, update_publisher_stays, delivered_borrowed, loan_set_stays, loan_discarded_stays}
 use Rattle.iox2_laws.proofs.Puts.{at_each, put_at-same}
-use Rattle.iox2_laws.proofs.MailboxLemmas.{borrowed-appended}
 
 -- The ports stay, and what is borrowed is what was.
 pub record PortsRemain {T U : Type 0} (s s' : State T U) : Type 0 where
@@ -34,10 +33,6 @@ pub record PortsRemain {T U : Type 0} (s s' : State T U) : Type 0 where
   pub publishers : (p : ℕ) (x : Publisher) → s.publishers p ≡ Some x → (x' : Publisher) × (s'.publishers p ≡ Some x')
   pub subscribers : (q : ℕ) (y : Subscriber) → s.subscribers q ≡ Some y → y.is_open ≡ true → (y' : Subscriber) × (s'.subscribers q ≡ Some y') × (y'.is_open ≡ true)
   pub borrowed : (p q : ℕ) → (s'.mailboxes p q).borrowed ≡ (s.mailboxes p q).borrowed
-
--- the mailbox has what was borrowed there
-abbrev SameBorrowed : (old : ℕ → Mailbox) → (i : ℕ) → Mailbox → Type 0
-SameBorrowed old i box = box.borrowed ≡ (old i).borrowed
 
 module _ {T U : Type 0} where
   pub ports_remain : (s s' : State T U) → PortsStay s s' → PortsRemain s s'
@@ -66,52 +61,39 @@ module _ {T U : Type 0} where
     borrowed = λ p q. refl;
   }
 
-  concluded_remains : (s : State T U) (p n : ℕ) (how : DeliveryEnd) (s' : State T U) (result : SendResult) → ConcludeSend s p n how s' result → PortsRemain s s'
-  concluded_remains s p n (Complete count has_failed) s' result h = subst (PortsRemain s) (sym h.0) (publisher_changed_remains s p (λ x. record x { loans = without n x.loans; blocked = None }))
-  concluded_remains s p n (Suspended b) s' result h = subst (PortsRemain s) (sym h.0) (publisher_changed_remains s p (λ x. record x { blocked = Some b }))
-
-  pub delivered_remains : (environment : Environment) (s : State T U) (p n channel retries : ℕ) (elapsed : Duration) (place : ℕ) (ends : List (Option ℕ)) (count : ℕ)
-      (has_failed : Bool) (s' : State T U) (result : SendResult)
-      → DeliverAndConclude environment s p n channel retries elapsed place ends count has_failed s' result → PortsRemain s s'
-  delivered_remains environment s p n channel retries elapsed place ends count has_failed s' result h =
-      by_option (PortsRemain s s') (s.publishers p) _ _ h (λ _ v. absurd v) (λ x present h.
-      let are : (q : ℕ) → SameBorrowed (s.mailboxes p) q (h.1 q) =
-      (deliver_keeps (SameBorrowed (s.mailboxes p)) (λ i box same. same) environment s.config p x.backpressure_strategy x.backpressure_handler (channel_buffer s p channel) n channel
-      (λ i buffer box same. borrowed-appended channel buffer n box ∙ same) retries elapsed place ends count has_failed (s.mailboxes p) h.0 h.1 (λ q. refl) h.2).0 in
-      let mid : State T U = with_mailboxes s p h.1 in
-      let first : PortsRemain s mid = record {
-        config = refl;
-        publishers = λ p x e. (x, e);
-        subscribers = λ q y e o. (y, e, o);
-        borrowed = λ i q. at_each s.mailboxes p h.1 (λ i row. (row q).borrowed ≡ (s.mailboxes i q).borrowed) i (λ _. are q) (λ _. refl);
-      } in
-      ports_remain_trans s mid s' first (concluded_remains mid p n h.0 s' result h.3))
+  pub deliveries_remain : (environment : Environment) (p n : ℕ) (result : SendResult) → DeliverySteps {T = T} {U = U} environment p n PortsRemain PortsRemain result
+  deliveries_remain environment p n result = record {
+    delivers = λ s boxes d. record {
+      config = refl;
+      publishers = λ p x e. (x, e);
+      subscribers = λ q y e o. (y, e, o);
+      borrowed = delivered_borrowed environment s p n boxes d;
+    };
+    ended = λ s _. publisher_changed_remains s p (λ x. record x { loans = without n x.loans; blocked = None });
+    blocked = λ s b _. publisher_changed_remains s p (λ x. record x { blocked = Some b });
+  }
 
   pub retry_remains : (environment : Environment) (s : State T U) (p : ℕ) (b : BlockedSend) (elapsed : Duration) (s' : State T U) (result : SendResult)
       → Retry environment s p b elapsed s' result → PortsRemain s s'
-  retry_remains environment s p b elapsed s' result = delivered_remains environment s p b.message b.channel (more_retries b.retries) elapsed b.place b.ends b.count b.has_failed s' result
+  retry_remains environment s p b elapsed s' result = retry_by_steps PortsRemain PortsRemain ports_remain_trans environment s p b elapsed s' result (deliveries_remain environment p b.message result)
 
   pub give_up_remains : (environment : Environment) (s : State T U) (p : ℕ) (b : BlockedSend) (s' : State T U) (result : SendResult) → GiveUp environment s p b s' result → PortsRemain s s'
-  give_up_remains environment s p b s' result = delivered_remains environment s p b.message b.channel 0 no_time (b.place + 1) (drop 1 b.ends) b.count b.has_failed s' result
+  give_up_remains environment s p b s' result = give_up_by_steps PortsRemain PortsRemain ports_remain_trans environment s p b s' result (deliveries_remain environment p b.message result)
 
-  publish_remains : (environment : Environment) (s : State T U) (p n : ℕ) (s' : State T U) (result : SendResult) → Publish environment s p n s' result → PortsRemain s s'
-  publish_remains environment s p n s' result h =
-      by_option (PortsRemain s s') (s.publishers p) _ _ h (λ _ v. absurd v) (λ x present h.
-      let mid : State T U = published s p n in
-      let first : PortsRemain s mid =
-      ports_remain_trans s (with_loan s n None) mid (ports_remain s (with_loan s n None) (loan_set_stays s n None))
-      (publisher_changed_remains (with_loan s n None) p (λ x. record x { history = last_n (s.config).history_size (x.history ++ n ∷ []) })) in
-      ports_remain_trans s mid s' first (delivered_remains environment mid p n 0 0 no_time 0 x.ends 0 false s' result h))
+  published_remains : (s : State T U) (p n : ℕ) → PortsRemain s (published s p n)
+  published_remains s p n =
+      ports_remain_trans s (with_loan s n None) (published s p n) (ports_remain s (with_loan s n None) (loan_set_stays s n None))
+      (publisher_changed_remains (with_loan s n None) p (λ x. record x { history = last_n (s.config).history_size (x.history ++ n ∷ []) }))
 
   pub send_remains : (environment : Environment) (s : State T U) (n : ℕ) (l : Loan T U) (s' : State T U) (result : SendResult) → Send environment s n l s' result → PortsRemain s s'
-  send_remains environment s n l s' result h =
-      by_option (PortsRemain s s') (s.publishers l.publisher) _ _ h
-      (λ _ k. subst (PortsRemain s) (sym k.0) (ports_remain s (with_loan s n None) (loan_set_stays s n None)))
-      (λ x _ k.
-      let first : PortsRemain s k.0 = ports_remain s k.0 (update_publisher_stays environment s l.publisher k.0 k.1 k.2) in
-      by_option (PortsRemain s s') k.1 _ _ k.3
-      (λ _ j. ports_remain_trans s k.0 s' first (publish_remains environment k.0 l.publisher n s' result j))
-      (λ e _ j. ports_remain_trans s k.0 s' first (subst (PortsRemain k.0) (sym j.0) (ports_remain k.0 _ (loan_discarded_stays k.0 n l)))))
+  send_remains environment s n l s' result =
+      send_by_steps PortsRemain PortsRemain ports_remain_trans environment s n l s' result (record {
+        delivery = deliveries_remain environment l.publisher n result;
+        updates = λ a b failure h. ports_remain a b (update_publisher_stays environment a l.publisher b failure h);
+        publishes = λ a. published_remains a l.publisher n;
+        lost = λ a _ e _. ports_remain a (with_loan a n None) (loan_set_stays a n None);
+        discards = λ a k _ e _. ports_remain a (loan_discarded a n k) (loan_discarded_stays a n k);
+      })
 
 -- ---- a send that is blocked waits with its message
 
@@ -131,10 +113,7 @@ module _ (e : Environment) (c : ServiceConfig) (p : ℕ) (strategy : Backpressur
 module _ {T U : Type 0} where
   concluded_waits_with : (s : State T U) (p n : ℕ) (x : Publisher) → s.publishers p ≡ Some x → (how : DeliveryEnd) (s' : State T U) (result : SendResult)
       → ((b : BlockedSend) → how ≡ Suspended b → b.message ≡ n) → ConcludeSend s p n how s' result → result ≡ Blocked_send → HoldsBlocked s' p n
-  concluded_waits_with s p n x here (Complete count has_failed) s' result message h is = absurd (ended has_failed (sym h.1 ∙ is)) where
-    ended : (failed : Bool) → cond failed (Send_error UnableToDeliver) (Delivered_to count) ≡ Blocked_send → ⊥
-    ended true e = absurd cc
-    ended false e = absurd cc
+  concluded_waits_with s p n x here (Complete count has_failed) s' result message h is = absurd (delivered-unblocked count has_failed (sym h.1 ∙ is))
   concluded_waits_with s p n x here (Suspended b) s' result message h is =
       subst (λ (t : State T U). HoldsBlocked t p n) (sym h.0) (
         record x { blocked = Some b },

@@ -4,6 +4,7 @@ use Rattle.std.proofs.lemmas.Bool.{true≢false}
 use Rattle.std.proofs.lemmas.Option.{same_Some}
 use Rattle.std.specs.Option.{option_map}
 use Rattle.iox2_laws.proofs.Cases.{by_option, by_bool}
+use Rattle.iox2_laws.proofs.OperationWalks.{advance, subscriber_update_by_steps}
 use Rattle.iox2_laws.proofs.Puts.{put_at-same, put_at-other, at_each, found_put}
 use Rattle.iox2_laws.proofs.MailboxLemmas.{IsWithin-dropped, contains_in_dropped, has_numbers_dropped, has_numbers-borrows, OthersWithin-dropped}
 use Rattle.iox2_laws.proofs.ReleaseLaws.{Shrinks, shrinks_same, ReceiversAgree, receivers_keep, subscriber_keeps}
@@ -166,8 +167,6 @@ module _ {T U : Type 0} where
   -- No counter falls at a subscriber's update.
   pub update_subscriber_advances : (environment : Environment) (s : State T U) (q : ℕ) (s' : State T U) (failure : Option ConnectionFailure)
       → UpdateSubscriber environment s q s' failure → Advances s s'
-  update_subscriber_advances environment s q s' failure h =
-      by_option (Advances s s') (s.subscribers q) _ _ h (λ _ v. absurd v) (λ y here h.
-      by_bool (Advances s s') y.is_due _ _ h
-      (λ _ h. subst (Advances s) (sym h.2) (record { config = refl; next_port = omega arith; next_message = omega arith }))
-      (λ _ h. subst (Advances s) (sym h.0) (record { config = refl; next_port = omega arith; next_message = omega arith })))
+  update_subscriber_advances environment s q s' failure =
+      subscriber_update_by_steps Advances advance environment s q s' failure
+      (λ y here side _. record { config = refl; next_port = omega arith; next_message = omega arith })

@@ -1,5 +1,5 @@
 -- Subscribers that aren't due for an update, and which operations leave them so.
-use Rattle.std.proofs.Common.{◌≡◌, ℕ, ◌+◌, List, drop, Bool, true, false, cond, not, ◌&&◌, refl, sym, ap, ◌∙◌, arith, ◌<◌, Option, None, Some, inl, inr}
+use Rattle.std.proofs.Common.{◌≡◌, ℕ, List, Bool, true, false, cond, not, ◌&&◌, refl, sym, ap, ◌∙◌, arith, ◌<◌, Option, None, Some, inl, inr}
 use Rattle.std.specs.List.{list_all}
 use Rattle.std.specs.declared.time.Duration.{Duration}
 use Rattle.std.specs.Option.{option_map, option_map_or}
@@ -8,22 +8,22 @@ use Rattle.std.proofs.lemmas.Option.{same_Some}
 use Rattle.iox2_store.specs.machine.Mailbox.{has_borrows}
 use Rattle.iox2_store.specs.machine.Records.{Loan, Subscriber, BlockedSend, Environment, SubscriberSettings}
 use Rattle.iox2_store.specs.machine.State.{State, connected_publishers}
-use Rattle.iox2_store.specs.machine.Delivery.{DeliveryEnd, Complete, Suspended, no_time}
 use Rattle.iox2_store.specs.machine.PublisherUpdate.{UpdatePublisher}
 use Rattle.iox2_store.specs.machine.SubscriberUpdate.{UpdateSubscriber}
 use Rattle.iox2_store.specs.machine.Loans.{GrantLoan}
 use Rattle.iox2_store.specs.machine.Ports.{CreateSubscriber, FirstSubscriberUpdate, with_new_subscriber, new_subscriber, with_failure_warning}
 use Rattle.iox2_store.specs.machine.Receives.{ReceiveResult, Got_sample, No_sample, Receive_error, TakeSample, Receive}
 use Rattle.iox2_store.specs.machine.Releases.{pruned, is_unused, place_freed, unborrowed, subscriber_pruned, released}
-use Rattle.iox2_store.specs.machine.Sends.{Send, Retry, GiveUp, DeliverAndConclude, ConcludeSend, SendResult, more_retries, published, with_mailboxes}
+use Rattle.iox2_store.specs.machine.Sends.{Send, Retry, GiveUp, DeliverAndConclude, SendResult}
 use Rattle.iox2_store.specs.machine.WellFormed.{IsWellFormed}
 use Rattle.iox2_store.specs.declared.errors.ConnectionFailure.{ConnectionFailure}
 use Rattle.iox2_store.specs.declared.errors.LoanError.{LoanError}
 use Rattle.iox2_store.specs.declared.errors.ReceiveError.{ReceiveError}
 use Rattle.iox2_store.specs.declared.errors.SubscriberCreateError.{SubscriberCreateError}
 use Rattle.iox2_store.specs.declared.warning.Warning.TheVariants.{SubscriberPartlyConnected}
+use Rattle.iox2_laws.proofs.OperationWalks.{IsPreorder, unchanged, DeliverySteps, grant_by_steps, publisher_update_by_steps, receive_by_steps, delivery_by_steps, retry_by_steps, give_up_by_steps, send_by_steps}
 use Rattle.iox2_laws.proofs.Cases.{by_option, by_bool}
-use Rattle.iox2_laws.proofs.CallCases.{grant_cases, subscriber_cases}
+use Rattle.iox2_laws.proofs.CallCases.{subscriber_cases}
 use Rattle.iox2_laws.proofs.Puts.{put_at-other, at_each}
 use Rattle.iox2_laws.proofs.PortsStay.{update_subscriber_stays}
 use Rattle.iox2_laws.proofs.WaitingReceives.{update_subscriber_updates}
@@ -40,57 +40,56 @@ module _ {T U : Type 0} where
   pub same_subscribers : (s s' : State T U) → s'.subscribers ≡ s.subscribers → UpdatedStay s s'
   same_subscribers s s' same q is = (is.0, ap (λ f. f q) same ∙ is.1, is.2, is.3)
 
-  stay_same : (s s' : State T U) → s' ≡ s → s'.subscribers ≡ s.subscribers
-  stay_same s s' e = ap (λ (t : State T U). t.subscribers) e
+  -- The subscribers are the same.
+  abbrev pub SameSubscribers : State T U → State T U → Type 0
+  SameSubscribers s s' = s'.subscribers ≡ s.subscribers
+
+  subscribers_stay : IsPreorder SameSubscribers
+  subscribers_stay = record { itself = λ s. refl; trans = λ a b c h k. k ∙ h }
+
+  stay : IsPreorder UpdatedStay
+  stay = record { itself = λ s q is. is; trans = λ a b c f g q is. g q (f q is) }
 
   -- ---- loans
 
   pub grant_loan_subscribers : (environment : Environment) (default_header : U) (checks_length : Bool) (len : ℕ) (s : State T U) (p : ℕ) (s' : State T U) (refusal : Option LoanError)
       → GrantLoan environment default_header checks_length len s p s' refusal → s'.subscribers ≡ s.subscribers
-  grant_loan_subscribers environment default_header checks_length len s p s' refusal h =
-      grant_cases environment default_header checks_length len s p s' (s'.subscribers ≡ s.subscribers) refusal h (λ e same _. stay_same s s' same)
-      (λ x present grants. ap (λ (t : State T U). t.subscribers) grants.4)
+  grant_loan_subscribers environment default_header checks_length len s p s' refusal =
+      grant_by_steps SameSubscribers subscribers_stay environment default_header checks_length len s p s' refusal (λ x present segments. refl)
 
   -- ---- sends
 
   pub update_publisher_subscribers : (environment : Environment) (s : State T U) (p : ℕ) (s' : State T U) (failure : Option ConnectionFailure)
       → UpdatePublisher environment s p s' failure → s'.subscribers ≡ s.subscribers
-  update_publisher_subscribers environment s p s' failure h =
-      by_option (s'.subscribers ≡ s.subscribers) (s.publishers p) _ _ h (λ _ v. absurd v) (λ x _ h.
-      by_bool (s'.subscribers ≡ s.subscribers) x.is_due _ _ h
-      (λ _ h. ap (λ (t : State T U). t.subscribers) h.2) (λ _ h. stay_same s s' h.0))
+  update_publisher_subscribers environment s p s' failure = publisher_update_by_steps SameSubscribers subscribers_stay environment s p s' failure (λ x present side _. refl)
 
-  concluded_subscribers : (s : State T U) (p n : ℕ) (how : DeliveryEnd) (s' : State T U) (result : SendResult) → ConcludeSend s p n how s' result → s'.subscribers ≡ s.subscribers
-  concluded_subscribers s p n (Complete count has_failed) s' result h = ap (λ (t : State T U). t.subscribers) h.0
-  concluded_subscribers s p n (Suspended b) s' result h = ap (λ (t : State T U). t.subscribers) h.0
+  pub deliveries_stay_subscribed : (environment : Environment) (p n : ℕ) (result : SendResult) → DeliverySteps {T = T} {U = U} environment p n SameSubscribers SameSubscribers result
+  deliveries_stay_subscribed environment p n result = record { delivers = λ a boxes _. refl; ended = λ a _. refl; blocked = λ a b _. refl }
 
   pub send_subscribers : (environment : Environment) (s : State T U) (n : ℕ) (l : Loan T U) (s' : State T U) (result : SendResult) → Send environment s n l s' result → s'.subscribers ≡ s.subscribers
-  send_subscribers environment s n l s' result h =
-      by_option Same (s.publishers l.publisher) _ _ h
-      (λ _ k. ap (λ (t : State T U). t.subscribers) k.0)
-      (λ x _ k.
-      let first : (k.0).subscribers ≡ s.subscribers = update_publisher_subscribers environment s l.publisher k.0 k.1 k.2 in
-      by_option Same k.1 _ _ k.3
-      (λ _ j. by_option Same ((k.0).publishers l.publisher) _ _ j (λ _ v. absurd v) (λ z _ j.
-      by_option Same ((published k.0 l.publisher n).publishers l.publisher) _ _ j (λ _ v. absurd v) (λ w _ j.
-      concluded_subscribers (with_mailboxes (published k.0 l.publisher n) l.publisher j.1) l.publisher n j.0 s' result j.3 ∙ first)))
-      (λ e _ j. ap (λ (t : State T U). t.subscribers) j.0 ∙ first))
-    where
-      Same : Type 0
-      Same = s'.subscribers ≡ s.subscribers
+  send_subscribers environment s n l s' result =
+      send_by_steps SameSubscribers SameSubscribers (subscribers_stay.trans) environment s n l s' result (record {
+        delivery = deliveries_stay_subscribed environment l.publisher n result;
+        updates = λ a. update_publisher_subscribers environment a l.publisher;
+        publishes = λ a. refl;
+        lost = λ a _ e _. refl;
+        discards = λ a k _ e _. refl;
+      })
 
   pub goes_on_subscribers : (environment : Environment) (s : State T U) (p n channel retries : ℕ) (elapsed : Duration) (place : ℕ) (ends : List (Option ℕ)) (count : ℕ) (has_failed : Bool) (s' : State T U)
       (result : SendResult) → DeliverAndConclude environment s p n channel retries elapsed place ends count has_failed s' result → s'.subscribers ≡ s.subscribers
-  goes_on_subscribers environment s p n channel retries elapsed place ends count has_failed s' result h =
-      by_option (s'.subscribers ≡ s.subscribers) (s.publishers p) _ _ h (λ _ v. absurd v) (λ x _ k. concluded_subscribers (with_mailboxes s p k.1) p n k.0 s' result k.3)
+  goes_on_subscribers environment s p n channel retries elapsed place ends count has_failed s' result =
+      delivery_by_steps SameSubscribers SameSubscribers (subscribers_stay.trans) environment s p n channel retries elapsed place ends count has_failed s' result (deliveries_stay_subscribed environment p n result)
 
   pub retry_subscribers : (environment : Environment) (s : State T U) (p : ℕ) (b : BlockedSend) (elapsed : Duration) (s' : State T U) (result : SendResult)
       → Retry environment s p b elapsed s' result → s'.subscribers ≡ s.subscribers
-  retry_subscribers environment s p b elapsed = goes_on_subscribers environment s p b.message b.channel (more_retries b.retries) elapsed b.place b.ends b.count b.has_failed
+  retry_subscribers environment s p b elapsed s' result =
+      retry_by_steps SameSubscribers SameSubscribers (subscribers_stay.trans) environment s p b elapsed s' result (deliveries_stay_subscribed environment p b.message result)
 
   pub give_up_subscribers : (environment : Environment) (s : State T U) (p : ℕ) (b : BlockedSend) (s' : State T U) (result : SendResult)
       → GiveUp environment s p b s' result → s'.subscribers ≡ s.subscribers
-  give_up_subscribers environment s p b = goes_on_subscribers environment s p b.message b.channel 0 no_time (b.place + 1) (drop 1 b.ends) b.count b.has_failed
+  give_up_subscribers environment s p b s' result =
+      give_up_by_steps SameSubscribers SameSubscribers (subscribers_stay.trans) environment s p b s' result (deliveries_stay_subscribed environment p b.message result)
 
   -- ---- a subscriber's update, and a receive
 
@@ -103,7 +102,7 @@ module _ {T U : Type 0} where
         | inl here ↦ absurd (true≢false (sym due ∙ ap (λ (z : Subscriber). z.is_due) (same_Some y is.0 (sym present ∙ ap s.subscribers (sym here) ∙ is.1)) ∙ is.3))
         | inr away ↦ (is.0, ap (λ (t : State T U). t.subscribers i) h.2 ∙ put_at-other s.subscribers q _ i (ne_eqb i q away) ∙ is.1, is.2, is.3)
       ])
-      (λ _ h. same_subscribers s s' (stay_same s s' h.0) i is))
+      (λ _ h. unchanged UpdatedStay stay s s' h.0 i is))
 
   taken_subscribers : (s : State T U) (q : ℕ) (y : Subscriber) (s' : State T U) (result : ReceiveResult) → TakeSample s q y s' result → s'.subscribers ≡ s.subscribers
   taken_subscribers s q y s' (Got_sample p n) h = ap (λ (t : State T U). t.subscribers) h.3
@@ -111,11 +110,8 @@ module _ {T U : Type 0} where
   taken_subscribers s q y s' (Receive_error e) h = ap (λ (t : State T U). t.subscribers) h.3
 
   pub receive_updated : (environment : Environment) (s : State T U) (q : ℕ) (s' : State T U) (result : ReceiveResult) → Receive environment s q s' result → UpdatedStay s s'
-  receive_updated environment s q s' result h i is =
-      let first : IsUpdated h.0 i = update_subscriber_updated environment s q h.0 h.1 h.2 i is in
-      by_option (IsUpdated s' i) h.1 _ _ h.3
-      (λ _ k. by_option (IsUpdated s' i) ((h.0).subscribers q) _ _ k (λ _ v. absurd v) (λ y _ k. same_subscribers h.0 s' (taken_subscribers h.0 q y s' result k) i first))
-      (λ e _ k. same_subscribers h.0 s' (stay_same h.0 s' k.0) i first)
+  receive_updated environment s q s' result =
+      receive_by_steps UpdatedStay stay environment s q s' result (update_subscriber_updated environment s q) (λ t p box i is. is)
 
   -- an update that didn't fail leaves its subscriber so
   pub update_leaves_updated : (environment : Environment) (s : State T U) (q : ℕ) (s' : State T U) (failure : Option ConnectionFailure) → failure ≡ None
@@ -162,7 +158,7 @@ module _ {T U : Type 0} where
   pub create_subscriber_updated : (environment : Environment) (s : State T U) → IsWellFormed s → (given : SubscriberSettings) (s' : State T U) (refusal : Option SubscriberCreateError)
       → CreateSubscriber environment s given s' refusal → UpdatedStay s s'
   create_subscriber_updated environment s w given s' refusal h i is =
-      subscriber_cases environment s given s' (IsUpdated s' i) refusal h (λ e same _. same_subscribers s s' (stay_same s s' same) i is) (λ place makes.
+      subscriber_cases environment s given s' (IsUpdated s' i) refusal h (λ e same _. unchanged UpdatedStay stay s s' same i is) (λ place makes.
       let new : State T U = with_new_subscriber s given place in
       let first : FirstSubscriberUpdate environment new s.next_port s' = makes.3 in
       let low : i < s.next_port = (w.subscribers i is.0 is.1).is_known in

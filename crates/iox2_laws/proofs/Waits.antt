@@ -1,33 +1,27 @@
 -- Who waits for a receiver, and where ports stand: no operation changes what a publisher does with a full receiver or without a
 -- connection, and only a send of its own, tried again or given up, changes whether it waits, and with which message. No port moves to
 -- another place, and no subscriber gets another buffer.
-use Rattle.std.proofs.Common.{◌≡◌, ℕ, ◌≤◌, ◌<◌, Bool, true, false, List, [], ◌∷◌, ◌++◌, refl, sym, ap, subst, ◌∙◌, le_refl, le_trans, arith, Option, None, Some}
-use Rattle.std.specs.Prelude.{max, ◌==◌, nat_lt}
+use Rattle.std.proofs.Common.{◌≡◌, ℕ, ◌≤◌, ◌<◌, Bool, true, false, [], ◌∷◌, ◌++◌, refl, sym, ap, subst, ◌∙◌, le_refl, le_trans, arith, Option, None, Some}
+use Rattle.std.specs.Prelude.{max}
 use Rattle.std.specs.Option.{option_map}
-use Rattle.std.proofs.lemmas.Bool.{cond_both}
 use Rattle.std.specs.declared.time.Duration.{Duration}
-use Rattle.iox2_store.specs.machine.Limits.{last_number, buffer_limit}
-use Rattle.iox2_store.specs.machine.Numbers.{without, size, last_n}
+use Rattle.iox2_store.specs.machine.Numbers.{without, last_n}
 use Rattle.iox2_store.specs.machine.Numbers.{put_at}
-use Rattle.iox2_store.specs.machine.Places.{free_place}
 use Rattle.iox2_store.specs.machine.Records.{Loan, Publisher, Subscriber, Environment, BlockedSend, PublisherSettings, SubscriberSettings}
-use Rattle.iox2_store.specs.machine.State.{State, held, with_loan, with_mailbox, publisher_changed, receiver_channels_reset}
-use Rattle.iox2_store.specs.machine.Delivery.{DeliveryEnd, Complete, Suspended, no_time}
+use Rattle.iox2_store.specs.machine.State.{State, with_loan, with_mailbox, publisher_changed, receiver_channels_reset, with_warning}
 use Rattle.iox2_store.specs.machine.PublisherUpdate.{UpdatePublisher}
 use Rattle.iox2_store.specs.machine.SubscriberUpdate.{UpdateSubscriber}
-use Rattle.iox2_store.specs.machine.Loans.{GrantLoan, StaticLoan, DynamicLoan, limit_error, is_static, loan_granted, loan_discarded}
-use Rattle.iox2_store.specs.machine.Sends.{Send, Publish, Retry, GiveUp, DeliverAndConclude, ConcludeSend, SendResult, with_mailboxes, published, more_retries}
-use Rattle.iox2_store.specs.machine.Ports.{CreatePublisher, CreateSubscriber, MakePublisher, MakeSubscriber, with_new_publisher, with_new_subscriber, new_publisher, new_subscriber, with_failure_warning, first_segment_fits, buffer_for, publisher_closed, publisher_gone, subscribers_pruned, subscriber_shut, subscriber_closed}
-use Rattle.iox2_store.specs.machine.Receives.{Receive, TakeSample, ReceiveResult, Got_sample, No_sample, Receive_error}
-use Rattle.iox2_store.specs.machine.Releases.{released, unborrowed, pruned, subscriber_pruned, freed_if_unused, place_freed, is_unused}
+use Rattle.iox2_store.specs.machine.Loans.{GrantLoan, loan_granted, loan_discarded}
+use Rattle.iox2_store.specs.machine.Sends.{Send, Retry, GiveUp, SendResult, with_mailboxes, published}
+use Rattle.iox2_store.specs.machine.Ports.{CreatePublisher, CreateSubscriber, with_new_publisher, with_new_subscriber, new_publisher, new_subscriber, publisher_closed, publisher_gone, subscribers_pruned, subscriber_shut, subscriber_closed}
+use Rattle.iox2_store.specs.machine.Receives.{Receive, ReceiveResult}
+use Rattle.iox2_store.specs.machine.Releases.{released, unborrowed, pruned, subscriber_pruned, freed_if_unused, place_freed}
 use Rattle.iox2_store.specs.declared.errors.ConnectionFailure.{ConnectionFailure}
 use Rattle.iox2_store.specs.declared.errors.LoanError.{LoanError}
-use Rattle.iox2_store.specs.declared.errors.LoanError.TheVariants.{OutOfMemory, ExceedsMaxLoans, ExceedsMaxLoanSize, InternalFailure}
 use Rattle.iox2_store.specs.declared.errors.PublisherCreateError.{PublisherCreateError}
 use Rattle.iox2_store.specs.declared.errors.SubscriberCreateError.{SubscriberCreateError}
 use Rattle.iox2_store.specs.declared.warning.Warning.{Warning}
-use Rattle.iox2_store.specs.declared.warning.Warning.TheVariants.{PublisherPartlyConnected, SubscriberPartlyConnected}
-use Rattle.iox2_laws.proofs.Cases.{by_option, by_bool}
+use Rattle.iox2_laws.proofs.OperationWalks.{IsPreorder, DeliverySteps, publisher_update_by_steps, subscriber_update_by_steps, create_publisher_by_steps, create_subscriber_by_steps, grant_by_steps, receive_by_steps, forgotten_by_steps, retry_by_steps, give_up_by_steps, send_by_steps}
 use Rattle.iox2_laws.proofs.Puts.{at_each, found_put, found_removed, found_mapped}
 
 -- the publisher stands where it did, does with a full receiver what it did, and without a connection, and waits as it did, unless it is
@@ -110,6 +104,9 @@ module _ (Spared : ℕ → Type 0) where
           let v = b.subscribers q y low' e in let u = a.subscribers q v.0 low v.1 in (u.0, u.1, stood u.0 v.0 y u.2 v.2);
     }
 
+    wait : IsPreorder (Waits {T = T} {U = U} Spared)
+    wait = record { itself = waits_itself; trans = waits_trans }
+
     -- the subscribers that were known stand where they did
     abbrev Stand : (s s' : State T U) → Type 0
     Stand s s' = (q : ℕ) (y' : Subscriber) → q < s.next_port → s'.subscribers q ≡ Some y' → WasSubscriber s.subscribers q y'
@@ -143,33 +140,26 @@ module _ (Spared : ℕ → Type 0) where
 
     pub update_publisher_waits : (environment : Environment) (s : State T U) (p : ℕ) (s' : State T U) (failure : Option ConnectionFailure)
         → UpdatePublisher environment s p s' failure → Waits Spared s s'
-    update_publisher_waits environment s p s' failure h =
-        by_option (Waits Spared s s') (s.publishers p) _ _ h (λ _ v. absurd v) (λ x present h.
-        by_bool (Waits Spared s s') x.is_due _ _ h
-        (λ _ h. subst (Waits Spared s) (sym h.2) (record {
+    update_publisher_waits environment s p s' failure =
+        publisher_update_by_steps (Waits Spared) wait environment s p s' failure (λ x present side _. record {
           next_port = le_refl s.next_port;
-          publishers = put_publisher s.publishers s.next_port p (record x { ends = (h.0).ends; is_due = false }) (λ _. (x, present, record { place = refl; strategy = refl; handler = refl; degradation = refl; blocked = λ _. refl }));
+          publishers = put_publisher s.publishers s.next_port p (record x { ends = side.ends; is_due = false }) (λ _. (x, present, record { place = refl; strategy = refl; handler = refl; degradation = refl; blocked = λ _. refl }));
           subscribers = λ q y low e. (y, e, stands_still y);
-        }))
-        (λ _ h. subst (Waits Spared s) (sym h.0) (waits_itself s)))
+        })
 
     pub update_subscriber_waits : (environment : Environment) (s : State T U) (q : ℕ) (s' : State T U) (failure : Option ConnectionFailure)
         → UpdateSubscriber environment s q s' failure → Waits Spared s s'
-    update_subscriber_waits environment s q s' failure h =
-        by_option (Waits Spared s s') (s.subscribers q) _ _ h (λ _ v. absurd v) (λ y present h.
-        by_bool (Waits Spared s s') y.is_due _ _ h
-        (λ _ h. subst (Waits Spared s) (sym h.2) (record {
+    update_subscriber_waits environment s q s' failure =
+        subscriber_update_by_steps (Waits Spared) wait environment s q s' failure (λ y present side _. record {
           next_port = le_refl s.next_port;
           publishers = λ p x low e. (x, e, as_it_is p x);
-          subscribers = put_subscriber s.subscribers s.next_port q (record y { ends = (h.0).ends; expired = (h.0).expired; is_due = (h.0).is_due }) (λ _. (y, present, record { place = refl; buffer = refl }));
-        }))
-        (λ _ h. subst (Waits Spared s) (sym h.0) (waits_itself s)))
+          subscribers = put_subscriber s.subscribers s.next_port q (record y { ends = side.ends; expired = side.expired; is_due = side.is_due }) (λ _. (y, present, record { place = refl; buffer = refl }));
+        })
 
     -- ---- ports are made
 
-    warning_waits : (s : State T U) (warning : ConnectionFailure → Warning) (failure : Option ConnectionFailure) → Waits Spared s (with_failure_warning s warning failure)
-    warning_waits s warning None = waits_itself s
-    warning_waits s warning (Some failure) = same_ports s (with_failure_warning s warning (Some failure)) refl refl refl
+    warned_waits : (s : State T U) (w : Warning) → Waits Spared s (with_warning s w)
+    warned_waits s w = same_ports s (with_warning s w) refl refl refl
 
     new_publisher_waits : (s : State T U) (given : PublisherSettings) (place : ℕ) → Waits Spared s (with_new_publisher s given place)
     new_publisher_waits s given place = record {
@@ -184,37 +174,13 @@ module _ (Spared : ℕ → Type 0) where
 
     pub create_publisher_waits : (environment : Environment) (s : State T U) (given : PublisherSettings) (s' : State T U) (refusal : Option PublisherCreateError)
         → CreatePublisher environment s given s' refusal → Waits Spared s s'
-    create_publisher_waits environment s given s' refusal h =
-        by_bool (Waits Spared s s') (s.next_port == last_number) _ _ h (λ _ k. same k.0) (λ _ k.
-        by_option (Waits Spared s s') (free_place (s.config).max_publishers s.publisher_places) _ _ k (λ _ j. same j.0) (λ place _ j.
-        by_bool (Waits Spared s s') (first_segment_fits s.config given) _ _ j (λ _ i. made place refusal i) (λ _ i. same i.0)))
-      where
-        same : s' ≡ s → Waits Spared s s'
-        same e = subst (Waits Spared s) (sym e) (waits_itself s)
-
-        made : (place : ℕ) (refusal : Option PublisherCreateError) → MakePublisher environment s given place s' refusal → Waits Spared s s'
-        made place None h =
-            let new : State T U = with_new_publisher s given place in
-            subst (Waits Spared s) (sym h.3) (waits_trans s new _ (new_publisher_waits s given place)
-            (waits_trans new h.0 _ (update_publisher_waits environment new s.next_port h.0 h.1 h.2) (warning_waits h.0 (PublisherPartlyConnected s.next_port) h.1)))
-        made place (Some e) h = same h.1
+    create_publisher_waits environment s given s' refusal =
+        create_publisher_by_steps (Waits Spared) wait environment s given s' refusal (new_publisher_waits s given) (update_publisher_waits environment) warned_waits
 
     pub create_subscriber_waits : (environment : Environment) (s : State T U) (given : SubscriberSettings) (s' : State T U) (refusal : Option SubscriberCreateError)
         → CreateSubscriber environment s given s' refusal → Waits Spared s s'
-    create_subscriber_waits environment s given s' refusal h =
-        by_bool (Waits Spared s s') (s.next_port == last_number) _ _ h (λ _ k. same k.0) (λ _ k.
-        by_bool (Waits Spared s s') (nat_lt (buffer_limit s.config) (buffer_for given)) _ _ k (λ _ j. same j.0) (λ _ j.
-        by_option (Waits Spared s s') (free_place (s.config).max_subscribers s.subscriber_places) _ _ j (λ _ i. same i.0) (λ place _ i. made place refusal i)))
-      where
-        same : s' ≡ s → Waits Spared s s'
-        same e = subst (Waits Spared s) (sym e) (waits_itself s)
-
-        made : (place : ℕ) (refusal : Option SubscriberCreateError) → MakeSubscriber environment s given place s' refusal → Waits Spared s s'
-        made place None h =
-            let new : State T U = with_new_subscriber s given place in
-            subst (Waits Spared s) (sym h.3) (waits_trans s new _ (new_subscriber_waits s given place)
-            (waits_trans new h.0 _ (update_subscriber_waits environment new s.next_port h.0 h.1 h.2) (warning_waits h.0 (SubscriberPartlyConnected s.next_port) h.1)))
-        made place (Some e) h = same h.1
+    create_subscriber_waits environment s given s' refusal =
+        create_subscriber_by_steps (Waits Spared) wait environment s given s' refusal (new_subscriber_waits s given) (update_subscriber_waits environment) warned_waits
 
     -- ---- loans
 
@@ -249,85 +215,46 @@ module _ (Spared : ℕ → Type 0) where
         waits_trans s (with_loan s n None) (loan_discarded s n l) (loan_set_waits s n None)
         (publisher_changed_waits (with_loan s n None) l.publisher (λ x. record x { loans = without n x.loans }) (λ x. record { place = refl; strategy = refl; handler = refl; degradation = refl; blocked = λ _. refl }))
 
-    static_waits : (default_header : U) (s : State T U) (p : ℕ) (x : Publisher) → s.publishers p ≡ Some x → (len : ℕ) (s' : State T U) (refusal : Option LoanError)
-        → StaticLoan default_header s p x len s' refusal → Waits Spared s s'
-    static_waits default_header s p x present len s' refusal h =
-        by_bool (Waits Spared s s') (size (held s p x) == x.slots) _ _ h (λ _ k. subst (Waits Spared s) (sym k.0) (waits_itself s)) (λ _ k.
-        by_bool (Waits Spared s s') (s.next_message == last_number) _ _ k (λ _ j. subst (Waits Spared s) (sym j.0) (waits_itself s))
-        (λ _ j. subst (Waits Spared s) (sym j.0) (granted_waits default_header s p x present len x.segments)))
-
-    dynamic_waits : (environment : Environment) (default_header : U) (s : State T U) (p : ℕ) (x : Publisher) → s.publishers p ≡ Some x → (len : ℕ) (s' : State T U) (refusal : Option LoanError)
-        → DynamicLoan environment default_header s p x len s' refusal → Waits Spared s s'
-    dynamic_waits environment default_header s p x present len s' None h = subst (Waits Spared s) (sym h.4) (granted_waits default_header s p x present len h.2)
-    dynamic_waits environment default_header s p x present len s' (Some OutOfMemory) h = subst (Waits Spared s) (sym h.0) (waits_itself s)
-    dynamic_waits environment default_header s p x present len s' (Some InternalFailure) h = subst (Waits Spared s) (sym h.0) (waits_itself s)
-    dynamic_waits environment default_header s p x present len s' (Some ExceedsMaxLoans) h = absurd h
-    dynamic_waits environment default_header s p x present len s' (Some ExceedsMaxLoanSize) h = absurd h
-
     pub grant_loan_waits : (environment : Environment) (default_header : U) (checks_length : Bool) (len : ℕ) (s : State T U) (p : ℕ) (s' : State T U) (refusal : Option LoanError)
         → GrantLoan environment default_header checks_length len s p s' refusal → Waits Spared s s'
-    grant_loan_waits environment default_header checks_length len s p s' refusal h =
-        by_option (Waits Spared s s') (s.publishers p) _ _ h (λ _ v. absurd v) (λ x present k.
-        by_option (Waits Spared s s') (limit_error checks_length x len) _ _ k
-        (λ _ j. by_bool (Waits Spared s s') (is_static x.allocation_strategy) _ _ j
-        (λ _ i. static_waits default_header s p x present len s' refusal i) (λ _ i. dynamic_waits environment default_header s p x present len s' refusal i))
-        (λ limit _ j. subst (Waits Spared s) (sym j.0) (waits_itself s)))
+    grant_loan_waits environment default_header checks_length len s p s' refusal =
+        grant_by_steps (Waits Spared) wait environment default_header checks_length len s p s' refusal
+        (λ x present segments. granted_waits default_header s p x present len segments)
 
     -- ---- sends, of a publisher that is spared
 
     module _ (p : ℕ) (spared : Spared p) where
-      concluded_waits : (s : State T U) (n : ℕ) (how : DeliveryEnd) (s' : State T U) (result : SendResult) → ConcludeSend s p n how s' result → Waits Spared s s'
-      concluded_waits s n (Complete count has_failed) s' result h =
-          subst (Waits Spared s) (sym h.0) (publisher_changed_waits s p (λ x. record x { loans = without n x.loans; blocked = None })
-          (λ x. record { place = refl; strategy = refl; handler = refl; degradation = refl; blocked = λ apart. absurd (apart spared) }))
-      concluded_waits s n (Suspended b) s' result h =
-          subst (Waits Spared s) (sym h.0) (publisher_changed_waits s p (λ x. record x { blocked = Some b })
-          (λ x. record { place = refl; strategy = refl; handler = refl; degradation = refl; blocked = λ apart. absurd (apart spared) }))
-
-      pub delivered_waits : (environment : Environment) (s : State T U) (n channel retries : ℕ) (elapsed : Duration) (place : ℕ) (ends : List (Option ℕ)) (count : ℕ)
-          (has_failed : Bool) (s' : State T U) (result : SendResult)
-          → DeliverAndConclude environment s p n channel retries elapsed place ends count has_failed s' result → Waits Spared s s'
-      delivered_waits environment s n channel retries elapsed place ends count has_failed s' result h =
-          by_option (Waits Spared s s') (s.publishers p) _ _ h (λ _ v. absurd v) (λ x present h.
-          let mid : State T U = with_mailboxes s p h.1 in
-          waits_trans s mid s' (same_ports s mid refl refl refl) (concluded_waits mid n h.0 s' result h.3))
-
-      publish_waits : (environment : Environment) (s : State T U) (n : ℕ) (s' : State T U) (result : SendResult) → Publish environment s p n s' result → Waits Spared s s'
-      publish_waits environment s n s' result h =
-          by_option (Waits Spared s s') (s.publishers p) _ _ h (λ _ v. absurd v) (λ x present h.
-          let mid : State T U = published s p n in
-          waits_trans s mid s' (published_waits s p n) (delivered_waits environment mid n 0 0 no_time 0 x.ends 0 false s' result h))
+      pub deliveries_wait : (environment : Environment) (n : ℕ) (result : SendResult) → DeliverySteps {T = T} {U = U} environment p n (Waits Spared) (Waits Spared) result
+      deliveries_wait environment n result = record {
+        delivers = λ s boxes _. same_ports s (with_mailboxes s p boxes) refl refl refl;
+        ended = λ s _. publisher_changed_waits s p (λ x. record x { loans = without n x.loans; blocked = None })
+            (λ x. record { place = refl; strategy = refl; handler = refl; degradation = refl; blocked = λ apart. absurd (apart spared) });
+        blocked = λ s b _. publisher_changed_waits s p (λ x. record x { blocked = Some b })
+            (λ x. record { place = refl; strategy = refl; handler = refl; degradation = refl; blocked = λ apart. absurd (apart spared) });
+      }
 
       pub retry_waits : (environment : Environment) (s : State T U) (b : BlockedSend) (elapsed : Duration) (s' : State T U) (result : SendResult)
           → Retry environment s p b elapsed s' result → Waits Spared s s'
-      retry_waits environment s b elapsed s' result = delivered_waits environment s b.message b.channel (more_retries b.retries) elapsed b.place b.ends b.count b.has_failed s' result
+      retry_waits environment s b elapsed s' result = retry_by_steps (Waits Spared) (Waits Spared) waits_trans environment s p b elapsed s' result (deliveries_wait environment b.message result)
 
       pub give_up_waits : (environment : Environment) (s : State T U) (b : BlockedSend) (s' : State T U) (result : SendResult) → GiveUp environment s p b s' result → Waits Spared s s'
-      give_up_waits environment s b s' result = delivered_waits environment s b.message b.channel 0 no_time _ _ b.count b.has_failed s' result
+      give_up_waits environment s b s' result = give_up_by_steps (Waits Spared) (Waits Spared) waits_trans environment s p b s' result (deliveries_wait environment b.message result)
 
     pub send_waits : (environment : Environment) (s : State T U) (n : ℕ) (l : Loan T U) → Spared l.publisher → (s' : State T U) (result : SendResult) → Send environment s n l s' result → Waits Spared s s'
-    send_waits environment s n l spared s' result h =
-        by_option (Waits Spared s s') (s.publishers l.publisher) _ _ h
-        (λ _ k. subst (Waits Spared s) (sym k.0) (loan_set_waits s n None))
-        (λ x _ k.
-        let first : Waits Spared s k.0 = update_publisher_waits environment s l.publisher k.0 k.1 k.2 in
-        by_option (Waits Spared s s') k.1 _ _ k.3
-        (λ _ j. waits_trans s k.0 s' first (publish_waits l.publisher spared environment k.0 n s' result j))
-        (λ e _ j. waits_trans s k.0 s' first (subst (Waits Spared k.0) (sym j.0) (loan_discarded_waits k.0 n l))))
+    send_waits environment s n l spared s' result =
+        send_by_steps (Waits Spared) (Waits Spared) waits_trans environment s n l s' result (record {
+          delivery = deliveries_wait l.publisher spared environment n result;
+          updates = λ a. update_publisher_waits environment a l.publisher;
+          publishes = λ a. published_waits a l.publisher n;
+          lost = λ a _ e _. loan_set_waits a n None;
+          discards = λ a k _ e _. loan_discarded_waits a n k;
+        })
 
     -- ---- receives and releases
 
     pub receive_waits : (environment : Environment) (s : State T U) (q : ℕ) (s' : State T U) (result : ReceiveResult) → Receive environment s q s' result → Waits Spared s s'
-    receive_waits environment s q s' result h =
-        let first : Waits Spared s h.0 = update_subscriber_waits environment s q h.0 h.1 h.2 in
-        by_option (Waits Spared s s') h.1 _ _ h.3
-        (λ _ k. by_option (Waits Spared s s') ((h.0).subscribers q) _ _ k (λ _ v. absurd v) (λ y _ k. waits_trans s h.0 s' first (taken h.0 y result k)))
-        (λ e _ k. subst (Waits Spared s) (sym k.0) first)
-      where
-        taken : (mid : State T U) (y : Subscriber) (result : ReceiveResult) → TakeSample mid q y s' result → Waits Spared mid s'
-        taken mid y (Got_sample p n) k = subst (Waits Spared mid) (sym k.3) (same_ports mid (with_mailbox mid p q k.1) refl refl refl)
-        taken mid y No_sample k = subst (Waits Spared mid) (sym k.1) (waits_itself mid)
-        taken mid y (Receive_error e) k = subst (Waits Spared mid) (sym k.3) (waits_itself mid)
+    receive_waits environment s q s' result =
+        receive_by_steps (Waits Spared) wait environment s q s' result (update_subscriber_waits environment s q) (λ t p box. same_ports t (with_mailbox t p q box) refl refl refl)
 
     -- a subscriber forgets publishers
     pruned_waits : (s : State T U) (q : ℕ) → Waits Spared s (subscriber_pruned s q)
@@ -335,17 +262,17 @@ module _ (Spared : ℕ → Type 0) where
         (λ i y low e. at_each s.subscribers q (option_map (pruned s q) (s.subscribers q)) (λ k o. o ≡ Some y → WasSubscriber s.subscribers k y) i
         (λ _ e. mapped_subscriber s.subscribers (pruned s q) q (λ z. record { place = refl; buffer = refl }) y e) (λ _ e. (y, e, stands_still y)) e)
 
-    -- a subscriber that is unused is gone
-    freed_waits : (s : State T U) (q : ℕ) → Waits Spared s (receiver_channels_reset (freed_if_unused s q) q)
-    freed_waits s q = cond_both (is_unused s q) (place_freed s q) s (λ t. Waits Spared s (receiver_channels_reset t q))
-        (λ _. all_due s (receiver_channels_reset (place_freed s q) q) (le_refl s.next_port) refl (λ i y low e. found_removed s.subscribers q i y (WasSubscriber s.subscribers i y) e (λ _ old. (y, old, stands_still y))))
-        (λ _. same_ports s (receiver_channels_reset s q) refl refl refl)
+    -- a subscriber that forgets publishers is gone where it is unused
+    forgotten_waits : (s : State T U) (q : ℕ) → Waits Spared s (receiver_channels_reset (freed_if_unused (subscriber_pruned s q) q) q)
+    forgotten_waits s q =
+        forgotten_by_steps (Waits Spared) wait s q (λ t. pruned_waits t q)
+        (λ t. all_due t (receiver_channels_reset (place_freed t q) q) (le_refl t.next_port) refl (λ i y low e. found_removed t.subscribers q i y (WasSubscriber t.subscribers i y) e (λ _ old. (y, old, stands_still y))))
+        (λ t. same_ports t (receiver_channels_reset t q) refl refl refl)
 
     pub released_waits : (s : State T U) (p q n : ℕ) → Waits Spared s (released s p q n)
     released_waits s p q n =
         let mid : State T U = unborrowed s p q n in
-        waits_trans s mid (released s p q n) (same_ports s mid refl refl refl)
-        (waits_trans mid (subscriber_pruned mid q) (released s p q n) (pruned_waits mid q) (freed_waits (subscriber_pruned mid q) q))
+        waits_trans s mid (released s p q n) (same_ports s mid refl refl refl) (forgotten_waits mid q)
 
     -- ---- closes
 
@@ -364,4 +291,4 @@ module _ (Spared : ℕ → Type 0) where
     subscriber_closed_waits s q y present =
         let mid : State T U = subscriber_shut s q y in
         waits_trans s mid (subscriber_closed s q y) (all_due s mid (le_refl s.next_port) refl (put_subscriber s.subscribers s.next_port q (record y { is_open = false }) (λ _. (y, present, record { place = refl; buffer = refl }))))
-        (waits_trans mid (subscriber_pruned mid q) (subscriber_closed s q y) (pruned_waits mid q) (freed_waits (subscriber_pruned mid q) q))
+        (forgotten_waits mid q)
