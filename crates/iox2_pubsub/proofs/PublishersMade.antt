@@ -4,7 +4,7 @@ use Rattle.std.specs.Prelude.{◌≢◌}
 use Rattle.iox2_store.specs.machine.Limits.{worst_case}
 use Rattle.iox2_store.specs.machine.Ports.{CreatePublisher, slots_for}
 use Rattle.iox2_store.specs.machine.Records.{Environment, PublisherSettings}
-use Rattle.iox2_store.specs.machine.State.{State}
+use Rattle.iox2_store.specs.machine.State.{State, Messages}
 use Rattle.iox2_store.specs.declared.errors.PublisherCreateError.{PublisherCreateError}
 use Rattle.iox2_domain.specs.Boxes.{DomainBoxes, boxes_of}
 use Rattle.iox2_domain.specs.Fields.{Fields, kept_of, keeping}
@@ -13,6 +13,7 @@ use Rattle.iox2_domain.specs.Invariant.{IsDomain}
 use Rattle.iox2_domain.specs.Kept.{Kept, state_of}
 use Rattle.iox2_domain.specs.Ports.{PublisherFields}
 use Rattle.iox2_domain.specs.Reaches.{Reaches}
+use Rattle.iox2_domain.specs.Shows.{Shows}
 use Rattle.iox2_domain.specs.declared.boxes.PortBox.{PortBox}
 use Rattle.iox2_pubsub.specs.Handlers.{may_wait}
 use Rattle.iox2_pubsub.specs.Live.{ConnectionsStay, IsConnected, IsNewIn, IsReadyPublisher, IsSubscriberKey, NeverFails, NeverWaits, NoneRefused, RoomStays, Stays, WaitingStays, publisher_key, publisher_port, subscriber_key, waiting}
@@ -38,7 +39,8 @@ pub record CreationLeaves {T U F G : Type 0} (refusal : Option PublisherCreateEr
   pub stays : Stays old new
 
 -- The publisher was made with these settings.
-pub record Made {T U F G : Type 0} (given : PublisherSettings) (publisher : Publisher) (old new : Kept T U F G) : Type 0 where
+pub record Made {T U F G : Type 0} (environment : Environment) (given : PublisherSettings) (publisher : Publisher) (old new : Kept T U F G) : Type 0 where
+  pub creates : (m : Messages T U) (s : State T U) → Shows old m s → (t : State T U) × Shows new m t × ((publisher.id ≡ s.next_port) × CreatePublisher environment s given t None)
   pub ready : IsReadyPublisher new publisher
   pub passes : may_wait given.backpressure_strategy given.backpressure_handler ≡ false → may_fail given.backpressure_handler ≡ false → may_fail_update given.degradation_handler ≡ false → NeverWaits new (publisher_key publisher)
   pub overflows : (old.config).enable_safe_overflow ≡ true → may_fail_update given.degradation_handler ≡ false → NeverWaits new (publisher_key publisher)
@@ -66,24 +68,31 @@ module _ {T U F G : Type 0} {boxes : DomainBoxes F G} {publishers : List (PortBo
         stays = publisher-creation-stays kept new it.0 it.1 it.2 environment given refusal t next.0 next.1 (live-boxes f g kept view (λ key live other. others key.port (apart-from-next f kept sound view key live)));
       }
 
-module _ {T U F G : Type 0} {boxes boxes' : DomainBoxes F G} (f g : Fields T U) (sound : IsDomain f) (kept : Kept T U F G) (view : keeping boxes f ≡ kept) (environment : Environment) (given : PublisherSettings)
+module _ {T U F G : Type 0} {boxes : DomainBoxes F G} (f g : Fields T U) (sound : IsDomain f) (kept : Kept T U F G) (view : keeping boxes f ≡ kept) (environment : Environment) (given : PublisherSettings)
     (t : State T U) (made : CreatePublisher environment (state_of (kept_of f)) given t None) (reached : Reaches f g t) where
-  pub was-made : (publisher : Publisher) → publisher.service_id ≡ (f.config).service_id → publisher.id ≡ f.next_port
-      → (x : PublisherFields) × (get_or g.publishers publisher.place None ≡ Some x) × (x.id ≡ publisher.id) → Made given publisher kept (keeping boxes' g)
-  was-made publisher service id stands =
+  shows-made : (publisher : Publisher) → publisher.id ≡ f.next_port → (m : Messages T U) (s : State T U) → Shows kept m s
+      → Shows (kept_of g) m t × ((publisher.id ≡ s.next_port) × CreatePublisher environment s given t None)
+  shows-made publisher id m s shown =
+      let next = created-shows f g given environment kept view m s t None shown made reached in
+      (next.0, (id ∙ ap (λ (k : Kept T U F G). (state_of k).next_port) view ∙ sym (ap (λ (u : State T U). u.next_port) shown.state), next.1))
+
+  pub was-made : {boxes' : DomainBoxes F G} → (publisher : Publisher) → publisher.service_id ≡ (f.config).service_id → publisher.id ≡ f.next_port
+      → (x : PublisherFields) × (get_or g.publishers publisher.place None ≡ Some x) × (x.id ≡ publisher.id) → Made environment given publisher kept (keeping boxes' g)
+  was-made {boxes'} publisher service id stands =
       let new : Kept T U F G = keeping boxes' g in
       let it = always-shown f kept sound view in
-      let next = created-shows f g given environment kept view it.0 it.1 t None it.2 made reached in
-      let its : publisher.id ≡ (it.1).next_port = id ∙ ap (λ (k : Kept T U F G). (state_of k).next_port) view ∙ sym (ap (λ (s : State T U). s.next_port) (it.2).state) in
+      let step = shows-made publisher id it.0 it.1 it.2 in
+      let its = (step.1).0 in
       record {
+        creates = λ m s shown. let now = shows-made publisher id m s shown in (t, now.0, now.1);
         ready = created-ready f g given environment {boxes = boxes'} t made reached publisher service id stands;
         passes = created-never-waits f g given environment {boxes = boxes'} t made reached publisher id;
         overflows = λ over. created-overflows f g given environment {boxes = boxes'} t made reached publisher id (ap (λ (k : Kept T U F G). (k.config).enable_safe_overflow) view ∙ over);
         never_fails = created-never-fails f g given environment boxes' t made reached publisher id;
         new_in = publisher-is-new kept kept it.0 it.1 it.2 publisher.id its;
-        connects = made-connects kept new it.0 it.0 it.1 t it.2 next.0 environment given publisher.id its next.1 (next-sender-takes f kept sound view);
+        connects = made-connects kept new it.0 it.0 it.1 t it.2 step.0 environment given publisher.id its (step.1).1 (next-sender-takes f kept sound view);
         left = λ enough first long.
-            created-left kept new it.0 it.0 it.1 t it.2 next.0 environment given (subst (λ (s : State T U). LendsFirst s.config given) (sym (it.2).state) first)
-            (subst (λ (s : State T U). worst_case s.config given.max_loaned_samples ≤ slots_for s.config given) (sym (it.2).state) enough) publisher its long next.1;
-        grows = created-grows kept new it.0 it.0 it.1 t it.2 next.0 environment given publisher its next.1;
+            created-left kept new it.0 it.0 it.1 t it.2 step.0 environment given (subst (λ (s : State T U). LendsFirst s.config given) (sym (it.2).state) first)
+            (subst (λ (s : State T U). worst_case s.config given.max_loaned_samples ≤ slots_for s.config given) (sym (it.2).state) enough) publisher its long (step.1).1;
+        grows = created-grows kept new it.0 it.0 it.1 t it.2 step.0 environment given publisher its (step.1).1;
       }

@@ -1,10 +1,10 @@
-use Rattle.std.proofs.Common.{refl, ◌∙◌, ap, sym}
+use Rattle.std.proofs.Common.{refl, ap}
 use Rattle.std.proofs.lemmas.Result.{err_from_is_err_and}
 use Rattle.std.specs.declared.option.Option.TheVariants.{None, Some}
 use Rattle.iox2_domain.specs.Boxes.{answers_of}
 use Rattle.iox2_store.specs.machine.State.{State}
 use Rattle.iox2_store.specs.declared.service_config.ServiceConfig.{ServiceConfig}
-use Rattle.iox2_domain.specs.Kept.{Kept, state_of}
+use Rattle.iox2_domain.specs.Kept.{state_of}
 use Rattle.iox2_domain.specs.Fields.{kept_of}
 use Rattle.iox2_ports.specs.Settings.{settings_with}
 use Rattle.iox2_domain.specs.Handlers.{may_fail}
@@ -48,28 +48,4 @@ pub returns : goal.returns
 returns g c =
     let made = was-made {T = g.row.T.Denot} {U = g.row.U.Denot} c.domain.inside.state c.create_publisher.new.state c.domain.invariant c.args.domain.now c.domain.view_is (answers_of g.F.BackpressureFn.allows g.G.DegradationFn.allows (c.create_publisher.new.boxes).boxes) (settings_with c.args.given.now (marks_of c.args.handler) c.args.segments) c.in_ok-port.ensures.step.0 c.in_ok-port.ensures.step.1 c.in_ok-port.ensures.step.2 (record { service_id = c.config.result.now.service_id; id = c.in_ok-port.port.id; place = c.in_ok-port.port.place; strategy = c.args.given.now.strategy; initial_max_slice_len = c.args.given.now.initial_max_slice_len }) (ap (λ (config : ServiceConfig). config.service_id) c.config.ensures) c.in_ok-port.ensures.id c.in_ok-port.ensures.stands in
     let left = creation-leaves {T = g.row.T.Denot} {U = g.row.U.Denot} c.domain.inside.state c.create_publisher.new.state c.domain.invariant c.args.domain.now c.domain.view_is c.create_publisher.ensures.others (answers_of g.F.BackpressureFn.allows g.G.DegradationFn.allows (c.create_publisher.new.boxes).boxes) (settings_with c.args.given.now (marks_of c.args.handler) c.args.segments) None c.in_ok-port.ensures.step.0 c.in_ok-port.ensures.step.1 c.in_ok-port.ensures.step.2 in
-    record {
-      creates = λ m s shows.
-          let step = c.in_ok-port.ensures.step in
-          let next = created-shows {T = g.row.T.Denot} {U = g.row.U.Denot} c.domain.inside.state c.create_publisher.new.state (settings_with c.args.given.now (marks_of c.args.handler) c.args.segments) (answers_of g.F.BackpressureFn.allows g.G.DegradationFn.allows (c.create_publisher.new.boxes).boxes) c.args.domain.now c.domain.view_is m s step.0 None shows step.1 step.2 in
-          (step.0, next.0, (c.in_ok-port.ensures.id ∙ ap (λ (k : Kept g.row.T.Denot g.row.U.Denot g.row.F.Denot g.row.G.Denot). (state_of k).next_port) c.domain.view_is ∙ sym (ap (λ (u : State g.row.T.Denot g.row.U.Denot). u.next_port) shows.state), next.1));
-      grows = made.grows;
-      ready = made.ready;
-      discards = λ discards none calm. made.passes ((λ i. may_wait (discards i) (none i))) (ap may_fail none) calm;
-      passes = made.passes;
-      overflows = made.overflows;
-      never_fails = made.never_fails;
-      boxed = box-is _ c.create_publisher.new.state c.in_ok-port.port.id _ c.in_ok-port.ensures.boxed;
-      degrades = degradation-box-is _ c.create_publisher.new.state c.in_ok-port.port.id _ c.in_ok-port.ensures.degrades;
-      strategy = refl;
-      longest = refl;
-      new = made.new_in;
-      refused = tt;
-      no_fewer = left.no_fewer;
-      connections = left.connections;
-      room = left.room;
-      connects = made.connects;
-      loans_left = left.loans_left;
-      left = λ enough first. made.left enough first refl;
-      stays = left.stays;
-    }
+    record { creates = made.creates; grows = made.grows; ready = made.ready; discards = λ discards none calm. made.passes ((λ i. may_wait (discards i) (none i))) (ap may_fail none) calm; passes = made.passes; overflows = made.overflows; never_fails = made.never_fails; boxed = box-is _ c.create_publisher.new.state c.in_ok-port.port.id _ c.in_ok-port.ensures.boxed; degrades = degradation-box-is _ c.create_publisher.new.state c.in_ok-port.port.id _ c.in_ok-port.ensures.degrades; strategy = refl; longest = refl; new = made.new_in; refused = tt; no_fewer = left.no_fewer; connections = left.connections; room = left.room; connects = made.connects; loans_left = left.loans_left; left = λ enough first. made.left enough first refl; stays = left.stays }
