@@ -2,7 +2,7 @@
 use Rattle.std.proofs.Common.{◌≡◌, ℕ, ◌+◌, ◌*◌, ◌≤◌, ◌<◌, List, length, replicate, true, false, refl, ap, subst, sym, ◌∙◌, arith, get_or, Result, Ok, Err, Option, None, Some}
 use Rattle.std.proofs.lemmas.List.{length-replicate}
 use Rattle.std.specs.List.{All}
-use Rattle.std.specs.Prelude.{◌↔◌, IsSomeAnd}
+use Rattle.std.specs.Prelude.{◌↔◌, IsSomeAnd, OnErr}
 use Rattle.iox2_store.specs.SingleValues.{is_single_valued}
 use Rattle.iox2_store.specs.declared.errors.LoanError.{LoanError}
 use Rattle.iox2_store.specs.declared.service_config.ServiceConfig.{ServiceConfig}
@@ -38,6 +38,14 @@ use Rattle.iox2_pubsub.proofs.UninitLoans.{err-shown, ok-cells, ok-live, ok-numb
 use Rattle.iox2_pubsub.proofs.UpToDateShown.{loan-leaves}
 use Rattle.iox2_pubsub.proofs.WaitingShown.{loan-waits}
 use Rattle.iox2_pubsub.proofs.WrittenLoanCalls.{default-grants, default-refused}
+
+-- What a call leaves that lends, granted or refused.
+record Left {T U F G : Type 0} (how : Result LoanAt LoanError) (publisher : Publisher) (old new : Kept T U F G) : Type 0 where
+  pub stays : Stays old new
+  pub waits : WaitingStays old new
+  pub up_to_date : UpToDateStay old new
+  pub loans_left : TakesOneLeft publisher old new
+  pub refused : OnErr how (LoansLeftStay old new)
 
 -- What each call says that lends a slice and fills it, where it was refused.
 pub record Refused {T U F G : Type 0} (A : Type 0) (IsValue : T → Type 0) (is_default : U → Type 0) (publisher : Publisher) (len : ℕ) (old new : Kept T U F G) (e : LoanError) : Type 0 where
@@ -88,6 +96,21 @@ module _ {T U F G : Type 0} {boxes : DomainBoxes F G} (is_default : U → Type 0
   stands : (x : PublisherFields) × (get_or f.publishers publisher.place None ≡ Some x) × (x.id ≡ publisher.id)
   stands = publisher-at-place f sound kept view publisher ready
 
+  -- what the call leaves, granted or refused
+  module _ (how : Result LoanAt LoanError) (step : (m : Messages T U) (s : State T U) → Shows kept m s → (s' : State T U) × Shows (kept_of mid) m s' × LoanCall {A = LoanAt} is_default true len s publisher.id how s') where
+    call-leaves : Left how publisher kept (keeping boxes mid)
+    call-leaves =
+        let new : Kept T U F G = keeping boxes mid in
+        let it = always-shown f kept sound view in
+        let now = step it.0 it.1 it.2 in
+        record {
+          stays = loan-stays kept new it.0 it.1 it.2 {A = LoanAt} is_default true len publisher.id how now.0 now.1 now.2 (same-boxes f mid kept view);
+          waits = loan-waits kept new it.0 it.0 it.1 now.0 it.2 now.1 (λ n entry at. at) {A = LoanAt} is_default true len publisher.id how now.2;
+          up_to_date = loan-leaves kept new it.0 it.0 it.1 now.0 it.2 now.1 {A = LoanAt} is_default true len publisher.id how now.2;
+          loans_left = loan-takes kept new it.0 it.0 it.1 now.0 it.2 now.1 {A = LoanAt} is_default true len publisher how now.2;
+          refused = refused-left kept new it.0 it.0 it.1 now.0 it.2 now.1 {A = LoanAt} is_default true len publisher.id how now.2;
+        }
+
   -- a loan that was refused
   refused-lends : (A : Type 0) (e : LoanError) → answer ≡ Err e → (IsValue : T → Type 0) (m : Messages T U) (s : State T U) → Shows kept m s
       → (s' : State T U) × Shows (kept_of mid) m s' × DefaultSliceCall {A = A} IsValue is_default len s publisher.id (Err e) s'
@@ -99,35 +122,8 @@ module _ {T U F G : Type 0} {boxes : DomainBoxes F G} (is_default : U → Type 0
     refused-step : (m : Messages T U) (s : State T U) → Shows kept m s → (s' : State T U) × Shows (kept_of mid) m s' × LoanCall {A = LoanAt} is_default true len s publisher.id (Err e) s'
     refused-step m s shown = err-shown is_default true len f mid sound publisher.place publisher.id answer stands reaches LoanAt e is (Err e) refl kept view m s shown
 
-    refused-stays : Stays kept (keeping boxes mid)
-    refused-stays =
-        let it = always-shown f kept sound view in
-        let step = refused-step it.0 it.1 it.2 in
-        loan-stays kept (keeping boxes mid) it.0 it.1 it.2 {A = LoanAt} is_default true len publisher.id (Err e) step.0 step.1 step.2 (same-boxes f mid kept view)
-
-    refused-waits : WaitingStays kept (keeping boxes mid)
-    refused-waits =
-        let it = always-shown f kept sound view in
-        let step = refused-step it.0 it.1 it.2 in
-        loan-waits kept (keeping boxes mid) it.0 it.0 it.1 step.0 it.2 step.1 (λ n entry at. at) {A = LoanAt} is_default true len publisher.id (Err e) step.2
-
-    refused-updated : UpToDateStay kept (keeping boxes mid)
-    refused-updated =
-        let it = always-shown f kept sound view in
-        let step = refused-step it.0 it.1 it.2 in
-        loan-leaves kept (keeping boxes mid) it.0 it.0 it.1 step.0 it.2 step.1 {A = LoanAt} is_default true len publisher.id (Err e) step.2
-
-    refused-takes : TakesOneLeft publisher kept (keeping boxes mid)
-    refused-takes =
-        let it = always-shown f kept sound view in
-        let step = refused-step it.0 it.1 it.2 in
-        loan-takes kept (keeping boxes mid) it.0 it.0 it.1 step.0 it.2 step.1 {A = LoanAt} is_default true len publisher (Err e) step.2
-
-    refused-leaves : LoansLeftStay kept (keeping boxes mid)
-    refused-leaves =
-        let it = always-shown f kept sound view in
-        let step = refused-step it.0 it.1 it.2 in
-        refused-left kept (keeping boxes mid) it.0 it.0 it.1 step.0 it.2 step.1 {A = LoanAt} is_default true len publisher.id (Err e) step.2
+    refusal-leaves : Left (Err e) publisher kept (keeping boxes mid)
+    refusal-leaves = call-leaves (Err e) refused-step
 
     -- none that isn't too long, where the publisher has one left
     refused-none : (kept.config).variant ≡ Dynamic → (loans numbers : ℕ) → HasLoansLeft kept publisher (loans + 1) → HasNumbersLeft kept (numbers + 1) → len ≤ publisher.initial_max_slice_len → ⊥
@@ -141,11 +137,11 @@ module _ {T U F G : Type 0} {boxes : DomainBoxes F G} (is_default : U → Type 0
     was-refused A IsValue dynamic = record {
       lends = refused-lends A e is IsValue;
       none = refused-none dynamic;
-      waits = refused-waits;
-      up_to_date = refused-updated;
-      loans_left = refused-takes;
-      refused = refused-leaves;
-      stays = refused-stays;
+      waits = refusal-leaves.waits;
+      up_to_date = refusal-leaves.up_to_date;
+      loans_left = refusal-leaves.loans_left;
+      refused = refusal-leaves.refused;
+      stays = refusal-leaves.stays;
     }
 
   module _ (loan : LoanAt) (is : answer ≡ Ok loan) (named : IsSomeAnd (get_or f.publishers publisher.place None) (λ x. IsNamed f x loan)) where
@@ -158,30 +154,8 @@ module _ {T U F G : Type 0} {boxes : DomainBoxes F G} (is_default : U → Type 0
     granted-step : (m : Messages T U) (s : State T U) → Shows kept m s → (s' : State T U) × Shows (kept_of mid) m s' × LoanCall {A = LoanAt} is_default true len s publisher.id (Ok loan) s'
     granted-step m s shown = ok-shown is_default true len f mid sound publisher.place publisher.id answer stands reaches LoanAt loan loan is kept view m s shown
 
-    -- what was there before stays
-    granted-stays : Stays kept (keeping boxes mid)
-    granted-stays =
-        let it = always-shown f kept sound view in
-        let step = granted-step it.0 it.1 it.2 in
-        loan-stays kept (keeping boxes mid) it.0 it.1 it.2 {A = LoanAt} is_default true len publisher.id (Ok loan) step.0 step.1 step.2 (same-boxes f mid kept view)
-
-    granted-waits : WaitingStays kept (keeping boxes mid)
-    granted-waits =
-        let it = always-shown f kept sound view in
-        let step = granted-step it.0 it.1 it.2 in
-        loan-waits kept (keeping boxes mid) it.0 it.0 it.1 step.0 it.2 step.1 (λ n entry at. at) {A = LoanAt} is_default true len publisher.id (Ok loan) step.2
-
-    granted-updated : UpToDateStay kept (keeping boxes mid)
-    granted-updated =
-        let it = always-shown f kept sound view in
-        let step = granted-step it.0 it.1 it.2 in
-        loan-leaves kept (keeping boxes mid) it.0 it.0 it.1 step.0 it.2 step.1 {A = LoanAt} is_default true len publisher.id (Ok loan) step.2
-
-    granted-takes : TakesOneLeft publisher kept (keeping boxes mid)
-    granted-takes =
-        let it = always-shown f kept sound view in
-        let step = granted-step it.0 it.1 it.2 in
-        loan-takes kept (keeping boxes mid) it.0 it.0 it.1 step.0 it.2 step.1 {A = LoanAt} is_default true len publisher (Ok loan) step.2
+    granted-left : Left (Ok loan) publisher kept (keeping boxes mid)
+    granted-left = call-leaves (Ok loan) granted-step
 
     -- it agrees with the fields, and is out
     pub granted-sound : IsDomain mid
@@ -199,7 +173,7 @@ module _ {T U F G : Type 0} {boxes : DomainBoxes F G} (is_default : U → Type 0
 
     -- the domain is one of slices still
     pub granted-several : (kept.config).variant ≡ Dynamic → is_single_valued mid.config ≡ false
-    granted-several dynamic = dynamic-several mid.config (ap (λ (config : ServiceConfig). config.variant) granted-stays.settings ∙ dynamic)
+    granted-several dynamic = dynamic-several mid.config (ap (λ (config : ServiceConfig). config.variant) granted-left.stays.settings ∙ dynamic)
 
     pub granted-publisher : loan.publisher ≡ publisher.id
     granted-publisher = ok-publisher is_default true len f mid sound publisher.place publisher.id answer stands reaches loan named
@@ -222,28 +196,28 @@ module _ {T U F G : Type 0} {boxes : DomainBoxes F G} (is_default : U → Type 0
 
       filled-since : Stays kept (keeping boxes new)
       filled-since =
-          stays-on kept (keeping boxes mid) granted-stays (A_loan loan.number) (keeping boxes new) granted-new
+          stays-on kept (keeping boxes mid) granted-left.stays (A_loan loan.number) (keeping boxes new) granted-new
           (filled-stays mid new granted-sound (keeping boxes mid) refl loan.number values writes)
 
       filled-waiting : WaitingStays kept (keeping boxes new)
       filled-waiting =
           let later : WaitingStays (keeping boxes mid) (keeping boxes new) = filled-waits mid new granted-sound (keeping boxes mid) refl loan.number values writes in
-          record { all = later.all ∙ granted-waits.all; from = later.from ∙ granted-waits.from }
+          record { all = later.all ∙ granted-left.waits.all; from = later.from ∙ granted-left.waits.from }
 
       filled-updated : UpToDateStay kept (keeping boxes new)
       filled-updated =
           let later : UpToDateStay (keeping boxes mid) (keeping boxes new) = filled-leaves mid new granted-sound (keeping boxes mid) refl loan.number values writes in record {
-            subscribers = λ subscriber is. later.subscribers subscriber (granted-updated.subscribers subscriber is);
-            connections = λ id subscriber is. later.connections id subscriber (granted-updated.connections id subscriber is);
-            room = λ subscriber closes has. later.room subscriber closes (granted-updated.room subscriber closes has);
+            subscribers = λ subscriber is. later.subscribers subscriber (granted-left.up_to_date.subscribers subscriber is);
+            connections = λ id subscriber is. later.connections id subscriber (granted-left.up_to_date.connections id subscriber is);
+            room = λ subscriber closes has. later.room subscriber closes (granted-left.up_to_date.room subscriber closes has);
           }
 
       filled-takes : TakesOneLeft publisher kept (keeping boxes new)
       filled-takes =
           let later : LoansLeftStay (keeping boxes mid) (keeping boxes new) = filled-left mid new granted-sound (keeping boxes mid) refl loan.number values writes in record {
-            loans = λ n left. later.loans publisher n (granted-takes.loans n left);
-            others = λ other n away left. later.loans other n (granted-takes.others other n away left);
-            numbers = λ n left. later.numbers n (granted-takes.numbers n left);
+            loans = λ n left. later.loans publisher n (granted-left.loans_left.loans n left);
+            others = λ other n away left. later.loans other n (granted-left.loans_left.others other n away left);
+            numbers = λ n left. later.numbers n (granted-left.loans_left.numbers n left);
           }
 
       -- its handle
