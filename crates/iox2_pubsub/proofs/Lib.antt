@@ -69,6 +69,7 @@ mod AtOnce
 pub mod SureLoans
 pub mod KeptCounts
 pub mod BlockedShown
+mod WaitingSends
 pub mod BoxesAlike
 pub mod ReceiversAhead
 pub mod KeptAnswers
