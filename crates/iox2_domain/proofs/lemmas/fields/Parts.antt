@@ -1,13 +1,15 @@
 -- What always holds of a domain's fields, apart from what they keep.
 use Rattle.std.proofs.Common.{◌≡◌, ◌≢◌, ◌⊎◌, ℕ, inr, refl}
 use Rattle.std.specs.declared.option.Option.TheVariants.{Some}
-use Rattle.slab.specs.Slab.{get}
+use Rattle.slab.specs.Slab.{Slab, get}
+use Rattle.iox2_slots.specs.Link.{Link}
+use Rattle.iox2_ends.specs.Homes.{IsApart}
 use Rattle.iox2_slots.specs.SlotBook.{Book}
 use Rattle.iox2_store.specs.machine.WellFormed.{IsWellFormed}
 use Rattle.iox2_domain.specs.Kept.{state_of}
 use Rattle.iox2_domain.specs.Fields.{Fields, kept_of}
 use Rattle.iox2_domain.specs.Shows.{KeepsEntries}
-use Rattle.iox2_domain.specs.Invariant.{IsDomain, IsDomainBut, HasParts, HasLoneLoans, KeepsBooks, IsOwned, IsLeft, IsGone}
+use Rattle.iox2_domain.specs.Invariant.{IsDomain, IsDomainBut, HasParts, HasBooks, HasExpiredRoom, IsCounted, IsLinked, NamesBooks, HasLoneLoans, KeepsBooks, IsOwned, IsLeft, IsGone}
 use Rattle.iox2_domain.specs.Midway.{IsMidway}
 
 module _ {T U : Type 0} (f : Fields T U) where
@@ -45,3 +47,32 @@ module _ {T U : Type 0} (f : Fields T U) where
     entries = λ n entry e. e;
     complete = sound.entries;
   }
+
+  -- the parts agree with other connections where these do
+  pub connected_parts : HasParts f → (new : Slab Link) → IsApart new → IsLinked (record f { connections = new }) → HasExpiredRoom f.subscribers new → NamesBooks f.books new
+      → IsCounted (record f { connections = new }) → HasParts (record f { connections = new })
+  connected_parts parts new apart linked room names counted = record {
+    publisher_ids = parts.publisher_ids;
+    subscriber_ids = parts.subscriber_ids;
+    apart = apart;
+    linked = linked;
+    expired_room = room;
+    books = books;
+    names = names;
+    counted = counted;
+    numbered = parts.numbered;
+    publisher_room = parts.publisher_room;
+    warning_room = parts.warning_room;
+    shapes = record { at = parts.shapes.at };
+    forms = parts.forms;
+    open_loans = parts.open_loans;
+    plain = parts.plain;
+  } where
+    books : HasBooks (record f { connections = new })
+    books = record {
+      one_each = parts.books.one_each;
+      books = parts.books.books;
+      publishers = λ i x at. let has = parts.books.publishers i x at in
+          record { book = has.book; stands = has.stands; is_its = has.is_its; node = has.node; slots = has.slots; room = has.room };
+      no_others = parts.books.no_others;
+    }
