@@ -65,6 +65,13 @@ module _ {A P : Type 0} (see : A → Named P) (id : ℕ) (xs : List (Option A)) 
   pub named-nowhere : look_up (λ (x : A). is_named id (see x)) xs ≡ None → port_named id (map (option_map see) xs) ≡ None
   named-nowhere none = named-is ∙ ap (option_map (λ (x : A). (see x).port)) none
 
+  -- and no record has the id of a port that isn't seen
+  pub named-unseen : port_named id (map (option_map see) xs) ≡ None → look_up (λ (x : A). is_named id (see x)) xs ≡ None
+  named-unseen none = by (look_up (λ (x : A). is_named id (see x)) xs) (sym named-is ∙ none) where
+    by : (o : Option A) → option_map (λ (x : A). (see x).port) o ≡ None → o ≡ None
+    by None e = refl
+    by (Some x) e = absurd cc
+
 -- the id at a place is that of the record there
 pub named-at : {A P : Type 0} (see : A → Named P) (xs : List (Option A)) (i : ℕ) → occupant (ids (map (option_map see) xs)) i ≡ option_map (λ (x : A). (see x).id) (get_or xs i None)
 named-at {A} {P} see xs i = occupant-ids (map (option_map see) xs) i ∙ ap (option_map (λ (n : Named P). n.id)) (map-at see xs i) ∙ through (get_or xs i None) where
