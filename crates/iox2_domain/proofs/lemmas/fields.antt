@@ -3,6 +3,7 @@ pub mod Views
 pub mod SingleSettings
 pub mod Parts
 pub mod ReachesShows
+pub mod NamedPorts
 pub mod ConnectionEnds
 pub mod SubscriberSet
 pub mod SameSeats

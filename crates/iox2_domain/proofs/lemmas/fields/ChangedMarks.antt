@@ -14,11 +14,11 @@ use Rattle.iox2_ends.specs.Homes.{IsApart}
 use Rattle.iox2_ends.specs.Mailboxes.{is_between}
 use Rattle.iox2_ends.proofs.MailboxChanges.{Updates-with_value}
 use Rattle.iox2_domain.specs.Fields.{Fields, kept_of, between_of}
-use Rattle.iox2_domain.specs.Invariant.{IsDomain, HasBooks, HasParts, HasExpiredRoom, IsBetweenOpen, IsBookOf, IsCounted, NamesBooks, SenderHas, one_if_receivers, own_holders}
+use Rattle.iox2_domain.specs.Invariant.{IsDomain, HasParts, HasExpiredRoom, IsBetweenOpen, IsBookOf, IsCounted, NamesBooks, SenderHas, one_if_receivers, own_holders}
 use Rattle.iox2_domain.specs.Kept.{Kept, state_of}
 use Rattle.iox2_domain.specs.OpenMarks.{ChangesMarks}
 use Rattle.iox2_domain.specs.Shows.{KeepsEntries}
-use Rattle.iox2_domain.proofs.lemmas.fields.Parts.{whole_of}
+use Rattle.iox2_domain.proofs.lemmas.fields.Parts.{whole_of, connected_parts}
 use Rattle.iox2_domain.proofs.lemmas.fields.SameSeats.{SameSeats, seat_of, senders-seated, receivers-seated, sender-seated, open-seated, linked-seated}
 use Rattle.iox2_domain.proofs.lemmas.slots.Recounts.{sum-alike}
 
@@ -123,15 +123,6 @@ module _ {T U : Type 0} (f : Fields T U) (sound : IsDomain f) (key : ℕ) (c : L
     at = λ i y at_y. subst (λ (n : ℕ). n ≤ y.expired_room) (sym (sum-alike (one_if_receivers y.id) refl new.slots f.connections.slots (alike (one_if_receivers y.id) refl))) (sound.parts.expired_room.at i y at_y);
   }
 
-  books : HasBooks with_mark
-  books = record {
-    one_each = sound.parts.books.one_each;
-    books = sound.parts.books.books;
-    publishers = λ i x at_x. let has = sound.parts.books.publishers i x at_x in
-        record { book = has.book; stands = has.stands; is_its = has.is_its; node = has.node; slots = has.slots; room = has.room };
-    no_others = sound.parts.books.no_others;
-  }
-
   names : NamesBooks f.books new
   names = record {
     at = λ k d at_d. elim (mark-was k d at_d) [
@@ -147,23 +138,7 @@ module _ {T U : Type 0} (f : Fields T U) (sound : IsDomain f) (key : ℕ) (c : L
   }
 
   consistent : HasParts with_mark
-  consistent = record {
-    publisher_ids = sound.parts.publisher_ids;
-    subscriber_ids = sound.parts.subscriber_ids;
-    apart = apart;
-    linked = linked-seated f new seats sound.parts.linked counts returned marked;
-    expired_room = room;
-    books = books;
-    names = names;
-    counted = counted;
-    numbered = sound.parts.numbered;
-    publisher_room = sound.parts.publisher_room;
-    warning_room = sound.parts.warning_room;
-    shapes = record { at = sound.parts.shapes.at };
-    forms = sound.parts.forms;
-    open_loans = sound.parts.open_loans;
-    plain = sound.parts.plain;
-  }
+  consistent = connected_parts f sound.parts new apart (linked-seated f new seats sound.parts.linked counts returned marked) room names counted
 
   -- nothing but the mark changed
   pub changes-mark : ChangesMarks f with_mark

@@ -1,38 +1,30 @@
 -- Ports that stand somewhere are in the state, and the ports at the ends of a domain's connections were made before.
-use Rattle.std.proofs.Common.{◌≡◌, ℕ, zero, suc, ◌<◌, List, [], ◌∷◌, get_or, refl, ap, subst, ◌∙◌, inl, inr, ◌⊎◌, sym, false, is_some}
-use Rattle.std.proofs.lemmas.Bool.{eq-eqb}
+use Rattle.std.proofs.Common.{◌≡◌, ℕ, ◌<◌, List, get_or, refl, ap, subst, ◌∙◌, inl, inr, ◌⊎◌, sym, false, is_some}
 use Rattle.std.specs.declared.option.Option.{Option}
 use Rattle.std.specs.declared.option.Option.TheVariants.{None, Some}
 use Rattle.std.specs.Option.{option_map, option_map_or}
 use Rattle.slab.specs.Slab.{Slab, get}
 use Rattle.iox2_slots.specs.Link.{Link}
 use Rattle.iox2_store.specs.machine.Places.{occupant}
-use Rattle.iox2_store.specs.machine.Records.{Publisher, Subscriber}
+use Rattle.iox2_store.specs.machine.Records.{Publisher}
 use Rattle.iox2_ends.specs.Mailboxes.{subscriber_of_key, sender_ends}
-use Rattle.iox2_ends.proofs.LookUps.{look_up-found}
 use Rattle.iox2_domain.specs.Ports.{PublisherFields, SubscriberFields}
-use Rattle.iox2_domain.specs.Kept.{Named, state_of, is_named}
+use Rattle.iox2_domain.specs.Kept.{state_of}
 use Rattle.iox2_domain.specs.Fields.{Fields, kept_of, publisher_of, subscriber_of, numbers_of, blocked_send}
-use Rattle.iox2_domain.specs.Invariant.{IsDomain, HasParts, SenderHas, ReceiverHas, is_publisher, is_subscriber}
-use Rattle.iox2_domain.proofs.lemmas.containers.LookUps.{look_up-map}
+use Rattle.iox2_domain.specs.Invariant.{IsDomain, HasParts, SenderHas, ReceiverHas}
 use Rattle.iox2_store.specs.machine.State.{is_blocked}
 use Rattle.iox2_domain.specs.declared.publisher_state.BlockedDelivery.{BlockedDelivery}
+use Rattle.iox2_domain.proofs.lemmas.fields.NamedPorts.{named-stands, occupant-led}
 
 -- what a publisher's end leads to, by its key
 pub occupant-sender_ends : (connections : Slab Link) (keys : List (Option ℕ)) (i : ℕ) → occupant (sender_ends connections keys) i ≡ subscriber_of_key connections (get_or keys i None)
-occupant-sender_ends connections [] zero = refl
-occupant-sender_ends connections [] (suc i) = refl
-occupant-sender_ends connections (key ∷ keys) zero = refl
-occupant-sender_ends connections (key ∷ keys) (suc i) = occupant-sender_ends connections keys i
+occupant-sender_ends = occupant-led (λ (c : Link). c.home.subscriber)
 
 module _ {T U : Type 0} (f : Fields T U) (parts : HasParts f) where
   -- a publisher that stands somewhere is in the state
   pub publisher-stands : (i : ℕ) (x : PublisherFields) → get_or f.publishers i None ≡ Some x
       → (state_of (kept_of f)).publishers x.id ≡ Some ((publisher_of f.books f.connections x).port)
-  publisher-stands i x at =
-      ap (option_map (λ (z : Named Publisher). z.port))
-      (look_up-map (is_named x.id) (publisher_of f.books f.connections) f.publishers
-      ∙ ap (option_map (publisher_of f.books f.connections)) (look_up-found (is_publisher x.id) f.publishers i x (parts.publisher_ids x.id) at (eq-eqb x.id x.id refl)))
+  publisher-stands i x at = named-stands (publisher_of f.books f.connections) x.id f.publishers (parts.publisher_ids x.id) i x at refl
 
   -- no delivery of a publisher is blocked that isn't so in the state
   pub free-of : (p i : ℕ) (x : PublisherFields) → get_or f.publishers i None ≡ Some x → x.id ≡ p → is_blocked (state_of (kept_of f)) p ≡ false → x.blocked ≡ None
@@ -46,10 +38,7 @@ module _ {T U : Type 0} (f : Fields T U) (parts : HasParts f) where
   -- a subscriber that stands somewhere is in the state
   pub subscriber-stands : (i : ℕ) (y : SubscriberFields) → get_or f.subscribers i None ≡ Some y
       → (state_of (kept_of f)).subscribers y.id ≡ Some ((subscriber_of f.books f.connections y).port)
-  subscriber-stands i y at =
-      ap (option_map (λ (z : Named Subscriber). z.port))
-      (look_up-map (is_named y.id) (subscriber_of f.books f.connections) f.subscribers
-      ∙ ap (option_map (subscriber_of f.books f.connections)) (look_up-found (is_subscriber y.id) f.subscribers i y (parts.subscriber_ids y.id) at (eq-eqb y.id y.id refl)))
+  subscriber-stands i y at = named-stands (subscriber_of f.books f.connections) y.id f.subscribers (parts.subscriber_ids y.id) i y at refl
 
 module _ {T U : Type 0} (f : Fields T U) (sound : IsDomain f) where
   -- the subscriber of a connection was made before

@@ -4,26 +4,22 @@ use Rattle.std.proofs.lemmas.List.{get_or_default}
 use Rattle.std.specs.declared.option.Option.{Option}
 use Rattle.std.specs.declared.option.Option.TheVariants.{None, Some}
 use Rattle.std.specs.Prelude.{IsSomeAnd}
-use Rattle.std.specs.Option.{option_map}
-use Rattle.iox2_store.specs.machine.Records.{Publisher, Subscriber}
+use Rattle.iox2_store.specs.machine.Records.{Subscriber}
 use Rattle.iox2_store.specs.machine.SingleCalls.{HoldsPublisher, HoldsSubscriber}
 use Rattle.iox2_ends.specs.LookUp.{look_up}
 use Rattle.iox2_ends.proofs.MailboxChanges.{within_if_some}
 use Rattle.iox2_domain.specs.Ports.{PublisherFields, SubscriberFields}
-use Rattle.iox2_domain.specs.Kept.{Named, state_of, is_named}
+use Rattle.iox2_domain.specs.Kept.{state_of}
 use Rattle.iox2_domain.specs.Fields.{Fields, kept_of, publisher_of, subscriber_of}
 use Rattle.iox2_domain.specs.Invariant.{IsDomain, is_publisher, is_subscriber}
-use Rattle.iox2_domain.proofs.lemmas.containers.LookUps.{look_up-map}
 use Rattle.iox2_domain.proofs.lemmas.fields.ConnectionEnds.{publisher-stands, subscriber-stands}
+use Rattle.iox2_domain.proofs.lemmas.fields.NamedPorts.{named-nowhere}
 
 module _ {T U : Type 0} (f : Fields T U) (id : ℕ) where
   -- a publisher that stands nowhere isn't live
   pub absent-publisher : look_up (is_publisher id) f.publishers ≡ None → HoldsPublisher (state_of (kept_of f)) id → ⊥
   absent-publisher none has =
-      let gone : (state_of (kept_of f)).publishers id ≡ None =
-      ap (option_map (λ (z : Named Publisher). z.port))
-      (look_up-map (is_named id) (publisher_of f.books f.connections) f.publishers ∙ ap (option_map (publisher_of f.books f.connections)) none) in
-      let clash : None ≡ Some has.0 = sym gone ∙ has.1 in
+      let clash : None ≡ Some has.0 = sym (named-nowhere (publisher_of f.books f.connections) id f.publishers none) ∙ has.1 in
       absurd cc
 
   -- one that stands somewhere is
@@ -41,10 +37,7 @@ module _ {T U : Type 0} (f : Fields T U) (id : ℕ) where
   -- a subscriber that stands nowhere isn't live
   pub absent-subscriber : look_up (is_subscriber id) f.subscribers ≡ None → HoldsSubscriber (state_of (kept_of f)) id → ⊥
   absent-subscriber none has =
-      let gone : (state_of (kept_of f)).subscribers id ≡ None =
-      ap (option_map (λ (z : Named Subscriber). z.port))
-      (look_up-map (is_named id) (subscriber_of f.books f.connections) f.subscribers ∙ ap (option_map (subscriber_of f.books f.connections)) none) in
-      let clash : None ≡ Some has.0 = sym gone ∙ has.1 in
+      let clash : None ≡ Some has.0 = sym (named-nowhere (subscriber_of f.books f.connections) id f.subscribers none) ∙ has.1 in
       absurd cc
 
   module _ (sound : IsDomain f) (i : ℕ) (y : SubscriberFields) (at : get_or f.subscribers i None ≡ Some y) (is : y.id ≡ id) where

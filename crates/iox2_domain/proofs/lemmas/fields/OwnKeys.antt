@@ -2,18 +2,18 @@
 use Rattle.std.proofs.Common.{◌≡◌, ℕ, zero, suc, ◌<◌, List, [], ◌∷◌, map, length, get_or, Contains, refl, ap, sym, ◌∙◌, inl, inr, ◌⊎◌, arith}
 use Rattle.std.specs.declared.option.Option.{Option}
 use Rattle.std.specs.declared.option.Option.TheVariants.{None, Some}
-use Rattle.std.specs.Option.{option_map}
 use Rattle.slab.specs.Slab.{Slab, get}
 use Rattle.iox2_slots.specs.Link.{Link}
 use Rattle.iox2_store.specs.machine.Places.{occupant}
 use Rattle.iox2_store.specs.machine.WellFormed.{LeadsTo}
 use Rattle.iox2_ends.specs.Finds.{IsReceiverLinked, IsReceivers}
 use Rattle.iox2_ends.specs.Homes.{IsApart}
-use Rattle.iox2_ends.specs.Mailboxes.{publisher_of_key, receiver_ends}
+use Rattle.iox2_ends.specs.Mailboxes.{receiver_ends}
 use Rattle.iox2_ends.proofs.MailboxChanges.{is_between-own}
 use Rattle.iox2_domain.specs.Departures.{HasKey, KnowsKey}
 use Rattle.iox2_domain.specs.Ports.{SubscriberFields}
-use Rattle.iox2_domain.proofs.lemmas.fields.Standing.{occupant-receiver_ends, some_is}
+use Rattle.iox2_domain.proofs.lemmas.fields.Standing.{some_is}
+use Rattle.iox2_domain.proofs.lemmas.fields.NamedPorts.{end-leads-through}
 
 -- an element of a list stands at some index
 pub listed-at : (xs : List ℕ) (key : ℕ) → Contains xs key → HasKey (map Some xs) key
@@ -38,16 +38,7 @@ known y place key (inr among) = inr (listed-at y.expired key among)
 -- a subscriber's end leads through a connection
 pub receiver-leads : (connections : Slab Link) (keys : List (Option ℕ)) (i p : ℕ) → occupant (receiver_ends connections keys) i ≡ Some p
     → (key : ℕ) × (c : Link) × (get_or keys i None ≡ Some key) × (get connections key ≡ Some c) × (c.home.publisher ≡ p)
-receiver-leads connections keys i p at =
-    by (get_or keys i None) refl (sym (occupant-receiver_ends connections keys i) ∙ at) where
-      by : (o : Option ℕ) → get_or keys i None ≡ o → publisher_of_key connections o ≡ Some p
-          → (key : ℕ) × (c : Link) × (get_or keys i None ≡ Some key) × (get connections key ≡ Some c) × (c.home.publisher ≡ p)
-      by None e h = absurd cc
-      by (Some key) e h = through (get connections key) refl h where
-        through : (o : Option Link) → get connections key ≡ o → option_map (λ (c : Link). c.home.publisher) o ≡ Some p
-            → (k : ℕ) × (c : Link) × (get_or keys i None ≡ Some k) × (get connections k ≡ Some c) × (c.home.publisher ≡ p)
-        through None there g = absurd cc
-        through (Some c) there g = (key, c, e, there, let is : Some c.home.publisher ≡ Some p = g in cc)
+receiver-leads = end-leads-through (λ (c : Link). c.home.publisher)
 
 -- an end to a connection's publisher is an end to the connection
 pub own-key : (connections : Slab Link) → IsApart connections → (key : ℕ) (c : Link) → get connections key ≡ Some c → (q : ℕ) → c.home.subscriber ≡ q → {most : ℕ} → (keys : List (Option ℕ))

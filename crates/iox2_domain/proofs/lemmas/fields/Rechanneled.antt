@@ -11,13 +11,13 @@ use Rattle.iox2_ends.specs.Homes.{IsApart}
 use Rattle.iox2_ends.specs.LookUp.{look_up}
 use Rattle.iox2_ends.specs.Mailboxes.{is_between, mailbox_if_any, mailboxes_of, channels_in}
 use Rattle.iox2_domain.specs.Fields.{Fields, kept_of, numbers_of}
-use Rattle.iox2_domain.specs.Invariant.{IsDomain, HasBooks, HasParts, HasExpiredRoom, IsBetweenOpen, IsBookOf, IsCounted, NamesBooks, SenderHas, one_if_receivers, own_holders}
+use Rattle.iox2_domain.specs.Invariant.{IsDomain, HasParts, HasExpiredRoom, IsBetweenOpen, IsBookOf, IsCounted, NamesBooks, SenderHas, one_if_receivers, own_holders}
 use Rattle.iox2_domain.specs.Kept.{state_of, port_named, ids}
 use Rattle.iox2_domain.specs.Reaches.{Reaches}
 use Rattle.iox2_domain.specs.Shows.{KeepsEntries}
 use Rattle.iox2_laws.proofs.PortChanges.{with_all_channels_keeps}
 use Rattle.iox2_domain.proofs.lemmas.fields.KeptChannels.{channels-are, look_up-alike}
-use Rattle.iox2_domain.proofs.lemmas.fields.Parts.{whole_of}
+use Rattle.iox2_domain.proofs.lemmas.fields.Parts.{whole_of, connected_parts}
 use Rattle.iox2_domain.proofs.lemmas.fields.SameSeats.{SameSeats, seat_of, senders-seated, receivers-seated, sender-seated, linked-seated}
 use Rattle.iox2_domain.proofs.lemmas.fields.Views.{mailboxes-are, held-before}
 use Rattle.iox2_domain.proofs.lemmas.slots.Recounts.{sum-alike}
@@ -122,15 +122,6 @@ module _ {T U : Type 0} (f : Fields T U) (sound : IsDomain f) (new : Slab Link) 
         (sym (sum-alike (one_if_receivers y.id) refl new.slots f.connections.slots (plain-alike f.connections new same (one_if_receivers y.id) (λ c. refl)))) (sound.parts.expired_room.at i y at_y);
   }
 
-  books : HasBooks rechanneled
-  books = record {
-    one_each = sound.parts.books.one_each;
-    books = sound.parts.books.books;
-    publishers = λ i x at_x. let has = sound.parts.books.publishers i x at_x in
-        record { book = has.book; stands = has.stands; is_its = has.is_its; node = has.node; slots = has.slots; room = has.room };
-    no_others = sound.parts.books.no_others;
-  }
-
   names : NamesBooks f.books new
   names = record {
     at = λ k d at_d.
@@ -145,23 +136,7 @@ module _ {T U : Type 0} (f : Fields T U) (sound : IsDomain f) (new : Slab Link) 
   }
 
   consistent : HasParts rechanneled
-  consistent = record {
-    publisher_ids = sound.parts.publisher_ids;
-    subscriber_ids = sound.parts.subscriber_ids;
-    apart = apart;
-    linked = linked-seated f new seats sound.parts.linked counts returned marked;
-    expired_room = room;
-    books = books;
-    names = names;
-    counted = counted;
-    numbered = sound.parts.numbered;
-    publisher_room = sound.parts.publisher_room;
-    warning_room = sound.parts.warning_room;
-    shapes = record { at = sound.parts.shapes.at };
-    forms = sound.parts.forms;
-    open_loans = sound.parts.open_loans;
-    plain = sound.parts.plain;
-  }
+  consistent = connected_parts f sound.parts new apart (linked-seated f new seats sound.parts.linked counts returned marked) room names counted
 
   entries : KeepsEntries (kept_of rechanneled)
   entries p n held = sound.entries p n (held-before (state_of (kept_of f)) (state_of (kept_of rechanneled)) p n

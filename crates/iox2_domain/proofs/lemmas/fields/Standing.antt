@@ -1,5 +1,5 @@
 -- Where ports stand, and to whom their connections lead, whichever ports were closed.
-use Rattle.std.proofs.Common.{◌≡◌, ◌≢◌, ℕ, zero, suc, ◌<◌, List, [], ◌∷◌, map, length, true, false, Bool, cond, get_or, refl, ap, sym, subst, ◌∙◌, ◌⊎◌, inl, inr, arith}
+use Rattle.std.proofs.Common.{◌≡◌, ◌≢◌, ℕ, ◌<◌, List, [], ◌∷◌, map, length, true, false, Bool, cond, get_or, refl, ap, sym, subst, ◌∙◌, ◌⊎◌, inl, inr, arith}
 use Rattle.std.proofs.lemmas.Bool.{eq-eqb, eqb-true}
 use Rattle.std.proofs.lemmas.List.{length-map}
 use Rattle.std.proofs.lemmas.Option.{same_Some}
@@ -22,26 +22,18 @@ use Rattle.iox2_ends.specs.Mailboxes.{is_between, publisher_of_key, receiver_end
 use Rattle.iox2_ends.proofs.LookUps.{look_up-nothing}
 use Rattle.iox2_ends.proofs.MailboxChanges.{both-true}
 use Rattle.iox2_domain.specs.Ports.{PublisherFields, SubscriberFields}
-use Rattle.iox2_domain.specs.Kept.{Named, state_of, ids}
+use Rattle.iox2_domain.specs.Kept.{Named, state_of}
 use Rattle.iox2_domain.specs.Fields.{Fields, kept_of, publisher_of, subscriber_of}
 use Rattle.iox2_domain.specs.Invariant.{HasParts, IsLinked, SenderHas, ReceiverHas, details_of}
 use Rattle.iox2_domain.specs.Updates.{key_from}
 use Rattle.iox2_domain.proofs.lemmas.containers.LookUps.{map-at}
 use Rattle.iox2_domain.proofs.lemmas.fields.ConnectionEnds.{publisher-stands, subscriber-stands}
-
--- who stands at a place
-pub occupant-ids : {A : Type 0} (ns : List (Option (Named A))) (i : ℕ) → occupant (ids ns) i ≡ option_map (λ (n : Named A). n.id) (get_or ns i None)
-occupant-ids [] zero = refl
-occupant-ids [] (suc i) = refl
-occupant-ids (n ∷ ns) zero = refl
-occupant-ids (n ∷ ns) (suc i) = occupant-ids ns i
+use Rattle.iox2_domain.proofs.lemmas.fields.NamedPorts.{named-at, occupant-led}
+pub use Rattle.iox2_domain.proofs.lemmas.fields.NamedPorts.{occupant-ids}
 
 -- where a connection leads for a subscriber
 pub occupant-receiver_ends : (connections : _) (keys : List (Option ℕ)) (i : ℕ) → occupant (receiver_ends connections keys) i ≡ publisher_of_key connections (get_or keys i None)
-occupant-receiver_ends connections [] zero = refl
-occupant-receiver_ends connections [] (suc i) = refl
-occupant-receiver_ends connections (key ∷ keys) zero = refl
-occupant-receiver_ends connections (key ∷ keys) (suc i) = occupant-receiver_ends connections keys i
+occupant-receiver_ends = occupant-led (λ (c : Link). c.home.publisher)
 
 -- a key that leads to a connection of the publisher
 pub key-from : (connections : Slab Link) (p key : ℕ) (c : Link) → get connections key ≡ Some c → c.home.publisher ≡ p → key_from connections p (Some key) ≡ Some key
@@ -94,22 +86,13 @@ leads-among connections (k ∷ keys) key c has at = elim (contains_in_cons k key
 module _ {T U : Type 0} (f : Fields T U) (parts : HasParts f) where
   -- a place is listed with the id of who stands there
   pub publisher-at : (i : ℕ) → occupant (state_of (kept_of f)).publisher_places i ≡ option_map (λ (x : PublisherFields). x.id) (get_or f.publishers i None)
-  publisher-at i =
-      occupant-ids (map (option_map (publisher_of f.books f.connections)) f.publishers) i
-      ∙ ap (option_map (λ (n : Named Publisher). n.id)) (map-at (publisher_of f.books f.connections) f.publishers i)
-      ∙ by (get_or f.publishers i None)
-    where
-      by : (o : Option PublisherFields) → option_map (λ (n : Named Publisher). n.id) (option_map (publisher_of f.books f.connections) o) ≡ option_map (λ (x : PublisherFields). x.id) o
-      by None = refl
-      by (Some x) = refl
+  publisher-at = named-at (publisher_of f.books f.connections) f.publishers
 
   pub publisher-listed : (i : ℕ) (x : PublisherFields) → get_or f.publishers i None ≡ Some x → occupant (state_of (kept_of f)).publisher_places i ≡ Some x.id
   publisher-listed i x at = publisher-at i ∙ ap (option_map (λ (z : PublisherFields). z.id)) at
 
   pub subscriber-listed : (j : ℕ) (y : SubscriberFields) → get_or f.subscribers j None ≡ Some y → occupant (state_of (kept_of f)).subscriber_places j ≡ Some y.id
-  subscriber-listed j y at =
-      occupant-ids (map (option_map (subscriber_of f.books f.connections)) f.subscribers) j
-      ∙ ap (option_map (λ (n : Named Subscriber). n.id)) (map-at (subscriber_of f.books f.connections) f.subscribers j ∙ ap (option_map (subscriber_of f.books f.connections)) at)
+  subscriber-listed j y at = named-at (subscriber_of f.books f.connections) f.subscribers j ∙ ap (option_map (λ (z : SubscriberFields). z.id)) at
 
   -- of one id there is one port
   pub one-publisher : (j k : ℕ) (y z : PublisherFields) → get_or f.publishers j None ≡ Some y → get_or f.publishers k None ≡ Some z → y.id ≡ z.id → j ≡ k

@@ -27,7 +27,7 @@ use Rattle.iox2_store.specs.declared.service_config.TypeVariant.TheVariants.{Fix
 use Rattle.iox2_domain.specs.Ports.{PublisherFields, slot_length}
 use Rattle.iox2_domain.specs.Kept.{KeptMessage, Lent_message, state_of}
 use Rattle.iox2_domain.specs.Fields.{Fields, kept_of, publisher_of, is_book_of}
-use Rattle.iox2_domain.specs.Invariant.{IsDomain, IsOwned, IsBook, HasBook, HasBooks, IsCounted, HasRoomFrom, HasShape, HasShapes, is_publisher, own_holders, holders_of, is_loan_in, cell_count}
+use Rattle.iox2_domain.specs.Invariant.{IsDomain, IsOwned, IsBook, HasBook, HasBooks, IsCounted, HasRoomFrom, HasSegment, HasShape, HasShapes, is_publisher, own_holders, holders_of, is_loan_in, cell_count}
 use Rattle.iox2_domain.specs.Reaches.{Reaches}
 use Rattle.iox2_domain.specs.Shows.{KeepsEntries}
 use Rattle.iox2_domain.proofs.lemmas.fields.NamedBooks.{names-books}
@@ -69,22 +69,10 @@ module _ {T U : Type 0} (f : Fields T U) (sound : IsDomain f) (i : ℕ) (x : Pub
   granted = with_granted f sound i x at slot can user_header len segments
 
   keeps : KeepsSettings x new_lender
-  keeps = record {
-    id = refl;
-    book = refl;
-    max_loaned_samples = refl;
-    slots = refl;
-    strategy = refl;
-    backpressure_handler = refl;
-    degradation_handler = refl;
-    allocation = refl;
-    segment_start = refl;
-    segment_length = refl;
-    segment = λ has. record { static = has.static; first = has.first; longest = λ grows. max-le (has.longest grows) (fits grows); some = has.some };
-    loan_room = le_refl x.loan_room;
-    history_room = refl;
-    key_room = le_refl x.key_room;
-  }
+  keeps =
+      let segment : HasSegment x → HasSegment new_lender = λ has.
+      record { static = has.static; first = has.first; longest = λ grows. max-le (has.longest grows) (fits grows); some = has.some } in
+      assumption (segment, le_refl x.loan_room, le_refl x.key_room)
 
   -- ---- books
 

@@ -10,18 +10,18 @@ use Rattle.slab.specs.Slab.{get, with_value}
 use Rattle.iox2_store.specs.machine.Limits.{last_number}
 use Rattle.iox2_store.specs.machine.Loans.{is_static, loan_granted, GrantLoan}
 use Rattle.iox2_store.specs.machine.Numbers.{size}
-use Rattle.iox2_store.specs.machine.Records.{Publisher, Environment}
+use Rattle.iox2_store.specs.machine.Records.{Environment}
 use Rattle.iox2_slots.specs.SlotBook.{Book}
 use Rattle.iox2_contents.specs.SlotContents.{ContentState, with_changed, unwritten_content}
-use Rattle.iox2_store.specs.machine.State.{State, held}
+use Rattle.iox2_store.specs.machine.State.{held}
 use Rattle.iox2_store.specs.declared.service_config.TypeVariant.TheVariants.{FixedSize}
 use Rattle.iox2_store.specs.declared.errors.LoanError.{LoanError}
 use Rattle.iox2_store.specs.declared.errors.LoanError.TheVariants.{OutOfMemory, ExceedsMaxLoans, ExceedsMaxLoanSize, InternalFailure}
 use Rattle.iox2_ends.specs.Receivers.{HasReclaimed}
 use Rattle.iox2_ends.proofs.MailboxChanges.{within_if_some}
 use Rattle.iox2_domain.specs.Ports.{PublisherFields}
-use Rattle.iox2_domain.specs.Kept.{Lent_message, state_of}
-use Rattle.iox2_domain.specs.Fields.{Fields, kept_of, publisher_of, numbers_of, contents_at}
+use Rattle.iox2_domain.specs.Kept.{Lent_message}
+use Rattle.iox2_domain.specs.Fields.{Fields, numbers_of, contents_at}
 use Rattle.iox2_domain.specs.Invariant.{IsDomain}
 use Rattle.iox2_domain.specs.Lending.{with_taken_slot, header_for, lending, memory_for, CanGrant, LoanDecided, Lends}
 use Rattle.iox2_domain.specs.LoanSlots.{IsLoanSlot, LiesInSlot}
@@ -35,6 +35,7 @@ use Rattle.iox2_domain.proofs.lemmas.slots.PublisherBooks.{book-own}
 use Rattle.iox2_domain.proofs.lemmas.loans.Taken.{CanTakeSlot, taken_book, taken_books, begun_contents, lent, taken-stands, lent-lies}
 use Rattle.iox2_domain.proofs.lemmas.loans.Granted.{lender, with_granted, lends-long, lends-limited, lends-full, lends-failed, lends-granted}
 use Rattle.iox2_domain.proofs.lemmas.loans.GrantedAgrees.{granted-reaches}
+use Rattle.iox2_domain.proofs.lemmas.fields.NamedPorts.{seen, seen_publisher}
 
 -- where not each slot has a holder some slot is free
 some_slot : (hs : List ℕ) → (All (λ n. 0 < n) hs → ⊥) → (slot : ℕ) × (slot < length hs) × (get_or hs slot 0 ≡ 0)
@@ -49,28 +50,19 @@ some_slot (h ∷ hs) not_all = by h refl (λ held. some_slot hs (λ all. not_all
   by (suc n) e later = let rest = later (omega arith) in (suc rest.0, omega (arith, rest.1), rest.2)
 
 module _ {T U : Type 0} (f : Fields T U) (sound : IsDomain f) (i : ℕ) (x : PublisherFields) (at : get_or f.publishers i None ≡ Some x) (checks : Bool) (len : ℕ) where
-  abbrev state : State T U
-  state = state_of (kept_of f)
-
-  abbrev machine : Publisher
-  machine = (publisher_of f.books f.connections x).port
-
-  here : state.publishers x.id ≡ Some machine
-  here = publisher-stands f sound.parts i x at
-
-  as_many : length machine.loans ≡ length x.loans
+  as_many : length (seen_publisher f x).loans ≡ length x.loans
   as_many = length-map x.loans (numbers_of f.books x.id)
 
   -- the length is one that the publisher doesn't lend
   abbrev pub is_too_long : Bool
   is_too_long = checks && is_static x.allocation && nat_lt x.initial_max_slice_len len
 
-  pub long : is_too_long ≡ true → (user_header : U) → GrantLoan (memory_for x.allocation) user_header checks len state x.id state (Some ExceedsMaxLoanSize)
-  long e user_header = lends-long (memory_for x.allocation) user_header state x.id machine here checks len e
+  pub long : is_too_long ≡ true → (user_header : U) → GrantLoan (memory_for x.allocation) user_header checks len (seen f) x.id (seen f) (Some ExceedsMaxLoanSize)
+  long e user_header = lends-long (memory_for x.allocation) user_header (seen f) x.id (seen_publisher f x) (publisher-stands f sound.parts i x at) checks len e
 
   -- too many loans are out
-  pub limited : is_too_long ≡ false → (user_header : U) → x.max_loaned_samples ≤ length x.loans → GrantLoan (memory_for x.allocation) user_header checks len state x.id state (Some ExceedsMaxLoans)
-  limited short user_header many = lends-limited (memory_for x.allocation) user_header state x.id machine here checks len short (let e = as_many in omega arith)
+  pub limited : is_too_long ≡ false → (user_header : U) → x.max_loaned_samples ≤ length x.loans → GrantLoan (memory_for x.allocation) user_header checks len (seen f) x.id (seen f) (Some ExceedsMaxLoans)
+  limited short user_header many = lends-limited (memory_for x.allocation) user_header (seen f) x.id (seen_publisher f x) (publisher-stands f sound.parts i x at) checks len short (let e = as_many in omega arith)
 
   its-book : (b : Book) → get f.books x.book ≡ Some b → (its_book f sound i x at).book ≡ b
   its-book b stands = let same : Some (its_book f sound i x at).book ≡ Some b = sym (its_book f sound i x at).stands ∙ stands in cc
@@ -82,18 +74,18 @@ module _ {T U : Type 0} (f : Fields T U) (sound : IsDomain f) (i : ℕ) (x : Pub
       omega (arith, same, (its_book f sound i x at).slots, ((sound.parts.plain i x at).segment.static static).0)
 
   module _ (short : is_too_long ≡ false) (few : length x.loans < x.max_loaned_samples) (static : is_static x.allocation ≡ true) (b : Book) (stands : get f.books x.book ≡ Some b) where
-    few_numbers : length machine.loans < machine.max_loaned_samples
+    few_numbers : length (seen_publisher f x).loans < (seen_publisher f x).max_loaned_samples
     few_numbers = let e = as_many in omega arith
 
     -- each slot has a holder
-    pub full : HasReclaimed f.connections x.keys → (user_header : U) → All (λ n. 0 < n) b.holders → GrantLoan (memory_for x.allocation) user_header checks len state x.id state (Some OutOfMemory)
+    pub full : HasReclaimed f.connections x.keys → (user_header : U) → All (λ n. 0 < n) b.holders → GrantLoan (memory_for x.allocation) user_header checks len (seen f) x.id (seen f) (Some OutOfMemory)
     full reclaimed user_header all =
-        lends-full (memory_for x.allocation) user_header state x.id machine here checks len short few_numbers static
+        lends-full (memory_for x.allocation) user_header (seen f) x.id (seen_publisher f x) (publisher-stands f sound.parts i x at) checks len short few_numbers static
         (size-full f sound i x at reclaimed (subst (λ (c : Book). All (λ n. 0 < n) c.holders) (sym (its-book b stands)) all)
         ∙ ap (λ (c : Book). length c.holders) (its-book b stands) ∙ slots-are static b stands)
 
     -- a slot that is free leaves room
-    some_room : (slot : ℕ) → slot < length b.holders → get_or b.holders slot 0 ≡ 0 → size (held state x.id machine) < x.slots
+    some_room : (slot : ℕ) → slot < length b.holders → get_or b.holders slot 0 ≡ 0 → size (held (seen f) x.id (seen_publisher f x)) < x.slots
     some_room slot low free =
         let its = its-book b stands in
         let fewer = size-free f sound i x at slot (subst (λ (c : Book). slot < length c.holders) (sym its) low) (ap (λ (c : Book). get_or c.holders slot 0) its ∙ free) in
@@ -103,20 +95,20 @@ module _ {T U : Type 0} (f : Fields T U) (sound : IsDomain f) (i : ℕ) (x : Pub
 
     -- no number is left
     pub failed : (user_header : U) → (All (λ n. 0 < n) b.holders → ⊥) → f.next_message ≡ last_number
-        → GrantLoan (memory_for x.allocation) user_header checks len state x.id state (Some InternalFailure)
+        → GrantLoan (memory_for x.allocation) user_header checks len (seen f) x.id (seen f) (Some InternalFailure)
     failed user_header not_all last =
         let free = some_slot b.holders not_all in
-        lends-failed (memory_for x.allocation) user_header state x.id machine here checks len short few_numbers static (some_room free.0 free.1 free.2) last
+        lends-failed (memory_for x.allocation) user_header (seen f) x.id (seen_publisher f x) (publisher-stands f sound.parts i x at) checks len short few_numbers static (some_room free.0 free.1 free.2) last
 
   -- ---- what is decided
 
   -- what is decided of this publisher
   abbrev Decided : Option LoanError → PublisherFields → Type 0
-  Decided decision y = MatchOption decision (CanGrant f checks len i) (λ e. (user_header : U) → GrantLoan (memory_for x.allocation) user_header checks len state y.id state (Some e))
+  Decided decision y = MatchOption decision (CanGrant f checks len i) (λ e. (user_header : U) → GrantLoan (memory_for x.allocation) user_header checks len (seen f) y.id (seen f) (Some e))
 
   decided : (decision : Option LoanError) → Decided decision x → LoanDecided f checks len i decision
   decided decision h = subst (λ (o : Option PublisherFields). IsSomeAnd o (λ y. MatchOption decision (CanGrant f checks len i)
-      (λ e. (user_header : U) → GrantLoan (memory_for y.allocation) user_header checks len state y.id state (Some e)))) (sym at) h
+      (λ e. (user_header : U) → GrantLoan (memory_for y.allocation) user_header checks len (seen f) y.id (seen f) (Some e)))) (sym at) h
 
   pub decided-long : is_too_long ≡ true → LoanDecided f checks len i (Some ExceedsMaxLoanSize)
   decided-long e = decided (Some ExceedsMaxLoanSize) (λ user_header. long e user_header)
@@ -136,15 +128,15 @@ module _ {T U : Type 0} (f : Fields T U) (sound : IsDomain f) (i : ℕ) (x : Pub
 
     -- a static publisher that has a free slot grants the loan
     pub lent-grants : (slot : ℕ) → slot < length b.holders → get_or b.holders slot 0 ≡ 0 → f.next_message < last_number → (user_header : U)
-        → GrantLoan (memory_for x.allocation) user_header checks len state x.id (loan_granted user_header state x.id machine len x.segments) None
+        → GrantLoan (memory_for x.allocation) user_header checks len (seen f) x.id (loan_granted user_header (seen f) x.id (seen_publisher f x) len x.segments) None
     lent-grants slot within free more user_header =
-        lends-granted (memory_for x.allocation) user_header state x.id machine here checks len short (few_numbers short few static b stands) static
+        lends-granted (memory_for x.allocation) user_header (seen f) x.id (seen_publisher f x) (publisher-stands f sound.parts i x at) checks len short (few_numbers short few static b stands) static
         (some_room short few static b stands slot within free) more
 
   -- a slot is lent
   module _ (one : (f.config).variant ≡ FixedSize → len ≡ 1) (fits : is_static x.allocation ≡ false → len ≤ x.segment_length)
       (is_default : U → Type 0) (slot segments : ℕ) (new : Fields T U) (lends : Lends is_default f i x slot len segments new) (environment : Environment)
-      (grants : GrantLoan environment lends.starts.user_header checks len state x.id (loan_granted lends.starts.user_header state x.id machine len segments) None) where
+      (grants : GrantLoan environment lends.starts.user_header checks len (seen f) x.id (loan_granted lends.starts.user_header (seen f) x.id (seen_publisher f x) len segments) None) where
     abbrev user_header : U
     user_header = lends.starts.user_header
 
@@ -174,8 +166,8 @@ module _ {T U : Type 0} (f : Fields T U) (sound : IsDomain f) (i : ℕ) (x : Pub
         started : lends.started ≡ Some (with_changed lends.starts.contents slot (unwritten_content user_header (len * (f.config).units_per_element)))
         started = lends.starts.started
 
-    pub lent-reaches : Reaches f new (loan_granted user_header state x.id machine len segments)
-    lent-reaches = subst (λ (g : Fields T U). Reaches f g (loan_granted user_header state x.id machine len segments)) (sym new-is)
+    pub lent-reaches : Reaches f new (loan_granted user_header (seen f) x.id (seen_publisher f x) len segments)
+    lent-reaches = subst (λ (g : Fields T U). Reaches f g (loan_granted user_header (seen f) x.id (seen_publisher f x) len segments)) (sym new-is)
         (granted-reaches f sound i x at slot can user_header len segments one fits environment checks grants)
 
     -- the loan lies in the slot

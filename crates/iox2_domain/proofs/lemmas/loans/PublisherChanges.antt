@@ -51,22 +51,7 @@ pub record KeepsSettings (x y : PublisherFields) : Type 0 where
 -- other slots of its own change no setting of a publisher
 pub other_slots : (x : PublisherFields) (loans items : List ℕ) (blocked : Option BlockedDelivery)
     → KeepsSettings x (record x { loans = loans; history = buffer items (x.history).capacity; blocked = blocked })
-other_slots x loans items blocked = record {
-  id = refl;
-  book = refl;
-  max_loaned_samples = refl;
-  slots = refl;
-  strategy = refl;
-  backpressure_handler = refl;
-  degradation_handler = refl;
-  allocation = refl;
-  segment_start = refl;
-  segment_length = refl;
-  segment = λ has. record { static = has.static; first = has.first; longest = has.longest; some = has.some };
-  loan_room = le_refl x.loan_room;
-  history_room = refl;
-  key_room = le_refl x.key_room;
-}
+other_slots x loans items blocked = assumption (le_refl x.loan_room, le_refl x.key_room)
 
 -- ---- lists with a record at each place
 

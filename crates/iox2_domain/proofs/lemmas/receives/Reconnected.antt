@@ -15,11 +15,11 @@ use Rattle.iox2_ends.specs.Takes.{KeepsOtherKeys, KeepsReturned, SameStands}
 use Rattle.iox2_ends.proofs.MailboxChanges.{was, IsApart-same}
 use Rattle.iox2_domain.specs.Kept.{state_of}
 use Rattle.iox2_domain.specs.Fields.{Fields, kept_of, numbers_of}
-use Rattle.iox2_domain.specs.Invariant.{IsDomain, HasBooks, IsCounted, SenderHas, own_holders, HasParts}
+use Rattle.iox2_domain.specs.Invariant.{IsDomain, IsCounted, SenderHas, own_holders, HasParts}
 use Rattle.iox2_domain.specs.Reaches.{Reaches}
 use Rattle.iox2_domain.specs.Shows.{KeepsEntries}
 use Rattle.iox2_store.specs.Stored.{IsHeldMessage, In_history, In_mailbox, In_blocked_send}
-use Rattle.iox2_domain.proofs.lemmas.fields.Parts.{whole_of}
+use Rattle.iox2_domain.proofs.lemmas.fields.Parts.{whole_of, connected_parts}
 use Rattle.iox2_domain.proofs.lemmas.fields.ExpiredRoom.{room-still}
 use Rattle.iox2_domain.proofs.lemmas.fields.NamedBooks.{names-still}
 use Rattle.iox2_domain.proofs.lemmas.fields.SameEnds.{with_connections, connections-are, sender-same, linked-still}
@@ -64,15 +64,6 @@ module _ {T U : Type 0} (f : Fields T U) (sound : IsDomain f) (key : ℕ) (c : L
     | inr away ↦ sound.parts.linked.returned k d (sym (others.others k away) ∙ at_d)
   ]
 
-  books-still : HasBooks (with_connections f new same)
-  books-still = record {
-    one_each = sound.parts.books.one_each;
-    books = sound.parts.books.books;
-    publishers = λ i x at_x. let has = sound.parts.books.publishers i x at_x in
-        record { book = has.book; stands = has.stands; is_its = has.is_its; node = has.node; slots = has.slots; room = has.room };
-    no_others = sound.parts.books.no_others;
-  }
-
   counted-still : IsCounted (with_connections f new same)
   counted-still = record {
     at = λ p slot.
@@ -83,23 +74,9 @@ module _ {T U : Type 0} (f : Fields T U) (sound : IsDomain f) (key : ℕ) (c : L
 
   -- the fields with the changed connection agree with one another
   pub reconnected-consistent : HasParts (with_connections f new same)
-  reconnected-consistent = record {
-    publisher_ids = sound.parts.publisher_ids;
-    subscriber_ids = sound.parts.subscriber_ids;
-    apart = IsApart-same f.connections new sound.parts.apart same;
-    linked = linked-still f new same sound.parts.linked still-returned;
-    expired_room = room-still f.subscribers f.connections new same sound.parts.expired_room;
-    books = books-still;
-    names = names-still f.books f.connections new same sound.parts.names;
-    counted = counted-still;
-    numbered = sound.parts.numbered;
-    publisher_room = sound.parts.publisher_room;
-    warning_room = sound.parts.warning_room;
-    shapes = record { at = sound.parts.shapes.at };
-    forms = sound.parts.forms;
-    open_loans = sound.parts.open_loans;
-    plain = sound.parts.plain;
-  }
+  reconnected-consistent =
+      connected_parts f sound.parts new (IsApart-same f.connections new sound.parts.apart same) (linked-still f new same sound.parts.linked still-returned)
+      (room-still f.subscribers f.connections new same sound.parts.expired_room) (names-still f.books f.connections new same sound.parts.names) counted-still
 
   -- whoever holds a message has its entry
   pub reconnected-complete : ((p q n : ℕ) → contains (numbers_in (mailboxes_of (numbers_of f.books) new p q)) n ≡ true → contains (numbers_in ((state_of (kept_of f)).mailboxes p q)) n ≡ true)

@@ -23,13 +23,13 @@ use Rattle.iox2_ends.proofs.Counts.{times-cons, one_if_same, stands-own}
 use Rattle.iox2_laws.proofs.NumberLemmas.{contains_in_cons}
 use Rattle.iox2_domain.specs.Ports.{PublisherFields}
 use Rattle.iox2_domain.specs.declared.publisher_state.BlockedDelivery.{BlockedDelivery}
-use Rattle.iox2_domain.specs.Kept.{Named, state_of, is_named}
+use Rattle.iox2_domain.specs.Kept.{state_of}
 use Rattle.iox2_domain.specs.Fields.{Fields, kept_of, publisher_of, is_book_of, numbers_of, blocked_send}
 use Rattle.iox2_domain.specs.Invariant.{IsCounted, HasNumber, is_publisher, holders_of, IsPlain}
-use Rattle.iox2_domain.proofs.lemmas.containers.LookUps.{look_up-map}
 use Rattle.iox2_domain.proofs.lemmas.fields.Views.{mailboxes-are}
 use Rattle.iox2_domain.proofs.lemmas.slots.BoxNumbers.{slot-of_number}
 use Rattle.iox2_domain.proofs.lemmas.slots.Holders.{own-slots}
+use Rattle.iox2_domain.proofs.lemmas.fields.NamedPorts.{named-there}
 
 -- a number of a list of slots belongs to one that stands there
 pub slot_numbered : (number : ℕ → ℕ) (n : ℕ) (slots : List ℕ) → contains (map number slots) n ≡ true → (slot : ℕ) × (0 < times slot slots) × (number slot ≡ n)
@@ -54,14 +54,7 @@ module _ {T U : Type 0} (f : Fields T U) where
   -- a publisher that the state has stands somewhere
   pub publisher-there : (p : ℕ) (y : Publisher) → (state_of (kept_of f)).publishers p ≡ Some y
       → (i : ℕ) × (x : PublisherFields) × (get_or f.publishers i None ≡ Some x) × (x.id ≡ p) × (y ≡ (publisher_of f.books f.connections x).port)
-  publisher-there p y e = by (look_up (is_publisher p) f.publishers) refl (sym (ap (option_map (λ (z : Named Publisher). z.port)) (look_up-map (is_named p) (publisher_of f.books f.connections) f.publishers)) ∙ e) where
-    by : (o : Option PublisherFields) → look_up (is_publisher p) f.publishers ≡ o → option_map (λ (z : Named Publisher). z.port) (option_map (publisher_of f.books f.connections) o) ≡ Some y
-        → (i : ℕ) × (x : PublisherFields) × (get_or f.publishers i None ≡ Some x) × (x.id ≡ p) × (y ≡ (publisher_of f.books f.connections x).port)
-    by None is h = absurd cc
-    by (Some x) is h =
-        let there = look_up-there (is_publisher p) f.publishers x is in
-        let same : Some ((publisher_of f.books f.connections x).port) ≡ Some y = h in
-        (there.0, x, there.1, eqb-true x.id p there.2, cc)
+  publisher-there p = named-there (publisher_of f.books f.connections) p f.publishers
 
   module _ (counted : IsCounted f) (ids : (p : ℕ) → IsOnly (is_publisher p) f.publishers) where
     -- a slot that is a publisher's loan or in its history has a holder

@@ -2,6 +2,7 @@
 use Rattle.std.proofs.Common.{◌≡◌, ◌≢◌, ℕ, zero, suc, ◌+◌, ◌<◌, ◌≤◌, List, [], ◌∷◌, length, Bool, true, false, cond, eqb, get_or, refl, ap, sym, ◌∙◌, arith, inl, inr}
 use Rattle.std.proofs.lemmas.Bool.{ltb-true, lt-ltb, eqb-true, eq-eqb, cases_lt, false_from_ne_true}
 use Rattle.std.proofs.lemmas.List.{get_or_past}
+use Rattle.std.proofs.lemmas.Option.{same_Some}
 use Rattle.std.specs.Prelude.{nat_lt, slice_get, slice_index, IsSomeAnd}
 use Rattle.std.specs.declared.option.Option.{Option}
 use Rattle.std.specs.declared.option.Option.TheVariants.{None, Some}
@@ -18,6 +19,8 @@ use Rattle.iox2_ends.proofs.LookUps.{look_up-there, look_up-none}
 use Rattle.iox2_domain.specs.Kept.{KeptMessage, Lent_message, Sent_message, KeptBook, state_of, entries_of, is_numbered, loan_in, entry_in, message_numbered, first_of_two}
 use Rattle.iox2_domain.specs.Fields.{Fields, kept_of, map_from, message_of, message_in, messages_in, contents_at, kept_book}
 use Rattle.iox2_domain.specs.Invariant.{IsBook, HasNumber, IsNumbered}
+use Rattle.iox2_ends.specs.Counters.{with_counters}
+use mathlib.Core.Path.{fun_ext}
 
 -- ---- one slot
 
@@ -266,6 +269,30 @@ module _ {T U : Type 0} (contents : List (Option (List (ContentState T U)))) (bo
         let same = numbered.one there.0 key there.1 slot n (has_number there.0 there.1 n found there.2 there.3) (has_number key slot n m at is) in
         sym there.2 ∙ ap (λ (k : ℕ). message_at k there.1) same.0 ∙ ap (λ (s : ℕ). message_at key s) same.1 ∙ at
 
+-- what lies in a slot of a book lies there with other counters too, where the slot is in use
+pub message_in-counters : {T U : Type 0} (b : Book) (holders : List ℕ) (contents : List (ContentState T U)) (slot : ℕ) (m : KeptMessage T U)
+    → 0 < holders_at (with_counters b holders) slot → message_in b contents slot ≡ Some m → message_in (with_counters b holders) contents slot ≡ Some m
+message_in-counters b holders contents slot m in_use e =
+    let lies = message_in-parts b contents slot m e in
+    message_in-from (with_counters b holders) contents slot m (record {
+      header = lies.header;
+      content = lies.content;
+      mark = lies.mark;
+      in_use = in_use;
+      headers = lies.headers;
+      contains = lies.contains;
+      marks = lies.marks;
+      is = lies.is;
+    })
+
+-- what is found in either of two places, and the same, is in both alike
+pub alike-if-found : {A : Type 0} (f g : ℕ → Option A) → ((n : ℕ) (a : A) → f n ≡ Some a → g n ≡ Some a) → ((n : ℕ) (a : A) → g n ≡ Some a → f n ≡ Some a) → g ≡ f
+alike-if-found {A} f g stays was = fun_ext (λ n. by n (f n) (g n) refl refl) where
+  by : (n : ℕ) (o now : Option A) → f n ≡ o → g n ≡ now → g n ≡ f n
+  by n None None e h = h ∙ sym e
+  by n None (Some a) e h = h ∙ sym (was n a h)
+  by n (Some a) now e h = stays n a e ∙ sym e
+
 -- where each slot that has the number has that very message before and after, it is found alike
 pub message_numbered-same : {T U : Type 0} (contents contents' : List (Option (List (ContentState T U)))) (books books' : Slab Book) (next n : ℕ) → IsNumbered next books'
     → ((key slot : ℕ) (m : KeptMessage T U) → message_at contents books key slot ≡ Some m → is_numbered n m ≡ true → message_at contents' books' key slot ≡ Some m)
@@ -286,19 +313,22 @@ module _ {T U : Type 0} (f : Fields T U) where
   abbrev pub lies_at : (key slot : ℕ) → Option (KeptMessage T U)
   lies_at key slot = message_at f.contents f.books key slot
 
+  -- what is read of the message with a number is read of one that lies in some slot
+  message-there : {A : Type 0} (read : KeptMessage T U → Option A) (n : ℕ) (a : A) → option_and_then read (message_numbered n (kept_of f).books) ≡ Some a
+      → (key slot : ℕ) × (m : KeptMessage T U) × (lies_at key slot ≡ Some m) × (is_numbered n m ≡ true) × (read m ≡ Some a)
+  message-there {A} read n a e = by (message_numbered n (kept_of f).books) refl e where
+    by : (o : Option (KeptMessage T U)) → message_numbered n (kept_of f).books ≡ o → option_and_then read o ≡ Some a
+        → (key slot : ℕ) × (m : KeptMessage T U) × (lies_at key slot ≡ Some m) × (is_numbered n m ≡ true) × (read m ≡ Some a)
+    by None is e = absurd cc
+    by (Some m) is e = let there = message_numbered-there f.contents f.books n m is in (there.0, there.1, m, there.2, there.3, e)
+
   -- a loan of the state lies in some slot
   pub loan-there : (n : ℕ) (l : Loan T U) → (state_of (kept_of f)).loans n ≡ Some l → (key slot : ℕ) × (lies_at key slot ≡ Some (Lent_message n l))
-  loan-there n l e = by (message_numbered n (kept_of f).books) refl e where
-    by : (o : Option (KeptMessage T U)) → message_numbered n (kept_of f).books ≡ o → option_and_then loan_in o ≡ Some l
-        → (key slot : ℕ) × (lies_at key slot ≡ Some (Lent_message n l))
-    by None is e = absurd cc
-    by (Some (Sent_message number entry)) is e = absurd cc
-    by (Some (Lent_message number k)) is e =
-        let there = message_numbered-there f.contents f.books n (Lent_message number k) is in
-        let same : Some k ≡ Some l = e in
-        let at_n : number ≡ n = eqb-true number n there.3 in
-        let same_loan : k ≡ l = cc in
-        (there.0, there.1, there.2 ∙ ap (λ (i : ℕ). Some (Lent_message i k)) at_n ∙ ap (λ (i : Loan T U). Some (Lent_message n i)) same_loan)
+  loan-there n l e = let at = message-there loan_in n l e in (at.0, at.1, at.3 ∙ ap Some (lent at.2 at.4 at.5)) where
+    lent : (m : KeptMessage T U) → is_numbered n m ≡ true → loan_in m ≡ Some l → m ≡ Lent_message n l
+    lent (Sent_message number entry) numbered is = absurd cc
+    lent (Lent_message number k) numbered is =
+        let same : k ≡ l = same_Some k l is in ap (λ (i : ℕ). Lent_message i k) (eqb-true number n numbered) ∙ ap (λ (i : Loan T U). Lent_message n i) same
 
   -- a loan in a slot is that of the state
   pub loan-found : IsNumbered f.next_message f.books → (key slot n : ℕ) (l : Loan T U) → lies_at key slot ≡ Some (Lent_message n l) → (state_of (kept_of f)).loans n ≡ Some l
@@ -307,17 +337,11 @@ module _ {T U : Type 0} (f : Fields T U) where
 
   -- a kept entry lies in some slot
   pub entry-there : (n : ℕ) (entry : Entry T U) → entries_of (kept_of f) n ≡ Some entry → (key slot : ℕ) × (lies_at key slot ≡ Some (Sent_message n entry))
-  entry-there n entry e = by (message_numbered n (kept_of f).books) refl e where
-    by : (o : Option (KeptMessage T U)) → message_numbered n (kept_of f).books ≡ o → option_and_then entry_in o ≡ Some entry
-        → (key slot : ℕ) × (lies_at key slot ≡ Some (Sent_message n entry))
-    by None is e = absurd cc
-    by (Some (Lent_message number l)) is e = absurd cc
-    by (Some (Sent_message number k)) is e =
-        let there = message_numbered-there f.contents f.books n (Sent_message number k) is in
-        let same : Some k ≡ Some entry = e in
-        let at_n : number ≡ n = eqb-true number n there.3 in
-        let same_entry : k ≡ entry = cc in
-        (there.0, there.1, there.2 ∙ ap (λ (i : ℕ). Some (Sent_message i k)) at_n ∙ ap (λ (i : Entry T U). Some (Sent_message n i)) same_entry)
+  entry-there n entry e = let at = message-there entry_in n entry e in (at.0, at.1, at.3 ∙ ap Some (sent at.2 at.4 at.5)) where
+    sent : (m : KeptMessage T U) → is_numbered n m ≡ true → entry_in m ≡ Some entry → m ≡ Sent_message n entry
+    sent (Lent_message number l) numbered is = absurd cc
+    sent (Sent_message number k) numbered is =
+        let same : k ≡ entry = same_Some k entry is in ap (λ (i : ℕ). Sent_message i k) (eqb-true number n numbered) ∙ ap (λ (i : Entry T U). Sent_message n i) same
 
   -- an entry in a slot is the one that is kept
   pub entry-found : IsNumbered f.next_message f.books → (key slot n : ℕ) (entry : Entry T U) → lies_at key slot ≡ Some (Sent_message n entry) → entries_of (kept_of f) n ≡ Some entry

@@ -2,7 +2,6 @@
 use Rattle.std.proofs.Common.{◌≡◌, ◌⊎◌, ℕ, zero, suc, length, ◌+◌, ◌<◌, List, get_or, refl, ap, sym, subst, ◌∙◌, inl, inr, arith}
 use Rattle.std.proofs.lemmas.Bool.{cases_eq, eq-eqb}
 use Rattle.std.specs.Prelude.{slice_get, slice_set}
-use Rattle.std.specs.declared.option.Option.{Option}
 use Rattle.std.specs.declared.option.Option.TheVariants.{None, Some}
 use Rattle.slab.specs.Slab.{get, with_value}
 use Rattle.iox2_slots.specs.SlotBook.{Book, IsAligned, holders_at}
@@ -16,13 +15,12 @@ use Rattle.iox2_domain.specs.Kept.{KeptMessage, Lent_message, Sent_message, stat
 use Rattle.iox2_domain.specs.Fields.{Fields, kept_of, publisher_of, message_in, contents_at}
 use Rattle.iox2_domain.specs.Invariant.{HasParts, IsOwned, KeepsBooks, IsNumbered, HasNumber, HasShapes, HasLoneLoans, LendsBlocked}
 use Rattle.iox2_domain.proofs.lemmas.fields.KeptBooks.{kept-own}
-use Rattle.iox2_domain.proofs.lemmas.slots.Messages.{message_in-parts, message_in-from, lies_at, message_at-book, message_at-slot, has_number, loan-there, loan-found, entry-there, entry-found}
+use Rattle.iox2_domain.proofs.lemmas.slots.Messages.{message_in-parts, lies_at, message_at-book, message_at-slot, has_number, loan-there, loan-found, entry-there, entry-found, message_in-counters, alike-if-found}
 use Rattle.iox2_domain.proofs.lemmas.slots.BookChanges.{KeepsSlots, book-here, book-others, book-was}
 use Rattle.iox2_domain.proofs.lemmas.slots.HeldMessages.{held-message-slot}
 use Rattle.iox2_domain.proofs.lemmas.slots.LoneLoans.{IsLoneIn, lone-changed}
 use Rattle.iox2_domain.proofs.lemmas.loans.PublisherChanges.{KeepsSettings, changed-kept_books}
 use Rattle.iox2_domain.proofs.lemmas.slots.OwnSlots.{own-is, own-parts}
-use mathlib.Core.Path.{fun_ext}
 
 zero_or_more : (n : ℕ) → (n ≡ 0) ⊎ (0 < n)
 zero_or_more zero = inl refl
@@ -88,17 +86,9 @@ module _ {T U : Type 0} (f : Fields T U) (parts : HasParts f) (i : ℕ) (x y : P
   pub rebooked-back : (k s : ℕ) (m : KeptMessage T U) → lies_at after k s ≡ Some m → lies_at f k s ≡ Some m
   rebooked-back k s m e = elim (cases_eq k x.book) [
     | inl same ↦
-        let lies = message_in-parts new_book (contents_at f.contents x.book) s m (sym (lies-here s) ∙ sym (ap (λ j. lies_at after j s) same) ∙ e) in
-        let lay : message_in b (contents_at f.contents x.book) s ≡ Some m = message_in-from b (contents_at f.contents x.book) s m (record {
-          header = lies.header;
-          content = lies.content;
-          mark = lies.mark;
-          in_use = can.used s lies.in_use;
-          headers = lies.headers;
-          contains = lies.contains;
-          marks = lies.marks;
-          is = lies.is;
-        }) in
+        let lies : message_in new_book (contents_at f.contents x.book) s ≡ Some m = sym (lies-here s) ∙ sym (ap (λ j. lies_at after j s) same) ∙ e in
+        let lay : message_in b (contents_at f.contents x.book) s ≡ Some m =
+        message_in-counters new_book b.holders (contents_at f.contents x.book) s m (can.used s (message_in-parts new_book (contents_at f.contents x.book) s m lies).in_use) lies in
         ap (λ j. lies_at f j s) same ∙ lay-here s ∙ lay
     | inr away ↦
         let there = message_at-book f.contents after.books k s m e in
@@ -109,17 +99,8 @@ module _ {T U : Type 0} (f : Fields T U) (parts : HasParts f) (i : ℕ) (x y : P
   pub rebooked-forth : (k s : ℕ) (m : KeptMessage T U) → (k ≡ x.book → 0 < holders_at new_book s) → lies_at f k s ≡ Some m → lies_at after k s ≡ Some m
   rebooked-forth k s m in_use e = elim (cases_eq k x.book) [
     | inl same ↦
-        let lay = message_in-parts b (contents_at f.contents x.book) s m (sym (lay-here s) ∙ sym (ap (λ j. lies_at f j s) same) ∙ e) in
-        let lies : message_in new_book (contents_at f.contents x.book) s ≡ Some m = message_in-from new_book (contents_at f.contents x.book) s m (record {
-          header = lay.header;
-          content = lay.content;
-          mark = lay.mark;
-          in_use = in_use same;
-          headers = lay.headers;
-          contains = lay.contains;
-          marks = lay.marks;
-          is = lay.is;
-        }) in
+        let lies : message_in new_book (contents_at f.contents x.book) s ≡ Some m =
+        message_in-counters b holders (contents_at f.contents x.book) s m (in_use same) (sym (lay-here s) ∙ sym (ap (λ j. lies_at f j s) same) ∙ e) in
         ap (λ j. lies_at after j s) same ∙ lies-here s ∙ lies
     | inr away ↦
         let there = message_at-book f.contents f.books k s m e in
@@ -155,12 +136,7 @@ module _ {T U : Type 0} (f : Fields T U) (parts : HasParts f) (i : ℕ) (x y : P
           ]
 
   loans-same : (state_of (kept_of after)).loans ≡ (state_of (kept_of f)).loans
-  loans-same = fun_ext (λ n. by n ((state_of (kept_of f)).loans n) ((state_of (kept_of after)).loans n) refl refl) where
-    by : (n : ℕ) (o now : Option (Loan T U)) → (state_of (kept_of f)).loans n ≡ o → (state_of (kept_of after)).loans n ≡ now
-        → (state_of (kept_of after)).loans n ≡ (state_of (kept_of f)).loans n
-    by n None None e h = h ∙ sym e
-    by n None (Some l) e h = h ∙ sym (loan-was n l h)
-    by n (Some l) now e h = loan-stays n l e ∙ sym e
+  loans-same = alike-if-found (state_of (kept_of f)).loans (state_of (kept_of after)).loans loan-stays loan-was
 
   -- no entry is newly kept
   pub rebooked-entries : (n : ℕ) (entry : Entry T U) → entries_of (kept_of after) n ≡ Some entry → entries_of (kept_of f) n ≡ Some entry

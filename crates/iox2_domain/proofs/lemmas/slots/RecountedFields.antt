@@ -1,8 +1,8 @@
 -- A publisher's connections and the counters of its slots change together, whether it stands or is gone: what the machine sees of it.
-use Rattle.std.proofs.Common.{◌≡◌, ℕ, refl, ap, sym, subst, ◌∙◌, List}
+use Rattle.std.proofs.Common.{◌≡◌, ℕ, refl, ap, subst, ◌∙◌, List}
 use Rattle.std.proofs.lemmas.Bool.{eq-eqb}
 use Rattle.std.specs.declared.option.Option.{Option}
-use Rattle.std.specs.declared.option.Option.TheVariants.{None, Some}
+use Rattle.std.specs.declared.option.Option.TheVariants.{Some}
 use Rattle.slab.specs.Slab.{Slab, get}
 use Rattle.iox2_slots.specs.Link.{Link}
 use Rattle.iox2_slots.specs.SlotBook.{Book}
@@ -15,12 +15,11 @@ use Rattle.iox2_ends.specs.Recounts.{Recounts}
 use Rattle.iox2_domain.specs.Kept.{KeptMessage, Lent_message, Sent_message, state_of, entries_of}
 use Rattle.iox2_domain.specs.Fields.{Fields, kept_of, numbers_of}
 use Rattle.iox2_domain.specs.Invariant.{HasNumber, HasParts}
-use Rattle.iox2_domain.proofs.lemmas.slots.Messages.{lies_at, has_number, loan-there, loan-found, entry-there, entry-found}
+use Rattle.iox2_domain.proofs.lemmas.slots.Messages.{lies_at, has_number, loan-there, loan-found, entry-there, entry-found, alike-if-found}
 use Rattle.iox2_domain.proofs.lemmas.slots.BookChanges.{KeepsSlots, numbers-same, book-state}
 use Rattle.iox2_domain.proofs.lemmas.fields.SameEnds.{with_connections, connections-are}
 use Rattle.iox2_domain.proofs.lemmas.slots.HeldMessages.{held-message-slot}
 use Rattle.iox2_domain.proofs.lemmas.slots.Recounts.{with_recounted, OwnStays, recounted-consistent, back, forth, number-back}
-use mathlib.Core.Path.{fun_ext}
 
 module _ {T U : Type 0} (f : Fields T U) (parts : HasParts f) (p key : ℕ) (b : Book) (at : get f.books key ≡ Some b) (mine : b.publisher ≡ p)
     (holders : List ℕ) (new : Slab Link) (r : Recounts p b.holders f.connections holders new) where
@@ -72,12 +71,7 @@ module _ {T U : Type 0} (f : Fields T U) (parts : HasParts f) (p key : ℕ) (b :
         loan-found f parts.numbered at_slot.0 at_slot.1 n l (lay at_slot.0 at_slot.1 (Lent_message n l) at_slot.2)
 
     loans-same : (state_of (kept_of recounted_fields)).loans ≡ (state_of (kept_of f)).loans
-    loans-same = fun_ext (λ n. by n ((state_of (kept_of f)).loans n) ((state_of (kept_of recounted_fields)).loans n) refl refl) where
-      by : (n : ℕ) (o now : Option (Loan T U)) → (state_of (kept_of f)).loans n ≡ o → (state_of (kept_of recounted_fields)).loans n ≡ now
-          → (state_of (kept_of recounted_fields)).loans n ≡ (state_of (kept_of f)).loans n
-      by n None None e h = h ∙ sym e
-      by n None (Some l) e h = h ∙ sym (loan-was n l h)
-      by n (Some l) now e h = loan-stays n l e ∙ sym e
+    loans-same = alike-if-found (state_of (kept_of f)).loans (state_of (kept_of recounted_fields)).loans loan-stays loan-was
 
     -- ---- the state
 

@@ -23,7 +23,7 @@ use Rattle.iox2_domain.specs.Fields.{Fields, message_in, contents_at, is_book_of
 use Rattle.iox2_domain.specs.Invariant.{IsCounted, IsNumbered, HasNumber, HasBooks, HasShapes, SenderHas, is_publisher, own_holders, holders_of, is_loan_in, HasParts}
 use Rattle.iox2_domain.proofs.lemmas.fields.ExpiredRoom.{room-still}
 use Rattle.iox2_domain.proofs.lemmas.fields.NamedBooks.{names-books, names-still}
-use Rattle.iox2_domain.proofs.lemmas.slots.Messages.{message_in-parts, message_in-from, lies_at, message_at-book, message_at-slot}
+use Rattle.iox2_domain.proofs.lemmas.slots.Messages.{message_in-parts, lies_at, message_at-book, message_at-slot, message_in-counters}
 use Rattle.iox2_domain.proofs.lemmas.slots.BookChanges.{book-after, KeepsSlots, book-here, book-others, book-was, holders-here, other-book, books-changed, linked-book}
 use Rattle.iox2_domain.proofs.lemmas.slots.OpenLoans.{open-rebooked}
 use Rattle.iox2_domain.proofs.lemmas.fields.SameEnds.{with_connections, sender-same, linked-still}
@@ -61,33 +61,12 @@ module _ {T U : Type 0} (f : Fields T U) (parts : HasParts f) (p key : ℕ) (b :
   -- what lies in a slot of the book lay there
   pub back-in-book : (slot : ℕ) (m : KeptMessage T U) → message_in counted_book (contents_at f.contents key) slot ≡ Some m → message_in b (contents_at f.contents key) slot ≡ Some m
   back-in-book slot m e =
-      let lies = message_in-parts counted_book (contents_at f.contents key) slot m e in
-      message_in-from b (contents_at f.contents key) slot m (record {
-        header = lies.header;
-        content = lies.content;
-        mark = lies.mark;
-        in_use = r.in_use slot lies.in_use;
-        headers = lies.headers;
-        contains = lies.contains;
-        marks = lies.marks;
-        is = lies.is;
-      })
+      message_in-counters counted_book b.holders (contents_at f.contents key) slot m (r.in_use slot (message_in-parts counted_book (contents_at f.contents key) slot m e).in_use) e
 
   -- what lay in a slot that is still in use lies there
   pub forth-in-book : (slot : ℕ) (m : KeptMessage T U) → 0 < holders_at counted_book slot → message_in b (contents_at f.contents key) slot ≡ Some m
       → message_in counted_book (contents_at f.contents key) slot ≡ Some m
-  forth-in-book slot m in_use e =
-      let lies = message_in-parts b (contents_at f.contents key) slot m e in
-      message_in-from counted_book (contents_at f.contents key) slot m (record {
-        header = lies.header;
-        content = lies.content;
-        mark = lies.mark;
-        in_use = in_use;
-        headers = lies.headers;
-        contains = lies.contains;
-        marks = lies.marks;
-        is = lies.is;
-      })
+  forth-in-book = message_in-counters b holders (contents_at f.contents key)
 
   -- what lies in any slot lay there
   pub back : (k slot : ℕ) (m : KeptMessage T U) → lies_at with_recounted k slot ≡ Some m → lies_at f k slot ≡ Some m
