@@ -5,7 +5,7 @@ use Rattle.std.proofs.lemmas.List.{map-set, set-set}
 use Rattle.std.proofs.lemmas.List.Elements.{All-set}
 use Rattle.std.specs.Prelude.{slice_get, nat_lt, sum_by, IsSomeAnd}
 use Rattle.std.specs.List.{All}
-use Rattle.iox2_contents.specs.SlotContents.{ClearsSlot, ContentState, ended_content, unwritten_content, written_content, with_changed, open_count}
+use Rattle.iox2_contents.specs.SlotContents.{ClearsSlot, ContentState, WritesValues, ended_content, unwritten_content, written_content, with_changed, open_count}
 use Rattle.iox2_contents.specs.SlotStates.{SlotState, content_of, contents_of, has_list, waits, with_content, with_lists}
 use Rattle.iox2_contents.specs.SlotRooms.{HasLists, HasListsBut, ListsCells, ShowsAtMost, one_if_long, long_count}
 use Rattle.iox2_contents.proofs.SlotSums.{within, reads, there, mapped, sum-changed, sum-less, sum-map, set-here, set-away, set-same}
@@ -272,6 +272,16 @@ module _ {T U : Type 0} where
     changed-contents contents f t are is same =
         let new : content_of number t ≡ f (content_of number s) = ap (content_of number) is ∙ same in
         map-set (content_of number) xs i t ∙ rw (are, new, content-at contents are) refl
+
+    -- a write takes the cells
+    pub writes : (contents new : List (ContentState T U)) (values : List T) (t : SlotState T U) → contents_of number xs ≡ contents → length values ≡ length s.content.cells
+        → t ≡ with_content (written_content values) s → new ≡ contents_of number (slice_set xs i t) → WritesValues contents new i values
+    writes contents new values t are count is same = record {
+      content = content_of number s;
+      had = content-at contents are;
+      count = count;
+      written = same ∙ changed-contents contents (written_content values) t are is refl;
+    }
 
     -- a slot without cells gives up its room
     pub cleared-lists : HasLists most spare number xs → (t : SlotState T U) → s.content.cells ≡ [] → t.content.cells ≡ [] → t.content.lists ≡ s.content.lists → t.content.is_in_place ≡ s.content.is_in_place

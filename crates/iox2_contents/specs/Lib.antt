@@ -2,10 +2,7 @@ pub mod SlotCalls
 pub mod CellLists
 pub mod RoomLists
 pub mod RoomLends
-pub mod SlotElements
-pub mod ElementLends
 pub mod SlotPayload
-pub mod PayloadLends
 pub mod SlotContents
 pub mod SlotStates
 pub mod SlotRooms

@@ -1,12 +1,15 @@
 //! The content of one slot.
-ghost use Rattle.std.specs.Prelude.{◌≡◌, ◌≤◌, [], ◌∷◌, length, map, replicate, ◌<◌, slice_get, vec_capacity, true, false, None, Some, IfOk, is_some};
-ghost use Rattle.std.specs.Borrow.{sem};
-ghost use Rattle.std.specs.List.{list_all};
-ghost use Rattle.iox2_contents.specs.SlotCalls.{AnswersInOrder};
-ghost use Rattle.iox2_contents.specs.SlotContents.{unwritten_content, written_content, ended_content};
+ghost use Rattle.std.specs.Prelude.{◌≡◌, ◌≤◌, [], ◌<◌, vec_capacity, true, false, IfOk};
+ghost use Rattle.iox2_contents.specs.SlotContents.{unwritten_content, ended_content};
 ghost use Rattle.iox2_contents.specs.SlotStates.{IsNew, has_list, waits, with_content};
 
-use crate::payload::Payload;
+mod reads;
+mod references;
+mod writes;
+
+use crate::cells::Cells;
+use crate::payload::{Elements, Payload};
+use crate::values::Values;
 use std::alloc::{AllocError, Global};
 use std::marker::Model;
 
@@ -23,7 +26,7 @@ pub(crate) struct Content<T, U> {
 
 impl<T, U> Model for Content<T, U> {
     ghost use Rattle.iox2_contents.specs.SlotStates.{SlotState};
-    ghost use Rattle.iox2_contents.specs.SlotPayload.{cells_of, values_of, room_of, is_in_place, lists_of, cell_room_of};
+    ghost use Rattle.iox2_contents.specs.SlotPayload.{HasRoom, cells_of, values_of, room_of, is_in_place, lists_of, cell_room_of};
 
     ghost Value = { SlotState T U };
 
@@ -38,11 +41,14 @@ impl<T, U> Model for Content<T, U> {
       };
       cell_room = cell_room_of content.payload;
     } };
+
+    ghost invariant = { λ content. HasRoom content.payload };
 }
 
 impl<T: Drop, U: Default + Drop> Content<T, U> {
     /// The content of a slot that has no message yet, with room for so many elements, of a publisher that
-    /// keeps so many lists of cells. A single one lies in place, but where it is to be in a list.
+    /// keeps so many lists of cells. A single one lies in place, for which no memory is taken, but where it
+    /// is to be in a list.
     pub(crate) fn new(
         alloc: Global,
         room: usize,
@@ -52,9 +58,19 @@ impl<T: Drop, U: Default + Drop> Content<T, U> {
         requires { in_lists ≡ false → lists ≡ 0 }
         ensures { IfOk result (IsNew U.is_default room in_lists lists) }
     {
-        let payload = Payload::new(alloc, room, in_lists, lists)?;
+        let user_header = U::default();
+        if room == 1 && !in_lists {
+            let payload = Payload::Empty;
+            return Ok(Content {
+                user_header,
+                payload,
+            });
+        }
+        let cells = Cells::new(alloc, lists)?;
+        let values = Values::new(alloc, room)?;
+        let payload = Payload::Elements(Box::new(alloc, Elements { cells, values })?);
         Ok(Content {
-            user_header: U::default(),
+            user_header,
             payload,
         })
     }
@@ -68,10 +84,17 @@ impl<T: Drop, U: Default + Drop> Content<T, U> {
         ensures started { self.new ≡ with_content (unwritten_content self.new.content.user_header len) self.old }
     {
         self.user_header = U::default();
-        self.payload.start(len);
+        match &mut self.payload {
+            Payload::Elements(elements) => {
+                elements.cells.start(len);
+                elements.values.hide();
+            }
+            _ if len == 0 => self.payload = Payload::Empty,
+            _ => self.payload = Payload::Unwritten(None),
+        }
     }
 
-    /// Drops what the slot had, and gives up its room.
+    /// Drops what the slot had, and gives up its room, but for the room for one cell.
     pub(crate) fn clear(&mut self, alloc: Global)
         ensures in_place { self.new.content.is_in_place ≡ self.old.content.is_in_place }
         ensures lists { self.new.content.lists ≡ self.old.content.lists }
@@ -80,44 +103,26 @@ impl<T: Drop, U: Default + Drop> Content<T, U> {
         ensures room { self.new.content.room ≤ self.old.content.room }
     {
         self.user_header = U::default();
-        self.payload.clear(alloc);
+        match &mut self.payload {
+            Payload::Elements(elements) => {
+                elements.cells.give_up(alloc);
+                elements.values.give_up(alloc);
+            }
+            _ => self.payload = Payload::Empty,
+        }
     }
 
     /// Drops the cells, as no loan has them any more.
     pub(crate) fn end(&mut self)
         ensures { self.new ≡ with_content ended_content self.old }
     {
-        self.payload.end();
-    }
-
-    /// Writes the value of a loan of one element.
-    pub(crate) fn write_payload(&mut self, value: T)
-        requires { length self.old.content.cells ≡ 1 }
-        ensures { self.new ≡ with_content (written_content (value ∷ [])) self.old }
-    {
-        self.payload.write(value);
-    }
-
-    /// Writes into each cell what the function returns for its index.
-    pub(crate) fn write_from_fn<F: FnMut(usize) -> T + Drop>(&mut self, f: F)
-        requires callable { F.IsAlwaysCallable f }
-        requires in_lists { self.old.content.is_in_place ≡ false }
-        ensures answers { AnswersInOrder F.step f self.new.content.values }
-        ensures count { length self.new.content.values ≡ length self.old.content.cells }
-        ensures written { self.new ≡ with_content (written_content self.new.content.values) self.old }
-    {
-        self.payload.write_from_fn(f);
-    }
-
-    /// Takes the cells as written. Nothing changes where some cell isn't.
-    pub(crate) fn assume_init(&mut self) -> bool
-        requires { self.old.content.is_in_place ≡ true → length self.old.content.cells ≡ 1 }
-        ensures all { result ≡ list_all is_some self.old.content.cells }
-        ensures refused { result ≡ false → self.new ≡ self.old }
-        ensures values { result ≡ true → map Some self.new.content.values ≡ self.old.content.cells }
-        ensures written { result ≡ true → self.new ≡ with_content (written_content self.new.content.values) self.old }
-    {
-        self.payload.assume_init()
+        match &mut self.payload {
+            Payload::Elements(elements) => {
+                elements.cells.clear();
+            }
+            Payload::Unwritten(_) => self.payload = Payload::Empty,
+            Payload::Empty | Payload::Written(_) => {}
+        }
     }
 }
 
@@ -130,7 +135,10 @@ impl<T: Drop, U> Content<T, U> {
         requires wide { 1 < vec_capacity list }
         ensures { self.new ≡ record self.old { cell_room = vec_capacity list } }
     {
-        self.payload.put_list(list);
+        match &mut self.payload {
+            Payload::Elements(elements) => elements.cells.put_list(list),
+            _ => unreachable!(),
+        }
     }
 
     /// Drops the cells, and takes their list out.
@@ -141,136 +149,9 @@ impl<T: Drop, U> Content<T, U> {
         ensures wide { 1 < vec_capacity result }
         ensures taken { self.new ≡ record self.old { content = ended_content self.old.content; cell_room = 0 } }
     {
-        self.payload.take_list()
-    }
-}
-
-impl<T: Copy + Drop, U: Default + Drop> Content<T, U> {
-    /// Writes copies of the values, one into each cell.
-    pub(crate) fn write_from_slice(&mut self, values: &[T])
-        requires lengths { length values.now ≡ length self.old.content.cells }
-        requires in_lists { self.old.content.is_in_place ≡ false }
-        ensures { self.new ≡ with_content (written_content values.now) self.old }
-    {
-        self.payload.write_from_slice(values);
-    }
-}
-
-impl<T: Copy + Default + Drop, U: Default + Drop> Content<T, U> {
-    /// Writes some value into each cell.
-    pub(crate) fn write_unspecified(&mut self)
-        requires in_lists { self.old.content.is_in_place ≡ false }
-        ensures count { length self.new.content.values ≡ length self.old.content.cells }
-        ensures written { self.new ≡ with_content (written_content self.new.content.values) self.old }
-    {
-        self.payload.write_unspecified();
-    }
-}
-
-impl<T, U> Content<T, U> {
-    ghost use Rattle.iox2_contents.specs.ContentLends.{LendsCell, LendsCells, LendsValue, LendsValues, LendsUserHeader};
-
-    /// The user header.
-    pub(crate) fn user_header(&self) -> &U
-        ensures { result.now ≡ self.now.content.user_header }
-    {
-        &self.user_header
-    }
-
-    /// Whether the cells have one of their publisher's lists.
-    pub(crate) fn has_list(&self) -> bool
-        ensures { result ≡ has_list self.now }
-    {
-        self.payload.has_list()
-    }
-
-    /// Whether there are cells that need one of their publisher's lists before they can be written.
-    pub(crate) fn waits(&self) -> bool
-        ensures { result ≡ waits self.now }
-    {
-        self.payload.waits()
-    }
-
-    /// The first cell of a loan that isn't written, given some unwritten ones where it lies in a list.
-    pub(crate) fn cell<'a>(&'a self, unwritten: &'a [Option<T>]) -> &'a Option<T>
-        requires first { 0 < length self.now.content.cells }
-        requires unwritten { unwritten.now ≡ replicate (length unwritten.now) None }
-        requires enough { self.now.content.is_in_place ≡ false → 0 < length unwritten.now }
-        ensures { slice_get self.now.content.cells 0 ≡ Some result.now }
-    {
-        self.payload.cell(unwritten)
-    }
-
-    /// The cells, and none once they are written, given as many unwritten ones as there is room for, of
-    /// a publisher that keeps lists.
-    pub(crate) fn cells<'a>(&'a self, unwritten: &'a [Option<T>]) -> &'a [Option<T>]
-        requires lists { 0 < self.now.content.lists }
-        requires unwritten { unwritten.now ≡ replicate (length unwritten.now) None }
-        requires enough { self.now.content.room ≤ length unwritten.now }
-        ensures { result.now ≡ self.now.content.cells }
-    {
-        self.payload.cells(unwritten)
-    }
-
-    /// The first value of a loan or message that is written.
-    pub(crate) fn value(&self) -> &T
-        requires { 0 < length self.now.content.values }
-        ensures { slice_get self.now.content.values 0 ≡ Some result.now }
-    {
-        self.payload.value()
-    }
-
-    /// The values, and none before they are written.
-    pub(crate) fn values(&self) -> &[T]
-        requires { self.now.content.is_in_place ≡ false }
-        ensures { result.now ≡ self.now.content.values }
-    {
-        self.payload.values()
-    }
-
-    /// The user header, to be changed.
-    pub(crate) fn user_header_mut(&mut self) -> &mut U
-        ensures* writes_back { sem 𝓛 (LendsUserHeader T.row U.row self.entry result) }
-        ensures value { result.now ≡ self.old.content.user_header }
-    {
-        &mut self.user_header
-    }
-
-    /// The first cell of a loan that isn't written, to be changed, which doesn't wait for a list.
-    pub(crate) fn cell_mut(&mut self) -> &mut Option<T>
-        requires first { 0 < length self.old.content.cells }
-        requires ready { waits self.old ≡ false }
-        ensures* writes_back { sem 𝓛 (LendsCell T.row U.row self.entry result) }
-        ensures value { slice_get self.old.content.cells 0 ≡ Some result.now }
-    {
-        self.payload.cell_mut()
-    }
-
-    /// The cells, to be changed, which don't wait for a list, of a publisher that keeps some.
-    pub(crate) fn cells_mut(&mut self) -> &mut [Option<T>]
-        requires lists { 0 < self.old.content.lists }
-        requires ready { waits self.old ≡ false }
-        ensures* writes_back { sem 𝓛 (LendsCells T.row U.row self.entry result) }
-        ensures value { result.now ≡ self.old.content.cells }
-    {
-        self.payload.cells_mut()
-    }
-
-    /// The first value of a loan that is written, to be changed.
-    pub(crate) fn value_mut(&mut self) -> &mut T
-        requires { 0 < length self.old.content.values }
-        ensures* writes_back { sem 𝓛 (LendsValue T.row U.row self.entry result) }
-        ensures value { slice_get self.old.content.values 0 ≡ Some result.now }
-    {
-        self.payload.value_mut()
-    }
-
-    /// The values, to be changed.
-    pub(crate) fn values_mut(&mut self) -> &mut [T]
-        requires { self.old.content.is_in_place ≡ false }
-        ensures* writes_back { sem 𝓛 (LendsValues T.row U.row self.entry result) }
-        ensures value { result.now ≡ self.old.content.values }
-    {
-        self.payload.values_mut()
+        match &mut self.payload {
+            Payload::Elements(elements) => elements.cells.take_list(),
+            _ => unreachable!(),
+        }
     }
 }

@@ -7,7 +7,6 @@ mod cell_lists;
 mod cells;
 mod content;
 mod contents;
-mod elements;
 mod lists;
 mod payload;
 mod values;

@@ -1,8 +1,6 @@
 use Rattle.std.proofs.Common.{◌≡◌, ◌∙◌, false, refl}
-use Rattle.iox2_contents.specs.SlotContents.{written_content}
-use Rattle.iox2_contents.specs.SlotStates.{content_of}
 use Rattle.iox2_contents.proofs.SlotReads.{content_read}
-use Rattle.iox2_contents.proofs.SlotLists.{changed-contents, content-at, written-settled}
+use Rattle.iox2_contents.proofs.SlotLists.{writes, written-settled}
 use Rattle.iox2_contents.proofs.contents.Contents.write_from_fn.Goals as goal
 
 pub invariant_of-self : goal.invariant_of-self
@@ -15,10 +13,5 @@ returns g c =
     let read = content_read _ c.self.inside.slots.items _ c.args.slot (λ content. content.is_in_place ≡ false) _ c.self.view_is c.requires.in_lists c.index_mut.ensures.value in (
       c.write_from_fn.new.self.content.values,
       c.write_from_fn.ensures.answers,
-      record {
-        content = content_of c.self.inside.lists.room c.index_mut.result.now;
-        had = content-at 0 0 _ _ c.args.slot _ read.0 _ c.self.view_is;
-        count = c.write_from_fn.ensures.count;
-        written = changed-contents 0 0 _ _ c.args.slot _ read.0 _ (written_content c.write_from_fn.new.self.content.values) _ c.self.view_is c.write_from_fn.ensures.written refl;
-      },
+      writes 0 0 _ _ c.args.slot _ read.0 _ _ c.write_from_fn.new.self.content.values _ c.self.view_is c.write_from_fn.ensures.count c.write_from_fn.ensures.written refl,
     )

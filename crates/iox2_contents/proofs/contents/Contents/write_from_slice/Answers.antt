@@ -1,8 +1,6 @@
 use Rattle.std.proofs.Common.{◌≡◌, ◌∙◌, false, length, refl}
-use Rattle.iox2_contents.specs.SlotContents.{written_content}
-use Rattle.iox2_contents.specs.SlotStates.{content_of}
 use Rattle.iox2_contents.proofs.SlotReads.{content_read}
-use Rattle.iox2_contents.proofs.SlotLists.{changed-contents, content-at, written-lists, written-has}
+use Rattle.iox2_contents.proofs.SlotLists.{writes, written-lists, written-has}
 use Rattle.iox2_contents.proofs.contents.Contents.write_from_slice.Goals as goal
 
 pub settle-requires-clause-lists : goal.settle-requires-clause-lists
@@ -18,9 +16,4 @@ settle-requires-clause-known g c =
 pub returns : goal.returns
 returns g c =
     let read = content_read _ c.self.inside.slots.items _ c.args.slot (λ content. (content.is_in_place ≡ false) × (length c.args.values.now ≡ length content.cells)) _ c.self.view_is c.requires c.index_mut.ensures.value in
-    record {
-      content = content_of c.self.inside.lists.room c.index_mut.result.now;
-      had = content-at 0 0 _ _ c.args.slot _ read.0 _ c.self.view_is;
-      count = read.1.1;
-      written = c.settle.ensures.same ∙ changed-contents 0 0 _ _ c.args.slot _ read.0 _ (written_content c.args.values.now) _ c.self.view_is c.write_from_slice.ensures refl;
-    }
+    writes 0 0 _ _ c.args.slot _ read.0 _ _ c.args.values.now _ c.self.view_is read.1.1 c.write_from_slice.ensures c.settle.ensures.same
