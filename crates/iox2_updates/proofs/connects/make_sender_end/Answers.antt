@@ -1,6 +1,6 @@
 use Rattle.std.proofs.Common.{◌≡◌, ◌∙◌, ap, sym, slice_index_or}
 use Rattle.std.proofs.lemmas.List.{with_items_is}
-use Rattle.std.specs.declared.option.Option.TheVariants.{None, Some}
+use Rattle.std.specs.declared.option.Option.TheVariants.{None}
 use Rattle.iox2_domain.specs.Boxes.{answers_of}
 use Rattle.iox2_store.specs.machine.Limits.{warning_limit}
 use Rattle.iox2_store.specs.machine.Connections.{warnings_after}
@@ -9,20 +9,26 @@ use Rattle.iox2_domain.specs.Fields.{Fields}
 use Rattle.iox2_domain.specs.Updates.{receiver_key, changed_at, key_from, with_sender_key}
 use Rattle.iox2_domain.proofs.lemmas.fields.Standing.{some-buffer}
 use Rattle.iox2_steps.proofs.updates.SenderOutcomes.{joins-room, joins-as, makes-as, misses-as}
+use Rattle.iox2_updates.proofs.connects.make_sender_end.Goals.{After-key_from}
 use Rattle.iox2_updates.proofs.connects.make_sender_end.Goals as goal
+
+-- where the key leads that the subscriber has at the publisher's place
+looked : (g : _) (c : After-key_from g)
+    → key_from c.args.state.now.connections c.ports_at-buffer.result.0.publisher (receiver_key c.args.state.now.subscribers c.args.subscriber_place c.args.publisher_place) ≡ c.key_from.result
+looked g c =
+    let viewed = c.state.view_is in
+    let connections : c.state.inside.connections ≡ c.args.state.now.connections = ap (λ (f : Fields g.row.T.Denot g.row.U.Denot). f.connections) viewed in
+    let other : c.key_at-other.result ≡ receiver_key c.args.state.now.subscribers c.args.subscriber_place c.args.publisher_place =
+    c.key_at-other.ensures ∙ ap (λ ys. receiver_key ys c.args.subscriber_place c.args.publisher_place) (c.deref.ensures.value ∙ ap (λ (f : Fields g.row.T.Denot g.row.U.Denot). f.subscribers) viewed) in
+    sym (c.key_from.ensures ∙ (λ k. key_from (connections k) c.ports_at-buffer.result.0.publisher (other k)))
 
 pub set_key_at-requires-clause-room : goal.set_key_at-requires-clause-room
 set_key_at-requires-clause-room g c = λ x at.
     let old = c.args.state.now in
     let viewed = c.state.view_is in
     let publishers : c.state.inside.publishers.items ≡ old.publishers = ap (λ (f : Fields g.row.T.Denot g.row.U.Denot). f.publishers) viewed in
-    let subscribers : c.state.inside.subscribers.items ≡ old.subscribers = ap (λ (f : Fields g.row.T.Denot g.row.U.Denot). f.subscribers) viewed in
-    let connections : c.state.inside.connections ≡ old.connections = ap (λ (f : Fields g.row.T.Denot g.row.U.Denot). f.connections) viewed in
-    let other : c.key_at-other.result ≡ receiver_key old.subscribers c.args.subscriber_place c.args.publisher_place =
-    c.key_at-other.ensures ∙ ap (λ ys. receiver_key ys c.args.subscriber_place c.args.publisher_place) (c.deref.ensures.value ∙ subscribers) in
-    let looked : key_from old.connections c.ports_at-buffer.result.0.publisher (receiver_key old.subscribers c.args.subscriber_place c.args.publisher_place) ≡ Some c.in-Some.key =
-    sym (c.key_from.ensures ∙ (λ k. key_from (connections k) c.ports_at-buffer.result.0.publisher (other k))) ∙ c.in-Some.is in
-    joins-room old c.requires.agrees c.args.publisher_place c.args.subscriber_place x (rw (c.deref_mut.ensures.value ∙ publishers) at at) _ _ c.ports_at-buffer.ensures c.in-Some.key looked
+    let found = looked g (goal.at.set_key_at-requires-clause-room g c).After-key_from ∙ c.in-Some.is in
+    joins-room old c.requires.agrees c.args.publisher_place c.args.subscriber_place x (rw (c.deref_mut.ensures.value ∙ publishers) at at) _ _ c.ports_at-buffer.ensures c.in-Some.key found
 
 pub set_key_at-requires-2-clause-room : goal.set_key_at-requires-2-clause-room
 set_key_at-requires-2-clause-room g c = λ x at.
@@ -39,32 +45,22 @@ returns-in-Some g c = λ x at due free.
     let old = c.args.state.now in
     let viewed = c.state.view_is in
     let publishers : c.state.inside.publishers.items ≡ old.publishers = ap (λ (f : Fields g.row.T.Denot g.row.U.Denot). f.publishers) viewed in
-    let subscribers : c.state.inside.subscribers.items ≡ old.subscribers = ap (λ (f : Fields g.row.T.Denot g.row.U.Denot). f.subscribers) viewed in
-    let connections : c.state.inside.connections ≡ old.connections = ap (λ (f : Fields g.row.T.Denot g.row.U.Denot). f.connections) viewed in
-    let other : c.key_at-other.result ≡ receiver_key old.subscribers c.args.subscriber_place c.args.publisher_place =
-    c.key_at-other.ensures ∙ ap (λ ys. receiver_key ys c.args.subscriber_place c.args.publisher_place) (c.deref.ensures.value ∙ subscribers) in
-    let looked : key_from old.connections c.ports_at-buffer.result.0.publisher (receiver_key old.subscribers c.args.subscriber_place c.args.publisher_place) ≡ Some c.in-Some.key =
-    sym (c.key_from.ensures ∙ (λ k. key_from (connections k) c.ports_at-buffer.result.0.publisher (other k))) ∙ c.in-Some.is in
+    let found = looked g (goal.at.returns-in-Some g c).After-key_from ∙ c.in-Some.is in
     let written : _ ≡ changed_at (with_sender_key c.args.subscriber_place c.in-Some.key) old.publishers c.args.publisher_place =
     with_items_is c.state.inside.publishers c.set_key_at.new.ports (c.set_key_at.auto.ports ∙ c.deref_mut.ensures.len)
     ∙ c.set_key_at.ensures ∙ ap (λ xs. changed_at (with_sender_key c.args.subscriber_place c.in-Some.key) xs c.args.publisher_place) (c.deref_mut.ensures.value ∙ publishers) in
     joins-as (answers_of g.F.BackpressureFn.allows g.G.DegradationFn.allows c.args.boxes.now.boxes) old c.requires.agrees c.args.publisher_place c.args.subscriber_place x at due free _ _ c.ports_at-buffer.ensures c.requires.none c.requires.opened
-    c.in-Some.key looked _ (λ k. record (viewed k) { publishers = written k })
+    c.in-Some.key found _ (λ k. record (viewed k) { publishers = written k })
 
 pub returns-in_default-make_between : goal.returns-in_default-make_between
 returns-in_default-make_between g c = λ x at due free.
     let old = c.args.state.now in
     let viewed = c.state.view_is in
     let publishers : c.state.inside.publishers.items ≡ old.publishers = ap (λ (f : Fields g.row.T.Denot g.row.U.Denot). f.publishers) viewed in
-    let subscribers : c.state.inside.subscribers.items ≡ old.subscribers = ap (λ (f : Fields g.row.T.Denot g.row.U.Denot). f.subscribers) viewed in
-    let connections : c.state.inside.connections ≡ old.connections = ap (λ (f : Fields g.row.T.Denot g.row.U.Denot). f.connections) viewed in
-    let other : c.key_at-other.result ≡ receiver_key old.subscribers c.args.subscriber_place c.args.publisher_place =
-    c.key_at-other.ensures ∙ ap (λ ys. receiver_key ys c.args.subscriber_place c.args.publisher_place) (c.deref.ensures.value ∙ subscribers) in
-    let looked : key_from old.connections c.ports_at-buffer.result.0.publisher (receiver_key old.subscribers c.args.subscriber_place c.args.publisher_place) ≡ None =
-    sym (c.key_from.ensures ∙ (λ k. key_from (connections k) c.ports_at-buffer.result.0.publisher (other k))) ∙ c.in_default.is in
+    let found = looked g (goal.at.returns-in_default-make_between g c).After-key_from ∙ c.in_default.is in
     let mid = c.make_between.new.state in
     rw c.degrade.ensures.failure (misses-as (answers_of g.F.BackpressureFn.allows g.G.DegradationFn.allows c.args.boxes.now.boxes) old c.requires.agrees c.args.publisher_place c.args.subscriber_place x at due free _ _ c.ports_at-buffer.ensures c.requires.none c.requires.opened
-    looked mid c.make_between.ensures.grows tt _ _ (ap (λ (f : Fields g.row.T.Denot g.row.U.Denot). (f.config).service_id) viewed)
+    found mid c.make_between.ensures.grows tt _ _ (ap (λ (f : Fields g.row.T.Denot g.row.U.Denot). (f.config).service_id) viewed)
     (c.degradation_at-mark.ensures x (ap (λ xs. slice_index_or xs c.args.publisher_place None) (c.deref-2.ensures.value ∙ publishers) ∙ at)) c.ask-answer.result c.ask-answer.ensures c.degrade.new.warnings
     c.in_default-make_between.ensures.refused
     (c.degrade.ensures.warnings ∙ ap (λ (f : Fields g.row.T.Denot g.row.U.Denot). warning_ring (warnings_after c.ports_at-buffer.result.0.publisher c.ports_at-buffer.result.0.subscriber c.ask-answer.result f.warnings.items) warning_limit) (c.state-2.view_is ∙ c.make_between.ensures.grows.fields))
@@ -75,18 +71,13 @@ returns g c = λ x at due free.
     let old = c.args.state.now in
     let viewed = c.state.view_is in
     let publishers : c.state.inside.publishers.items ≡ old.publishers = ap (λ (f : Fields g.row.T.Denot g.row.U.Denot). f.publishers) viewed in
-    let subscribers : c.state.inside.subscribers.items ≡ old.subscribers = ap (λ (f : Fields g.row.T.Denot g.row.U.Denot). f.subscribers) viewed in
-    let connections : c.state.inside.connections ≡ old.connections = ap (λ (f : Fields g.row.T.Denot g.row.U.Denot). f.connections) viewed in
-    let other : c.key_at-other.result ≡ receiver_key old.subscribers c.args.subscriber_place c.args.publisher_place =
-    c.key_at-other.ensures ∙ ap (λ ys. receiver_key ys c.args.subscriber_place c.args.publisher_place) (c.deref.ensures.value ∙ subscribers) in
-    let looked : key_from old.connections c.ports_at-buffer.result.0.publisher (receiver_key old.subscribers c.args.subscriber_place c.args.publisher_place) ≡ None =
-    sym (c.key_from.ensures ∙ (λ k. key_from (connections k) c.ports_at-buffer.result.0.publisher (other k))) ∙ c.in_default.is in
+    let found = looked g (goal.at.returns g c).After-key_from ∙ c.in_default.is in
     let mid = c.make_between.new.state in
     let written : _ ≡ changed_at (with_sender_key c.args.subscriber_place c.in-Ok.key) mid.publishers c.args.publisher_place =
     with_items_is c.state-2.inside.publishers c.set_key_at-2.new.ports (c.set_key_at-2.auto.ports ∙ c.deref_mut-2.ensures.len)
     ∙ c.set_key_at-2.ensures
     ∙ ap (λ zs. changed_at (with_sender_key c.args.subscriber_place c.in-Ok.key) zs c.args.publisher_place) (c.deref_mut-2.ensures.value ∙ ap (λ (f : Fields g.row.T.Denot g.row.U.Denot). f.publishers) c.state-2.view_is) in
     makes-as (answers_of g.F.BackpressureFn.allows g.G.DegradationFn.allows c.args.boxes.now.boxes) old c.requires.agrees c.args.publisher_place c.args.subscriber_place x at due free _ _ c.ports_at-buffer.ensures c.requires.none c.requires.opened
-    looked mid c.make_between.ensures.grows
+    found mid c.make_between.ensures.grows
     c.in-Ok.ensures.sender_room c.in-Ok.ensures.receiver_room c.in-Ok.ensures.expired_room c.in-Ok.key c.in-Ok.ensures.made
     _ (λ k. record (c.state-2.view_is k) { publishers = written k })

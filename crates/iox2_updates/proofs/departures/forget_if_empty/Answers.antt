@@ -3,6 +3,8 @@ use Rattle.std.proofs.lemmas.Bool.{true≢false}
 use Rattle.std.proofs.lemmas.List.{with_items_is}
 use Rattle.slab.specs.Slab.{Updates, get}
 use Rattle.iox2_slots.specs.Link.{load}
+use denote.Param.{param}
+use Rattle.iox2_domain.specs.contracts.state.DomainState.{the_view}
 use Rattle.iox2_domain.specs.Departures.{key_forgotten}
 use Rattle.iox2_domain.specs.Fields.{Fields}
 use Rattle.iox2_domain.specs.Ports.{SubscriberFields}
@@ -17,17 +19,7 @@ returns-then-is_empty-clause-empty g c = λ l at none.
     ∙ c.forget_at.ensures
     ∙ ap (λ (xs : List (Option SubscriberFields)). changed_at (key_forgotten c.args.key) xs c.args.home.subscriber_place) c.deref_mut.ensures.value in
     record {
-      fields = (λ i. record {
-        config = c.state.inside.config;
-        next_port = c.state.inside.next_port;
-        next_message = c.state.inside.next_message;
-        warnings = c.state.inside.warnings;
-        publishers = c.state.inside.publishers.items;
-        subscribers = settled i;
-        connections = c.remove.new.self;
-        books = c.state.inside.books;
-        contents = c.state.inside.contents.items;
-      }) ∙ ap (λ (f : Fields g.row.T.Denot g.row.U.Denot). without_connection f c.args.home.subscriber_place c.args.key c.remove.new.self) c.state.view_is;
+      fields = (λ i. record (the_view (param 0 g.row.T) (param 1 g.row.U) c.state.inside) { subscribers = settled i; connections = c.remove.new.self }) ∙ ap (λ (f : Fields g.row.T.Denot g.row.U.Denot). without_connection f c.args.home.subscriber_place c.args.key c.remove.new.self) c.state.view_is;
       removed = subst (λ (f : Fields g.row.T.Denot g.row.U.Denot). Updates f.connections c.remove.new.self c.args.key None) c.state.view_is c.remove.ensures.updates;
     }
 

@@ -1,4 +1,4 @@
-use Rattle.std.proofs.Common.{◌≡◌, ◌∙◌, true, List, None, Some, slice_index_or, ap, sym, subst}
+use Rattle.std.proofs.Common.{◌≡◌, ◌∙◌, true, List, None, slice_index_or, ap, sym, subst}
 use Rattle.std.proofs.lemmas.Option.{same_Some}
 use Rattle.std.specs.Prelude.{IsSomeAnd}
 use Rattle.std.specs.declared.option.Option.{Option}
@@ -8,20 +8,19 @@ use Rattle.iox2_slots.specs.declared.connection.Home.{Home}
 use Rattle.iox2_domain.specs.Fields.{Fields}
 use Rattle.iox2_domain.specs.OpenMarks.{ChangesMarks}
 use Rattle.iox2_domain.specs.Ports.{SubscriberFields}
-use Rattle.iox2_domain.specs.Updates.{sender_key, is_open_subscriber}
+use Rattle.iox2_domain.specs.Updates.{is_open_subscriber}
 use Rattle.iox2_steps.proofs.updates.MarkedEnds.{end-there, end-open, end-marked}
+use Rattle.iox2_updates.proofs.EndKeys.{key-read}
 use Rattle.iox2_updates.proofs.marks.mark_end.Goals as goal
 
 pub index-requires : goal.index-requires
 index-requires g c =
-    let named : sender_key c.args.state.now.publishers c.args.publisher_place c.args.subscriber_place ≡ Some c.in-Some.key =
-    ap (λ xs. sender_key xs c.args.publisher_place c.args.subscriber_place) (sym (c.deref.ensures.value ∙ ap (λ (f : Fields g.row.T.Denot g.row.U.Denot). f.publishers) c.state.view_is)) ∙ sym c.key_at.ensures ∙ c.in-Some.is in
+    let named = key-read c.args.state.now _ c.state.view_is _ c.deref.ensures.value c.args.publisher_place c.args.subscriber_place _ c.key_at.ensures ∙ c.in-Some.is in
     subst (λ (f : Fields g.row.T.Denot g.row.U.Denot). ContainsKey f.connections c.in-Some.key) (sym c.state.view_is) (end-there c.args.state.now c.requires c.args.publisher_place c.args.subscriber_place c.in-Some.key named)
 
 pub returns-then-is_open_at : goal.returns-then-is_open_at
 returns-then-is_open_at g c =
-    let named : sender_key c.args.state.now.publishers c.args.publisher_place c.args.subscriber_place ≡ Some c.in-Some.key =
-    ap (λ xs. sender_key xs c.args.publisher_place c.args.subscriber_place) (sym (c.deref.ensures.value ∙ ap (λ (f : Fields g.row.T.Denot g.row.U.Denot). f.publishers) c.state.view_is)) ∙ sym c.key_at.ensures ∙ c.in-Some.is in
+    let named = key-read c.args.state.now _ c.state.view_is _ c.deref.ensures.value c.args.publisher_place c.args.subscriber_place _ c.key_at.ensures ∙ c.in-Some.is in
     let subscribers = ap (λ (f : Fields g.row.T.Denot g.row.U.Denot). f.subscribers) c.state.view_is in
     let at = ap (λ (f : Fields g.row.T.Denot g.row.U.Denot). get f.connections c.in-Some.key) (sym c.state.view_is) ∙ c.index.ensures in
     let same : c.index_mut.result.now ≡ c.index.result.now = same_Some c.index_mut.result.now c.index.result.now (sym c.index_mut.ensures.value ∙ c.index.ensures) in

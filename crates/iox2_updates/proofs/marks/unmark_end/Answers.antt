@@ -1,27 +1,24 @@
-use Rattle.std.proofs.Common.{◌≡◌, ◌∙◌, None, Some, ap, sym, subst}
+use Rattle.std.proofs.Common.{◌∙◌, ap, sym, subst}
 use Rattle.slab.specs.Slab.{ContainsKey, get, with_value}
 use Rattle.iox2_domain.specs.Fields.{Fields}
 use Rattle.iox2_domain.specs.OpenMarks.{ClearsEnd}
-use Rattle.iox2_domain.specs.Updates.{sender_key}
 use Rattle.iox2_steps.proofs.updates.MarkedEnds.{end-there, end-cleared, none-cleared}
+use Rattle.iox2_updates.proofs.EndKeys.{key-read}
 use Rattle.iox2_updates.proofs.marks.unmark_end.Goals as goal
 
 pub index_mut-requires : goal.index_mut-requires
 index_mut-requires g c =
-    let named : sender_key c.args.state.now.publishers c.args.publisher_place c.args.subscriber_place ≡ Some c.in-Some.key =
-    ap (λ xs. sender_key xs c.args.publisher_place c.args.subscriber_place) (sym (c.deref.ensures.value ∙ ap (λ (f : Fields g.row.T.Denot g.row.U.Denot). f.publishers) c.state.view_is)) ∙ sym c.key_at.ensures ∙ c.in-Some.is in
+    let named = key-read c.args.state.now _ c.state.view_is _ c.deref.ensures.value c.args.publisher_place c.args.subscriber_place _ c.key_at.ensures ∙ c.in-Some.is in
     subst (λ (f : Fields g.row.T.Denot g.row.U.Denot). ContainsKey f.connections c.in-Some.key) (sym c.state.view_is) (end-there c.args.state.now c.requires c.args.publisher_place c.args.subscriber_place c.in-Some.key named)
 
 pub returns-in-Some : goal.returns-in-Some
 returns-in-Some g c =
-    let named : sender_key c.args.state.now.publishers c.args.publisher_place c.args.subscriber_place ≡ Some c.in-Some.key =
-    ap (λ xs. sender_key xs c.args.publisher_place c.args.subscriber_place) (sym (c.deref.ensures.value ∙ ap (λ (f : Fields g.row.T.Denot g.row.U.Denot). f.publishers) c.state.view_is)) ∙ sym c.key_at.ensures ∙ c.in-Some.is in
+    let named = key-read c.args.state.now _ c.state.view_is _ c.deref.ensures.value c.args.publisher_place c.args.subscriber_place _ c.key_at.ensures ∙ c.in-Some.is in
     let at = ap (λ (f : Fields g.row.T.Denot g.row.U.Denot). get f.connections c.in-Some.key) (sym c.state.view_is) ∙ c.index_mut.ensures.value in
     subst (λ (f : Fields g.row.T.Denot g.row.U.Denot). ClearsEnd c.args.state.now c.args.publisher_place c.args.subscriber_place (record f { connections = with_value f.connections c.in-Some.key c.set_open.new.self })) (sym c.state.view_is)
     (end-cleared c.args.state.now c.requires c.args.publisher_place c.args.subscriber_place c.in-Some.key named c.index_mut.result.now at c.set_open.new.self c.set_open.ensures.marked)
 
 pub returns-in_default : goal.returns-in_default
 returns-in_default g c =
-    let none : sender_key c.args.state.now.publishers c.args.publisher_place c.args.subscriber_place ≡ None =
-    ap (λ xs. sender_key xs c.args.publisher_place c.args.subscriber_place) (sym (c.deref.ensures.value ∙ ap (λ (f : Fields g.row.T.Denot g.row.U.Denot). f.publishers) c.state.view_is)) ∙ sym c.key_at.ensures ∙ c.in_default.is in
+    let none = key-read c.args.state.now _ c.state.view_is _ c.deref.ensures.value c.args.publisher_place c.args.subscriber_place _ c.key_at.ensures ∙ c.in_default.is in
     none-cleared c.args.state.now c.requires c.args.publisher_place c.args.subscriber_place none

@@ -2,13 +2,17 @@ use Rattle.std.proofs.Common.{◌≡◌, ◌<◌, ◌∙◌, length, refl, ap, s
 use Rattle.std.proofs.lemmas.List.{with_items_is}
 use Rattle.std.specs.declared.option.Option.TheVariants.{None, Some}
 use Rattle.iox2_ends.proofs.MailboxChanges.{within_if_some}
+use Rattle.slab.specs.Slab.{get}
+use Rattle.iox2_slots.specs.Link.{Link}
+use Rattle.iox2_slots.specs.SlotBook.{Book}
 use Rattle.iox2_domain.specs.Ports.{SubscriberFields}
 use Rattle.iox2_domain.specs.Fields.{Fields}
-use Rattle.iox2_domain.specs.ReceiverSteps.{replacing_expired}
+use Rattle.iox2_domain.specs.ReceiverSteps.{LosesConnection, replacing_expired}
 use Rattle.iox2_domain.specs.Updates.{changed_at}
 use Rattle.iox2_steps.proofs.receivers.ExpiredKeys.{expired-link, room-to-expire}
 use Rattle.iox2_steps.proofs.receivers.RetiredFields.{evicted-changes, frees-book, frees-changes, spares-same}
 use Rattle.iox2_domain.proofs.lemmas.slots.PublisherBooks.{its-book}
+use Rattle.iox2_updates.proofs.retirements.replace_expired.Goals.{After-deref_mut, After-lose_connection-book}
 use Rattle.iox2_updates.proofs.retirements.replace_expired.Goals as goal
 
 pub lose_connection-book-requires-clause-stands : goal.lose_connection-book-requires-clause-stands
@@ -19,56 +23,54 @@ lose_connection-book-requires-clause-stands g c =
     let d = expired-link old c.requires.agrees c.args.subscriber_place c.args.publisher_place y c.args.key c.requires.end.1 end c.args.first (c.requires.first y end.stands) in
     rw d.1 refl
 
+-- what went with the other key
+gone : (g : _) (c : After-lose_connection-book g)
+    → (d : Link) × (get c.args.state.now.connections c.args.first ≡ Some d) × (b : Book) × (get c.args.state.now.books d.home.book ≡ Some b)
+    × (c.lose_connection-book.result ≡ d.home.book) × LosesConnection c.args.state.now c.args.first d b c.lose_connection-book.new.state
+gone g c =
+    let end = c.requires.end.2 in
+    let d = expired-link c.args.state.now c.requires.agrees c.args.subscriber_place c.args.publisher_place c.requires.end.0 c.args.key c.requires.end.1 end c.args.first (c.requires.first c.requires.end.0 end.stands) in
+    let book = its-book c.args.state.now c.requires.agrees.parts c.args.first d.0 d.1 in
+    let lost = c.lose_connection-book.ensures d.0 book.book d.1 book.stands in
+    (d.0, d.1, book.book, book.stands, lost.0, lost.1)
+
+-- the subscribers are as before
+same : (g : _) (c : After-deref_mut g) (d : Link) (b : Book) → LosesConnection c.args.state.now c.args.first d b c.lose_connection-book.new.state → c.deref_mut.result.now ≡ c.args.state.now.subscribers
+same g c d b lost = c.deref_mut.ensures.value ∙ ap (λ (f : Fields g.row.T.Denot g.row.U.Denot). f.subscribers) (c.state.view_is ∙ lost.fields)
+
+-- so the one at the place is still the one that has the end
+its : (g : _) (c : After-deref_mut g) (d : Link) (b : Book) → LosesConnection c.args.state.now c.args.first d b c.lose_connection-book.new.state
+    → (z : SubscriberFields) → get_or c.deref_mut.result.now c.args.subscriber_place None ≡ Some z → c.requires.end.0 ≡ z
+its g c d b lost z at =
+    let both : Some c.requires.end.0 ≡ Some z = sym (c.requires.end.2).stands ∙ ap (λ xs. get_or xs c.args.subscriber_place None) (sym (same g c d b lost)) ∙ at in
+    cc
+
 pub replace_expired_at-requires-clause-stands : goal.replace_expired_at-requires-clause-stands
 replace_expired_at-requires-clause-stands g c =
-    let old = c.args.state.now in
-    let y = c.requires.end.0 in
-    let end = c.requires.end.2 in
-    let d = expired-link old c.requires.agrees c.args.subscriber_place c.args.publisher_place y c.args.key c.requires.end.1 end c.args.first (c.requires.first y end.stands) in
-    let book = its-book old c.requires.agrees.parts c.args.first d.0 d.1 in
-    let lost = c.lose_connection-book.ensures d.0 book.book d.1 book.stands in
-    let same : c.deref_mut.result.now ≡ old.subscribers = c.deref_mut.ensures.value ∙ ap (λ (f : Fields g.row.T.Denot g.row.U.Denot). f.subscribers) (c.state.view_is ∙ lost.1.fields) in
-    within_if_some c.deref_mut.result.now c.args.subscriber_place y (ap (λ xs. get_or xs c.args.subscriber_place None) same ∙ end.stands)
+    let lost = gone g (goal.at.replace_expired_at-requires-clause-stands g c).After-lose_connection-book in
+    within_if_some c.deref_mut.result.now c.args.subscriber_place c.requires.end.0 (ap (λ xs. get_or xs c.args.subscriber_place None) (same g (goal.at.replace_expired_at-requires-clause-stands g c).After-deref_mut lost.0 lost.2 lost.5) ∙ (c.requires.end.2).stands)
 
 pub replace_expired_at-requires-clause-within : goal.replace_expired_at-requires-clause-within
 replace_expired_at-requires-clause-within g c = λ z at.
-    let old = c.args.state.now in
-    let y = c.requires.end.0 in
-    let end = c.requires.end.2 in
-    let d = expired-link old c.requires.agrees c.args.subscriber_place c.args.publisher_place y c.args.key c.requires.end.1 end c.args.first (c.requires.first y end.stands) in
-    let book = its-book old c.requires.agrees.parts c.args.first d.0 d.1 in
-    let lost = c.lose_connection-book.ensures d.0 book.book d.1 book.stands in
-    let same : c.deref_mut.result.now ≡ old.subscribers = c.deref_mut.ensures.value ∙ ap (λ (f : Fields g.row.T.Denot g.row.U.Denot). f.subscribers) (c.state.view_is ∙ lost.1.fields) in
-    let both : Some y ≡ Some z = sym end.stands ∙ ap (λ xs. get_or xs c.args.subscriber_place None) (sym same) ∙ at in
-    let is : y ≡ z = cc in
-    subst (λ (w : SubscriberFields). c.args.publisher_place < length w.keys) is (within_if_some y.keys c.args.publisher_place c.args.key end.has)
+    let lost = gone g (goal.at.replace_expired_at-requires-clause-within g c).After-lose_connection-book in
+    subst (λ (w : SubscriberFields). c.args.publisher_place < length w.keys) (its g (goal.at.replace_expired_at-requires-clause-within g c).After-deref_mut lost.0 lost.2 lost.5 z at) (within_if_some c.requires.end.0.keys c.args.publisher_place c.args.key (c.requires.end.2).has)
 
 pub replace_expired_at-requires-clause-room : goal.replace_expired_at-requires-clause-room
 replace_expired_at-requires-clause-room g c = λ z at.
-    let old = c.args.state.now in
-    let y = c.requires.end.0 in
-    let end = c.requires.end.2 in
-    let d = expired-link old c.requires.agrees c.args.subscriber_place c.args.publisher_place y c.args.key c.requires.end.1 end c.args.first (c.requires.first y end.stands) in
-    let book = its-book old c.requires.agrees.parts c.args.first d.0 d.1 in
-    let lost = c.lose_connection-book.ensures d.0 book.book d.1 book.stands in
-    let same : c.deref_mut.result.now ≡ old.subscribers = c.deref_mut.ensures.value ∙ ap (λ (f : Fields g.row.T.Denot g.row.U.Denot). f.subscribers) (c.state.view_is ∙ lost.1.fields) in
-    let both : Some y ≡ Some z = sym end.stands ∙ ap (λ xs. get_or xs c.args.subscriber_place None) (sym same) ∙ at in
-    let is : y ≡ z = cc in
-    subst (λ (w : SubscriberFields). length w.expired < w.expired_room) is (room-to-expire old c.requires.agrees c.args.subscriber_place c.args.publisher_place y c.args.key c.requires.end.1 end)
+    let lost = gone g (goal.at.replace_expired_at-requires-clause-room g c).After-lose_connection-book in
+    subst (λ (w : SubscriberFields). length w.expired < w.expired_room) (its g (goal.at.replace_expired_at-requires-clause-room g c).After-deref_mut lost.0 lost.2 lost.5 z at) (room-to-expire c.args.state.now c.requires.agrees c.args.subscriber_place c.args.publisher_place c.requires.end.0 c.args.key c.requires.end.1 c.requires.end.2)
 
 pub free_book_if_unused-requires : goal.free_book_if_unused-requires
 free_book_if_unused-requires g c =
     let old = c.args.state.now in
     let y = c.requires.end.0 in
     let end = c.requires.end.2 in
-    let d = expired-link old c.requires.agrees c.args.subscriber_place c.args.publisher_place y c.args.key c.requires.end.1 end c.args.first (c.requires.first y end.stands) in
-    let book = its-book old c.requires.agrees.parts c.args.first d.0 d.1 in
-    let lost = c.lose_connection-book.ensures d.0 book.book d.1 book.stands in
+    let lost = gone g (goal.at.free_book_if_unused-requires g c).After-lose_connection-book in
     let written : _ ≡ changed_at (replacing_expired c.args.publisher_place c.args.key c.args.first) (c.lose_connection-book.new.state).subscribers c.args.subscriber_place =
     with_items_is c.state.inside.subscribers c.replace_expired_at.new.subscribers (c.replace_expired_at.auto.subscribers ∙ c.deref_mut.ensures.len)
     ∙ c.replace_expired_at.ensures ∙ ap (λ xs. changed_at (replacing_expired c.args.publisher_place c.args.key c.args.first) xs c.args.subscriber_place) (c.deref_mut.ensures.value ∙ ap (λ (f : Fields g.row.T.Denot g.row.U.Denot). f.subscribers) c.state.view_is) in
-    (spares-same _ _ d.0.home.book lost.0
-    (evicted-changes old c.requires.agrees c.args.subscriber_place c.args.publisher_place y c.args.key c.requires.end.1 end c.args.first d.0 (c.requires.first y end.stands) d.1 c.requires.unborrowed book.book book.stands c.lose_connection-book.new.state lost.1
+    (spares-same _ _ lost.0.home.book lost.4
+    (evicted-changes old c.requires.agrees c.args.subscriber_place c.args.publisher_place y c.args.key c.requires.end.1 end c.args.first lost.0 (c.requires.first y end.stands) lost.1 c.requires.unborrowed lost.2 lost.3 c.lose_connection-book.new.state lost.5
     _ (λ k. record (c.state.view_is k) { subscribers = written k })).agrees).parts
 
 pub returns : goal.returns
