@@ -2,7 +2,9 @@ use Rattle.iox2_domain.proofs.lemmas.slots.PublisherBooks.{read-there}
 use Rattle.iox2_store.specs.declared.errors.ReceiveError.{ReceiveError}
 use Rattle.iox2_ends.specs.Takes.{ReceivesSlot}
 use Rattle.iox2_ends.specs.declared.receiver.Taken.{Taken}
+use denote.Param.{param}
 use Rattle.iox2_domain.specs.Fields.{Fields}
+use Rattle.iox2_domain.specs.contracts.state.DomainState.{the_view}
 use Rattle.iox2_ends.proofs.MailboxChanges.{within_if_some}
 use Rattle.std.proofs.Common.{◌≡◌, ◌∙◌, ap, sym, subst, Option, None, Some, Result, Ok, Err, slice_index_or, slice_set, rules, length, vec_len}
 use Rattle.iox2_domain.specs.Receipts.{TakesAs}
@@ -30,17 +32,7 @@ returns-in_err-taken g c = λ y at.
     let kept : slice_set c.state.inside.subscribers.items c.args.place (Some _) ≡ c.state.inside.subscribers.items =
     put-back c.state.inside.subscribers.items c.args.place c.index_mut.result.now c.in-Some.subscriber _ c.index_mut.ensures.value c.in-Some.is c.subscriber.view_is in
     subst (λ (f : Fields g.row.T.Denot g.row.U.Denot). TakesAs c.args.state.now y.id c.from_residual.result f)
-    (λ k. record {
-      config = c.state.inside.config;
-      next_port = c.state.inside.next_port;
-      next_message = c.state.inside.next_message;
-      warnings = c.state.inside.warnings;
-      publishers = c.state.inside.publishers.items;
-      subscribers = sym kept k;
-      connections = c.receive.new.connections;
-      books = c.state.inside.books;
-      contents = c.state.inside.contents.items;
-    })
+    (λ k. record (the_view (param 0 g.row.T) (param 1 g.row.U) c.state.inside) { subscribers = sym kept k; connections = c.receive.new.connections })
     (at-error _ c.args.state.now c.args.place c.in-Some.subscriber c.deref.result.now c.deref-2.result.now
     (has-keys _ c.args.state.now c.args.place c.index_mut.result.now c.in-Some.subscriber _ c.deref.result.now c.deref-2.result.now c.requires.agrees c.state.view_is c.requires.stands
     c.index_mut.ensures.value c.in-Some.is c.subscriber.view_is c.deref.ensures.value c.deref-2.ensures.value)
@@ -54,17 +46,7 @@ returns-in_default-taken g c = λ y at.
     let kept : slice_set c.state.inside.subscribers.items c.args.place (Some _) ≡ c.state.inside.subscribers.items =
     put-back c.state.inside.subscribers.items c.args.place c.index_mut.result.now c.in-Some.subscriber _ c.index_mut.ensures.value c.in-Some.is c.subscriber.view_is in
     subst (λ (f : Fields g.row.T.Denot g.row.U.Denot). TakesAs c.args.state.now y.id (Ok None) f)
-    (λ k. record {
-      config = c.state.inside.config;
-      next_port = c.state.inside.next_port;
-      next_message = c.state.inside.next_message;
-      warnings = c.state.inside.warnings;
-      publishers = c.state.inside.publishers.items;
-      subscribers = sym kept k;
-      connections = c.receive.new.connections;
-      books = c.state.inside.books;
-      contents = c.state.inside.contents.items;
-    })
+    (λ k. record (the_view (param 0 g.row.T) (param 1 g.row.U) c.state.inside) { subscribers = sym kept k; connections = c.receive.new.connections })
     (at-nothing _ c.args.state.now c.args.place c.in-Some.subscriber c.deref.result.now c.deref-2.result.now
     (has-keys _ c.args.state.now c.args.place c.index_mut.result.now c.in-Some.subscriber _ c.deref.result.now c.deref-2.result.now c.requires.agrees c.state.view_is c.requires.stands
     c.index_mut.ensures.value c.in-Some.is c.subscriber.view_is c.deref.ensures.value c.deref-2.ensures.value)
@@ -93,17 +75,7 @@ returns g c = λ y at.
     let kept : slice_set c.state.inside.subscribers.items c.args.place (Some _) ≡ c.state.inside.subscribers.items =
     put-back c.state.inside.subscribers.items c.args.place c.index_mut.result.now c.in-Some.subscriber _ c.index_mut.ensures.value c.in-Some.is c.subscriber.view_is in
     subst (λ (f : Fields g.row.T.Denot g.row.U.Denot). TakesAs c.args.state.now y.id (Ok (Some c.receipt_of.result)) f)
-    (λ k. record {
-      config = c.state.inside.config;
-      next_port = c.state.inside.next_port;
-      next_message = c.state.inside.next_message;
-      warnings = c.state.inside.warnings;
-      publishers = c.state.inside.publishers.items;
-      subscribers = sym kept k;
-      connections = sym c.receipt_of.ensures.same_connections k;
-      books = sym c.receipt_of.ensures.same_books k;
-      contents = c.state.inside.contents.items;
-    })
+    (λ k. record (the_view (param 0 g.row.T) (param 1 g.row.U) c.state.inside) { subscribers = sym kept k; connections = sym c.receipt_of.ensures.same_connections k; books = sym c.receipt_of.ensures.same_books k })
     (at-taken _ c.args.state.now c.args.place c.in-Some.subscriber c.deref.result.now c.deref-2.result.now
     (has-keys _ c.args.state.now c.args.place c.index_mut.result.now c.in-Some.subscriber _ c.deref.result.now c.deref-2.result.now c.requires.agrees c.state.view_is c.requires.stands
     c.index_mut.ensures.value c.in-Some.is c.subscriber.view_is c.deref.ensures.value c.deref-2.ensures.value)
