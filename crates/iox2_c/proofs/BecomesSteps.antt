@@ -2,17 +2,19 @@
 use Rattle.std.proofs.Common.{◌≡◌, ◌≤◌, ℕ, sym, subst, arith}
 use Rattle.std.specs.declared.option.Option.{Option}
 use Rattle.std.specs.declared.option.Option.TheVariants.{Some}
+use Rattle.std.specs.declared.result.Result.{Result}
+use Rattle.iox2_store.specs.declared.errors.ConnectionFailure.{ConnectionFailure}
 use Rattle.iox2_store.specs.declared.errors.LoanError.{LoanError}
 use Rattle.iox2_store.specs.declared.errors.LoanError.TheVariants.{OutOfMemory, ExceedsMaxLoans, ExceedsMaxLoanSize, InternalFailure}
 use Rattle.iox2_store.specs.declared.errors.ReceiveError.{ReceiveError}
 use Rattle.iox2_store.specs.declared.errors.ReceiveError.TheVariants.{ExceedsMaxBorrows, ConnectionFailure as Not_connected}
 use Rattle.iox2_store.specs.machine.Receives.{ReceiveResult}
 use Rattle.iox2_c.specs.Boxed.{Becomes, Turns}
-use Rattle.iox2_c.specs.Codes.{loan_code, receive_code}
+use Rattle.iox2_c.specs.Codes.{code_of, failure_code, loan_code, receive_code}
 use Rattle.iox2_c.specs.Serving.{KeptBytes, Serving}
 use Rattle.iox2_c.specs.Steps.{Receives}
 
--- a domain that is taken out, changed and put back
+-- a domain that is changed in its box
 pub becomes : (P : KeptBytes → KeptBytes → Type 0) (old new : Option Serving) (a b : Serving) → old ≡ Some a → new ≡ Some b → P a.domain b.domain → Becomes P old new
 becomes P old new a b was is step = subst (λ (o : Option Serving). Becomes P o new) (sym was) (b, is, step)
 
@@ -23,6 +25,11 @@ turns P old new a b was is step = subst (λ (o : Option Serving). Turns P o new)
 -- a step in the domain that was opened, by a port's id, is one in the domain, by its numbers
 pub moved : (Step : KeptBytes → ℕ → Type 0) (inside old : KeptBytes) (q p : ℕ) → inside ≡ old → q ≡ p → Step inside q → Step old p
 moved Step inside old q p same id step = subst (λ (k : KeptBytes). Step k p) same (subst (Step inside) id step)
+
+-- and so with an update, which is told by its code
+pub told-update : (Updates : KeptBytes → KeptBytes → ℕ → Result (Unit {0}) ConnectionFailure → Type 0) (updated : Result (Unit {0}) ConnectionFailure) (code : ℕ) (inside old new : KeptBytes) (q p : ℕ) → inside ≡ old → q ≡ p
+    → code ≡ code_of failure_code updated → Updates inside new q updated → (told : Result (Unit {0}) ConnectionFailure) × (code ≡ code_of failure_code told) × Updates old new p told
+told-update Updates updated code inside old new q p same id is step = (updated, is, moved (λ k r. Updates k new r updated) inside old q p same id step)
 
 -- and so with a receive, whose result is the same by its numbers
 pub receives-moved : (inside old new : KeptBytes) (q p : ℕ) (was is : ReceiveResult) → inside ≡ old → q ≡ p → was ≡ is → Receives inside new q was → Receives old new p is

@@ -150,12 +150,10 @@ pub extern "C" fn iox2ps_domain_recording(
     ensures same { 0 < result → bytes.new ≡ bytes.old }
     ensures unchanged { domain.new.service ≡ domain.old.service }
 {
-    let Some(boxed) = domain.take(alloc) else {
-        return NO_DOMAIN;
-    };
-    let code = questions::recording(alloc, &boxed, bytes, len, missed);
-    domain.put(boxed);
-    code
+    match domain.service() {
+        Some(service) => questions::recording(alloc, service, bytes, len, missed),
+        None => NO_DOMAIN,
+    }
 }
 
 /// Frees the domain, with all that is in it.

@@ -23,7 +23,6 @@ use crate::numbers::{PublisherNumbers, SubscriberNumbers};
 use crate::status::NO_DOMAIN;
 use crate::texts::text_of;
 use crate::warning::WarningNumbers;
-use std::alloc::Global;
 use std::ptr;
 
 /// The text of a code or of a warning's kind, which ends in a zero byte, and its length without that.
@@ -48,7 +47,6 @@ pub extern "C" fn iox2ps_version() -> u32
 /// Makes and removes a publisher's connections.
 #[unsafe(no_mangle)]
 pub extern "C" fn iox2ps_publisher_update_connections(
-    alloc: Global,
     domain: &mut DomainBox,
     publisher: &PublisherNumbers,
 ) -> u32
@@ -58,18 +56,15 @@ pub extern "C" fn iox2ps_publisher_update_connections(
     ensures refused { 0 < result → result < 10 → domain.new.service ≡ domain.old.service }
     ensures stays { HoldsOn No_item domain.old.service domain.new.service }
 {
-    let Some(mut boxed) = domain.take(alloc) else {
-        return NO_DOMAIN;
-    };
-    let code = questions::update_publisher(&mut boxed, publisher);
-    domain.put(boxed);
-    code
+    match domain.service() {
+        Some(service) => questions::update_publisher(service, publisher),
+        None => NO_DOMAIN,
+    }
 }
 
 /// Makes and removes a subscriber's connections.
 #[unsafe(no_mangle)]
 pub extern "C" fn iox2ps_subscriber_update_connections(
-    alloc: Global,
     domain: &mut DomainBox,
     subscriber: &SubscriberNumbers,
 ) -> u32
@@ -79,18 +74,15 @@ pub extern "C" fn iox2ps_subscriber_update_connections(
     ensures refused { result ≡ 2 → domain.new.service ≡ domain.old.service }
     ensures stays { HoldsOn No_item domain.old.service domain.new.service }
 {
-    let Some(mut boxed) = domain.take(alloc) else {
-        return NO_DOMAIN;
-    };
-    let code = questions::update_subscriber(&mut boxed, subscriber);
-    domain.put(boxed);
-    code
+    match domain.service() {
+        Some(service) => questions::update_subscriber(service, subscriber),
+        None => NO_DOMAIN,
+    }
 }
 
 /// Whether a message waits for a subscriber, after an update of its connections.
 #[unsafe(no_mangle)]
 pub extern "C" fn iox2ps_subscriber_has_samples(
-    alloc: Global,
     domain: &mut DomainBox,
     subscriber: &SubscriberNumbers,
     waits: &mut u32,
@@ -103,18 +95,15 @@ pub extern "C" fn iox2ps_subscriber_has_samples(
     ensures same { 0 < result → waits.new ≡ waits.old }
     ensures stays { HoldsOn No_item domain.old.service domain.new.service }
 {
-    let Some(mut boxed) = domain.take(alloc) else {
-        return NO_DOMAIN;
-    };
-    let code = questions::has_samples(&mut boxed, subscriber, waits);
-    domain.put(boxed);
-    code
+    match domain.service() {
+        Some(service) => questions::has_samples(service, subscriber, waits),
+        None => NO_DOMAIN,
+    }
 }
 
 /// Whether a send of a publisher waits.
 #[unsafe(no_mangle)]
 pub extern "C" fn iox2ps_publisher_is_blocked(
-    alloc: Global,
     domain: &mut DomainBox,
     publisher: &PublisherNumbers,
     is_blocked: &mut u32,
@@ -127,18 +116,15 @@ pub extern "C" fn iox2ps_publisher_is_blocked(
     ensures same { 0 < result → is_blocked.new ≡ is_blocked.old }
     ensures unchanged { domain.new.service ≡ domain.old.service }
 {
-    let Some(boxed) = domain.take(alloc) else {
-        return NO_DOMAIN;
-    };
-    let code = questions::is_blocked(&boxed, publisher, is_blocked);
-    domain.put(boxed);
-    code
+    match domain.service() {
+        Some(service) => questions::is_blocked(service, publisher, is_blocked),
+        None => NO_DOMAIN,
+    }
 }
 
 /// One of the domain's last warnings, the oldest first.
 #[unsafe(no_mangle)]
 pub extern "C" fn iox2ps_domain_warning(
-    alloc: Global,
     domain: &mut DomainBox,
     index: usize,
     warning: &mut WarningNumbers,
@@ -150,84 +136,60 @@ pub extern "C" fn iox2ps_domain_warning(
     ensures same { 0 < result → warning.new ≡ warning.old }
     ensures unchanged { domain.new.service ≡ domain.old.service }
 {
-    let Some(boxed) = domain.take(alloc) else {
-        return NO_DOMAIN;
-    };
-    let code = questions::warning(&boxed, index, warning);
-    domain.put(boxed);
-    code
+    match domain.service() {
+        Some(service) => questions::warning(service, index, warning),
+        None => NO_DOMAIN,
+    }
 }
 
 /// How many of its last warnings the domain has.
 #[unsafe(no_mangle)]
-pub extern "C" fn iox2ps_domain_warning_count(
-    alloc: Global,
-    domain: &mut DomainBox,
-    count: &mut usize,
-) -> u32
+pub extern "C" fn iox2ps_domain_warning_count(domain: &mut DomainBox, count: &mut usize) -> u32
     ensures no_domain { (result ≡ 1) ↔ (domain.old.service ≡ None) }
     ensures code { (result ≡ 0) ⊎ (result ≡ 1) }
     ensures counts { result ≡ 0 → Knows (λ kept. count.new ≡ length (buffer (kept.warnings).latest warning_limit).items) domain.old.service }
     ensures same { 0 < result → count.new ≡ count.old }
     ensures unchanged { domain.new.service ≡ domain.old.service }
 {
-    let Some(boxed) = domain.take(alloc) else {
-        return NO_DOMAIN;
-    };
-    let code = questions::warning_count(&boxed, count);
-    domain.put(boxed);
-    code
+    match domain.service() {
+        Some(service) => questions::warning_count(service, count),
+        None => NO_DOMAIN,
+    }
 }
 
 /// How often memory for a connection was refused.
 #[unsafe(no_mangle)]
-pub extern "C" fn iox2ps_domain_refused_connections(
-    alloc: Global,
-    domain: &mut DomainBox,
-    count: &mut u64,
-) -> u32
+pub extern "C" fn iox2ps_domain_refused_connections(domain: &mut DomainBox, count: &mut u64) -> u32
     ensures no_domain { (result ≡ 1) ↔ (domain.old.service ≡ None) }
     ensures code { (result ≡ 0) ⊎ (result ≡ 1) }
     ensures counts { result ≡ 0 → Knows (λ kept. count.new ≡ (kept.warnings).refused_connections) domain.old.service }
     ensures same { 0 < result → count.new ≡ count.old }
     ensures unchanged { domain.new.service ≡ domain.old.service }
 {
-    let Some(boxed) = domain.take(alloc) else {
-        return NO_DOMAIN;
-    };
-    let code = questions::refused_connections(&boxed, count);
-    domain.put(boxed);
-    code
+    match domain.service() {
+        Some(service) => questions::refused_connections(service, count),
+        None => NO_DOMAIN,
+    }
 }
 
 /// How many connections the domain keeps.
 #[unsafe(no_mangle)]
-pub extern "C" fn iox2ps_domain_connection_count(
-    alloc: Global,
-    domain: &mut DomainBox,
-    count: &mut usize,
-) -> u32
+pub extern "C" fn iox2ps_domain_connection_count(domain: &mut DomainBox, count: &mut usize) -> u32
     ensures no_domain { (result ≡ 1) ↔ (domain.old.service ≡ None) }
     ensures code { (result ≡ 0) ⊎ (result ≡ 1) }
     ensures counts { result ≡ 0 → Knows (λ kept. count.new ≡ count_by is_some kept.connections) domain.old.service }
     ensures same { 0 < result → count.new ≡ count.old }
     ensures unchanged { domain.new.service ≡ domain.old.service }
 {
-    let Some(boxed) = domain.take(alloc) else {
-        return NO_DOMAIN;
-    };
-    let code = questions::connection_count(&boxed, count);
-    domain.put(boxed);
-    code
+    match domain.service() {
+        Some(service) => questions::connection_count(service, count),
+        None => NO_DOMAIN,
+    }
 }
 
 /// Reads the domain's settings back.
 #[unsafe(no_mangle)]
-pub extern "C" fn iox2ps_domain_config(
-    alloc: Global,
-    domain: &mut DomainBox,
-    config: &mut Config,
-) -> u32
+pub extern "C" fn iox2ps_domain_config(domain: &mut DomainBox, config: &mut Config) -> u32
     ensures no_domain { (result ≡ 1) ↔ (domain.old.service ≡ None) }
     ensures code { (result ≡ 0) ⊎ (result ≡ 1) }
     ensures reads { result ≡ 0 → Knows (λ kept. settings_of config.new ≡ settings_in kept) domain.old.service }
@@ -235,31 +197,23 @@ pub extern "C" fn iox2ps_domain_config(
     ensures same { 0 < result → config.new ≡ config.old }
     ensures unchanged { domain.new.service ≡ domain.old.service }
 {
-    let Some(boxed) = domain.take(alloc) else {
-        return NO_DOMAIN;
-    };
-    let code = questions::config(&boxed, config);
-    domain.put(boxed);
-    code
+    match domain.service() {
+        Some(service) => questions::config(service, config),
+        None => NO_DOMAIN,
+    }
 }
 
 /// How many books of slots the domain keeps.
 #[unsafe(no_mangle)]
-pub extern "C" fn iox2ps_domain_book_count(
-    alloc: Global,
-    domain: &mut DomainBox,
-    count: &mut usize,
-) -> u32
+pub extern "C" fn iox2ps_domain_book_count(domain: &mut DomainBox, count: &mut usize) -> u32
     ensures no_domain { (result ≡ 1) ↔ (domain.old.service ≡ None) }
     ensures code { (result ≡ 0) ⊎ (result ≡ 1) }
     ensures counts { result ≡ 0 → Knows (λ kept. count.new ≡ count_by is_some kept.books) domain.old.service }
     ensures same { 0 < result → count.new ≡ count.old }
     ensures unchanged { domain.new.service ≡ domain.old.service }
 {
-    let Some(boxed) = domain.take(alloc) else {
-        return NO_DOMAIN;
-    };
-    let code = questions::book_count(&boxed, count);
-    domain.put(boxed);
-    code
+    match domain.service() {
+        Some(service) => questions::book_count(service, count),
+        None => NO_DOMAIN,
+    }
 }
