@@ -153,24 +153,6 @@ fn send_slot<T: Drop, U: Default + Drop, X: BackpressureFn>(
     conclude(publisher, book, slot, outcome)
 }
 
-// Sends the loan in a slot of the publisher at a place, whatever answers for it at a full buffer.
-#[inline(never)]
-fn send_by_handler<T: Drop, U: Default + Drop, F: BackpressureFn, G: DegradationFn>(
-    state: &mut DomainState<T, U>,
-    boxes: &Boxes<F, G>,
-    place: usize,
-    slot: usize,
-) -> SendEnd
-    requires agrees { IsDomain state.old }
-    requires can { (x : PublisherFields) × (slice_index_or state.old.publishers place None ≡ Some x) × CanSend state.old x slot }
-    ensures sends { (outcome : DeliveryOutcome) × (end_result result ≡ result_of_send outcome)
-        × ((x : PublisherFields) → slice_index_or state.old.publishers place None ≡ Some x → SendsSlot (answers_of F.allows G.allows (boxes.now).boxes) state.old place x slot outcome state.new) }
-    ensures kept { IsKept result }
-{
-    let handler = handler_at(state, boxes, place);
-    send_slot(state, place, slot, &handler)
-}
-
 /// Delivers the loan in a slot of the publisher at a place, which has no handler. Where it reached
 /// all receivers it is out no more afterwards, else its publisher waits for a receiver. Nothing of a
 /// handler is on the path of the message.
@@ -191,7 +173,7 @@ pub fn send_unasked<T: Drop, U: Default + Drop>(
 }
 
 /// The same, whether the publisher has a handler or not. A box is among these boxes.
-#[inline(always)]
+#[inline(never)]
 pub fn send_ready<T: Drop, U: Default + Drop, F: BackpressureFn, G: DegradationFn>(
     state: &mut DomainState<T, U>,
     boxes: &Boxes<F, G>,
@@ -204,9 +186,6 @@ pub fn send_ready<T: Drop, U: Default + Drop, F: BackpressureFn, G: DegradationF
         × ((x : PublisherFields) → slice_index_or state.old.publishers place None ≡ Some x → SendsSlot (answers_of F.allows G.allows (boxes.now).boxes) state.old place x slot outcome state.new) }
     ensures kept { IsKept result }
 {
-    if has_handler_at(state, place) {
-        send_by_handler(state, boxes, place, slot)
-    } else {
-        send_unasked(state, place, slot)
-    }
+    let handler = handler_at(state, boxes, place);
+    send_slot(state, place, slot, &handler)
 }
