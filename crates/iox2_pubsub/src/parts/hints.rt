@@ -4,7 +4,7 @@ ghost use Rattle.iox2_store.specs.SingleValues.{is_single_valued};
 ghost use Rattle.iox2_store.specs.declared.allocation.AllocationStrategy.TheVariants.{Static};
 ghost use Rattle.iox2_store.specs.machine.Limits.{last_number};
 ghost use Rattle.iox2_store.specs.machine.Records.{Entry};
-ghost use Rattle.iox2_store.specs.machine.SingleCalls.{HoldsLoan, HoldsPublisher, HoldsSample, HoldsSubscriber};
+ghost use Rattle.iox2_store.specs.machine.SingleCalls.{HoldsLoan, HoldsSample, HoldsSubscriber};
 ghost use Rattle.iox2_domain.specs.Kept.{state_of, entries_of};
 ghost use Rattle.iox2_domain.specs.Fields.{kept_of};
 ghost use Rattle.iox2_domain.specs.Invariant.{IsDomain};
@@ -17,20 +17,6 @@ ghost use Rattle.iox2_pubsub.specs.Parts.{HoldsMarked, written_mark};
 use iox2_domain::{DomainState, LoanAt, SampleAt, is_loan_slot};
 use iox2_slots::{SlotBook, SlotMark};
 use iox2_store::{AllocationStrategy, UniquePublisherId, UniqueSubscriberId};
-
-/// The place of the publisher with this id, where it wasn't closed. It is looked for at the place
-/// first.
-pub(crate) fn find_open_publisher<T: Drop, U: Default + Drop>(
-    state: &DomainState<T, U>,
-    id: UniquePublisherId,
-    place: usize,
-) -> Option<usize>
-    requires { IsDomain state.now }
-    ensures { MatchOption result (HoldsPublisher (state_of (kept_of state.now)) id → ⊥)
-        (λ i. HoldsPublisher (state_of (kept_of state.now)) id × (x : PublisherFields) × (slice_index_or state.now.publishers i None ≡ Some x) × (x.id ≡ id)) }
-{
-    state.find_publisher(id, place)
-}
 
 /// Whether a publisher has this id, wasn't closed and stands at the place.
 pub(crate) fn has_publisher_at_hint<T: Drop, U: Default + Drop>(
