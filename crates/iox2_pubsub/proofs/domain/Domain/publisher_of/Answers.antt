@@ -3,6 +3,7 @@ use Rattle.iox2_store.specs.declared.service_config.ServiceConfig.{ServiceConfig
 use Rattle.iox2_store.specs.machine.SingleCalls.{HoldsPublisher}
 use Rattle.iox2_domain.specs.Fields.{kept_of}
 use Rattle.iox2_domain.specs.Kept.{state_of}
+use Rattle.iox2_domain.proofs.lemmas.fields.OpenPorts.{absent-publisher, present-publisher}
 use Rattle.iox2_pubsub.specs.Live.{publisher_key}
 use Rattle.iox2_pubsub.specs.Parts.{publisher_named}
 use Rattle.iox2_pubsub.proofs.PlacedHandles.{publisher-elsewhere, publisher-found-placed, publisher-named, publisher-unnamed}
@@ -16,12 +17,12 @@ returns-then-parts-config-clause-none g c =
 pub returns-in_default-clause-none : goal.returns-in_default-clause-none
 returns-in_default-clause-none g c =
     publisher-unnamed {T = g.row.T.Denot} {U = g.row.U.Denot} c.self.inside.state c.self.invariant c.args.self.now c.self.view_is (publisher_named c.args.parts.now)
-    (subst (λ (id : ℕ). HoldsPublisher (state_of (kept_of c.self.inside.state)) id → ⊥) c.new-id.ensures c.in_default.ensures)
+    (subst (λ (id : ℕ). HoldsPublisher (state_of (kept_of c.self.inside.state)) id → ⊥) c.new-id.ensures (absent-publisher {T = g.row.T.Denot} {U = g.row.U.Denot} c.self.inside.state c.new-id.result c.in_default.ensures))
 
 pub returns-clause-live : goal.returns-clause-live
 returns-clause-live g c =
-    publisher-named {T = g.row.T.Denot} {U = g.row.U.Denot} c.self.inside.state c.self.invariant c.args.self.now c.self.view_is (publisher_key (record { service_id = c.args.parts.now.service_id; id = c.new-id.result; place = c.in-Some.place; strategy = c.args.parts.now.strategy; initial_max_slice_len = c.args.parts.now.initial_max_slice_len })) refl (c.if-parts-config.false ∙ ap (λ (config : ServiceConfig). config.service_id) c.config.ensures) c.in-Some.ensures.0
+    publisher-named {T = g.row.T.Denot} {U = g.row.U.Denot} c.self.inside.state c.self.invariant c.args.self.now c.self.view_is (publisher_key (record { service_id = c.args.parts.now.service_id; id = c.new-id.result; place = c.in-Some.place; strategy = c.args.parts.now.strategy; initial_max_slice_len = c.args.parts.now.initial_max_slice_len })) refl (c.if-parts-config.false ∙ ap (λ (config : ServiceConfig). config.service_id) c.config.ensures) (present-publisher {T = g.row.T.Denot} {U = g.row.U.Denot} c.self.inside.state c.new-id.result c.self.invariant c.in-Some.place c.in-Some.ensures.0 c.in-Some.ensures.1 c.in-Some.ensures.2)
 
 pub returns-clause-placed : goal.returns-clause-placed
 returns-clause-placed g c =
-    publisher-found-placed {T = g.row.T.Denot} {U = g.row.U.Denot} c.self.inside.state c.self.invariant c.args.self.now c.self.view_is (record { service_id = c.args.parts.now.service_id; id = c.new-id.result; place = c.in-Some.place; strategy = c.args.parts.now.strategy; initial_max_slice_len = c.args.parts.now.initial_max_slice_len }) (c.in-Some.ensures.1, c.in-Some.ensures.2, c.in-Some.ensures.3)
+    publisher-found-placed {T = g.row.T.Denot} {U = g.row.U.Denot} c.self.inside.state c.self.invariant c.args.self.now c.self.view_is (record { service_id = c.args.parts.now.service_id; id = c.new-id.result; place = c.in-Some.place; strategy = c.args.parts.now.strategy; initial_max_slice_len = c.args.parts.now.initial_max_slice_len }) c.in-Some.ensures
