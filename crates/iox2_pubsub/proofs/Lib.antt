@@ -30,6 +30,10 @@ pub mod CallsStay
 pub mod DiscardShows
 pub mod QuestionShown
 pub mod UpdatesStay
+pub mod UpdatesLeave
+pub mod ClosesLeave
+pub mod HeldKeys
+pub mod SampleReads
 pub mod UpdateShown
 pub mod ClosesShown
 pub mod PayloadLists

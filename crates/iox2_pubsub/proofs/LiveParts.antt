@@ -177,7 +177,7 @@ module _ {T U F G : Type 0} (kept : Kept T U F G) where
 
   module _ (publisher number : ℕ) (l : Loan T U) (at : (state_of kept).loans number ≡ Some l) (its : l.publisher ≡ publisher) where
     -- a loan with its mark
-    marked : (is_written : Bool) → HasMark kept number is_written → l.is_written ≡ is_written
+    pub marked : (is_written : Bool) → HasMark kept number is_written → l.is_written ≡ is_written
     unfolding HasMark
     marked is_written has =
         let both : Some l ≡ Some has.0 = sym at ∙ has.1 in

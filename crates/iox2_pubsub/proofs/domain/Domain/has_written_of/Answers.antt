@@ -1,16 +1,9 @@
-use Rattle.std.proofs.Common.{◌≡◌, ap, sym, subst}
-use Rattle.iox2_domain.specs.Kept.{Kept, state_of}
-use Rattle.iox2_domain.specs.LoanCalls.{HoldsWritten}
-use Rattle.iox2_pubsub.specs.declared.sample_mut.SampleMut.{SampleMut}
-use Rattle.iox2_pubsub.proofs.LiveParts.{written-live, written-parts}
+use Rattle.std.proofs.Common.{true}
+use Rattle.iox2_pubsub.specs.Parts.{loan_named}
+use Rattle.iox2_pubsub.proofs.HeldKeys.{held-loan, same-service}
 use Rattle.iox2_pubsub.proofs.domain.Domain.has_written_of.Goals as goal
 
 pub returns : goal.returns
 returns g c =
     let has = rw c.loan.ensures at c.has_written.ensures in
-    let its : c.args.parts.now.service_id ≡ (c.args.self.now.config).service_id = cc (ap (λ (k : Kept g.row.T.Denot g.row.U.Denot g.row.F.Denot g.row.G.Denot). (k.config).service_id) c.self.view_is) in
-    let it : SampleMut = record { service_id = c.args.parts.now.service_id; loan = record { publisher = c.args.parts.now.publisher; number = c.args.parts.now.number; place = c.args.parts.now.place; book = c.args.parts.now.book; slot = c.args.parts.now.slot } } in (
-      λ yes. let live = written-live c.args.self.now it its (subst (λ (k : Kept g.row.T.Denot g.row.U.Denot g.row.F.Denot g.row.G.Denot). HoldsWritten (state_of k) c.args.parts.now.publisher c.args.parts.now.number) c.self.view_is (has.0 yes)) in (live.live, live.written),
-      λ both. has.1 (subst (λ (k : Kept g.row.T.Denot g.row.U.Denot g.row.F.Denot g.row.G.Denot). HoldsWritten (state_of k) c.args.parts.now.publisher c.args.parts.now.number) (sym c.self.view_is)
-          (written-parts c.args.self.now it (record { live = both.0; written = both.1 })).1),
-    )
+    held-loan {T = g.row.T.Denot} {U = g.row.U.Denot} c.self.inside.state c.args.self.now c.self.view_is true (loan_named c.args.parts.now) (same-service c.config.ensures c.if-parts-config.false) has
