@@ -31,24 +31,19 @@ module _ {T U : Type 0} (t : State T U) (i p q : ℕ) (takes : is_closed (t.chan
 
 -- so who is connected stays so
 module _ {T U : Type 0} (t : State T U) (i p q : ℕ) (c : Connects t p q) where
-  pub sender-reset-connects : Connects (sender_channels_reset t i) p q
-  sender-reset-connects = record {
+  opened-connects : (channels : ℕ → ℕ → ℕ → Channel) → is_closed (channels p q 0) ≡ false → Connects (record t { channels = channels }) p q
+  opened-connects channels takes = record {
     publisher = c.publisher;
     stands = c.stands;
     sends = c.sends;
     subscriber = c.subscriber;
     there = c.there;
     receives = c.receives;
-    takes = sender-reset-takes t i p q c.takes;
+    takes = takes;
   }
 
+  pub sender-reset-connects : Connects (sender_channels_reset t i) p q
+  sender-reset-connects = opened-connects (sender_channels_reset t i).channels (sender-reset-takes t i p q c.takes)
+
   pub receiver-reset-connects : Connects (receiver_channels_reset t i) p q
-  receiver-reset-connects = record {
-    publisher = c.publisher;
-    stands = c.stands;
-    sends = c.sends;
-    subscriber = c.subscriber;
-    there = c.there;
-    receives = c.receives;
-    takes = receiver-reset-takes t i p q c.takes;
-  }
+  receiver-reset-connects = opened-connects (receiver_channels_reset t i).channels (receiver-reset-takes t i p q c.takes)

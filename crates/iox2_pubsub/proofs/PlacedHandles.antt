@@ -95,6 +95,10 @@ module _ {T U F G : Type 0} {boxes : DomainBoxes F G} (f : Fields T U) (sound : 
       ap (option_map {T = Subscriber} {U = ℕ} (λ y. y.place)) has.1 ∙ ap Some (parts.1 has.0 has.1) in
       occupied (subscriber_of f.books f.connections) f.subscribers it.place it.id (((sound.well_formed).subscriber_places).stands it.id it.place place)
 
+  -- so one stands there
+  pub subscriber-there : (it : SubscriberHandle) → IsLiveSubscriber kept it → (y : SubscriberFields) × (get_or f.subscribers it.place None ≡ Some y)
+  subscriber-there it live = let at = subscriber-at-place it live in (at.0, at.1)
+
   -- ---- what a search tells
 
   -- who was found is named by its key, and else it isn't, nor in a domain of another service
