@@ -6,6 +6,7 @@ pub mod AnyBoxes
 pub mod AnySubscriberBoxes
 pub mod MadeRoom
 pub mod Grown
+pub mod GrownPorts
 pub mod SenderChanges
 pub mod SenderAgrees
 pub mod SenderLeft

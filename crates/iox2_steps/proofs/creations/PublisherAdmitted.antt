@@ -1,5 +1,5 @@
 -- A publisher is admitted to a domain, before its first update.
-use Rattle.std.proofs.Common.{◌≡◌, ℕ, zero, suc, ◌+◌, ◌*◌, ◌<◌, ◌≤◌, List, [], ◌∷◌, map, get_or, refl, ap, sym, ◌∙◌, length}
+use Rattle.std.proofs.Common.{◌≡◌, ℕ, ◌+◌, ◌*◌, ◌<◌, ◌≤◌, List, map, get_or, ap, sym, ◌∙◌, length}
 use Rattle.std.specs.declared.option.Option.{Option}
 use Rattle.std.specs.declared.option.Option.TheVariants.{None, Some}
 use Rattle.std.specs.Option.{option_map}
@@ -14,7 +14,7 @@ use Rattle.iox2_slots.specs.SlotBook.{Book}
 use Rattle.iox2_contents.specs.SlotContents.{ContentState}
 use Rattle.iox2_laws.proofs.PortLaws.{new_publisher_keeps}
 use Rattle.iox2_domain.specs.Ports.{PublisherFields, slot_length}
-use Rattle.iox2_domain.specs.Kept.{Named, state_of, ids}
+use Rattle.iox2_domain.specs.Kept.{state_of, ids}
 use Rattle.iox2_domain.specs.Fields.{Fields, kept_of, publisher_of}
 use Rattle.iox2_domain.specs.Invariant.{HasForms, IsDomain, HasPublisherRoom, cell_lists}
 use Rattle.iox2_domain.specs.NewPublisher.{BookEnters}
@@ -22,15 +22,13 @@ use Rattle.iox2_domain.specs.Reaches.{Reaches}
 use Rattle.iox2_steps.proofs.creations.SubscribersDue.{with_subscribers_due, subscribers_due-are, subscribers_due-agree}
 use Rattle.iox2_steps.proofs.creations.PublisherEntered.{PublisherEnters, with_entered_publisher, newcomer, entered-is}
 use Rattle.iox2_steps.proofs.creations.PublisherEnteredAgrees.{entered-agrees, entries_same}
+use Rattle.iox2_domain.proofs.lemmas.fields.NamedPorts.{named-at}
 
 module _ {T U : Type 0} (f : Fields T U) where
   -- a place at which no publisher stands is free in the state
   pub occupant-free : (xs : List (Option PublisherFields)) (place : ℕ) → get_or xs place None ≡ None
       → occupant (ids (map (option_map (publisher_of f.books f.connections)) xs)) place ≡ None
-  occupant-free [] zero free = refl
-  occupant-free [] (suc place) free = refl
-  occupant-free (x ∷ xs) zero free = ap (λ o. option_map (λ (z : Named _). z.id) (option_map (publisher_of f.books f.connections) o)) free
-  occupant-free (x ∷ xs) (suc place) free = occupant-free xs place free
+  occupant-free xs place free = named-at (publisher_of f.books f.connections) xs place ∙ ap (option_map (λ (x : PublisherFields). x.id)) free
 
 module _ {T U : Type 0} (f : Fields T U) (sound : IsDomain f) (place : ℕ) (given : PublisherSettings) (loan_room key_room key : ℕ) (books : Slab Book) (contents : List (Option (List (ContentState T U))))
     (free : get_or f.publishers place None ≡ None)

@@ -27,6 +27,7 @@ use Rattle.iox2_domain.proofs.lemmas.containers.LookUps.{look_up-map, look_up-wr
 use Rattle.iox2_domain.proofs.lemmas.containers.Placed.{placed-here, placed-others, map-placed, placed-ids}
 use Rattle.iox2_domain.proofs.lemmas.slots.NewBook.{messages-same, publishers-shown, connections-shown}
 use mathlib.Core.Path.{fun_ext}
+use Rattle.iox2_domain.proofs.lemmas.fields.NamedPorts.{named-unseen}
 
 -- A new publisher with these settings enters these fields at the place, with the book at the key.
 pub record PublisherEnters {T U : Type 0} (f : Fields T U) (place : ℕ) (given : PublisherSettings) (loan_room key_room key : ℕ)
@@ -49,16 +50,7 @@ module _ {T U : Type 0} (f : Fields T U) (place : ℕ) (given : PublisherSetting
 
   -- no publisher has the next id
   pub no_such : look_up (is_publisher f.next_port) f.publishers ≡ None
-  no_such = by (look_up (is_publisher f.next_port) f.publishers) refl where
-    by : (o : Option PublisherFields) → look_up (is_publisher f.next_port) f.publishers ≡ o → o ≡ None
-    by None e = refl
-    by (Some x) e =
-        let found : (state_of (kept_of f)).publishers f.next_port ≡ Some ((publisher_of f.books f.connections x).port) =
-        ap (option_map (λ (z : Named Publisher). z.port))
-        (look_up-map (is_named f.next_port) (publisher_of f.books f.connections) f.publishers
-        ∙ ap (option_map (publisher_of f.books f.connections)) e) in
-        let none : (state_of (kept_of f)).publishers f.next_port ≡ None = no_publisher_yet (state_of (kept_of f)) enters.sound.well_formed in
-        absurd (let no : None ≡ Some ((publisher_of f.books f.connections x).port) = sym none ∙ found in cc)
+  no_such = named-unseen (publisher_of f.books f.connections) f.next_port f.publishers (no_publisher_yet (state_of (kept_of f)) enters.sound.well_formed)
 
   pub ids_apart : (p : ℕ) → IsOnly (is_publisher p) (placed f.publishers place newcomer)
   ids_apart p =

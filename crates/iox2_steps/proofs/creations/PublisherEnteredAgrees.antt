@@ -78,6 +78,13 @@ module _ {T U : Type 0} (f : Fields T U) (place : ℕ) (given : PublisherSetting
   unlinked : (p : ℕ) → IsSenderLinked p f.connections []
   unlinked p = record { at = λ i k at. absurd (nothing_at i k at) }
 
+  -- nor has a connection that was there that publisher
+  not-new : (k : ℕ) (c : Link) (x : PublisherFields) → get f.connections k ≡ Some c → x ≡ new → x.id ≡ c.home.publisher → ⊥
+  not-new k c x at_c is same =
+      let next : x.id ≡ f.next_port = ap (λ (z : PublisherFields). z.id) is in
+      let low : c.home.publisher < f.next_port = sender_before f enters.sound slots needed key books contents enters.book k c at_c in
+      omega arith
+
   linked : IsLinked after
   linked = record {
     senders = λ i x at. elim (was i x at) [ inl e ↦ rw e.1 (unlinked f.next_port) | inr old ↦ enters.sound.parts.linked.senders i x old ];
@@ -87,17 +94,11 @@ module _ {T U : Type 0} (f : Fields T U) (place : ℕ) (given : PublisherSetting
     receiver_places = enters.sound.parts.linked.receiver_places;
     knows = enters.sound.parts.linked.knows;
     knows_publishers = λ k i c x at_c at_x same. elim (was i x at_x) [
-      | inl e ↦
-          let next : x.id ≡ f.next_port = ap (λ (z : PublisherFields). z.id) e.1 in
-          let low : c.home.publisher < f.next_port = sender_before f enters.sound slots needed key books contents enters.book k c at_c in
-          absurd (omega arith)
+      | inl e ↦ absurd (not-new k c x at_c e.1 same)
       | inr old ↦ enters.sound.parts.linked.knows_publishers k i c x at_c old same
     ];
     sender_rooms = λ k i c x at_c at_x same. elim (was i x at_x) [
-      | inl e ↦
-          let next : x.id ≡ f.next_port = ap (λ (z : PublisherFields). z.id) e.1 in
-          let low : c.home.publisher < f.next_port = sender_before f enters.sound slots needed key books contents enters.book k c at_c in
-          absurd (omega arith)
+      | inl e ↦ absurd (not-new k c x at_c e.1 same)
       | inr old ↦ enters.sound.parts.linked.sender_rooms k i c x at_c old same
     ];
     receiver_rooms = enters.sound.parts.linked.receiver_rooms;

@@ -1,5 +1,5 @@
 -- A subscriber is admitted to a domain, before its first update.
-use Rattle.std.proofs.Common.{◌≡◌, ℕ, zero, suc, ◌+◌, ◌<◌, ◌≤◌, List, [], ◌∷◌, map, get_or, refl, ap, ◌∙◌, length}
+use Rattle.std.proofs.Common.{◌≡◌, ℕ, ◌+◌, ◌<◌, ◌≤◌, List, map, get_or, ap, ◌∙◌, length}
 use Rattle.std.specs.declared.option.Option.{Option}
 use Rattle.std.specs.declared.option.Option.TheVariants.{None, Some}
 use Rattle.std.specs.Option.{option_map}
@@ -12,21 +12,19 @@ use Rattle.iox2_store.specs.machine.Ports.{new_subscriber, buffer_for, with_buff
 use Rattle.iox2_laws.proofs.PortLaws.{new_subscriber_keeps}
 use Rattle.iox2_domain.specs.WarningRing.{WarningRing}
 use Rattle.iox2_domain.specs.Ports.{SubscriberFields}
-use Rattle.iox2_domain.specs.Kept.{Named, state_of, ids}
+use Rattle.iox2_domain.specs.Kept.{state_of, ids}
 use Rattle.iox2_domain.specs.Fields.{Fields, kept_of, subscriber_of}
 use Rattle.iox2_domain.specs.Invariant.{IsDomain}
 use Rattle.iox2_steps.proofs.creations.PublishersDue.{with_publishers_due, publishers_due-are, publishers_due-agree}
 use Rattle.iox2_steps.proofs.creations.SubscriberEntered.{with_entered_subscriber, entered-is}
 use Rattle.iox2_steps.proofs.creations.SubscriberEnteredAgrees.{entered-agrees}
+use Rattle.iox2_domain.proofs.lemmas.fields.NamedPorts.{named-at}
 
 module _ {T U : Type 0} (f : Fields T U) where
   -- a place at which nothing stands is free in the state
   pub occupant-free : (xs : List (Option SubscriberFields)) (place : ℕ) → get_or xs place None ≡ None
       → occupant (ids (map (option_map (subscriber_of f.books f.connections)) xs)) place ≡ None
-  occupant-free [] zero free = refl
-  occupant-free [] (suc place) free = refl
-  occupant-free (x ∷ xs) zero free = ap (λ o. option_map (λ (z : Named _). z.id) (option_map (subscriber_of f.books f.connections) o)) free
-  occupant-free (x ∷ xs) (suc place) free = occupant-free xs place free
+  occupant-free xs place free = named-at (subscriber_of f.books f.connections) xs place ∙ ap (option_map (λ (x : SubscriberFields). x.id)) free
 
 module _ {T U : Type 0} (f : Fields T U) (sound : IsDomain f) (warnings : WarningRing) (place : ℕ) (given : SubscriberSettings) (key_room expired_room : ℕ) (free : get_or f.subscribers place None ≡ None) where
   -- the fields with every publisher due, and with the new subscriber

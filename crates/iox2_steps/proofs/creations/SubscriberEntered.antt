@@ -19,6 +19,7 @@ use Rattle.iox2_domain.proofs.lemmas.containers.LookUps.{look_up-map, look_up-wr
 use Rattle.iox2_domain.specs.Placed.{placed}
 use Rattle.iox2_domain.proofs.lemmas.containers.Placed.{placed-here, placed-others, map-placed, placed-ids}
 use mathlib.Core.Path.{fun_ext}
+use Rattle.iox2_domain.proofs.lemmas.fields.NamedPorts.{named-unseen}
 
 module _ {T U : Type 0} (f : Fields T U) (sound : IsDomain f) (warnings : WarningRing) (place : ℕ) (given : SubscriberSettings) (key_room expired_room : ℕ) (free : get_or f.subscribers place None ≡ None) where
   -- the subscriber that enters
@@ -31,16 +32,7 @@ module _ {T U : Type 0} (f : Fields T U) (sound : IsDomain f) (warnings : Warnin
 
   -- no subscriber has the next id
   pub no_such : look_up (is_subscriber f.next_port) f.subscribers ≡ None
-  no_such = by (look_up (is_subscriber f.next_port) f.subscribers) refl where
-    by : (o : Option SubscriberFields) → look_up (is_subscriber f.next_port) f.subscribers ≡ o → o ≡ None
-    by None e = refl
-    by (Some y) e =
-        let found : (state_of (kept_of f)).subscribers f.next_port ≡ Some ((subscriber_of f.books f.connections y).port) =
-        ap (option_map (λ (z : Named Subscriber). z.port))
-        (look_up-map (is_named f.next_port) (subscriber_of f.books f.connections) f.subscribers
-        ∙ ap (option_map (subscriber_of f.books f.connections)) e) in
-        let none : (state_of (kept_of f)).subscribers f.next_port ≡ None = no_subscriber_yet (state_of (kept_of f)) sound.well_formed in
-        absurd (let no : None ≡ Some ((subscriber_of f.books f.connections y).port) = sym none ∙ found in cc)
+  no_such = named-unseen (subscriber_of f.books f.connections) f.next_port f.subscribers (no_subscriber_yet (state_of (kept_of f)) sound.well_formed)
 
   pub ids_apart : (q : ℕ) → IsOnly (is_subscriber q) (placed f.subscribers place newcomer)
   ids_apart q =

@@ -14,7 +14,7 @@ use Rattle.iox2_domain.specs.WarningRing.{WarningRing}
 use Rattle.iox2_domain.specs.Ports.{SubscriberFields}
 use Rattle.iox2_domain.specs.Kept.{state_of}
 use Rattle.iox2_domain.specs.Fields.{Fields, kept_of}
-use Rattle.iox2_domain.specs.Invariant.{IsDomain, IsLinked, HasExpiredRoom, HasBooks, SenderHas, ReceiverHas, details_of}
+use Rattle.iox2_domain.specs.Invariant.{IsDomain, IsLinked, HasExpiredRoom, SenderHas, ReceiverHas, details_of}
 use Rattle.iox2_domain.proofs.lemmas.containers.LookUps.{map-at, viewed}
 use Rattle.iox2_domain.specs.Placed.{placed}
 use Rattle.iox2_domain.proofs.lemmas.fields.Views.{held-before}
@@ -23,6 +23,7 @@ use Rattle.iox2_domain.proofs.lemmas.fields.ConnectionEnds.{subscriber-known}
 use Rattle.iox2_domain.proofs.lemmas.fields.ExpiredRoom.{count-none}
 use Rattle.iox2_steps.proofs.creations.SubscriberEntered.{with_entered_subscriber, newcomer, ids_apart, stood, still}
 use Rattle.iox2_domain.proofs.lemmas.fields.OpenReceivers.{open-still}
+use Rattle.iox2_domain.proofs.lemmas.fields.Parts.{other_parts}
 
 pub nothing_at : {A : Type 0} (i : ℕ) (x : A) → get_or {A = Option A} [] i None ≡ Some x → ⊥
 nothing_at {A} zero x e = cc
@@ -105,34 +106,11 @@ module _ {T U : Type 0} (f : Fields T U) (sound : IsDomain f) (warnings : Warnin
     ];
   }
 
-  books : HasBooks after
-  books = record {
-    one_each = sound.parts.books.one_each;
-    books = sound.parts.books.books;
-    publishers = λ i x at. let has = sound.parts.books.publishers i x at in record { book = has.book; stands = has.stands; is_its = has.is_its; node = has.node; slots = has.slots; room = has.room };
-    no_others = sound.parts.books.no_others;
-  }
-
   -- the invariant is kept
   pub entered-agrees : warnings.capacity ≡ warning_limit → place ≤ length f.subscribers → IsWellFormed (state_of (kept_of after)) → IsDomain after
   entered-agrees room low well = record {
-    parts = record {
-      publisher_ids = sound.parts.publisher_ids;
-      subscriber_ids = ids_apart f sound warnings place given key_room expired_room free;
-      apart = sound.parts.apart;
-      linked = linked;
-      expired_room = expired_room-entered;
-      books = books;
-      names = sound.parts.names;
-      counted = record { at = sound.parts.counted.at };
-      numbered = sound.parts.numbered;
-      publisher_room = sound.parts.publisher_room;
-      warning_room = room;
-      shapes = record { at = sound.parts.shapes.at };
-      forms = sound.parts.forms;
-      open_loans = sound.parts.open_loans;
-      plain = sound.parts.plain;
-    };
+    parts = other_parts f sound.parts after (ids_apart f sound warnings place given key_room expired_room free) sound.parts.apart linked expired_room-entered sound.parts.names
+        (record { at = sound.parts.counted.at }) room;
     kept_books = kept-publishers f.next_port (f.next_port + 1) f.publishers f.publishers (omega arith)
         (λ i x at. (x, at, refl, refl)) (λ i y at. inl (y, at, refl)) f.books sound.kept_books;
     lone = sound.lone;

@@ -12,7 +12,7 @@ use Rattle.iox2_store.specs.machine.Connections.{expired_buffer_full}
 use Rattle.iox2_store.specs.machine.Limits.{expired_limit}
 use Rattle.iox2_store.specs.machine.Places.{occupant, set_place}
 use Rattle.iox2_store.specs.machine.Records.{Subscriber, Environment}
-use Rattle.iox2_store.specs.machine.State.{State, has_sender_end}
+use Rattle.iox2_store.specs.machine.State.{has_sender_end}
 use Rattle.iox2_store.specs.machine.SubscriberUpdate.{ReceiverSide, Retirement, Retire, ConnectReceiver, is_refused, after_retirement, with_end}
 use Rattle.iox2_store.specs.declared.errors.ConnectionFailure.{ConnectionFailure}
 use Rattle.iox2_store.specs.declared.service_config.ServiceConfig.{ServiceConfig}
@@ -29,6 +29,7 @@ use Rattle.iox2_domain.proofs.lemmas.fields.Standing.{occupant-receiver_ends, pu
 use Rattle.iox2_steps.proofs.updates.ReceiverActions.{connect-keeps, connect-makes}
 use Rattle.iox2_steps.proofs.receivers.Retirements.{here}
 use Rattle.iox2_steps.proofs.receivers.Compositions.{unchanged, changed, changed-stands, port-is, side-again, senders-again, config-again, changes-more}
+use Rattle.iox2_domain.proofs.lemmas.fields.NamedPorts.{seen, seen_subscriber}
 
 -- who stood at a place stands there, but for its room
 listed-still : (xs ys : List (Option PublisherFields)) (i : ℕ) (x : PublisherFields) → get_or xs i None ≡ Some x → map (option_map publisher_but_room) ys ≡ map (option_map publisher_but_room) xs
@@ -39,18 +40,12 @@ listed-still xs ys i x at same =
     (there.0, there.1, sym (ap (λ (z : PublisherFields). z.id) there.2))
 
 module _ {T U : Type 0} (environment : Environment) (f : Fields T U) (sound : IsDomain f) (j i : ℕ) (y : SubscriberFields) (at : get_or f.subscribers j None ≡ Some y) where
-  abbrev s : State T U
-  s = state_of (kept_of f)
-
-  abbrev Q : Subscriber
-  Q = (subscriber_of f.books f.connections y).port
-
   abbrev side : ReceiverSide
-  side = current_side s y.id Q
+  side = current_side (seen f) y.id (seen_subscriber f y)
 
   abbrev Connects : ReceiverSide → (p : ℕ) → ReceiverSide → Option ConnectionFailure → Type 0
   Connects mid p side' failure =
-      ConnectReceiver environment (f.config).service_id y.id Q.degradation_handler (expired_limit f.config) (λ r. has_sender_end s r y.id) mid i p side' failure
+      ConnectReceiver environment (f.config).service_id y.id (seen_subscriber f y).degradation_handler (expired_limit f.config) (λ r. has_sender_end (seen f) r y.id) mid i p side' failure
 
   -- the machine's step, by who stands at the place and at the end
   abbrev Step : Option ℕ → Option ℕ → ReceiverSide → Option ConnectionFailure → Type 0
@@ -61,14 +56,14 @@ module _ {T U : Type 0} (environment : Environment) (f : Fields T U) (sound : Is
       (Connects side p side' failure)
       (λ old. MatchBool (eqb old p)
       ((side' ≡ side) × (failure ≡ None))
-      (Retire environment (f.config).service_id y.id Q.degradation_handler (expired_limit f.config) (λ r. has_sender_end s r y.id) side i old side' failure (λ mid. Connects mid p side' failure))))
+      (Retire environment (f.config).service_id y.id (seen_subscriber f y).degradation_handler (expired_limit f.config) (λ r. has_sender_end (seen f) r y.id) side i old side' failure (λ mid. Connects mid p side' failure))))
 
   -- nothing is done at an empty place
   pub empty-place : get_or f.publishers i None ≡ None → ConnectsAt environment f j i y f None
   empty-place nobody = (
     side,
     unchanged f sound j y at,
-    subst (λ who. Step who (occupant Q.ends i) side None) (sym (publisher-at f sound.parts i ∙ ap (option_map (λ (x : PublisherFields). x.id)) nobody)) (refl, refl),
+    subst (λ who. Step who (occupant (seen_subscriber f y).ends i) side None) (sym (publisher-at f sound.parts i ∙ ap (option_map (λ (x : PublisherFields). x.id)) nobody)) (refl, refl),
   )
 
   module _ (x : PublisherFields) (at_x : get_or f.publishers i None ≡ Some x) where
@@ -77,8 +72,8 @@ module _ {T U : Type 0} (environment : Environment) (f : Fields T U) (sound : Is
     keeps-end key c has link its = (
       side,
       unchanged f sound j y at,
-      connect-keeps environment (f.config).service_id y.id Q.degradation_handler (expired_limit f.config) (λ r. has_sender_end s r y.id) i x.id
-          (occupant s.publisher_places i) side (publisher-listed f sound.parts i x at_x)
+      connect-keeps environment (f.config).service_id y.id (seen_subscriber f y).degradation_handler (expired_limit f.config) (λ r. has_sender_end (seen f) r y.id) i x.id
+          (occupant (seen f).publisher_places i) side (publisher-listed f sound.parts i x at_x)
           (occupant-receiver_ends f.connections y.keys i ∙ ap (publisher_of_key f.connections) has ∙ ap (option_map (λ (d : Link). d.home.publisher)) link ∙ ap Some its),
     )
 
@@ -87,8 +82,8 @@ module _ {T U : Type 0} (environment : Environment) (f : Fields T U) (sound : Is
     makes-end none f' failure (side', changes, step) = (
       side',
       changes,
-      connect-makes environment (f.config).service_id y.id Q.degradation_handler (expired_limit f.config) (λ r. has_sender_end s r y.id) i x.id
-          (occupant s.publisher_places i) side (publisher-listed f sound.parts i x at_x) side' failure
+      connect-makes environment (f.config).service_id y.id (seen_subscriber f y).degradation_handler (expired_limit f.config) (λ r. has_sender_end (seen f) r y.id) i x.id
+          (occupant (seen f).publisher_places i) side (publisher-listed f sound.parts i x at_x) side' failure
           (occupant-receiver_ends f.connections y.keys i ∙ ap (publisher_of_key f.connections) none) step,
     )
 
@@ -112,13 +107,13 @@ module _ {T U : Type 0} (environment : Environment) (f : Fields T U) (sound : Is
       apart = ne_eqb p x.id (λ same. end.gone x at_x (sym same))
 
       at-step : (side' : ReceiverSide) (failure : Option ConnectionFailure)
-          → Retire environment (f.config).service_id y.id Q.degradation_handler (expired_limit f.config) (λ r. has_sender_end s r y.id) side i p side' failure (λ mid. Connects mid x.id side' failure)
-          → Step (occupant s.publisher_places i) (occupant Q.ends i) side' failure
+          → Retire environment (f.config).service_id y.id (seen_subscriber f y).degradation_handler (expired_limit f.config) (λ r. has_sender_end (seen f) r y.id) side i p side' failure (λ mid. Connects mid x.id side' failure)
+          → Step (occupant (seen f).publisher_places i) (occupant (seen_subscriber f y).ends i) side' failure
       at-step side' failure retire =
-          subst (λ who. Step who (occupant Q.ends i) side' failure) (sym (publisher-listed f sound.parts i x at_x))
+          subst (λ who. Step who (occupant (seen_subscriber f y).ends i) side' failure) (sym (publisher-listed f sound.parts i x at_x))
           (subst (λ there. Step (Some x.id) there side' failure) (sym (here f sound j i y key c end))
           (subst (λ b. MatchBool b ((side' ≡ side) × (failure ≡ None))
-          (Retire environment (f.config).service_id y.id Q.degradation_handler (expired_limit f.config) (λ r. has_sender_end s r y.id) side i p side' failure (λ mid. Connects mid x.id side' failure)))
+          (Retire environment (f.config).service_id y.id (seen_subscriber f y).degradation_handler (expired_limit f.config) (λ r. has_sender_end (seen f) r y.id) side i p side' failure (λ mid. Connects mid x.id side' failure)))
           (sym apart) retire))
 
       -- the retirement is refused
@@ -170,9 +165,9 @@ module _ {T U : Type 0} (environment : Environment) (f : Fields T U) (sound : Is
           then : Connects (retired f i y p how) x.id side' failure
           then =
               subst (λ (now : ReceiverSide). Connects now x.id side' failure) (side-again f sound j y at (retired f i y p how) f1 ch)
-              (subst (λ (has : ℕ → Bool). ConnectReceiver environment (f.config).service_id y.id Q.degradation_handler (expired_limit f.config) has
+              (subst (λ (has : ℕ → Bool). ConnectReceiver environment (f.config).service_id y.id (seen_subscriber f y).degradation_handler (expired_limit f.config) has
               (current_side (state_of (kept_of f1)) y.id (subscriber_of f1.books f1.connections mid).port) i x.id side' failure) (senders-again f sound j y at (retired f i y p how) f1 ch)
-              (subst (λ (config : ServiceConfig). ConnectReceiver environment config.service_id y.id Q.degradation_handler (expired_limit config) (λ r. has_sender_end (state_of (kept_of f1)) r y.id)
+              (subst (λ (config : ServiceConfig). ConnectReceiver environment config.service_id y.id (seen_subscriber f y).degradation_handler (expired_limit config) (λ r. has_sender_end (state_of (kept_of f1)) r y.id)
               (current_side (state_of (kept_of f1)) y.id (subscriber_of f1.books f1.connections mid).port) i x.id side' failure) (config-again f sound j y at (retired f i y p how) f1 ch) step))
 
       -- what is known after the retirement, and what the step comes to then

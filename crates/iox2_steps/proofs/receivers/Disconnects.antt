@@ -9,29 +9,23 @@ use Rattle.iox2_slots.specs.Link.{Link}
 use Rattle.iox2_store.specs.machine.Connections.{expired_buffer_full}
 use Rattle.iox2_store.specs.machine.Limits.{expired_limit}
 use Rattle.iox2_store.specs.machine.Places.{occupant}
-use Rattle.iox2_store.specs.machine.Records.{Subscriber, Environment}
-use Rattle.iox2_store.specs.machine.State.{State, has_sender_end}
+use Rattle.iox2_store.specs.machine.Records.{Environment}
+use Rattle.iox2_store.specs.machine.State.{has_sender_end}
 use Rattle.iox2_store.specs.machine.SubscriberUpdate.{ReceiverSide, Retirement, Retire, is_refused, after_retirement, with_end}
 use Rattle.iox2_store.specs.declared.errors.ConnectionFailure.{ConnectionFailure}
 use Rattle.iox2_ends.specs.Mailboxes.{publisher_of_key}
 use Rattle.iox2_domain.specs.Ports.{PublisherFields, SubscriberFields}
-use Rattle.iox2_domain.specs.Kept.{state_of}
-use Rattle.iox2_domain.specs.Fields.{Fields, kept_of, subscriber_of}
+use Rattle.iox2_domain.specs.Fields.{Fields}
 use Rattle.iox2_domain.specs.Invariant.{IsDomain}
 use Rattle.iox2_domain.specs.ReceiverSteps.{current_side, HasDepartedEnd, RetiresReceiver, Retired, Refused, retired, refused, machine_retirement, DisconnectsAt}
 use Rattle.iox2_domain.proofs.lemmas.fields.Standing.{occupant-receiver_ends, publisher-at, publisher-listed, receiver-link}
 use Rattle.iox2_steps.proofs.receivers.Retirements.{here}
 use Rattle.iox2_steps.proofs.receivers.Compositions.{unchanged}
+use Rattle.iox2_domain.proofs.lemmas.fields.NamedPorts.{seen, seen_subscriber}
 
 module _ {T U : Type 0} (environment : Environment) (f : Fields T U) (sound : IsDomain f) (j i : ℕ) (y : SubscriberFields) (at : get_or f.subscribers j None ≡ Some y) where
-  abbrev s : State T U
-  s = state_of (kept_of f)
-
-  abbrev Q : Subscriber
-  Q = (subscriber_of f.books f.connections y).port
-
   abbrev side : ReceiverSide
-  side = current_side s y.id Q
+  side = current_side (seen f) y.id (seen_subscriber f y)
 
   -- the machine's step, by who stands at the place and at the end
   abbrev Step : Option ℕ → Option ℕ → ReceiverSide → Option ConnectionFailure → Type 0
@@ -39,7 +33,7 @@ module _ {T U : Type 0} (environment : Environment) (f : Fields T U) (sound : Is
       MatchOption who
       (MatchOption end
       ((side' ≡ side) × (failure ≡ None))
-      (λ old. Retire environment (f.config).service_id y.id Q.degradation_handler (expired_limit f.config) (λ r. has_sender_end s r y.id) side i old side' failure (λ mid. (side' ≡ mid) × (failure ≡ None))))
+      (λ old. Retire environment (f.config).service_id y.id (seen_subscriber f y).degradation_handler (expired_limit f.config) (λ r. has_sender_end (seen f) r y.id) side i old side' failure (λ mid. (side' ≡ mid) × (failure ≡ None))))
       (λ p. (side' ≡ side) × (failure ≡ None))
 
   -- where a publisher stands nothing is done
@@ -47,7 +41,7 @@ module _ {T U : Type 0} (environment : Environment) (f : Fields T U) (sound : Is
   taken-place x at_x = (
     side,
     unchanged f sound j y at,
-    subst (λ who. Step who (occupant Q.ends i) side None) (sym (publisher-listed f sound.parts i x at_x)) (refl, refl),
+    subst (λ who. Step who (occupant (seen_subscriber f y).ends i) side None) (sym (publisher-listed f sound.parts i x at_x)) (refl, refl),
   )
 
   -- nor where there is no end
@@ -55,7 +49,7 @@ module _ {T U : Type 0} (environment : Environment) (f : Fields T U) (sound : Is
   no-end nobody none = (
     side,
     unchanged f sound j y at,
-    subst (λ who. Step who (occupant Q.ends i) side None) (sym (publisher-at f sound.parts i ∙ ap (option_map (λ (x : PublisherFields). x.id)) nobody))
+    subst (λ who. Step who (occupant (seen_subscriber f y).ends i) side None) (sym (publisher-at f sound.parts i ∙ ap (option_map (λ (x : PublisherFields). x.id)) nobody))
         (subst (λ end. Step None end side None) (sym (occupant-receiver_ends f.connections y.keys i ∙ ap (publisher_of_key f.connections) none)) (refl, refl)),
   )
 
@@ -73,7 +67,7 @@ module _ {T U : Type 0} (environment : Environment) (f : Fields T U) (sound : Is
   retired-there nobody key c end f' (Retired unrefused changes) = (
     retired f i y c.home.publisher (machine_retirement f y c.home.publisher),
     changes,
-    subst (λ who. Step who (occupant Q.ends i) (retired f i y c.home.publisher (machine_retirement f y c.home.publisher)) None) (sym (publisher-at f sound.parts i ∙ ap (option_map (λ (x : PublisherFields). x.id)) nobody))
+    subst (λ who. Step who (occupant (seen_subscriber f y).ends i) (retired f i y c.home.publisher (machine_retirement f y c.home.publisher)) None) (sym (publisher-at f sound.parts i ∙ ap (option_map (λ (x : PublisherFields). x.id)) nobody))
         (subst (λ there. Step None there (retired f i y c.home.publisher (machine_retirement f y c.home.publisher)) None) (sym (here f sound j i y key c end))
         (subst (λ b. MatchBool b
         ((retired f i y c.home.publisher (machine_retirement f y c.home.publisher) ≡ after_retirement y.id side c.home.publisher (machine_retirement f y c.home.publisher)) × (None ≡ Some expired_buffer_full))
@@ -86,7 +80,7 @@ module _ {T U : Type 0} (environment : Environment) (f : Fields T U) (sound : Is
   refused-there nobody key c end f' (Refused is changes) = (
     refused f y c.home.publisher,
     changes,
-    subst (λ who. Step who (occupant Q.ends i) (refused f y c.home.publisher) (Some expired_buffer_full)) (sym (publisher-at f sound.parts i ∙ ap (option_map (λ (x : PublisherFields). x.id)) nobody))
+    subst (λ who. Step who (occupant (seen_subscriber f y).ends i) (refused f y c.home.publisher) (Some expired_buffer_full)) (sym (publisher-at f sound.parts i ∙ ap (option_map (λ (x : PublisherFields). x.id)) nobody))
         (subst (λ there. Step None there (refused f y c.home.publisher) (Some expired_buffer_full)) (sym (here f sound j i y key c end))
         (subst (λ (how : Retirement). MatchBool (is_refused how)
         ((refused f y c.home.publisher ≡ after_retirement y.id side c.home.publisher how) × (◌≡◌ {A = Option ConnectionFailure} (Some expired_buffer_full) (Some expired_buffer_full)))

@@ -1,7 +1,6 @@
 -- A departed publisher's connection goes, of which nothing is borrowed, and what waits there is lost.
 use Rattle.std.proofs.Common.{◌≡◌, ◌≢◌, ℕ, List, [], map, Bool, true, false, cond, eqb, get_or, refl, ap, sym, subst, ◌∙◌, inl, inr, ◌⊎◌, arith}
 use Rattle.std.proofs.lemmas.Bool.{cases_eq, ne_eqb}
-use Rattle.std.specs.Option.{option_map}
 use Rattle.std.specs.declared.option.Option.{Option}
 use Rattle.std.specs.declared.option.Option.TheVariants.{None, Some}
 use Rattle.slab.specs.Slab.{Slab, get, with_value}
@@ -10,7 +9,7 @@ use Rattle.iox2_slots.specs.SlotBook.{Book}
 use Rattle.iox2_store.specs.machine.Mailbox.{Mailbox, waiting_dropped, numbers_in}
 use Rattle.iox2_store.specs.machine.Numbers.{put_at, contains, without}
 use Rattle.iox2_store.specs.machine.Places.{occupants, set_place}
-use Rattle.iox2_store.specs.machine.Records.{Entry, Publisher, Subscriber}
+use Rattle.iox2_store.specs.machine.Records.{Entry, Subscriber}
 use Rattle.iox2_store.specs.machine.State.{State}
 use Rattle.iox2_store.specs.Stored.{IsHeldMessage, In_history, In_mailbox, In_blocked_send}
 use Rattle.iox2_laws.proofs.Puts.{at_each}
@@ -21,14 +20,13 @@ use Rattle.iox2_ends.specs.Recounts.{Recounts}
 use Rattle.iox2_ends.proofs.DropSteps.{drops-recount}
 use Rattle.iox2_ends.proofs.MailboxChanges.{Updates-with_value, mailbox-there, mailboxes-changed, put_at-own}
 use Rattle.iox2_domain.specs.KeptLinks.{ChannelsFollow}
-use Rattle.iox2_domain.proofs.lemmas.containers.LookUps.{look_up-map}
 use Rattle.iox2_ends.proofs.LookUps.{look_up-nothing}
 use Rattle.iox2_domain.specs.Midway.{with_channels_of}
 use Rattle.iox2_steps.proofs.updates.FollowedChannels.{follow-fewer}
 use Rattle.iox2_domain.specs.Ports.{SubscriberFields}
-use Rattle.iox2_domain.specs.Kept.{Named, state_of, entries_of, is_named}
+use Rattle.iox2_domain.specs.Kept.{state_of, entries_of}
 use Rattle.iox2_domain.specs.Invariant.{is_publisher, HasParts, IsDomain, HasLoneLoans, IsOwned, IsLeft, IsGone}
-use Rattle.iox2_domain.specs.Fields.{Fields, kept_of, publisher_of, subscriber_of, numbers_of}
+use Rattle.iox2_domain.specs.Fields.{Fields, kept_of, publisher_of, numbers_of}
 use Rattle.iox2_domain.proofs.lemmas.fields.SameEnds.{with_connections, same-publisher_of_key}
 use Rattle.iox2_domain.proofs.lemmas.fields.Views.{mailboxes-are}
 use Rattle.iox2_domain.proofs.lemmas.slots.BookChanges.{book-was, book-here}
@@ -39,6 +37,7 @@ use Rattle.iox2_steps.proofs.receivers.LeftEnds.{IsDeparted, LeavesReceiver, lef
 use Rattle.iox2_steps.proofs.receivers.LeftStates.{left-is, ends-left, expired-left}
 use mathlib.Core.Path.{fun_ext}
 use Rattle.iox2_laws.proofs.MailboxLemmas.{contains_borrowed}
+use Rattle.iox2_domain.proofs.lemmas.fields.NamedPorts.{seen, seen_subscriber, named-nowhere}
 
 -- the mailboxes of which one's waiting messages are lost, as the subscriber sees them
 pub dropped-box : (boxes : ℕ → ℕ → Mailbox) (p q : ℕ) (box : Mailbox) → with_box boxes p q box ≡ (λ (r : ℕ). put_at (boxes r) q (put_at (λ (i : ℕ). boxes i q) p box r))
@@ -65,12 +64,6 @@ module _ {T U : Type 0} (f : Fields T U) (sound : IsDomain f) (j : ℕ) (y : Sub
     (key : ℕ) (c : Link) (link : get f.connections key ≡ Some c) (departed : IsDeparted f y c) (unborrowed : c.borrowed ≡ [])
     (b : Book) (at_b : get f.books c.home.book ≡ Some b) (mine : b.publisher ≡ c.home.publisher)
     (holders : List ℕ) (new : Slab Link) (removes : RemovesDropped b.holders f.connections key c holders new) where
-  abbrev s : State T U
-  s = state_of (kept_of f)
-
-  abbrev Q : Subscriber
-  Q = (subscriber_of f.books f.connections y).port
-
   abbrev p : ℕ
   p = c.home.publisher
 
@@ -94,21 +87,21 @@ module _ {T U : Type 0} (f : Fields T U) (sound : IsDomain f) (j : ℕ) (y : Sub
   dropped-parts = counts.parts-recounted f sound p c.home.book b at_b mine holders between recounts
 
   -- the waiting messages of one mailbox are lost
-  boxes-dropped : mailboxes_of (numbers_of f.books) between ≡ with_box s.mailboxes p y.id (waiting_dropped (s.mailboxes p y.id))
+  boxes-dropped : mailboxes_of (numbers_of f.books) between ≡ with_box (seen f).mailboxes p y.id (waiting_dropped ((seen f).mailboxes p y.id))
   boxes-dropped =
       mailboxes-changed (numbers_of f.books) f.connections between key c emptied sound.parts.apart link refl (Updates-with_value f.connections key c emptied link)
       ∙ (λ k. with_box (are k) p (departed.subscriber k) (waiting_dropped (box k)))
     where
-      are : mailboxes_of (numbers_of f.books) f.connections ≡ s.mailboxes
+      are : mailboxes_of (numbers_of f.books) f.connections ≡ (seen f).mailboxes
       are = fun_ext (λ r. fun_ext (λ q. sym (mailboxes-are f r q)))
 
-      box : mailbox_of (numbers_of f.books p) c ≡ s.mailboxes p y.id
+      box : mailbox_of (numbers_of f.books p) c ≡ (seen f).mailboxes p y.id
       box = sym (mailboxes-are f p y.id ∙ mailbox-there (numbers_of f.books) f.connections key p y.id c sound.parts.apart link refl departed.subscriber)
 
-  pub dropped-is : state_of (kept_of dropped_fields) ≡ record s { mailboxes = with_box s.mailboxes p y.id (waiting_dropped (s.mailboxes p y.id)) }
+  pub dropped-is : state_of (kept_of dropped_fields) ≡ record (seen f) { mailboxes = with_box (seen f).mailboxes p y.id (waiting_dropped ((seen f).mailboxes p y.id)) }
   dropped-is =
       counts.recounted-is f sound p c.home.book b at_b mine holders between recounts
-      ∙ ap (λ (boxes : ℕ → ℕ → Mailbox). record s { mailboxes = boxes }) boxes-dropped
+      ∙ ap (λ (boxes : ℕ → ℕ → Mailbox). record (seen f) { mailboxes = boxes }) boxes-dropped
 
   -- each loan still has one holder
   pub dropped-lone : HasLoneLoans dropped_fields.books
@@ -141,21 +134,18 @@ module _ {T U : Type 0} (f : Fields T U) (sound : IsDomain f) (j : ℕ) (y : Sub
   -- each message that somebody holds has its entry
   pub dropped-keeps : (r n : ℕ) → IsHeldMessage (state_of (kept_of dropped_fields)) r n → (entry : Entry T U) × (entries_of (kept_of dropped_fields) n ≡ Some entry) × ((entry.header).publisher_id ≡ r)
   dropped-keeps r n held =
-      let old = sound.entries r n (held-dropped s p y.id r n (subst (λ (t : State T U). IsHeldMessage t r n) dropped-is held)) in
+      let old = sound.entries r n (held-dropped (seen f) p y.id r n (subst (λ (t : State T U). IsHeldMessage t r n) dropped-is held)) in
       (old.0, counts.recounted-keeps f sound p c.home.book b at_b mine holders between recounts r n old.0 held old.1, old.2)
 
   -- ---- the connection goes
 
   -- its publisher is gone
-  departed-absent : s.publishers p ≡ None
-  departed-absent =
-      ap (option_map (λ (z : Named Publisher). z.port))
-      (look_up-map (is_named p) (publisher_of f.books f.connections) f.publishers
-      ∙ ap (option_map (publisher_of f.books f.connections)) (look_up-nothing (is_publisher p) f.publishers (λ k x at_x. ne_eqb x.id p (departed.publisher k x at_x))))
+  departed-absent : (seen f).publishers p ≡ None
+  departed-absent = named-nowhere (publisher_of f.books f.connections) p f.publishers (look_up-nothing (is_publisher p) f.publishers (λ k x at_x. ne_eqb x.id p (departed.publisher k x at_x)))
 
   -- all other connections keep their channels
-  pub dropped-follows : ChannelsFollow (λ home. home.subscriber ≡ y.id) (λ r q. s.publishers r ≡ None) f.connections new
-  dropped-follows = follow-fewer (λ home. home.subscriber ≡ y.id) (λ r q. s.publishers r ≡ None) f.connections new fewer lost where
+  pub dropped-follows : ChannelsFollow (λ home. home.subscriber ≡ y.id) (λ r q. (seen f).publishers r ≡ None) f.connections new
+  dropped-follows = follow-fewer (λ home. home.subscriber ≡ y.id) (λ r q. (seen f).publishers r ≡ None) f.connections new fewer lost where
     others : (k : ℕ) → k ≢ key → get new k ≡ get f.connections k
     others k away = removes.goes.others k away ∙ (Updates-with_value f.connections key c emptied link).others k away
 
@@ -165,12 +155,12 @@ module _ {T U : Type 0} (f : Fields T U) (sound : IsDomain f) (j : ℕ) (y : Sub
       | inr away ↦ sym (others k away) ∙ at_d
     ]
 
-    lost : (k : ℕ) (d : Link) → get f.connections k ≡ Some d → (get new k ≡ Some d) ⊎ ((d.home.subscriber ≡ y.id) × (s.publishers d.home.publisher ≡ None))
+    lost : (k : ℕ) (d : Link) → get f.connections k ≡ Some d → (get new k ≡ Some d) ⊎ ((d.home.subscriber ≡ y.id) × ((seen f).publishers d.home.publisher ≡ None))
     lost k d at_d = elim (cases_eq k key) [
       | inl here ↦
           let both : Some d ≡ Some c = sym at_d ∙ ap (get f.connections) here ∙ link in
           let is : d ≡ c = cc in
-          inr (ap (λ (l : Link). l.home.subscriber) is ∙ departed.subscriber, ap (λ (l : Link). s.publishers l.home.publisher) is ∙ departed-absent)
+          inr (ap (λ (l : Link). l.home.subscriber) is ∙ departed.subscriber, ap (λ (l : Link). (seen f).publishers l.home.publisher) is ∙ departed-absent)
       | inr away ↦ inl (others k away ∙ at_d)
     ]
 
@@ -204,18 +194,18 @@ module _ {T U : Type 0} (f : Fields T U) (sound : IsDomain f) (j : ℕ) (y : Sub
 
     -- the machine's subscriber then
     abbrev pub removed_port : Subscriber
-    removed_port = record Q { ends = receiver_ends f.connections keys; expired = occupants (receiver_ends f.connections (map Some expired)); is_due = y.is_due }
+    removed_port = record (seen_subscriber f y) { ends = receiver_ends f.connections keys; expired = occupants (receiver_ends f.connections (map Some expired)); is_due = y.is_due }
 
     -- the machine's state then
-    pub removed-is : state_of (kept_of removed_fields) ≡ with_channels_of removed_fields (record s {
-      subscribers = put_at s.subscribers y.id (Some removed_port);
-      mailboxes = λ r. put_at (s.mailboxes r) y.id (put_at (λ i. s.mailboxes i y.id) p (waiting_dropped (s.mailboxes p y.id)) r);
+    pub removed-is : state_of (kept_of removed_fields) ≡ with_channels_of removed_fields (record (seen f) {
+      subscribers = put_at (seen f).subscribers y.id (Some removed_port);
+      mailboxes = λ r. put_at ((seen f).mailboxes r) y.id (put_at (λ i. (seen f).mailboxes i y.id) p (waiting_dropped ((seen f).mailboxes p y.id)) r);
     })
     removed-is =
         left-is dropped_fields dropped-parts j y at keys expired y.is_due new fits
-        ∙ ap (with_channels_of removed_fields) ((λ k. record (dropped-is k) { subscribers = put_at ((dropped-is k).subscribers) y.id (Some (record Q { ends = map (leads k) keys; expired = occupants (map (leads k) (map Some expired)); is_due = y.is_due })) })
-        ∙ ap (λ (boxes : ℕ → ℕ → Mailbox). record s { subscribers = put_at s.subscribers y.id (Some removed_port); mailboxes = boxes })
-        (dropped-box s.mailboxes p y.id (waiting_dropped (s.mailboxes p y.id))))
+        ∙ ap (with_channels_of removed_fields) ((λ k. record (dropped-is k) { subscribers = put_at ((dropped-is k).subscribers) y.id (Some (record (seen_subscriber f y) { ends = map (leads k) keys; expired = occupants (map (leads k) (map Some expired)); is_due = y.is_due })) })
+        ∙ ap (λ (boxes : ℕ → ℕ → Mailbox). record (seen f) { subscribers = put_at (seen f).subscribers y.id (Some removed_port); mailboxes = boxes })
+        (dropped-box (seen f).mailboxes p y.id (waiting_dropped ((seen f).mailboxes p y.id))))
 
     -- the keys that are left lead where they led
     pub ends-removed : receiver_ends new keys ≡ receiver_ends f.connections keys

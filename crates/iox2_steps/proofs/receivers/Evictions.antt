@@ -11,7 +11,6 @@ use Rattle.iox2_store.specs.machine.Limits.{warning_limit}
 use Rattle.iox2_store.specs.machine.Mailbox.{has_borrows, waiting_dropped}
 use Rattle.iox2_store.specs.machine.Numbers.{put_at, contains, without}
 use Rattle.iox2_store.specs.machine.Places.{occupants, set_place}
-use Rattle.iox2_store.specs.machine.Records.{Subscriber}
 use Rattle.iox2_store.specs.machine.State.{State, warned}
 use Rattle.iox2_store.specs.machine.SubscriberUpdate.{ReceiverSide, Evict, with_receiver_side}
 use Rattle.iox2_store.specs.declared.warning.Warning.TheVariants.{ExpiredDataDiscarded}
@@ -28,7 +27,7 @@ use Rattle.iox2_domain.specs.Ports.{SubscriberFields}
 use Rattle.iox2_store.specs.machine.WellFormed.{IsWellFormed}
 use Rattle.iox2_domain.specs.Kept.{state_of}
 use Rattle.iox2_domain.specs.Invariant.{HasParts, IsDomain, IsDomainBut}
-use Rattle.iox2_domain.specs.Fields.{Fields, kept_of, subscriber_of}
+use Rattle.iox2_domain.specs.Fields.{Fields, kept_of}
 use Rattle.iox2_domain.specs.ReceiverSteps.{current_side, HasDepartedEnd, ChangesReceiverTo}
 use Rattle.iox2_domain.proofs.lemmas.containers.ChangedRecords.{changed-here}
 use Rattle.iox2_domain.proofs.lemmas.containers.ConnectionKeys.{map-set_place}
@@ -43,6 +42,7 @@ use Rattle.iox2_steps.proofs.receivers.LeftChanges.{parts-warned, present, side-
 use Rattle.iox2_steps.proofs.receivers.Retirements.{retired_side, here, absent}
 use Rattle.iox2_steps.proofs.receivers.DroppedEnds.{dropped-follows, dropped_fields, dropped-is, dropped-box, dropped-lone, dropped-kept, dropped-gone, dropped-entries, dropped-keeps, expired-fits, removed_fields, removed-parts, removed-is, ends-removed, expired-removed}
 use Rattle.iox2_domain.proofs.lemmas.samples.HintedSamples.{contained}
+use Rattle.iox2_domain.proofs.lemmas.fields.NamedPorts.{seen, seen_subscriber}
 
 -- The subscriber y at the place j has this expired connection, of which nothing is borrowed.
 pub record HasExpiredEnd {T U : Type 0} (f : Fields T U) (y : SubscriberFields) (key : ℕ) (c : Link) : Type 0 where
@@ -52,23 +52,14 @@ pub record HasExpiredEnd {T U : Type 0} (f : Fields T U) (y : SubscriberFields) 
 
 module _ {T U : Type 0} (f : Fields T U) (sound : IsDomain f) (j i : ℕ) (y : SubscriberFields) (key : ℕ) (c : Link) (end : HasDepartedEnd f j i y key c)
     (first : ℕ) (d : Link) (old : HasExpiredEnd f y first d) where
-  abbrev s : State T U
-  s = state_of (kept_of f)
-
-  abbrev Q : Subscriber
-  Q = (subscriber_of f.books f.connections y).port
-
   abbrev p : ℕ
   p = c.home.publisher
 
   abbrev lost : ℕ
   lost = d.home.publisher
 
-  abbrev parts : HasParts f
-  parts = sound.parts
-
   abbrev side : ReceiverSide
-  side = current_side s y.id Q
+  side = current_side (seen f) y.id (seen_subscriber f y)
 
   -- ---- the one that goes
 
@@ -85,7 +76,7 @@ module _ {T U : Type 0} (f : Fields T U) (sound : IsDomain f) (j i : ℕ) (y : S
       ap (λ (e : Link). e.home.subscriber) (sym is) ∙ has.2.subscriber
 
   -- the machine's subscriber has it among the expired ones
-  pub expired-lost : contains Q.expired lost ≡ true
+  pub expired-lost : contains (seen_subscriber f y).expired lost ≡ true
   expired-lost = leads-among f.connections y.expired first d old.has old.link
 
   pub lost-departed : IsDeparted f y d
@@ -96,13 +87,13 @@ module _ {T U : Type 0} (f : Fields T U) (sound : IsDomain f) (j i : ℕ) (y : S
 
   -- it is at no place
   elsewhere : (place : ℕ) → get_or y.keys place None ≢ Some first
-  elsewhere place has = (sound.well_formed.subscribers y.id Q (present f sound j y end.stands)).expired_apart lost expired-lost
+  elsewhere place has = (sound.well_formed.subscribers y.id (seen_subscriber f y) (present f sound j y end.stands)).expired_apart lost expired-lost
       (place, occupant-receiver_ends f.connections y.keys place ∙ ap (publisher_of_key f.connections) has ∙ ap (option_map (λ (e : Link). e.home.publisher)) old.link)
 
   apart : key ≢ first
   apart same = elsewhere i (end.has ∙ ap Some same)
 
-  module _ (nothing_borrowed : has_borrows (s.mailboxes lost y.id) ≡ false)
+  module _ (nothing_borrowed : has_borrows ((seen f).mailboxes lost y.id) ≡ false)
       (b : Book) (at_b : get f.books d.home.book ≡ Some b) (mine : b.publisher ≡ lost)
       (holders : List ℕ) (new : Slab Link) (removes : RemovesDropped b.holders f.connections first d holders new) where
     abbrev pub told : WarningRing
@@ -142,29 +133,29 @@ module _ {T U : Type 0} (f : Fields T U) (sound : IsDomain f) (j i : ℕ) (y : S
     leads : publisher_of_key new (Some key) ≡ Some p
     leads = ap (option_map (λ (e : Link). e.home.publisher)) stays
 
-    ends-are : receiver_ends new (set_place y.keys i None) ≡ set_place Q.ends i None
+    ends-are : receiver_ends new (set_place y.keys i None) ≡ set_place (seen_subscriber f y).ends i None
     ends-are =
         map-set_place (publisher_of_key new) refl y.keys i None
         ∙ ap (λ ends. set_place ends i None) (ends-removed f sound j y end.stands first d old.link lost-departed old.unborrowed b at_b mine holders new removes y.keys (without first y.expired) fits)
 
-    expired-are : occupants (receiver_ends new (map Some (without first y.expired ++ key ∷ []))) ≡ without lost Q.expired ++ p ∷ []
+    expired-are : occupants (receiver_ends new (map Some (without first y.expired ++ key ∷ []))) ≡ without lost (seen_subscriber f y).expired ++ p ∷ []
     expired-are =
         occupants-pushed (publisher_of_key new) (without first y.expired) key p leads
         ∙ ap (λ ends. occupants ends ++ p ∷ []) (expired-removed f sound j y end.stands first d old.link lost-departed old.unborrowed b at_b mine holders new removes y.keys (without first y.expired) fits)
         ∙ ap (λ ns. ns ++ p ∷ []) (occupants-without (publisher_of_key f.connections) y.expired first lost (λ k has.
         let e = own k has in
-        (e.0.home.publisher, ap (option_map (λ (l : Link). l.home.publisher)) e.1, same-lead f parts y.id k first e.0 d e.1 old.link e.2.subscriber its)))
+        (e.0.home.publisher, ap (option_map (λ (l : Link). l.home.publisher)) e.1, same-lead f sound.parts y.id k first e.0 d e.1 old.link e.2.subscriber its)))
 
-    state : state_of (kept_of replaced_fields) ≡ with_channels_of replaced_fields (with_receiver_side s y.id Q (retired_side f sound j i y key c end (Evict lost)))
+    state : state_of (kept_of replaced_fields) ≡ with_channels_of replaced_fields (with_receiver_side (seen f) y.id (seen_subscriber f y) (retired_side f sound j i y key c end (Evict lost)))
     state =
         (λ k. record (left-is evicted evicted-parts j mid mid-stands (set_place y.keys i None) (without first y.expired ++ key ∷ []) y.is_due new end-fits k) { warnings = warned f.warnings.items (ExpiredDataDiscarded lost y.id) })
         ∙ (λ k. with_channels_of replaced_fields (record (removed-is f sound j y end.stands first d old.link lost-departed old.unborrowed b at_b mine holders new removes y.keys (without first y.expired) fits k) {
           subscribers = put_at ((removed-is f sound j y end.stands first d old.link lost-departed old.unborrowed b at_b mine holders new removes y.keys (without first y.expired) fits k).subscribers) y.id
-              (Some (record Q { ends = ends-are k; expired = expired-are k; is_due = y.is_due }));
+              (Some (record (seen_subscriber f y) { ends = ends-are k; expired = expired-are k; is_due = y.is_due }));
           warnings = warned f.warnings.items (ExpiredDataDiscarded lost y.id);
         }))
-        ∙ (λ k. with_channels_of replaced_fields (record (with_receiver_side s y.id Q (retired_side f sound j i y key c end (Evict lost))) {
-          subscribers = put_at-twice s.subscribers y.id (Some (record Q { ends = receiver_ends f.connections y.keys; expired = occupants (receiver_ends f.connections (map Some (without first y.expired))); is_due = y.is_due })) (Some (record Q { ends = set_place Q.ends i None; expired = without lost Q.expired ++ p ∷ []; is_due = y.is_due })) k;
+        ∙ (λ k. with_channels_of replaced_fields (record (with_receiver_side (seen f) y.id (seen_subscriber f y) (retired_side f sound j i y key c end (Evict lost))) {
+          subscribers = put_at-twice (seen f).subscribers y.id (Some (record (seen_subscriber f y) { ends = receiver_ends f.connections y.keys; expired = occupants (receiver_ends f.connections (map Some (without first y.expired))); is_due = y.is_due })) (Some (record (seen_subscriber f y) { ends = set_place (seen_subscriber f y).ends i None; expired = without lost (seen_subscriber f y).expired ++ p ∷ []; is_due = y.is_due })) k;
         }))
 
     pub evicts : ChangesReceiverTo (IsDomainBut d.home.book) f j y (retired_side f sound j i y key c end (Evict lost)) replaced_fields
@@ -174,11 +165,11 @@ module _ {T U : Type 0} (f : Fields T U) (sound : IsDomain f) (j i : ℕ) (y : S
           (dropped-lone f sound j y end.stands first d old.link lost-departed old.unborrowed b at_b mine holders new removes)
           (dropped-kept f sound j y end.stands first d old.link lost-departed old.unborrowed b at_b mine holders new removes)
           (dropped-gone f sound j y end.stands first d old.link lost-departed old.unborrowed b at_b mine holders new removes)
-          (subst IsWellFormed (sym state) (with_all_channels_keeps (with_receiver_side s y.id Q (retired_side f sound j i y key c end (Evict lost))) (with_receiver_side_keeps s sound.well_formed y.id Q (retired_side f sound j i y key c end (Evict lost)) (present f sound j y end.stands)
-          (evicted_keeps s y.id side i p (side-well_formed f sound j y end.stands) (here f sound j i y key c end) (absent f sound j i y key c end) lost expired-lost nothing_borrowed)) (state_of (kept_of replaced_fields)).channels))
+          (subst IsWellFormed (sym state) (with_all_channels_keeps (with_receiver_side (seen f) y.id (seen_subscriber f y) (retired_side f sound j i y key c end (Evict lost))) (with_receiver_side_keeps (seen f) sound.well_formed y.id (seen_subscriber f y) (retired_side f sound j i y key c end (Evict lost)) (present f sound j y end.stands)
+          (evicted_keeps (seen f) y.id side i p (side-well_formed f sound j y end.stands) (here f sound j i y key c end) (absent f sound j i y key c end) lost expired-lost nothing_borrowed)) (state_of (kept_of replaced_fields)).channels))
           (λ r n held. dropped-keeps f sound j y end.stands first d old.link lost-departed old.unborrowed b at_b mine holders new removes r n
           (held-before (state_of (kept_of between)) (state_of (kept_of replaced_fields)) r n
-          (λ q. ap (λ (t : State T U). t.mailboxes r q) state ∙ sym (ap (λ boxes. boxes r q) (dropped-box s.mailboxes lost y.id (waiting_dropped (s.mailboxes lost y.id)))) ∙ sym (ap (λ (t : State T U). t.mailboxes r q) is))
+          (λ q. ap (λ (t : State T U). t.mailboxes r q) state ∙ sym (ap (λ boxes. boxes r q) (dropped-box (seen f).mailboxes lost y.id (waiting_dropped ((seen f).mailboxes lost y.id)))) ∙ sym (ap (λ (t : State T U). t.mailboxes r q) is))
           (λ w at_w. (w, ap (λ (t : State T U). t.publishers r) is ∙ sym (ap (λ (t : State T U). t.publishers r) state) ∙ at_w, record { history = refl; blocked = refl })) held));
       keys = set_place y.keys i None;
       key_room = y.key_room;
@@ -194,5 +185,5 @@ module _ {T U : Type 0} (f : Fields T U) (sound : IsDomain f) (j i : ℕ) (y : S
       between : Fields T U
       between = dropped_fields f sound j y end.stands first d old.link lost-departed old.unborrowed b at_b mine holders new removes
 
-      is : state_of (kept_of between) ≡ record s { mailboxes = with_box s.mailboxes lost y.id (waiting_dropped (s.mailboxes lost y.id)) }
+      is : state_of (kept_of between) ≡ record (seen f) { mailboxes = with_box (seen f).mailboxes lost y.id (waiting_dropped ((seen f).mailboxes lost y.id)) }
       is = dropped-is f sound j y end.stands first d old.link lost-departed old.unborrowed b at_b mine holders new removes

@@ -15,7 +15,7 @@ use Rattle.iox2_domain.specs.WarningRing.{WarningRing}
 use Rattle.iox2_domain.specs.Ports.{SubscriberFields}
 use Rattle.iox2_domain.specs.Kept.{state_of}
 use Rattle.iox2_domain.specs.Fields.{Fields, kept_of}
-use Rattle.iox2_domain.specs.Invariant.{IsDomain, IsLinked, HasBooks, IsCounted, ReceiverHas, is_subscriber, own_holders, details_of}
+use Rattle.iox2_domain.specs.Invariant.{IsDomain, IsLinked, IsCounted, ReceiverHas, is_subscriber, own_holders, details_of}
 use Rattle.iox2_domain.proofs.lemmas.containers.LookUps.{map-at, viewed}
 use Rattle.iox2_domain.proofs.lemmas.fields.Views.{held-before}
 use Rattle.iox2_domain.proofs.lemmas.containers.ChangedRecords.{changed-here, changed-stood, changed-still, changed-only}
@@ -26,6 +26,7 @@ use Rattle.iox2_steps.proofs.receivers.JoinChanges.{receiver-is}
 use Rattle.std.proofs.lemmas.Bool.{true≢false}
 use Rattle.iox2_domain.proofs.lemmas.fields.OpenReceivers.{open-changed}
 use Rattle.iox2_domain.proofs.lemmas.fields.Standing.{one-publisher, one-subscriber}
+use Rattle.iox2_domain.proofs.lemmas.fields.Parts.{other_parts}
 
 module _ {T U : Type 0} (f : Fields T U) (sound : IsDomain f) (j : ℕ) (y : SubscriberFields) (at : get_or f.subscribers j None ≡ Some y)
     (keys : List (Option ℕ)) (key_room expired_room : ℕ) (is_due : Bool) (connections : Slab Link) (warnings : WarningRing) (fits : FitsReceiver f j y keys key_room expired_room connections) where
@@ -168,49 +169,27 @@ module _ {T U : Type 0} (f : Fields T U) (sound : IsDomain f) (j : ℕ) (y : Sub
     ];
   }
 
-  books : HasBooks after
-  books = record {
-    one_each = sound.parts.books.one_each;
-    books = sound.parts.books.books;
-    publishers = λ k z at_z. let has = sound.parts.books.publishers k z at_z in
-        record { book = has.book; stands = has.stands; is_its = has.is_its; node = has.node; slots = has.slots; room = has.room };
-    no_others = sound.parts.books.no_others;
-  }
-
   counted : IsCounted after
   counted = record { at = λ p slot. sound.parts.counted.at p slot ∙ ap (λ n. own_holders f p slot + n) (sym (fits.extends.sums p slot)) }
 
   -- the invariant is kept
   pub receiver-agrees : warnings.capacity ≡ warning_limit → IsWellFormed (state_of (kept_of after)) → IsDomain after
   receiver-agrees room well = record {
-    parts = record {
-      publisher_ids = sound.parts.publisher_ids;
-      subscriber_ids = λ q. changed-only f.subscribers j y changed at (is_subscriber q) refl (sound.parts.subscriber_ids q);
-      apart = fits.extends.apart;
-      linked = linked;
-      expired_room = record {
-        at = λ k z at_z. elim (stood k z at_z) [
-          | inl here ↦ rw here.1 (let was_enough = fits.rooms.at j y at in let grows = fits.expired_grows in omega arith)
-          | inr old ↦ fits.rooms.at k z old
-        ];
-      };
-      books = books;
-      names = record {
-        at = λ key c at_c. elim (fits.news key c at_c) [
-          | inl old ↦ sound.parts.names.at key c old
-          | inr new ↦ let has = sound.parts.books.publishers c.home.publisher_place new.publisher new.stands in
-              rw new.book (record { book = has.book; stands = has.stands; is_its = has.is_its ∙ new.is_its })
-        ];
-      };
-      counted = counted;
-      numbered = sound.parts.numbered;
-      publisher_room = sound.parts.publisher_room;
-      warning_room = room;
-      shapes = record { at = sound.parts.shapes.at };
-      forms = sound.parts.forms;
-      open_loans = sound.parts.open_loans;
-      plain = sound.parts.plain;
-    };
+    parts = other_parts f sound.parts after (λ q. changed-only f.subscribers j y changed at (is_subscriber q) refl (sound.parts.subscriber_ids q)) fits.extends.apart linked
+        (record {
+          at = λ k z at_z. elim (stood k z at_z) [
+            | inl here ↦ rw here.1 (let was_enough = fits.rooms.at j y at in let grows = fits.expired_grows in omega arith)
+            | inr old ↦ fits.rooms.at k z old
+          ];
+        })
+        (record {
+          at = λ key c at_c. elim (fits.news key c at_c) [
+            | inl old ↦ sound.parts.names.at key c old
+            | inr new ↦ let has = sound.parts.books.publishers c.home.publisher_place new.publisher new.stands in
+                rw new.book (record { book = has.book; stands = has.stands; is_its = has.is_its ∙ new.is_its })
+          ];
+        })
+        counted room;
     lone = sound.lone;
     kept_books = record { at = sound.kept_books.at };
     well_formed = well;

@@ -14,7 +14,7 @@ use Rattle.iox2_slots.specs.Link.{Link, empty_link}
 use Rattle.iox2_store.specs.machine.Numbers.{put_at}
 use Rattle.iox2_store.specs.machine.Places.{occupant, set_place, is_port}
 use Rattle.iox2_store.specs.machine.Records.{Publisher, Subscriber, Environment}
-use Rattle.iox2_store.specs.machine.State.{State, has_sender_end}
+use Rattle.iox2_store.specs.machine.State.{has_sender_end}
 use Rattle.iox2_store.specs.machine.SubscriberUpdate.{ReceiverSide, ConnectReceiver, with_receiver_side}
 use Rattle.iox2_store.specs.machine.WellFormed.{IsWellFormed}
 use Rattle.iox2_store.specs.declared.degradation.DegradationAction.{DegradationAction}
@@ -30,7 +30,7 @@ use Rattle.iox2_domain.specs.WarningRing.{WarningRing, warning_ring}
 use Rattle.iox2_domain.specs.Ports.{PublisherFields, SubscriberFields}
 use Rattle.iox2_domain.specs.Kept.{state_of}
 use Rattle.iox2_domain.specs.Invariant.{HasParts, IsDomain, connection_count}
-use Rattle.iox2_domain.specs.Fields.{Fields, kept_of, publisher_of, subscriber_of}
+use Rattle.iox2_domain.specs.Fields.{Fields, kept_of, publisher_of}
 use Rattle.iox2_domain.specs.Updates.{MakesConnection, home_of}
 use Rattle.iox2_domain.specs.ReceiverSteps.{current_side, ConnectsEnd}
 use Rattle.iox2_domain.proofs.lemmas.containers.ConnectionKeys.{map-set_place, set_place-here, set_place-keeps, set_place-stood}
@@ -44,15 +44,10 @@ use Rattle.iox2_steps.proofs.updates.ReceiverChanges.{FitsReceiver}
 use Rattle.iox2_steps.proofs.receivers.LeftChanges.{present, side-well_formed}
 use Rattle.iox2_steps.proofs.receivers.JoinChanges.{joins-follow, receiver-is, receiver_fits-same}
 use Rattle.iox2_steps.proofs.receivers.JoinAgrees.{receiver-agrees}
+use Rattle.iox2_domain.proofs.lemmas.fields.NamedPorts.{seen, seen_subscriber}
 
 module _ {T U : Type 0} (environment : Environment) (f : Fields T U) (sound : IsDomain f) (i j : ℕ) (x : PublisherFields) (y : SubscriberFields)
     (at_x : get_or f.publishers i None ≡ Some x) (at_y : get_or f.subscribers j None ≡ Some y) (none : get_or y.keys i None ≡ None) where
-  abbrev s : State T U
-  s = state_of (kept_of f)
-
-  abbrev Q : Subscriber
-  Q = (subscriber_of f.books f.connections y).port
-
   abbrev parts : HasParts f
   parts = sound.parts
 
@@ -65,7 +60,7 @@ module _ {T U : Type 0} (environment : Environment) (f : Fields T U) (sound : Is
   -- the subscriber's side with these keys, connections and warnings
   abbrev side_with : List (Option ℕ) → Slab Link → WarningRing → ReceiverSide
   side_with keys connections warnings =
-      record { ends = receiver_ends connections keys; expired = Q.expired; is_due = y.is_due; mailboxes = λ p. s.mailboxes p y.id; warnings = warnings.items }
+      record { ends = receiver_ends connections keys; expired = (seen_subscriber f y).expired; is_due = y.is_due; mailboxes = λ p. (seen f).mailboxes p y.id; warnings = warnings.items }
 
   -- the fields with these
   abbrev pub joined_fields : List (Option ℕ) → Slab Link → WarningRing → Fields T U
@@ -74,9 +69,9 @@ module _ {T U : Type 0} (environment : Environment) (f : Fields T U) (sound : Is
 
   abbrev Step : ReceiverSide → Option ConnectionFailure → Type 0
   Step side failure =
-      ConnectReceiver environment (f.config).service_id y.id Q.degradation_handler (expired_limit f.config) (λ r. has_sender_end s r y.id) (current_side s y.id Q) i x.id side failure
+      ConnectReceiver environment (f.config).service_id y.id (seen_subscriber f y).degradation_handler (expired_limit f.config) (λ r. has_sender_end (seen f) r y.id) (current_side (seen f) y.id (seen_subscriber f y)) i x.id side failure
 
-  no_end : occupant Q.ends i ≡ None
+  no_end : occupant (seen_subscriber f y).ends i ≡ None
   no_end = occupant-receiver_ends f.connections y.keys i ∙ ap (publisher_of_key f.connections) none
 
   -- the machine's step is done where the fields change so
@@ -92,34 +87,34 @@ module _ {T U : Type 0} (environment : Environment) (f : Fields T U) (sound : Is
       expired_room = y.expired_room;
       fields = refl;
       others = refl;
-      state = but-channels (joined_fields keys connections warnings) (with_receiver_side s y.id Q (side_with keys connections warnings)) state;
+      state = but-channels (joined_fields keys connections warnings) (with_receiver_side (seen f) y.id (seen_subscriber f y) (side_with keys connections warnings)) state;
       channels = joins-follow f sound.parts j y at_y keys y.key_room y.expired_room y.is_due connections warnings fits;
       entries = λ n entry e. e;
     },
     step,
   ) where
-    state : state_of (kept_of (joined_fields keys connections warnings)) ≡ with_receiver_side s y.id Q (side_with keys connections warnings)
+    state : state_of (kept_of (joined_fields keys connections warnings)) ≡ with_receiver_side (seen f) y.id (seen_subscriber f y) (side_with keys connections warnings)
     state =
         receiver-is f sound.parts j y at_y keys y.key_room y.expired_room y.is_due connections warnings fits
-        ∙ (λ k. record s {
-          subscribers = put_at s.subscribers y.id (Some (record Q { ends = receiver_ends connections keys; is_due = y.is_due }));
-          mailboxes = λ p. put_at-own (s.mailboxes p) y.id k;
+        ∙ (λ k. record (seen f) {
+          subscribers = put_at (seen f).subscribers y.id (Some (record (seen_subscriber f y) { ends = receiver_ends connections keys; is_due = y.is_due }));
+          mailboxes = λ p. put_at-own ((seen f).mailboxes p) y.id k;
           warnings = warnings.items;
         })
 
-    well : IsWellFormed (with_receiver_side s y.id Q (side_with keys connections warnings))
-    well = with_receiver_side_keeps s sound.well_formed y.id Q (side_with keys connections warnings) (present f sound j y at_y)
-        (connect_at_place_keeps environment s sound.well_formed y.id Q.degradation_handler (λ r. has_sender_end s r y.id) i
-        (current_side s y.id Q) (side_with keys connections warnings) failure (side-well_formed f sound j y at_y)
-        (connect-makes environment (f.config).service_id y.id Q.degradation_handler (expired_limit f.config) (λ r. has_sender_end s r y.id) i x.id
-        (occupant s.publisher_places i) (current_side s y.id Q) (publisher-listed f sound.parts i x at_x) (side_with keys connections warnings) failure no_end step))
+    well : IsWellFormed (with_receiver_side (seen f) y.id (seen_subscriber f y) (side_with keys connections warnings))
+    well = with_receiver_side_keeps (seen f) sound.well_formed y.id (seen_subscriber f y) (side_with keys connections warnings) (present f sound j y at_y)
+        (connect_at_place_keeps environment (seen f) sound.well_formed y.id (seen_subscriber f y).degradation_handler (λ r. has_sender_end (seen f) r y.id) i
+        (current_side (seen f) y.id (seen_subscriber f y)) (side_with keys connections warnings) failure (side-well_formed f sound j y at_y)
+        (connect-makes environment (f.config).service_id y.id (seen_subscriber f y).degradation_handler (expired_limit f.config) (λ r. has_sender_end (seen f) r y.id) i x.id
+        (occupant (seen f).publisher_places i) (current_side (seen f) y.id (seen_subscriber f y)) (publisher-listed f sound.parts i x at_x) (side_with keys connections warnings) failure no_end step))
 
   abbrev keys_with : (key : ℕ) → List (Option ℕ)
   keys_with key = set_place y.keys i (Some key)
 
   -- where the new key leads to the publisher, the new ends are the machine's
-  leads : (connections : Slab Link) (key : ℕ) (c : Link) → receiver_ends connections y.keys ≡ Q.ends → get connections key ≡ Some c → c.home.publisher ≡ x.id
-      → receiver_ends connections (keys_with key) ≡ set_place Q.ends i (Some x.id)
+  leads : (connections : Slab Link) (key : ℕ) (c : Link) → receiver_ends connections y.keys ≡ (seen_subscriber f y).ends → get connections key ≡ Some c → c.home.publisher ≡ x.id
+      → receiver_ends connections (keys_with key) ≡ set_place (seen_subscriber f y).ends i (Some x.id)
   leads connections key c same at to =
       map-set_place (publisher_of_key connections) refl y.keys i (Some key)
       ∙ (λ k. set_place (same k) i ((ap (option_map (λ (d : Link). d.home.publisher)) at ∙ ap Some to) k))
@@ -150,8 +145,8 @@ module _ {T U : Type 0} (environment : Environment) (f : Fields T U) (sound : Is
   ]
 
   -- the end is made where the keys lead to it
-  makes-end : (keys : List (Option ℕ)) (connections : Slab Link) → receiver_ends connections keys ≡ set_place Q.ends i (Some x.id) → Step (side_with keys connections f.warnings) None
-  makes-end keys connections to = inl (λ k. record (current_side s y.id Q) { ends = to k }, refl)
+  makes-end : (keys : List (Option ℕ)) (connections : Slab Link) → receiver_ends connections keys ≡ set_place (seen_subscriber f y).ends i (Some x.id) → Step (side_with keys connections f.warnings) None
+  makes-end keys connections to = inl (λ k. record (current_side (seen f) y.id (seen_subscriber f y)) { ends = to k }, refl)
 
   -- the subscriber joins the publisher's connection
   pub joins-connection : (key : ℕ) (c : Link) → get_or x.keys j None ≡ Some key → get f.connections key ≡ Some c → c.home.subscriber ≡ y.id
@@ -227,9 +222,9 @@ module _ {T U : Type 0} (environment : Environment) (f : Fields T U) (sound : Is
         (makes-end (keys_with key) new
         (leads new key link (receiver_ends-same f.connections new (extends-made key new made) y.id most y.keys (sound.parts.linked.receivers j y at_y)) made.made.changed refl))
 
-    no_sender : has_sender_end s x.id y.id ≡ false
+    no_sender : has_sender_end (seen f) x.id y.id ≡ false
     no_sender =
-        ap (λ o. option_map_or (λ (w : Publisher). option_map_or (λ (z : Subscriber). is_port (occupant w.ends z.place) y.id) (s.subscribers y.id) false) o false) (publisher-stands f sound.parts i x at_x)
+        ap (λ o. option_map_or (λ (w : Publisher). option_map_or (λ (z : Subscriber). is_port (occupant w.ends z.place) y.id) ((seen f).subscribers y.id) false) o false) (publisher-stands f sound.parts i x at_x)
         ∙ ap (λ o. option_map_or (λ (z : Subscriber). is_port (occupant ((publisher_of f.books f.connections x).port).ends z.place) y.id) o false) (subscriber-stands f sound.parts j y at_y)
         ∙ ap (λ o. is_port o y.id)
         (ap (occupant ((publisher_of f.books f.connections x).port).ends) (subscriber-place f sound.parts sound.well_formed j y at_y)

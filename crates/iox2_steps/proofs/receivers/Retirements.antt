@@ -10,7 +10,6 @@ use Rattle.iox2_store.specs.machine.Limits.{warning_limit, expired_limit}
 use Rattle.iox2_store.specs.machine.Mailbox.{has_borrows, waiting_dropped}
 use Rattle.iox2_store.specs.machine.Numbers.{put_at, contains}
 use Rattle.iox2_store.specs.machine.Places.{occupant, set_place}
-use Rattle.iox2_store.specs.machine.Records.{Publisher, Subscriber}
 use Rattle.iox2_store.specs.machine.State.{State, warned}
 use Rattle.iox2_store.specs.machine.SubscriberUpdate.{ReceiverSide, Retirement, Keep_expired, Discard_data, Refuse, after_retirement, with_end, with_receiver_side}
 use Rattle.iox2_store.specs.declared.warning.Warning.TheVariants.{ExpiredDataDiscarded}
@@ -26,11 +25,10 @@ use Rattle.iox2_laws.proofs.PortChanges.{with_all_channels_keeps}
 use Rattle.iox2_domain.specs.WarningRing.{WarningRing, warning_ring}
 use Rattle.iox2_domain.specs.Ports.{SubscriberFields}
 use Rattle.iox2_store.specs.machine.WellFormed.{IsWellFormed}
-use Rattle.iox2_domain.specs.Kept.{Named, state_of, is_named}
-use Rattle.iox2_domain.specs.Invariant.{HasParts, IsDomain, IsDomainBut, StandsNowhere, is_publisher}
-use Rattle.iox2_domain.specs.Fields.{Fields, kept_of, publisher_of, subscriber_of}
+use Rattle.iox2_domain.specs.Kept.{state_of}
+use Rattle.iox2_domain.specs.Invariant.{IsDomain, IsDomainBut, StandsNowhere, is_publisher}
+use Rattle.iox2_domain.specs.Fields.{Fields, kept_of, publisher_of}
 use Rattle.iox2_domain.specs.ReceiverSteps.{current_side, HasDepartedEnd, ChangesReceiverTo, ChangesReceiver}
-use Rattle.iox2_domain.proofs.lemmas.containers.LookUps.{look_up-map}
 use Rattle.iox2_domain.proofs.lemmas.containers.ConnectionKeys.{map-set_place}
 use Rattle.iox2_domain.proofs.lemmas.fields.Standing.{leads-among, occupant-receiver_ends, receiver-link}
 use Rattle.iox2_domain.proofs.lemmas.fields.Views.{held-before}
@@ -40,22 +38,14 @@ use Rattle.iox2_steps.proofs.receivers.LeftEnds.{IsDeparted, LeavesReceiver, lef
 use Rattle.iox2_steps.proofs.receivers.LeftStates.{left-still, occupants-pushed}
 use Rattle.iox2_steps.proofs.receivers.LeftChanges.{parts-warned, present, side-well_formed, left-changes}
 use Rattle.iox2_steps.proofs.receivers.DroppedEnds.{dropped-follows, dropped_fields, dropped-is, dropped-box, dropped-lone, dropped-kept, dropped-gone, dropped-entries, dropped-keeps, place-fits, removed_fields, removed-parts, removed-is}
+use Rattle.iox2_domain.proofs.lemmas.fields.NamedPorts.{seen, seen_subscriber, named-nowhere}
 
 module _ {T U : Type 0} (f : Fields T U) (sound : IsDomain f) (j i : ℕ) (y : SubscriberFields) (key : ℕ) (c : Link) (end : HasDepartedEnd f j i y key c) where
-  abbrev s : State T U
-  s = state_of (kept_of f)
-
-  abbrev Q : Subscriber
-  Q = (subscriber_of f.books f.connections y).port
-
   abbrev p : ℕ
   p = c.home.publisher
 
-  abbrev parts : HasParts f
-  parts = sound.parts
-
   abbrev side : ReceiverSide
-  side = current_side s y.id Q
+  side = current_side (seen f) y.id (seen_subscriber f y)
 
   -- what the retirement leaves
   abbrev pub retired_side : Retirement → ReceiverSide
@@ -76,18 +66,15 @@ module _ {T U : Type 0} (f : Fields T U) (sound : IsDomain f) (j i : ℕ) (y : S
   leads : publisher_of_key f.connections (Some key) ≡ Some p
   leads = ap (option_map (λ (d : Link). d.home.publisher)) end.link
 
-  pub here : occupant Q.ends i ≡ Some p
+  pub here : occupant (seen_subscriber f y).ends i ≡ Some p
   here = occupant-receiver_ends f.connections y.keys i ∙ ap (publisher_of_key f.connections) end.has ∙ leads
 
-  pub absent : s.publishers p ≡ None
-  absent =
-      ap (option_map (λ (z : Named Publisher). z.port))
-      (look_up-map (is_named p) (publisher_of f.books f.connections) f.publishers
-      ∙ ap (option_map (publisher_of f.books f.connections)) (look_up-nothing (is_publisher p) f.publishers (λ k x at_x. ne_eqb x.id p (nowhere k x at_x))))
+  pub absent : (seen f).publishers p ≡ None
+  absent = named-nowhere (publisher_of f.books f.connections) p f.publishers (look_up-nothing (is_publisher p) f.publishers (λ k x at_x. ne_eqb x.id p (nowhere k x at_x)))
 
   pub unexpired : contains y.expired key ≡ false
   unexpired = false_from (contains y.expired key) (λ has.
-      (sound.well_formed.subscribers y.id Q (present f sound j y end.stands)).expired_apart p (leads-among f.connections y.expired key c has end.link) (i, here))
+      (sound.well_formed.subscribers y.id (seen_subscriber f y) (present f sound j y end.stands)).expired_apart p (leads-among f.connections y.expired key c has end.link) (i, here))
 
   -- ---- it is kept among the expired ones
 
@@ -95,18 +82,18 @@ module _ {T U : Type 0} (f : Fields T U) (sound : IsDomain f) (j i : ℕ) (y : S
   expired_fields =
       left_fields f sound.parts j y end.stands (set_place y.keys i None) (y.expired ++ key ∷ []) y.is_due f.connections (end-expires f sound.parts j y end.stands i key end.has)
 
-  pub expires : length Q.expired < expired_limit f.config → ChangesReceiver f j y (retired_side Keep_expired) expired_fields
+  pub expires : length (seen_subscriber f y).expired < expired_limit f.config → ChangesReceiver f j y (retired_side Keep_expired) expired_fields
   expires room =
-      left-changes f sound j y end.stands (set_place y.keys i None) (y.expired ++ key ∷ []) (end-expires f parts j y end.stands i key end.has) (retired_side Keep_expired)
-      (kept_expired_keeps s y.id side i p (side-well_formed f sound j y end.stands) here absent room)
-      (left-still f parts j y end.stands (set_place y.keys i None) (y.expired ++ key ∷ []) y.is_due (end-expires f parts j y end.stands i key end.has)
-      ∙ (λ k. record s {
-        subscribers = put_at s.subscribers y.id (Some (record Q {
+      left-changes f sound j y end.stands (set_place y.keys i None) (y.expired ++ key ∷ []) (end-expires f sound.parts j y end.stands i key end.has) (retired_side Keep_expired)
+      (kept_expired_keeps (seen f) y.id side i p (side-well_formed f sound j y end.stands) here absent room)
+      (left-still f sound.parts j y end.stands (set_place y.keys i None) (y.expired ++ key ∷ []) y.is_due (end-expires f sound.parts j y end.stands i key end.has)
+      ∙ (λ k. record (seen f) {
+        subscribers = put_at (seen f).subscribers y.id (Some (record (seen_subscriber f y) {
           ends = map-set_place (publisher_of_key f.connections) refl y.keys i None k;
           expired = occupants-pushed (publisher_of_key f.connections) y.expired key p leads k;
           is_due = y.is_due;
         }));
-        mailboxes = λ r. put_at-own (s.mailboxes r) y.id k;
+        mailboxes = λ r. put_at-own ((seen f).mailboxes r) y.id k;
       }))
 
   -- ---- it is refused
@@ -116,14 +103,14 @@ module _ {T U : Type 0} (f : Fields T U) (sound : IsDomain f) (j i : ℕ) (y : S
 
   pub refuses : ChangesReceiver f j y (after_retirement y.id side p Refuse) refused_fields
   refuses =
-      left-changes f sound j y end.stands y.keys y.expired (nothing-leaves f parts j y end.stands) (after_retirement y.id side p Refuse)
-      (receiver_side_marked s y.id side true s.warnings (side-well_formed f sound j y end.stands))
-      (left-still f parts j y end.stands y.keys y.expired true (nothing-leaves f parts j y end.stands)
-      ∙ (λ k. record s { subscribers = put_at s.subscribers y.id (Some (record Q { is_due = true })); mailboxes = λ r. put_at-own (s.mailboxes r) y.id k }))
+      left-changes f sound j y end.stands y.keys y.expired (nothing-leaves f sound.parts j y end.stands) (after_retirement y.id side p Refuse)
+      (receiver_side_marked (seen f) y.id side true (seen f).warnings (side-well_formed f sound j y end.stands))
+      (left-still f sound.parts j y end.stands y.keys y.expired true (nothing-leaves f sound.parts j y end.stands)
+      ∙ (λ k. record (seen f) { subscribers = put_at (seen f).subscribers y.id (Some (record (seen_subscriber f y) { is_due = true })); mailboxes = λ r. put_at-own ((seen f).mailboxes r) y.id k }))
 
   -- ---- what waits is lost
 
-  module _ (unborrowed : c.borrowed ≡ []) (nothing_borrowed : has_borrows (s.mailboxes p y.id) ≡ false)
+  module _ (unborrowed : c.borrowed ≡ []) (nothing_borrowed : has_borrows ((seen f).mailboxes p y.id) ≡ false)
       (b : Book) (at_b : get f.books c.home.book ≡ Some b) (mine : b.publisher ≡ p)
       (holders : List ℕ) (new : Slab Link) (removes : RemovesDropped b.holders f.connections key c holders new) where
     pub fits : LeavesReceiver (dropped_fields f sound j y end.stands key c end.link departed unborrowed b at_b mine holders new removes) y (set_place y.keys i None) y.expired new
@@ -136,11 +123,11 @@ module _ {T U : Type 0} (f : Fields T U) (sound : IsDomain f) (j i : ℕ) (y : S
     abbrev pub without_end : Fields T U
     without_end = record (removed_fields f sound j y end.stands key c end.link departed unborrowed b at_b mine holders new removes (set_place y.keys i None) y.expired fits) { warnings = told }
 
-    state : state_of (kept_of without_end) ≡ with_channels_of without_end (with_receiver_side s y.id Q (retired_side Discard_data))
+    state : state_of (kept_of without_end) ≡ with_channels_of without_end (with_receiver_side (seen f) y.id (seen_subscriber f y) (retired_side Discard_data))
     state =
         (λ k. record (removed-is f sound j y end.stands key c end.link departed unborrowed b at_b mine holders new removes (set_place y.keys i None) y.expired fits k) { warnings = warned f.warnings.items (ExpiredDataDiscarded p y.id) })
-        ∙ ap (with_channels_of without_end) (λ k. record (with_receiver_side s y.id Q (retired_side Discard_data)) {
-          subscribers = put_at s.subscribers y.id (Some (record Q { ends = map-set_place (publisher_of_key f.connections) refl y.keys i None k; is_due = y.is_due }));
+        ∙ ap (with_channels_of without_end) (λ k. record (with_receiver_side (seen f) y.id (seen_subscriber f y) (retired_side Discard_data)) {
+          subscribers = put_at (seen f).subscribers y.id (Some (record (seen_subscriber f y) { ends = map-set_place (publisher_of_key f.connections) refl y.keys i None k; is_due = y.is_due }));
         })
 
     pub discards : ChangesReceiverTo (IsDomainBut c.home.book) f j y (retired_side Discard_data) without_end
@@ -150,11 +137,11 @@ module _ {T U : Type 0} (f : Fields T U) (sound : IsDomain f) (j i : ℕ) (y : S
           (dropped-lone f sound j y end.stands key c end.link departed unborrowed b at_b mine holders new removes)
           (dropped-kept f sound j y end.stands key c end.link departed unborrowed b at_b mine holders new removes)
           (dropped-gone f sound j y end.stands key c end.link departed unborrowed b at_b mine holders new removes)
-          (subst IsWellFormed (sym state) (with_all_channels_keeps (with_receiver_side s y.id Q (retired_side Discard_data)) (with_receiver_side_keeps s sound.well_formed y.id Q (retired_side Discard_data) (present f sound j y end.stands)
-          (discarded_keeps s y.id side i p (side-well_formed f sound j y end.stands) here absent nothing_borrowed)) (state_of (kept_of without_end)).channels))
+          (subst IsWellFormed (sym state) (with_all_channels_keeps (with_receiver_side (seen f) y.id (seen_subscriber f y) (retired_side Discard_data)) (with_receiver_side_keeps (seen f) sound.well_formed y.id (seen_subscriber f y) (retired_side Discard_data) (present f sound j y end.stands)
+          (discarded_keeps (seen f) y.id side i p (side-well_formed f sound j y end.stands) here absent nothing_borrowed)) (state_of (kept_of without_end)).channels))
           (λ r n held. dropped-keeps f sound j y end.stands key c end.link departed unborrowed b at_b mine holders new removes r n
           (held-before (state_of (kept_of between)) (state_of (kept_of without_end)) r n
-          (λ q. ap (λ (t : State T U). t.mailboxes r q) state ∙ sym (ap (λ boxes. boxes r q) (dropped-box s.mailboxes p y.id (waiting_dropped (s.mailboxes p y.id)))) ∙ sym (ap (λ (t : State T U). t.mailboxes r q) is))
+          (λ q. ap (λ (t : State T U). t.mailboxes r q) state ∙ sym (ap (λ boxes. boxes r q) (dropped-box (seen f).mailboxes p y.id (waiting_dropped ((seen f).mailboxes p y.id)))) ∙ sym (ap (λ (t : State T U). t.mailboxes r q) is))
           (λ w at_w. (w, ap (λ (t : State T U). t.publishers r) is ∙ sym (ap (λ (t : State T U). t.publishers r) state) ∙ at_w, record { history = refl; blocked = refl })) held));
       keys = set_place y.keys i None;
       key_room = y.key_room;
@@ -169,5 +156,5 @@ module _ {T U : Type 0} (f : Fields T U) (sound : IsDomain f) (j i : ℕ) (y : S
       between : Fields T U
       between = dropped_fields f sound j y end.stands key c end.link departed unborrowed b at_b mine holders new removes
 
-      is : state_of (kept_of between) ≡ record s { mailboxes = with_box s.mailboxes p y.id (waiting_dropped (s.mailboxes p y.id)) }
+      is : state_of (kept_of between) ≡ record (seen f) { mailboxes = with_box (seen f).mailboxes p y.id (waiting_dropped ((seen f).mailboxes p y.id)) }
       is = dropped-is f sound j y end.stands key c end.link departed unborrowed b at_b mine holders new removes

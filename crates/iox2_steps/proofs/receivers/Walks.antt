@@ -117,33 +117,32 @@ module _ {T U : Type 0} (environment : Environment) (f : Fields T U) (sound : Is
     abbrev N : Subscriber
     N = (subscriber_of f'.books f'.connections now).port
 
+    -- whatever holds of the state on its way, holds from the start
+    again : (At : ServiceConfig → (ℕ → Bool) → List (Option ℕ) → ReceiverSide → Type 0)
+        → At f'.config (λ p. has_sender_end (state_of (kept_of f')) p y.id) (state_of (kept_of f')).publisher_places (current_side (state_of (kept_of f')) y.id N)
+        → At f.config (λ p. has_sender_end s p y.id) s.publisher_places side
+    again At step =
+        subst (At f.config (λ p. has_sender_end s p y.id) s.publisher_places) (side-again f sound j y at side f' ch)
+        (subst (λ (has : ℕ → Bool). At f.config has s.publisher_places (current_side (state_of (kept_of f')) y.id N)) (senders-again f sound j y at side f' ch)
+        (subst (λ (places : List (Option ℕ)). At f.config (λ p. has_sender_end (state_of (kept_of f')) p y.id) places (current_side (state_of (kept_of f')) y.id N)) (places-again f sound j y at side f' ch)
+        (subst (λ (config : ServiceConfig). At config (λ p. has_sender_end (state_of (kept_of f')) p y.id) (state_of (kept_of f')).publisher_places (current_side (state_of (kept_of f')) y.id N))
+        (config-again f sound j y at side f' ch) step)))
+
     -- in the first walk
     pub connect-again : (side' : ReceiverSide) (first : Option ConnectionFailure)
         → ConnectAtPlace environment (f'.config).service_id y.id N.degradation_handler (expired_limit f'.config) (λ p. has_sender_end (state_of (kept_of f')) p y.id) i (occupant (state_of (kept_of f')).publisher_places i)
         (current_side (state_of (kept_of f')) y.id N) side' first
         → AtConnect i (occupant s.publisher_places i) side side' first
-    connect-again side' first step =
-        subst (λ (from : ReceiverSide). AtConnect i (occupant s.publisher_places i) from side' first) (side-again f sound j y at side f' ch)
-        (subst (λ (has : ℕ → Bool). ConnectAtPlace environment (f.config).service_id y.id Q.degradation_handler (expired_limit f.config) has i (occupant s.publisher_places i) (current_side (state_of (kept_of f')) y.id N) side' first)
-        (senders-again f sound j y at side f' ch)
-        (subst (λ (places : List (Option ℕ)). ConnectAtPlace environment (f.config).service_id y.id Q.degradation_handler (expired_limit f.config) (λ p. has_sender_end (state_of (kept_of f')) p y.id) i (occupant places i) (current_side (state_of (kept_of f')) y.id N) side' first)
-        (places-again f sound j y at side f' ch)
-        (subst (λ (config : ServiceConfig). ConnectAtPlace environment config.service_id y.id Q.degradation_handler (expired_limit config) (λ p. has_sender_end (state_of (kept_of f')) p y.id) i (occupant (state_of (kept_of f')).publisher_places i) (current_side (state_of (kept_of f')) y.id N) side' first)
-        (config-again f sound j y at side f' ch) step)))
+    connect-again side' first =
+        again (λ config has places from. ConnectAtPlace environment config.service_id y.id Q.degradation_handler (expired_limit config) has i (occupant places i) from side' first)
 
     -- in the second
     pub disconnect-again : (side' : ReceiverSide) (first : Option ConnectionFailure)
         → DisconnectAtPlace environment (f'.config).service_id y.id N.degradation_handler (expired_limit f'.config) (λ p. has_sender_end (state_of (kept_of f')) p y.id) i (occupant (state_of (kept_of f')).publisher_places i)
         (current_side (state_of (kept_of f')) y.id N) side' first
         → AtEmpty i (occupant s.publisher_places i) side side' first
-    disconnect-again side' first step =
-        subst (λ (from : ReceiverSide). AtEmpty i (occupant s.publisher_places i) from side' first) (side-again f sound j y at side f' ch)
-        (subst (λ (has : ℕ → Bool). DisconnectAtPlace environment (f.config).service_id y.id Q.degradation_handler (expired_limit f.config) has i (occupant s.publisher_places i) (current_side (state_of (kept_of f')) y.id N) side' first)
-        (senders-again f sound j y at side f' ch)
-        (subst (λ (places : List (Option ℕ)). DisconnectAtPlace environment (f.config).service_id y.id Q.degradation_handler (expired_limit f.config) (λ p. has_sender_end (state_of (kept_of f')) p y.id) i (occupant places i) (current_side (state_of (kept_of f')) y.id N) side' first)
-        (places-again f sound j y at side f' ch)
-        (subst (λ (config : ServiceConfig). DisconnectAtPlace environment config.service_id y.id Q.degradation_handler (expired_limit config) (λ p. has_sender_end (state_of (kept_of f')) p y.id) i (occupant (state_of (kept_of f')).publisher_places i) (current_side (state_of (kept_of f')) y.id N) side' first)
-        (config-again f sound j y at side f' ch) step)))
+    disconnect-again side' first =
+        again (λ config has places from. DisconnectAtPlace environment config.service_id y.id Q.degradation_handler (expired_limit config) has i (occupant places i) from side' first)
 
   -- ---- the whole
 

@@ -15,7 +15,7 @@ use Rattle.iox2_ends.proofs.MailboxChanges.{within_if_some}
 use Rattle.iox2_domain.specs.Ports.{PublisherFields}
 use Rattle.iox2_domain.specs.Fields.{Fields, kept_of}
 use Rattle.iox2_domain.specs.Kept.{state_of}
-use Rattle.iox2_domain.specs.Invariant.{HasParts, KeepsBooks, IsLeft, IsOwned, IsUsed, is_publisher}
+use Rattle.iox2_domain.specs.Invariant.{HasParts, KeepsBooks, IsLeft, IsOwned, IsUsed, is_publisher, IsGone}
 use Rattle.iox2_domain.specs.LeftBooks.{with_book_gone}
 use Rattle.iox2_domain.specs.Midway.{ChangesBooks, IsMidway}
 use Rattle.iox2_domain.specs.Reaches.{Reaches}
@@ -67,35 +67,30 @@ module _ {T U : Type 0} (f : Fields T U) where
     entries = midway.entries;
   }
 
-  -- a book that is used, or whose publisher is found, is kept
-  pub kept-used : (before : Fields T U) (s : State T U) (key : ℕ) → IsMidway before f s key → ((b : Book) → get f.books key ≡ Some b → IsUsed b) → KeepsBooks f.next_port f.publishers f.books
-  kept-used before s key midway used = record {
+  -- a book is kept where it is used if its publisher is gone
+  kept-where : (before : Fields T U) (s : State T U) (key : ℕ) → IsMidway before f s key → ((b : Book) → get f.books key ≡ Some b → IsGone f.next_port f.publishers b.publisher → IsUsed b)
+      → KeepsBooks f.next_port f.publishers f.books
+  kept-where before s key midway used = record {
     at = λ k b at_b. elim (cases_eq k key) [
       | inr away ↦ midway.kept_books.others k b away at_b
       | inl here ↦
           let at_key : get f.books key ≡ Some b = sym (ap (get f.books) here) ∙ at_b in
           elim (midway.kept_books.own b at_key) [
             | inl owned ↦ subst (λ (i : ℕ). IsOwned f.publishers i b.publisher ⊎ IsLeft f.next_port f.publishers b) (sym here) (inl owned)
-            | inr left ↦ inr (left, used b at_key)
+            | inr left ↦ inr (left, used b at_key left)
           ]
     ];
   }
 
+  -- a book that is used, or whose publisher is found, is kept
+  pub kept-used : (before : Fields T U) (s : State T U) (key : ℕ) → IsMidway before f s key → ((b : Book) → get f.books key ≡ Some b → IsUsed b) → KeepsBooks f.next_port f.publishers f.books
+  kept-used before s key midway used = kept-where before s key midway (λ b at_b _. used b at_b)
+
   pub kept-found : (before : Fields T U) (s : State T U) (key : ℕ) → IsMidway before f s key → (b : Book) → get f.books key ≡ Some b → (look_up (is_publisher b.publisher) f.publishers ≡ None → ⊥) → KeepsBooks f.next_port f.publishers f.books
-  kept-found before s key midway b at_b stands = record {
-    at = λ k d at_d. elim (cases_eq k key) [
-      | inr away ↦ midway.kept_books.others k d away at_d
-      | inl here ↦
-          let at_key : get f.books key ≡ Some d = sym (ap (get f.books) here) ∙ at_d in
-          elim (midway.kept_books.own d at_key) [
-            | inl owned ↦ subst (λ (i : ℕ). IsOwned f.publishers i d.publisher ⊎ IsLeft f.next_port f.publishers d) (sym here) (inl owned)
-            | inr left ↦
-                let one : Some d ≡ Some b = sym at_key ∙ at_b in
-                let is : d ≡ b = cc in
-                absurd (stands (ap (λ (e : Book). look_up (is_publisher e.publisher) f.publishers) (sym is) ∙ none-stands f.next_port f.publishers d.publisher left))
-          ]
-    ];
-  }
+  kept-found before s key midway b at_b stands = kept-where before s key midway (λ d at_key left.
+      let one : Some d ≡ Some b = sym at_key ∙ at_b in
+      let is : d ≡ b = cc in
+      absurd (stands (ap (λ (e : Book). look_up (is_publisher e.publisher) f.publishers) (sym is) ∙ none-stands f.next_port f.publishers d.publisher left)))
 
 -- the book goes
 pub frees : {T U : Type 0} (f : Fields T U) (key : ℕ) (b : Book) → get f.books key ≡ Some b → ((slot : ℕ) → holders_at b slot ≡ 0) → look_up (is_publisher b.publisher) f.publishers ≡ None

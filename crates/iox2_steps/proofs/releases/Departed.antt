@@ -5,11 +5,11 @@ use Rattle.std.specs.Option.{option_map}
 use Rattle.slab.specs.Slab.{Slab, Updates, get}
 use Rattle.iox2_slots.specs.Link.{Link, load}
 use Rattle.iox2_store.specs.machine.Mailbox.{has_numbers, ChannelNumber}
-use Rattle.iox2_store.specs.machine.Numbers.{put_at}
+use Rattle.iox2_store.specs.machine.Numbers.{put_at, contains}
 use Rattle.iox2_store.specs.machine.Records.{Publisher, Subscriber}
 use Rattle.iox2_store.specs.machine.Releases.{is_connected, pruned, subscriber_pruned, unborrowed}
 use Rattle.iox2_store.specs.machine.State.{State, is_present}
-use Rattle.iox2_store.specs.machine.WellFormed.{IsWellFormed}
+use Rattle.iox2_store.specs.machine.WellFormed.{IsWellFormed, LeadsTo}
 use Rattle.iox2_ends.specs.Finds.{IsReceivers}
 use Rattle.iox2_ends.specs.LookUp.{look_up}
 use Rattle.iox2_ends.specs.Mailboxes.{publisher_of_key, mailbox_of, numbered}
@@ -18,10 +18,9 @@ use Rattle.iox2_ends.proofs.MailboxChanges.{is_between-own, mailbox-there}
 use Rattle.iox2_domain.specs.Departures.{key_forgotten}
 use Rattle.iox2_domain.specs.Fields.{Fields, kept_of, numbers_of, publisher_of, subscriber_of}
 use Rattle.iox2_domain.specs.Invariant.{SenderHas, is_publisher, HasParts}
-use Rattle.iox2_domain.specs.Kept.{Named, state_of, is_named}
+use Rattle.iox2_domain.specs.Kept.{state_of}
 use Rattle.iox2_domain.specs.Midway.{IsMidway, with_channels_of}
 use Rattle.iox2_domain.specs.Ports.{SubscriberFields}
-use Rattle.iox2_domain.proofs.lemmas.containers.LookUps.{look_up-map}
 use Rattle.iox2_domain.proofs.lemmas.fields.LostConnections.{unloaded}
 use Rattle.iox2_domain.proofs.lemmas.fields.Standing.{occupant-receiver_ends, some_is}
 use Rattle.iox2_domain.proofs.lemmas.fields.Views.{mailboxes-are}
@@ -29,12 +28,12 @@ use Rattle.iox2_steps.proofs.releases.Forgotten.{forgetting, forgetting-midway}
 use Rattle.iox2_steps.proofs.releases.ForgottenEnds.{ends-forgotten, expired-contains, expired-forgotten}
 use Rattle.iox2_steps.proofs.releases.Pruning.{others-connected, pruned-none}
 use Rattle.iox2_domain.proofs.lemmas.fields.ConnectionEnds.{subscriber-stands}
+use Rattle.std.specs.Prelude.{IsSomeAnd}
+use Rattle.iox2_domain.proofs.lemmas.fields.NamedPorts.{named-nowhere}
 
 -- a publisher that stands nowhere is gone
 pub gone-in : {T U : Type 0} (f : Fields T U) (p : ℕ) → look_up (is_publisher p) f.publishers ≡ None → (state_of (kept_of f)).publishers p ≡ None
-gone-in f p none =
-    ap (option_map (λ (z : Named Publisher). z.port))
-    (look_up-map (is_named p) (publisher_of f.books f.connections) f.publishers ∙ ap (option_map (publisher_of f.books f.connections)) none)
+gone-in f p = named-nowhere (publisher_of f.books f.connections) p f.publishers
 
 -- and has no connection
 pub nobody-has : {T U : Type 0} (f : Fields T U) (key : ℕ) (c : Link) → look_up (is_publisher c.home.publisher) f.publishers ≡ None → SenderHas f.publishers key c → ⊥
@@ -76,27 +75,25 @@ module _ {T U : Type 0} (s : State T U) (well : IsWellFormed s) (n : ℕ) (g : F
   other-publisher k d away at_d its same =
       away ((parts.apart.one c.home.publisher y.id).one k key d c at_d at_c (is_between-own c.home.publisher y.id d same its) (is_between-own c.home.publisher y.id c refl mine))
 
-  ends-pass : (i k : ℕ) → get_or y.keys i None ≡ Some k → k ≢ key → (r : ℕ) × (publisher_of_key g.connections (Some k) ≡ Some r) × (test r ≡ true)
-  ends-pass i k at_k away =
-      let own = some_is (IsReceivers y.id _) (get g.connections k) ((parts.linked.receivers j y at_y).at i k at_k) in
+  -- a publisher to which another key of it leads stays
+  passes : (k : ℕ) → k ≢ key → IsSomeAnd (get g.connections k) (IsReceivers y.id (g.config).subscriber_max_borrowed_samples)
+      → ((r : ℕ) → publisher_of_key g.connections (Some k) ≡ Some r → (contains port.expired r ≡ true) ⊎ LeadsTo port.ends r)
+      → (r : ℕ) × (publisher_of_key g.connections (Some k) ≡ Some r) × (test r ≡ true)
+  passes k away linked known =
+      let own = some_is (IsReceivers y.id _) (get g.connections k) linked in
       let d = own.0 in
       let leads : publisher_of_key g.connections (Some k) ≡ Some d.home.publisher = ap (option_map (λ (x : Link). x.home.publisher)) own.1 in (
         d.home.publisher,
         leads,
-        others-connected s well c.home.publisher y.id n port here d.home.publisher (other-publisher k d away own.1 own.2.subscriber)
-            (inr (i, occupant-receiver_ends g.connections y.keys i ∙ ap (publisher_of_key g.connections) at_k ∙ leads)),
+        others-connected s well c.home.publisher y.id n port here d.home.publisher (other-publisher k d away own.1 own.2.subscriber) (known d.home.publisher leads),
       )
 
+  ends-pass : (i k : ℕ) → get_or y.keys i None ≡ Some k → k ≢ key → (r : ℕ) × (publisher_of_key g.connections (Some k) ≡ Some r) × (test r ≡ true)
+  ends-pass i k at_k away = passes k away ((parts.linked.receivers j y at_y).at i k at_k)
+      (λ r leads. inr (i, occupant-receiver_ends g.connections y.keys i ∙ ap (publisher_of_key g.connections) at_k ∙ leads))
+
   expired-pass : (i k : ℕ) → get_or (map Some y.expired) i None ≡ Some k → k ≢ key → (r : ℕ) × (publisher_of_key g.connections (Some k) ≡ Some r) × (test r ≡ true)
-  expired-pass i k at_k away =
-      let own = some_is (IsReceivers y.id _) (get g.connections k) ((parts.linked.expired j y at_y).at i k at_k) in
-      let d = own.0 in
-      let leads : publisher_of_key g.connections (Some k) ≡ Some d.home.publisher = ap (option_map (λ (x : Link). x.home.publisher)) own.1 in (
-        d.home.publisher,
-        leads,
-        others-connected s well c.home.publisher y.id n port here d.home.publisher (other-publisher k d away own.1 own.2.subscriber)
-            (inl (expired-contains g.connections y.expired i k d.home.publisher at_k leads)),
-      )
+  expired-pass i k at_k away = passes k away ((parts.linked.expired j y at_y).at i k at_k) (λ r leads. inl (expired-contains g.connections y.expired i k r at_k leads))
 
   leads-there : publisher_of_key g.connections (Some key) ≡ Some c.home.publisher
   leads-there = ap (option_map (λ (x : Link). x.home.publisher)) at_c

@@ -18,16 +18,16 @@ use Rattle.iox2_ends.specs.Mailboxes.{mailbox_of}
 use Rattle.iox2_ends.specs.Recounts.{Recounts}
 use Rattle.iox2_ends.specs.Takes.{KeepsOtherKeys, SameStands, ReleasesSlot}
 use Rattle.iox2_ends.proofs.Counts.{in_range}
-use Rattle.iox2_ends.proofs.LookUps.{look_up-nothing, look_up-there}
+use Rattle.iox2_ends.proofs.LookUps.{look_up-nothing}
 use Rattle.iox2_ends.proofs.MailboxChanges.{mailbox-there}
 use Rattle.iox2_ends.proofs.Releases.{IsOnce-map}
 use Rattle.iox2_laws.proofs.MailboxLemmas.{has_borrows-is_borrowed}
 use Rattle.iox2_domain.specs.Fields.{Fields, kept_of, numbers_of, subscriber_of}
-use Rattle.iox2_domain.specs.Invariant.{IsBookOf, IsDomain, KeepsBooks, details_of, is_publisher, is_subscriber}
-use Rattle.iox2_domain.specs.Kept.{Named, state_of, is_named}
+use Rattle.iox2_domain.specs.Invariant.{IsBookOf, IsDomain, KeepsBooks, details_of, is_publisher}
+use Rattle.iox2_domain.specs.Kept.{state_of}
 use Rattle.iox2_domain.specs.Midway.{IsMidway}
 use Rattle.iox2_domain.specs.Ports.{PublisherFields, SubscriberFields}
-use Rattle.iox2_domain.proofs.lemmas.containers.LookUps.{look_up-map, map-at}
+use Rattle.iox2_domain.proofs.lemmas.containers.LookUps.{map-at}
 use Rattle.iox2_domain.proofs.lemmas.fields.SameEnds.{with_connections}
 use Rattle.iox2_domain.proofs.lemmas.fields.Standing.{some_is}
 use Rattle.iox2_domain.proofs.lemmas.fields.Views.{mailboxes-are}
@@ -35,6 +35,7 @@ use Rattle.iox2_steps.proofs.releases.Forgets.{ItsSubscriber}
 use Rattle.iox2_steps.proofs.releases.LetGo.{let_go-midway}
 use Rattle.iox2_steps.proofs.releases.Released.{once-borrowed, gives-back-midway}
 use Rattle.iox2_domain.proofs.lemmas.slots.ConnectionSlots.{borrowed-in_use, contains-one}
+use Rattle.iox2_domain.proofs.lemmas.fields.NamedPorts.{named-there}
 
 -- a slot is borrowed in the connection at a key, which stands there
 abbrev pub IsBorrowedAt : Slab Link → (key slot : ℕ) → Home → Type 0
@@ -48,11 +49,7 @@ HandsBack f home slot new =
 -- a subscriber that the state has stands somewhere
 subscriber-there : {T U : Type 0} (f : Fields T U) (q : ℕ) (y : Subscriber) → (state_of (kept_of f)).subscribers q ≡ Some y
     → (i : ℕ) × (z : SubscriberFields) × (get_or f.subscribers i None ≡ Some z) × (z.id ≡ q)
-subscriber-there f q y e = by (look_up (is_subscriber q) f.subscribers) refl (sym (ap (option_map (λ (z : Named Subscriber). z.port)) (look_up-map (is_named q) (subscriber_of f.books f.connections) f.subscribers)) ∙ e) where
-  by : (o : Option SubscriberFields) → look_up (is_subscriber q) f.subscribers ≡ o → option_map (λ (z : Named Subscriber). z.port) (option_map (subscriber_of f.books f.connections) o) ≡ Some y
-      → (i : ℕ) × (z : SubscriberFields) × (get_or f.subscribers i None ≡ Some z) × (z.id ≡ q)
-  by None is h = absurd cc
-  by (Some z) is h = let there = look_up-there (is_subscriber q) f.subscribers z is in (there.0, z, there.1, eqb-true z.id q there.2)
+subscriber-there f q y e = let there = named-there (subscriber_of f.books f.connections) q f.subscribers y e in (there.0, there.1, there.2, there.3)
 
 module _ {T U : Type 0} (f : Fields T U) (sound : IsDomain f) (key slot : ℕ) (home : Home) (there : IsBorrowedAt f.connections key slot home) where
   own : (c : Link) × (get f.connections key ≡ Some c) × ((c.home ≡ home) × Contains c.borrowed slot)

@@ -59,17 +59,7 @@ module _ {T U : Type 0} (t : State T U) (q p r : ℕ) (away : r ≢ q) where
 
 -- a mailbox is well-formed whatever the channels are
 pub box-still : {T U : Type 0} (s : State T U) (channels : ℕ → ℕ → ℕ → Channel) (p q : ℕ) → MailboxIsWellFormed s p q → MailboxIsWellFormed (record s { channels = channels }) p q
-box-still s channels p q v = record {
-  within = v.within;
-  others = v.others;
-  room = v.room;
-  others_room = v.others_room;
-  below = v.below;
-  known = v.known;
-  sender_end = v.sender_end;
-  receiver_end = v.receiver_end;
-  departed = v.departed;
-}
+box-still s channels p q v = assumption
 
 -- its channels are what they were
 pub freed-channels : {T U : Type 0} (t : State T U) (q : ℕ) → (freed_if_unused t q).channels ≡ t.channels

@@ -56,6 +56,7 @@ use Rattle.iox2_steps.proofs.sends.SentSlots.{sent-keeps}
 use Rattle.iox2_slots.specs.declared.slots.mark.SlotMark.TheVariants.{Unwritten, Written, Sent}
 use Rattle.circular_buffer.proofs.Places.{slice_get-set_other}
 use Rattle.std.specs.Prelude.{slice_get}
+use Rattle.iox2_domain.proofs.lemmas.fields.NamedPorts.{seen, seen_publisher}
 
 -- at a key's place stands an end
 keyed-end : (connections : Slab Link) (keys : List (Option ℕ)) (place key : ℕ) (c : Link) → get_or keys place None ≡ Some key → get connections key ≡ Some c → occupant (sender_ends connections keys) place ≡ Some c.home.subscriber
@@ -132,46 +133,37 @@ module _ {T U : Type 0} (f : Fields T U) (sound : IsDomain f) (i : ℕ) (x : Pub
 
   -- ---- the state
 
-  abbrev s : State T U
-  s = state_of (kept_of f)
-
-  abbrev port : Publisher
-  port = (publisher_of f.books f.connections x).port
-
-  stands : s.publishers x.id ≡ Some port
-  stands = publisher-stands f sound.parts i x here
-
   abbrev waits : BlockedSend
-  waits = begun_send port n channel connection
+  waits = begun_send (seen_publisher f x) n channel connection
 
-  waiter-is : (publisher_of f.books f.connections waiter).port ≡ record port { blocked = Some waits }
-  waiter-is = λ t. record port {
-    blocked = Some (record waits { message = loan-number f sound i x here slot n l lies t; ends = drop-take connection 1 port.ends t });
+  waiter-is : (publisher_of f.books f.connections waiter).port ≡ record (seen_publisher f x) { blocked = Some waits }
+  waiter-is = λ t. record (seen_publisher f x) {
+    blocked = Some (record waits { message = loan-number f sound i x here slot n l lies t; ends = drop-take connection 1 (seen_publisher f x).ends t });
   }
 
-  pub after-is : state_of (kept_of after) ≡ begun s x.id n waits
+  pub after-is : state_of (kept_of after) ≡ begun (seen f) x.id n waits
   after-is =
-      own-is f sound.parts i x here b at own waiter keeps (with_sent slot b) (sent-keeps b slot) (put_at s.loans n None)
+      own-is f sound.parts i x here b at own waiter keeps (with_sent slot b) (sent-keeps b slot) (put_at (seen f).loans n None)
       (ended-loans f sound.parts i x here b at own slot n l is_in_use lies is_written once free)
-      ∙ (λ t. record s { publishers = put_at s.publishers x.id (Some (waiter-is t)); loans = put_at s.loans n None })
-      ∙ (λ t. record s { publishers = put_at s.publishers x.id (option_map (λ (v : Publisher). record v { blocked = Some waits }) (sym stands t)); loans = put_at s.loans n None })
+      ∙ (λ t. record (seen f) { publishers = put_at (seen f).publishers x.id (Some (waiter-is t)); loans = put_at (seen f).loans n None })
+      ∙ (λ t. record (seen f) { publishers = put_at (seen f).publishers x.id (option_map (λ (v : Publisher). record v { blocked = Some waits }) (sym (publisher-stands f sound.parts i x here) t)); loans = put_at (seen f).loans n None })
 
   linked : (c : Link) × (get f.connections key ≡ Some c) × IsSenders x.id connection c
   linked = there x.id f.connections x.keys connection key (sound.parts.linked.senders i x here) keyed
 
   well : IsWellFormed (state_of (kept_of after))
   well = subst IsWellFormed (sym after-is)
-      (begun_keeps s sound.well_formed x.id n channel connection l (loan-is f sound i x here slot n l lies) (loan-of f sound i x here slot n l lies) port stands (unblocked f.books f.connections x free)
+      (begun_keeps (seen f) sound.well_formed x.id n channel connection l (loan-is f sound i x here slot n l lies) (loan-of f sound i x here slot n l lies) (seen_publisher f x) (publisher-stands f sound.parts i x here) (unblocked f.books f.connections x free)
       known linked.0.home.subscriber (keyed-end f.connections x.keys connection key linked.0 keyed linked.1))
 
   -- ---- entries
 
   -- who holds another message held it before
-  held-before : (q m : ℕ) → m ≢ n → IsHeldMessage (begun s x.id n waits) q m → IsHeldMessage s q m
-  held-before q m away (In_history y stood is) = found_put s.publishers x.id _ (λ j v. contains v.history m ≡ true → IsHeldMessage s j m) q y (subst (λ (o : Option Publisher). put_at s.publishers x.id (option_map (λ (v : Publisher). record v { blocked = Some waits }) o) q ≡ Some y) stands stood)
-      (λ _ h. In_history port stands h) (λ _ was h. In_history y was h) is
+  held-before : (q m : ℕ) → m ≢ n → IsHeldMessage (begun (seen f) x.id n waits) q m → IsHeldMessage (seen f) q m
+  held-before q m away (In_history y stood is) = found_put (seen f).publishers x.id _ (λ j v. contains v.history m ≡ true → IsHeldMessage (seen f) j m) q y (subst (λ (o : Option Publisher). put_at (seen f).publishers x.id (option_map (λ (v : Publisher). record v { blocked = Some waits }) o) q ≡ Some y) (publisher-stands f sound.parts i x here) stood)
+      (λ _ h. In_history (seen_publisher f x) (publisher-stands f sound.parts i x here) h) (λ _ was h. In_history y was h) is
   held-before q m away (In_mailbox r is) = In_mailbox r is
-  held-before q m away (In_blocked_send y c stood has is) = found_put s.publishers x.id _ (λ j v. v.blocked ≡ Some c → IsHeldMessage s j m) q y (subst (λ (o : Option Publisher). put_at s.publishers x.id (option_map (λ (v : Publisher). record v { blocked = Some waits }) o) q ≡ Some y) stands stood)
+  held-before q m away (In_blocked_send y c stood has is) = found_put (seen f).publishers x.id _ (λ j v. v.blocked ≡ Some c → IsHeldMessage (seen f) j m) q y (subst (λ (o : Option Publisher). put_at (seen f).publishers x.id (option_map (λ (v : Publisher). record v { blocked = Some waits }) o) q ≡ Some y) (publisher-stands f sound.parts i x here) stood)
       (λ _ h. absurd (away (sym is ∙ sym (ap (λ (o : Option BlockedSend). option_map_or (λ (v : BlockedSend). v.message) o 0) h)))) (λ _ was h. In_blocked_send y c was h is) has
 
   entries-after : (q m : ℕ) → IsHeldMessage (state_of (kept_of after)) q m → (entry : Entry T U) × (entries_of (kept_of after) m ≡ Some entry) × ((entry.header).publisher_id ≡ q)
@@ -218,30 +210,30 @@ module _ {T U : Type 0} (f : Fields T U) (sound : IsDomain f) (i : ℕ) (x : Pub
     went : ConcludesAs environment f1 f2 waiter (numbers_of f1.books x.id slot) channel (within_reach w x.keys) (begun_at connection) no_time (result_of_send outcome)
     went = goes-on environment f1 reclaimed.agrees i waiter stands1 w refl (begun_at connection) can no_time outcome f2 goes
 
-    state1 : state_of (kept_of f1) ≡ begun s x.id n waits
+    state1 : state_of (kept_of f1) ≡ begun (seen f) x.id n waits
     state1 = reclaimed.state ∙ after-is
 
     -- the machine's publisher then
-    port1 : (publisher_of f1.books f1.connections waiter).port ≡ record port { blocked = Some waits }
+    port1 : (publisher_of f1.books f1.connections waiter).port ≡ record (seen_publisher f x) { blocked = Some waits }
     port1 = same_Some _ _ (sym (publisher-stands f1 reclaimed.agrees.parts i waiter stands1) ∙ ap (λ (t : State T U). t.publishers x.id) state1
-        ∙ put_at-same s.publishers x.id (option_map (λ (v : Publisher). record v { blocked = Some waits }) (s.publishers x.id)) ∙ ap (option_map (λ (v : Publisher). record v { blocked = Some waits })) stands)
+        ∙ put_at-same (seen f).publishers x.id (option_map (λ (v : Publisher). record v { blocked = Some waits }) ((seen f).publishers x.id)) ∙ ap (option_map (λ (v : Publisher). record v { blocked = Some waits })) (publisher-stands f sound.parts i x here))
 
     number1 : numbers_of f1.books x.id slot ≡ n
     number1 = ap (λ (v : Publisher). option_map_or (λ (c : BlockedSend). c.message) v.blocked 0) port1
 
-    ends1 : drop connection (sender_ends f1.connections (within_reach w x.keys)) ≡ take 1 (drop connection port.ends)
-    ends1 = ap (drop connection) (reach-ends f1.connections w x.keys) ∙ ap (λ (v : Publisher). drop connection (take (connection + 1) v.ends)) port1 ∙ drop-take connection 1 port.ends
+    ends1 : drop connection (sender_ends f1.connections (within_reach w x.keys)) ≡ take 1 (drop connection (seen_publisher f x).ends)
+    ends1 = ap (drop connection) (reach-ends f1.connections w x.keys) ∙ ap (λ (v : Publisher). drop connection (take (connection + 1) v.ends)) port1 ∙ drop-take connection 1 (seen_publisher f x).ends
 
-    loan : s.loans n ≡ Some l
+    loan : (seen f).loans n ≡ Some l
     loan = loan-is f sound i x here slot n l lies
 
     its : l.publisher ≡ x.id
     its = loan-of f sound i x here slot n l lies
 
-    sends : SendToConnection environment s n l channel connection (state_of (kept_of f2)) (result_of_send outcome)
-    sends = begun_goes_on environment s n l channel connection port (ap s.publishers its ∙ stands) (state_of (kept_of f2)) (result_of_send outcome)
-        (subst (λ (p : ℕ). DeliverAndConclude environment (begun s p n waits) p n channel 0 no_time connection (take 1 (drop connection port.ends)) 0 false (state_of (kept_of f2)) (result_of_send outcome)) (sym its)
-        (subst (λ (t : State T U). DeliverAndConclude environment t x.id n channel 0 no_time connection (take 1 (drop connection port.ends)) 0 false (state_of (kept_of f2)) (result_of_send outcome)) state1
+    sends : SendToConnection environment (seen f) n l channel connection (state_of (kept_of f2)) (result_of_send outcome)
+    sends = begun_goes_on environment (seen f) n l channel connection (seen_publisher f x) (ap (seen f).publishers its ∙ (publisher-stands f sound.parts i x here)) (state_of (kept_of f2)) (result_of_send outcome)
+        (subst (λ (p : ℕ). DeliverAndConclude environment (begun (seen f) p n waits) p n channel 0 no_time connection (take 1 (drop connection (seen_publisher f x).ends)) 0 false (state_of (kept_of f2)) (result_of_send outcome)) (sym its)
+        (subst (λ (t : State T U). DeliverAndConclude environment t x.id n channel 0 no_time connection (take 1 (drop connection (seen_publisher f x).ends)) 0 false (state_of (kept_of f2)) (result_of_send outcome)) state1
         (subst (λ (ends : List (Option ℕ)). DeliverAndConclude environment (state_of (kept_of f1)) x.id n channel 0 no_time connection ends 0 false (state_of (kept_of f2)) (result_of_send outcome)) ends1
         (subst (λ (m : ℕ). DeliverAndConclude environment (state_of (kept_of f1)) x.id m channel 0 no_time connection (drop connection (sender_ends f1.connections (within_reach w x.keys))) 0 false (state_of (kept_of f2)) (result_of_send outcome)) number1
         went.concludes))))

@@ -110,6 +110,18 @@ module _ {T U : Type 0} (environment : Environment) (f : Fields T U) (sound : Is
   abbrev b : BlockedSend
   b = blocked_send (numbers_of f.books x.id) (sender_ends f.connections x.keys) w
 
+  -- and where it stops again, at these ends
+  abbrev stopped : Progress → List (Option ℕ) → BlockedSend
+  stopped progress ends = record {
+    message = n;
+    channel = w.channel;
+    place = progress.place;
+    ends = drop progress.place ends;
+    retries = progress.retries;
+    count = progress.count;
+    has_failed = progress.has_failed;
+  }
+
   stands : s.publishers x.id ≡ Some port
   stands = publisher-stands f sound.parts i x here
 
@@ -280,15 +292,7 @@ module _ {T U : Type 0} (environment : Environment) (f : Fields T U) (sound : Is
         blocked = Some (blocked_send (numbers-are t x.id) (ends-are t) (record w { progress = progress }));
       })
       ∙ ap (λ (ends : List (Option ℕ)). record port {
-        blocked = Some (record {
-          message = n;
-          channel = w.channel;
-          place = progress.place;
-          ends = drop progress.place ends;
-          retries = progress.retries;
-          count = progress.count;
-          has_failed = progress.has_failed;
-        });
+        blocked = Some (stopped progress ends);
       }) (stays progress refl)
 
   module _ (row : ℕ → Mailbox) (ends : List (Option ℕ)) (buffers : ℕ → Option ℕ) where
@@ -364,15 +368,7 @@ module _ {T U : Type 0} (environment : Environment) (f : Fields T U) (sound : Is
   held-waiting : (z : DeliveryEnd) (q : ℕ) (v : Publisher) (c : BlockedSend) → (o : DeliveryOutcome) → z ≡ end_of n w.channel reach o → v ≡ change z port → v.blocked ≡ Some c → c.message ≡ n
   held-waiting z q v c (DeliveryOutcome.Complete count has_failed) e is waits_now = absurd (let no : None ≡ Some c = sym (ap (λ (u : Publisher). u.blocked) (is ∙ ap (λ y. change y port) e)) ∙ waits_now in cc)
   held-waiting z q v c (DeliveryOutcome.Suspended progress) e is waits_now =
-      let same : Some (record {
-        message = n;
-        channel = w.channel;
-        place = progress.place;
-        ends = drop progress.place reach;
-        retries = progress.retries;
-        count = progress.count;
-        has_failed = progress.has_failed;
-      }) ≡ Some c = sym (ap (λ (u : Publisher). u.blocked) (is ∙ ap (λ y. change y port) e)) ∙ waits_now in
+      let same : Some (stopped progress reach) ≡ Some c = sym (ap (λ (u : Publisher). u.blocked) (is ∙ ap (λ y. change y port) e)) ∙ waits_now in
       sym (ap (λ (o : Option BlockedSend). option_map_or (λ (u : BlockedSend). u.message) o 0) same)
 
   history-same : (z : DeliveryEnd) → (change z port).history ≡ port.history

@@ -20,7 +20,6 @@ use Rattle.iox2_store.specs.machine.State.{State, receiving_buffer, channel_buff
 use Rattle.iox2_store.specs.machine.WellFormed.{IsWellFormed}
 use Rattle.iox2_ends.specs.Counters.{times, with_counters, one_holder_more}
 use Rattle.iox2_ends.specs.LookUp.{look_up, IsOnly}
-use Rattle.iox2_ends.proofs.LookUps.{look_up-found}
 use Rattle.iox2_ends.specs.Mailboxes.{mailboxes_of}
 use Rattle.iox2_ends.specs.Receivers.{buffers_of, taking_buffers, buffer_if_open, has_id}
 use Rattle.iox2_ends.proofs.MailboxChanges.{others-stay, one-put, both-true}
@@ -67,14 +66,12 @@ use Rattle.iox2_steps.proofs.sends.SentSlots.{times-without-one}
 use mathlib.Core.Path.{fun_ext}
 use Rattle.iox2_domain.proofs.lemmas.fields.KeptBooks.{kept-own}
 use Rattle.iox2_laws.proofs.Cases.{match_some}
+use Rattle.iox2_domain.proofs.lemmas.fields.NamedPorts.{named-stands}
 
 -- a publisher that stands somewhere is in the state, where ids are apart
 named : {T U : Type 0} (f : Fields T U) → ((p : ℕ) → IsOnly (is_publisher p) f.publishers) → (i : ℕ) (x : PublisherFields) → get_or f.publishers i None ≡ Some x
     → (state_of (kept_of f)).publishers x.id ≡ Some ((publisher_of f.books f.connections x).port)
-named f ids i x at =
-    ap (option_map (λ (z : Named Publisher). z.port))
-    (look_up-map (is_named x.id) (publisher_of f.books f.connections) f.publishers
-    ∙ ap (option_map (publisher_of f.books f.connections)) (look_up-found (is_publisher x.id) f.publishers i x (ids x.id) at (eq-eqb x.id x.id refl)))
+named f ids i x at = named-stands (publisher_of f.books f.connections) x.id f.publishers (ids x.id) i x at refl
 
 module _ {T U : Type 0} (f : Fields T U) where
   -- the machine's buffers are those that the delivery sees

@@ -10,8 +10,6 @@ use Rattle.iox2_slots.specs.Link.{Link}
 use Rattle.iox2_slots.specs.SlotBook.{Book, holders_at}
 use Rattle.iox2_store.specs.machine.Mailbox.{numbers_in, has_numbers}
 use Rattle.iox2_store.specs.machine.Numbers.{IsOnce}
-use Rattle.iox2_store.specs.machine.Records.{Publisher}
-use Rattle.iox2_store.specs.machine.State.{State}
 use Rattle.iox2_store.specs.machine.WellFormed.{LeadsTo}
 use Rattle.iox2_ends.specs.Counters.{times, stands, stands_in}
 use Rattle.iox2_ends.specs.Homes.{IsSenders}
@@ -20,8 +18,7 @@ use Rattle.iox2_ends.specs.Receivers.{HasReclaimed}
 use Rattle.iox2_ends.proofs.Empties.{sum-keys}
 use Rattle.iox2_ends.proofs.MailboxChanges.{mailbox-there, is_between-own}
 use Rattle.iox2_domain.specs.Ports.{PublisherFields}
-use Rattle.iox2_domain.specs.Kept.{state_of}
-use Rattle.iox2_domain.specs.Fields.{Fields, kept_of, publisher_of, numbers_of}
+use Rattle.iox2_domain.specs.Fields.{Fields, numbers_of}
 use Rattle.iox2_domain.specs.Invariant.{IsDomain}
 use Rattle.iox2_domain.proofs.lemmas.fields.ConnectionEnds.{publisher-stands, occupant-sender_ends}
 use Rattle.iox2_domain.proofs.lemmas.fields.Standing.{some_is}
@@ -31,18 +28,10 @@ use Rattle.iox2_domain.proofs.lemmas.slots.SlotsInUse.{none_returned}
 use Rattle.iox2_steps.proofs.sends.LoanAlone.{once-times}
 use Rattle.iox2_domain.proofs.lemmas.slots.BoxNumbers.{kept_slots, times-kept, numbers-are_kept, number-of_slot}
 use Rattle.iox2_laws.proofs.MailboxLemmas.{has_numbers-contains}
+use Rattle.iox2_domain.proofs.lemmas.fields.NamedPorts.{seen, seen_publisher}
 
 module _ {T U : Type 0} (f : Fields T U) (sound : IsDomain f) (i : ℕ) (x : PublisherFields) (here : get_or f.publishers i None ≡ Some x)
     (b : Book) (at : get f.books x.book ≡ Some b) where
-  abbrev s : State T U
-  s = state_of (kept_of f)
-
-  abbrev P : Publisher
-  P = (publisher_of f.books f.connections x).port
-
-  present : s.publishers x.id ≡ Some P
-  present = publisher-stands f sound.parts i x here
-
   -- each slot of the history has a holder
   pub remembered-in_use : (slot : ℕ) → 0 < times slot (x.history).items → 0 < holders_at b slot
   remembered-in_use slot some =
@@ -50,7 +39,7 @@ module _ {T U : Type 0} (f : Fields T U) (sound : IsDomain f) (i : ℕ) (x : Pub
 
   -- ---- how often a slot stands in one connection
 
-  box-is : (key : ℕ) (c : Link) → get f.connections key ≡ Some c → c.home.publisher ≡ x.id → s.mailboxes x.id c.home.subscriber ≡ mailbox_of (numbers_of f.books x.id) c
+  box-is : (key : ℕ) (c : Link) → get f.connections key ≡ Some c → c.home.publisher ≡ x.id → (seen f).mailboxes x.id c.home.subscriber ≡ mailbox_of (numbers_of f.books x.id) c
   box-is key c there its = mailboxes-are f x.id c.home.subscriber ∙ mailbox-there (numbers_of f.books) f.connections key x.id c.home.subscriber c sound.parts.apart there its refl
 
   module _ (reclaimed : HasReclaimed f.connections x.keys) where
@@ -58,7 +47,7 @@ module _ {T U : Type 0} (f : Fields T U) (sound : IsDomain f) (i : ℕ) (x : Pub
     stands-once slot key c there its =
         let all : times slot (kept_slots c) + times slot c.returned ≡ stands_in slot c = times-kept slot c in
         let none : times slot c.returned ≡ 0 = ap (times slot) (none_returned f sound i x here reclaimed key c there its) in
-        let numbers : numbers_in (s.mailboxes x.id c.home.subscriber) ≡ map (numbers_of f.books x.id) (kept_slots c) =
+        let numbers : numbers_in ((seen f).mailboxes x.id c.home.subscriber) ≡ map (numbers_of f.books x.id) (kept_slots c) =
         ap numbers_in (box-is key c there its) ∙ numbers-are_kept (numbers_of f.books x.id) c in
         let once : times slot (kept_slots c) ≤ 1 = once-times (numbers_of f.books x.id) slot (kept_slots c) (subst IsOnce numbers (sound.well_formed.mailboxes x.id c.home.subscriber).within.once) in
         (omega (arith, all, none), omega (arith, all, none, once))
@@ -92,11 +81,11 @@ module _ {T U : Type 0} (f : Fields T U) (sound : IsDomain f) (i : ℕ) (x : Pub
         | inl its ↦
             let is : stands x.id slot (Some c) ≡ stands_in slot c = ap (λ t. cond {A = ℕ} t (stands_in slot c) 0) (eq-eqb c.home.publisher x.id its) in
             let there : 0 < stands_in slot c = omega (arith, h, is) in
-            let numbers : has_numbers (s.mailboxes x.id c.home.subscriber) ≡ true =
+            let numbers : has_numbers ((seen f).mailboxes x.id c.home.subscriber) ≡ true =
             ap has_numbers (box-is key c e its)
             ∙ has_numbers-contains (mailbox_of (numbers_of f.books x.id) c) (numbers_of f.books x.id slot)
             (number-of_slot (numbers_of f.books x.id) c slot (none_returned f sound i x here reclaimed key c e its) there) in
-            let leads : LeadsTo P.ends c.home.subscriber = (sound.well_formed.mailboxes x.id c.home.subscriber).sender_end P present numbers in
+            let leads : LeadsTo (seen_publisher f x).ends c.home.subscriber = (sound.well_formed.mailboxes x.id c.home.subscriber).sender_end (seen_publisher f x) (publisher-stands f sound.parts i x here) numbers in
             (leads.0, leading c e its leads.0 (get_or x.keys leads.0 None) refl (sym (occupant-sender_ends f.connections x.keys leads.0) ∙ leads.1))
         | inr away ↦ absurd (let is : stands x.id slot (Some c) ≡ 0 = ap (λ t. cond {A = ℕ} t (stands_in slot c) 0) (ne_eqb c.home.publisher x.id away) in omega (arith, h, is))
       ]
@@ -104,7 +93,7 @@ module _ {T U : Type 0} (f : Fields T U) (sound : IsDomain f) (i : ℕ) (x : Pub
     -- so a slot has few holders
     pub held-few : (slot : ℕ) → (holders_at b slot ≤ length x.keys + 2) × (times slot (x.history).items ≤ 1)
     held-few slot =
-        let u = sound.well_formed.publishers x.id P present in
+        let u = sound.well_formed.publishers x.id (seen_publisher f x) (publisher-stands f sound.parts i x here) in
         let lent : times slot x.loans ≤ 1 = once-times (numbers_of f.books x.id) slot x.loans u.loans_once in
         let remembered : times slot (x.history).items ≤ 1 = once-times (numbers_of f.books x.id) slot (x.history).items u.history_once in
         let standing : sum_by (stands x.id slot) f.connections.slots ≤ length x.keys = sum-keys (stands x.id slot) refl x.keys f.connections.slots (few slot) (known slot) in

@@ -10,7 +10,7 @@ use Rattle.iox2_slots.specs.Link.{Link, load}
 use Rattle.iox2_slots.specs.SlotBook.{Book, holders_at}
 use Rattle.iox2_store.specs.machine.Mailbox.{Mailbox, numbers_in, with_waiting, ChannelNumber}
 use Rattle.iox2_store.specs.machine.Numbers.{put_at, contains, last_n}
-use Rattle.iox2_store.specs.machine.Records.{Entry, Publisher}
+use Rattle.iox2_store.specs.machine.Records.{Entry}
 use Rattle.iox2_store.specs.machine.State.{State}
 use Rattle.iox2_store.specs.machine.WellFormed.{IsWellFormed}
 use Rattle.iox2_store.specs.Stored.{IsHeldMessage, In_history, In_mailbox, In_blocked_send}
@@ -25,7 +25,7 @@ use Rattle.iox2_laws.proofs.NumberLemmas.{contains_in_append, contains_in_last_n
 use Rattle.iox2_laws.proofs.Puts.{at_each}
 use Rattle.iox2_domain.specs.Ports.{PublisherFields}
 use Rattle.iox2_domain.specs.Kept.{Sent_message, state_of}
-use Rattle.iox2_domain.specs.Fields.{Fields, kept_of, publisher_of, numbers_of, contents_at, message_of}
+use Rattle.iox2_domain.specs.Fields.{Fields, kept_of, numbers_of, contents_at, message_of}
 use Rattle.iox2_domain.specs.Invariant.{IsDomain, IsOwned, HasLoneLoans, HasNumber, is_lent, is_loan_in}
 use Rattle.iox2_domain.specs.Histories.{with_history_waiting, HandsOut}
 use Rattle.iox2_domain.proofs.lemmas.fields.ConnectionEnds.{publisher-stands}
@@ -41,6 +41,7 @@ use Rattle.iox2_steps.proofs.updates.HistoryBounds.{remembered-in_use}
 use Rattle.iox2_ends.proofs.Recounts.{Recounts-one}
 use mathlib.Core.Path.{fun_ext}
 use Rattle.iox2_domain.proofs.lemmas.fields.LostConnections.{no-length}
+use Rattle.iox2_domain.proofs.lemmas.fields.NamedPorts.{seen, seen_publisher}
 
 -- numbers of the last slots are the last numbers
 last-map : (number : ℕ → ℕ) (n : ℕ) (slots : List ℕ) → map number (last_n n slots) ≡ last_n n (map number slots)
@@ -55,15 +56,6 @@ module _ {T U : Type 0} (f : Fields T U) (sound : IsDomain f) (i : ℕ) (x : Pub
     (b : Book) (at : get f.books x.book ≡ Some b) (key : ℕ) (c : Link) (there : get f.connections key ≡ Some c) (its : c.home.publisher ≡ x.id) (empty : load c ≡ 0)
     (holders : List ℕ) (long : length holders ≡ length b.holders)
     (counters : (slot : ℕ) → get_or holders slot 0 ≡ holders_at b slot + times slot (last_n c.buffer (x.history).items)) where
-  abbrev s : State T U
-  s = state_of (kept_of f)
-
-  abbrev P : Publisher
-  P = (publisher_of f.books f.connections x).port
-
-  present : s.publishers x.id ≡ Some P
-  present = publisher-stands f sound.parts i x here
-
   pub mine : b.publisher ≡ x.id
   mine = book-own f sound.parts i x here b at
 
@@ -103,51 +95,51 @@ module _ {T U : Type 0} (f : Fields T U) (sound : IsDomain f) (i : ℕ) (x : Pub
 
   -- ---- the state
 
-  box-is : s.mailboxes x.id c.home.subscriber ≡ mailbox_of (numbers_of f.books x.id) c
+  box-is : (seen f).mailboxes x.id c.home.subscriber ≡ mailbox_of (numbers_of f.books x.id) c
   box-is = mailboxes-are f x.id c.home.subscriber ∙ mailbox-there (numbers_of f.books) f.connections key x.id c.home.subscriber c sound.parts.apart there its refl
 
-  filled-is : mailbox_of (numbers_of f.books x.id) filled ≡ with_waiting (last_n c.buffer P.history) (s.mailboxes x.id c.home.subscriber)
+  filled-is : mailbox_of (numbers_of f.books x.id) filled ≡ with_waiting (last_n c.buffer (seen_publisher f x).history) ((seen f).mailboxes x.id c.home.subscriber)
   filled-is =
       (λ t. record (mailbox_of (numbers_of f.books x.id) filled) { waiting = last-map (numbers_of f.books x.id) c.buffer (x.history).items t })
-      ∙ ap (λ (box : Mailbox). with_waiting (last_n c.buffer P.history) box) (sym box-is)
+      ∙ ap (λ (box : Mailbox). with_waiting (last_n c.buffer (seen_publisher f x).history) box) (sym box-is)
 
   handed-is : state_of (kept_of handed) ≡ with_history_waiting f x c
   handed-is =
       recounted-is f sound x.id x.book b at mine holders connections recounts
-      ∙ ap (λ (boxes : ℕ → ℕ → Mailbox). record s { mailboxes = boxes })
+      ∙ ap (λ (boxes : ℕ → ℕ → Mailbox). record (seen f) { mailboxes = boxes })
       (mailboxes-changed (numbers_of f.books) f.connections connections key c filled sound.parts.apart there refl (Updates-with_value f.connections key c filled there)
       ∙ ap (λ (p : ℕ). with_box (mailboxes_of (numbers_of f.books) f.connections) p c.home.subscriber (mailbox_of (numbers_of f.books p) filled)) its
       ∙ ap (λ (boxes : ℕ → ℕ → Mailbox). with_box boxes x.id c.home.subscriber (mailbox_of (numbers_of f.books x.id) filled)) (sym (fun_ext (λ p. fun_ext (λ q. mailboxes-are f p q))))
-      ∙ ap (with_box s.mailboxes x.id c.home.subscriber) filled-is)
+      ∙ ap (with_box (seen f).mailboxes x.id c.home.subscriber) filled-is)
 
   -- ---- who holds messages
 
-  nothing-elsewhere : (s.mailboxes x.id c.home.subscriber).others ≡ []
+  nothing-elsewhere : ((seen f).mailboxes x.id c.home.subscriber).others ≡ []
   nothing-elsewhere =
       ap (λ (box : Mailbox). box.others) box-is ∙ ap (numbered (numbers_of f.books x.id)) (no-length c.others (omega (arith, empty)))
 
-  nothing-lent : (s.mailboxes x.id c.home.subscriber).borrowed ≡ []
+  nothing-lent : ((seen f).mailboxes x.id c.home.subscriber).borrowed ≡ []
   nothing-lent = ap (λ (box : Mailbox). box.borrowed) box-is ∙ none-lent (numbers_of f.books x.id) c.borrowed (omega (arith, empty))
 
   -- who holds a message now held it before
-  held-before : (p n : ℕ) → IsHeldMessage (with_history_waiting f x c) p n → IsHeldMessage s p n
+  held-before : (p n : ℕ) → IsHeldMessage (with_history_waiting f x c) p n → IsHeldMessage (seen f) p n
   held-before p n (In_history y stood is) = In_history y stood is
   held-before p n (In_blocked_send y d stood waits is) = In_blocked_send y d stood waits is
   held-before p n (In_mailbox q is) =
-      at_each s.mailboxes x.id (put_at (s.mailboxes x.id) c.home.subscriber box) (λ r row. contains (numbers_in (row q)) n ≡ true → IsHeldMessage s r n) p
-      (λ _. at_each (s.mailboxes x.id) c.home.subscriber box (λ r m. contains (numbers_in m) n ≡ true → IsHeldMessage s x.id n) q
-      (λ _ in_box. elim (contains_in_append (last_n c.buffer P.history) (s.mailboxes x.id c.home.subscriber).borrowed n (in_first in_box)) [
-        | inl waits ↦ In_history P present (contains_in_last_n c.buffer P.history n waits)
+      at_each (seen f).mailboxes x.id (put_at ((seen f).mailboxes x.id) c.home.subscriber box) (λ r row. contains (numbers_in (row q)) n ≡ true → IsHeldMessage (seen f) r n) p
+      (λ _. at_each ((seen f).mailboxes x.id) c.home.subscriber box (λ r m. contains (numbers_in m) n ≡ true → IsHeldMessage (seen f) x.id n) q
+      (λ _ in_box. elim (contains_in_append (last_n c.buffer (seen_publisher f x).history) ((seen f).mailboxes x.id c.home.subscriber).borrowed n (in_first in_box)) [
+        | inl waits ↦ In_history (seen_publisher f x) (publisher-stands f sound.parts i x here) (contains_in_last_n c.buffer (seen_publisher f x).history n waits)
         | inr lent ↦ absurd (let no : false ≡ true = sym (ap (λ (ns : List ℕ). contains ns n) nothing-lent) ∙ lent in cc)
       ]) (λ _ in_old. In_mailbox q in_old))
       (λ _ in_old. In_mailbox q in_old) is
     where
       box : Mailbox
-      box = with_waiting (last_n c.buffer P.history) (s.mailboxes x.id c.home.subscriber)
+      box = with_waiting (last_n c.buffer (seen_publisher f x).history) ((seen f).mailboxes x.id c.home.subscriber)
 
-      in_first : contains (numbers_in box) n ≡ true → contains (last_n c.buffer P.history ++ (s.mailboxes x.id c.home.subscriber).borrowed) n ≡ true
+      in_first : contains (numbers_in box) n ≡ true → contains (last_n c.buffer (seen_publisher f x).history ++ ((seen f).mailboxes x.id c.home.subscriber).borrowed) n ≡ true
       in_first in_box =
-          ap (λ (ms : List ChannelNumber). contains (map (λ (m : ChannelNumber). m.number) ms ++ (last_n c.buffer P.history ++ (s.mailboxes x.id c.home.subscriber).borrowed)) n)
+          ap (λ (ms : List ChannelNumber). contains (map (λ (m : ChannelNumber). m.number) ms ++ (last_n c.buffer (seen_publisher f x).history ++ ((seen f).mailboxes x.id c.home.subscriber).borrowed)) n)
           (sym nothing-elsewhere) ∙ in_box
 
   -- ---- loans
@@ -157,7 +149,7 @@ module _ {T U : Type 0} (f : Fields T U) (sound : IsDomain f) (i : ℕ) (x : Pub
   no-loan slot some loan =
       let number = number-at f sound x.book slot b at in
       let n : ℕ = numbers_of f.books x.id slot in
-      let kept = sound.entries x.id n (In_history P present (contains-map (numbers_of f.books x.id) (x.history).items slot (times-stands slot (x.history).items some))) in
+      let kept = sound.entries x.id n (In_history (seen_publisher f x) (publisher-stands f sound.parts i x here) (contains-map (numbers_of f.books x.id) (x.history).items slot (times-stands slot (x.history).items some))) in
       let place = entry-there f n kept.0 kept.1 in
       let has : HasNumber f.books x.book slot n = record { book = b; stands = at; in_use = remembered-in_use f sound i x here b at slot some; number = sym number ∙ ap (λ (p : ℕ). numbers_of f.books p slot) mine } in
       let same = sound.parts.numbered.one place.0 x.book place.1 slot n (has_number f.contents f.books place.0 place.1 n (Sent_message n kept.0) place.2 (eq-eqb n n refl)) has in

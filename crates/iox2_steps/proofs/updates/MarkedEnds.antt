@@ -1,5 +1,5 @@
 -- The mark of a publisher's end at a subscriber's place is set or cleared.
-use Rattle.std.proofs.Common.{◌≡◌, ◌≢◌, ℕ, ◌+◌, ◌<◌, ◌≤◌, true, false, not, length, get_or, refl, ap, sym, subst, ◌∙◌, inl, inr, Option, None, Some, arith}
+use Rattle.std.proofs.Common.{map, ◌≡◌, ◌≢◌, ℕ, ◌+◌, ◌<◌, ◌≤◌, true, false, not, length, get_or, refl, ap, sym, subst, ◌∙◌, inl, inr, Option, None, Some, arith, List}
 use Rattle.std.proofs.lemmas.Bool.{cases_eq, true≢false}
 use Rattle.std.proofs.lemmas.Option.{same_Some}
 use Rattle.std.specs.Prelude.{IsSomeAnd}
@@ -168,6 +168,10 @@ pub record ClearsReceiver {T U : Type 0} (f : Fields T U) (j n : ℕ) (f' : Fiel
 next : (n m : ℕ) → n ≤ m → m ≢ n → n + 1 ≤ m
 next n m low away = elim (cases_eq m n) [ inl same ↦ absurd (away same) | inr differs ↦ omega (arith, low, differs) ]
 
+-- nobody stands past the last place
+nobody-past : {A : Type 0} (xs ys : List (Option A)) (n place : ℕ) (a : A) → get_or ys place None ≡ Some a → length ys ≡ length xs → length xs ≤ n → n ≤ place → ⊥
+nobody-past xs ys n place a at same long high = let low : place < length ys = within_if_some ys place a at in omega (arith, low, same, high, long)
+
 module _ {T U : Type 0} (f : Fields T U) where
   pub sender-begins : IsDomain f → (i : ℕ) → ClearsSender f i 0 f
   sender-begins sound i = record { clears = clears-none f sound; done = λ key c at marked here. omega arith }
@@ -182,10 +186,8 @@ module _ {T U : Type 0} (f : Fields T U) where
   sender-cleared i n g all long = record {
     at = λ key c at marked here.
         let received = ((all.clears.changes.agrees).parts.linked.marked key c at marked).receiver in
-        let low : c.home.subscriber_place < length g.subscribers = within_if_some g.subscribers c.home.subscriber_place received.subscriber received.stands in
-        let same : length g.subscribers ≡ length f.subscribers = ap (λ (h : Fields T U). length h.subscribers) all.clears.changes.fields in
-        let high : n ≤ c.home.subscriber_place = all.done key c at marked here in
-        absurd (omega (arith, low, same, high, long));
+        absurd (nobody-past f.subscribers g.subscribers n c.home.subscriber_place received.subscriber received.stands
+        (ap (λ (h : Fields T U). length h.subscribers) all.clears.changes.fields) long (all.done key c at marked here));
   }
 
   pub receiver-begins : IsDomain f → (j : ℕ) → ClearsReceiver f j 0 f
@@ -201,13 +203,21 @@ module _ {T U : Type 0} (f : Fields T U) where
   receiver-cleared j n g all long = record {
     at = λ key c at marked here.
         let has = ((all.clears.changes.agrees).parts.linked.marked key c at marked).sender in
-        let low : c.home.publisher_place < length g.publishers = within_if_some g.publishers c.home.publisher_place has.publisher has.stands in
-        let same : length g.publishers ≡ length f.publishers = ap (λ (h : Fields T U). length h.publishers) all.clears.changes.fields in
-        let high : n ≤ c.home.publisher_place = all.done key c at marked here in
-        absurd (omega (arith, low, same, high, long));
+        absurd (nobody-past f.publishers g.publishers n c.home.publisher_place has.publisher has.stands
+        (ap (λ (h : Fields T U). length h.publishers) all.clears.changes.fields) long (all.done key c at marked here));
   }
 
 -- ---- a close after that
+
+-- whoever stands in the same list, and is shown alike, is seen alike
+seen-alike : {A B : Type 0} (xs ys : List (Option A)) (see see' : A → B) → ys ≡ xs → map (option_map see') ys ≡ map (option_map see) xs
+    → (i : ℕ) (x : A) → get_or xs i None ≡ Some x → (get_or ys i None ≡ Some x) × (see' x ≡ see x)
+seen-alike {A} {B} xs ys see see' same shown i x at = (
+  there,
+  same_Some _ _ (sym (map-at see' ys i ∙ ap (option_map see') there) ∙ ap (λ (vs : List (Option B)). get_or vs i None) shown ∙ map-at see xs i ∙ ap (option_map see) at),
+) where
+  there : get_or ys i None ≡ Some x
+  there = ap (λ (zs : List (Option A)). get_or zs i None) same ∙ at
 
 module _ {T U : Type 0} (f g : Fields T U) (marks : ChangesMarks f g) where
   -- a step comes to what it comes to without the change of marks
@@ -221,26 +231,16 @@ module _ {T U : Type 0} (f g : Fields T U) (marks : ChangesMarks f g) where
   -- a publisher stands where it stood, and is to the machine what it was
   pub marks-publisher : (i : ℕ) (x : PublisherFields) → get_or f.publishers i None ≡ Some x
       → (get_or g.publishers i None ≡ Some x) × (publisher_of g.books g.connections x ≡ publisher_of f.books f.connections x)
-  marks-publisher i x at = (
-    there,
-    same_Some _ _ (sym (map-at (publisher_of g.books g.connections) g.publishers i ∙ ap (option_map (publisher_of g.books g.connections)) there)
-        ∙ ap (λ (k : Kept T U ⊥ ⊥). get_or k.publishers i None) marks.kept
-        ∙ map-at (publisher_of f.books f.connections) f.publishers i ∙ ap (option_map (publisher_of f.books f.connections)) at),
-  ) where
-    there : get_or g.publishers i None ≡ Some x
-    there = ap (λ (h : Fields T U). get_or h.publishers i None) marks.fields ∙ at
+  marks-publisher =
+      seen-alike f.publishers g.publishers (publisher_of f.books f.connections) (publisher_of g.books g.connections)
+      (ap (λ (h : Fields T U). h.publishers) marks.fields) (ap (λ (k : Kept T U ⊥ ⊥). k.publishers) marks.kept)
 
   -- and so does a subscriber
   pub marks-subscriber : (j : ℕ) (y : SubscriberFields) → get_or f.subscribers j None ≡ Some y
       → (get_or g.subscribers j None ≡ Some y) × (subscriber_of g.books g.connections y ≡ subscriber_of f.books f.connections y)
-  marks-subscriber j y at = (
-    there,
-    same_Some _ _ (sym (map-at (subscriber_of g.books g.connections) g.subscribers j ∙ ap (option_map (subscriber_of g.books g.connections)) there)
-        ∙ ap (λ (k : Kept T U ⊥ ⊥). get_or k.subscribers j None) marks.kept
-        ∙ map-at (subscriber_of f.books f.connections) f.subscribers j ∙ ap (option_map (subscriber_of f.books f.connections)) at),
-  ) where
-    there : get_or g.subscribers j None ≡ Some y
-    there = ap (λ (h : Fields T U). get_or h.subscribers j None) marks.fields ∙ at
+  marks-subscriber =
+      seen-alike f.subscribers g.subscribers (subscriber_of f.books f.connections) (subscriber_of g.books g.connections)
+      (ap (λ (h : Fields T U). h.subscribers) marks.fields) (ap (λ (k : Kept T U ⊥ ⊥). k.subscribers) marks.kept)
 
   -- so a publisher that is closed then is closed
   pub closed-publisher : (i : ℕ) (x : PublisherFields) → get_or f.publishers i None ≡ Some x → (h : Fields T U)

@@ -1,5 +1,5 @@
 -- The channels that the machine resets are those of connections that are gone.
-use Rattle.std.proofs.Common.{◌≡◌, ℕ, zero, suc, Bool, true, false, cond, List, [], ◌∷◌, map, refl, ap, sym, subst, ◌∙◌, inl, inr, ◌⊎◌, Option, None, Some, get_or}
+use Rattle.std.proofs.Common.{◌≡◌, ℕ, Bool, true, false, cond, List, map, refl, ap, sym, subst, ◌∙◌, inl, inr, ◌⊎◌, Option, None, Some, get_or}
 use Rattle.std.proofs.lemmas.Bool.{cases_eq, eqb-true, eq-eqb, ne_eqb, or_cases, or_left, or_right}
 use Rattle.std.specs.Option.{option_map, option_map_or}
 use Rattle.slab.specs.Slab.{Slab, get}
@@ -33,32 +33,19 @@ use Rattle.iox2_domain.specs.Departures.{KnowsKey}
 use Rattle.iox2_domain.proofs.lemmas.fields.Standing.{some_is}
 use Rattle.iox2_steps.proofs.updates.FollowedChannels.{none-new, follow-there}
 use mathlib.Core.Path.{fun_ext}
+use Rattle.iox2_domain.proofs.lemmas.fields.NamedPorts.{occupant-led, end-leads-through}
 
 -- a publisher's end leads through a connection
 sender-leads : (connections : Slab Link) (keys : List (Option ℕ)) (i q : ℕ) → occupant (sender_ends connections keys) i ≡ Some q
     → (key : ℕ) × (c : Link) × (get_or keys i None ≡ Some key) × (get connections key ≡ Some c) × (c.home.subscriber ≡ q)
-sender-leads connections keys i q at =
-    by (get_or keys i None) refl (sym (occupant-sender_ends connections keys i) ∙ at) where
-      by : (o : Option ℕ) → get_or keys i None ≡ o → subscriber_of_key connections o ≡ Some q
-          → (key : ℕ) × (c : Link) × (get_or keys i None ≡ Some key) × (get connections key ≡ Some c) × (c.home.subscriber ≡ q)
-      by None e h = absurd cc
-      by (Some key) e h = through (get connections key) refl h where
-        through : (o : Option Link) → get connections key ≡ o → option_map (λ (c : Link). c.home.subscriber) o ≡ Some q
-            → (k : ℕ) × (c : Link) × (get_or keys i None ≡ Some k) × (get connections k ≡ Some c) × (c.home.subscriber ≡ q)
-        through None there g = absurd cc
-        through (Some c) there g = (key, c, e, there, let is : Some c.home.subscriber ≡ Some q = g in cc)
+sender-leads = end-leads-through (λ (c : Link). c.home.subscriber)
 
 module _ {T U : Type 0} (f : Fields T U) (parts : HasParts f) where
   abbrev s : State T U
   s = state_of (kept_of f)
 
   occupant-receiver : (keys : List (Option ℕ)) (i : ℕ) → occupant (receiver_ends f.connections keys) i ≡ publisher_of_key f.connections (get_or keys i None)
-  occupant-receiver keys i = by keys i where
-    by : (keys : List (Option ℕ)) (i : ℕ) → occupant (receiver_ends f.connections keys) i ≡ publisher_of_key f.connections (get_or keys i None)
-    by [] zero = refl
-    by [] (suc i) = refl
-    by (key ∷ keys) zero = refl
-    by (key ∷ keys) (suc i) = by keys i
+  occupant-receiver = occupant-led (λ (c : Link). c.home.publisher) f.connections
 
   -- the ports of a connection are linked
   pub linked-there : (key : ℕ) (d : Link) → get f.connections key ≡ Some d → is_linked s d.home.publisher d.home.subscriber ≡ true

@@ -16,7 +16,7 @@ use Rattle.iox2_slots.specs.Link.{Link, empty_link, load}
 use Rattle.iox2_store.specs.machine.Mailbox.{Mailbox, ChannelNumber, other_numbers}
 use Rattle.iox2_store.specs.machine.Places.{occupant, set_place, is_port}
 use Rattle.iox2_store.specs.machine.Records.{Publisher, Subscriber, Environment}
-use Rattle.iox2_store.specs.machine.State.{State, has_receiver_end}
+use Rattle.iox2_store.specs.machine.State.{has_receiver_end}
 use Rattle.iox2_store.specs.declared.degradation.DegradationAction.{DegradationAction}
 use Rattle.iox2_ends.specs.LookUp.{look_up}
 use Rattle.iox2_ends.specs.Homes.{IsSenderLinked}
@@ -24,8 +24,7 @@ use Rattle.iox2_ends.proofs.LookUps.{look_up-found}
 use Rattle.iox2_ends.specs.Mailboxes.{mailbox_of, mailbox_if_any, is_between, sender_ends, subscriber_of_key, publisher_of_key, numbered}
 use Rattle.iox2_domain.specs.WarningRing.{warning_ring}
 use Rattle.iox2_domain.specs.Ports.{PublisherFields, SubscriberFields}
-use Rattle.iox2_domain.specs.Kept.{state_of}
-use Rattle.iox2_domain.specs.Fields.{Fields, kept_of, publisher_of, subscriber_of, numbers_of}
+use Rattle.iox2_domain.specs.Fields.{Fields, subscriber_of, numbers_of}
 use Rattle.iox2_domain.specs.Invariant.{IsDomain, SenderHas, details_of, connection_count}
 use Rattle.iox2_domain.specs.Updates.{MakesConnection, home_of, key_from}
 use Rattle.iox2_domain.specs.Connects.{ConnectsSender, MakesSenderEnd}
@@ -37,15 +36,10 @@ use Rattle.iox2_domain.proofs.lemmas.containers.MadeConnections.{made-extends, m
 use Rattle.iox2_steps.proofs.updates.SenderChanges.{fits-same}
 use Rattle.iox2_steps.proofs.updates.SenderSteps.{connected_sender, steps-connect, keeps-end, makes-end, no_end, no-numbers, makes-empty}
 use Rattle.iox2_domain.proofs.lemmas.fields.Standing.{key-from, no-connection, occupant-receiver_ends, one-publisher, publisher-place, receiver-joins}
+use Rattle.iox2_domain.proofs.lemmas.fields.NamedPorts.{seen, seen_publisher}
 
 module _ {T U : Type 0} (environment : Environment) (f : Fields T U) (sound : IsDomain f) (i j : ℕ) (x : PublisherFields) (y : SubscriberFields)
     (at_x : get_or f.publishers i None ≡ Some x) (at_y : get_or f.subscribers j None ≡ Some y) (due : x.is_due ≡ false) (free : x.blocked ≡ None) (opened : y.is_open ≡ true) where
-  abbrev s : State T U
-  s = state_of (kept_of f)
-
-  abbrev P : Publisher
-  P = (publisher_of f.books f.connections x).port
-
   abbrev with_capacity : (n : ℕ) → Slab Link
   with_capacity n = record f.connections { capacity = n }
 
@@ -57,7 +51,7 @@ module _ {T U : Type 0} (environment : Environment) (f : Fields T U) (sound : Is
   -- an end that is there stays
   pub keeps-connection : (key : ℕ) (c : Link) → get_or x.keys j None ≡ Some key → get f.connections key ≡ Some c → c.home.subscriber ≡ y.id → ConnectsSender environment f i j x f None
   keeps-connection key c has at to =
-      let there : occupant P.ends j ≡ Some y.id =
+      let there : occupant (seen_publisher f x).ends j ≡ Some y.id =
       occupant-sender_ends f.connections x.keys j ∙ ap (subscriber_of_key f.connections) has
       ∙ ap (option_map (λ (c : Link). c.home.subscriber)) at ∙ ap Some to in
       subst (λ (h : Fields T U). ConnectsSender environment f i j x h None) (λ k. record f { publishers = same_publishers k })
@@ -71,8 +65,8 @@ module _ {T U : Type 0} (environment : Environment) (f : Fields T U) (sound : Is
     keys_with key = set_place x.keys j (Some key)
 
     -- where the new key leads to the subscriber, the new ends are the machine's
-    leads : (connections : Slab Link) (key : ℕ) (c : Link) → sender_ends connections x.keys ≡ P.ends → get connections key ≡ Some c → c.home.subscriber ≡ y.id
-        → sender_ends connections (keys_with key) ≡ set_place P.ends j (Some y.id)
+    leads : (connections : Slab Link) (key : ℕ) (c : Link) → sender_ends connections x.keys ≡ (seen_publisher f x).ends → get connections key ≡ Some c → c.home.subscriber ≡ y.id
+        → sender_ends connections (keys_with key) ≡ set_place (seen_publisher f x).ends j (Some y.id)
     leads connections key c same at to =
         map-set_place (subscriber_of_key connections) refl x.keys j (Some key)
         ∙ (λ k. set_place (same k) j ((ap (option_map (λ (d : Link). d.home.subscriber)) at ∙ ap Some to) k))
@@ -101,7 +95,7 @@ module _ {T U : Type 0} (environment : Environment) (f : Fields T U) (sound : Is
     -- no slot stands in a connection of which the publisher doesn't know
     nobody-in : (key : ℕ) (c : Link) → get f.connections key ≡ Some c → c.home.publisher ≡ x.id → c.home.subscriber ≡ y.id → c.home.subscriber_place ≡ j → load c ≡ 0
     nobody-in key c at its to place =
-        let box : s.mailboxes x.id y.id ≡ mailbox_of (numbers_of f.books x.id) c =
+        let box : (seen f).mailboxes x.id y.id ≡ mailbox_of (numbers_of f.books x.id) c =
         mailboxes-are f x.id y.id ∙ ap (mailbox_if_any (numbers_of f.books x.id)) (look_up-found (is_between x.id y.id) f.connections.slots key c (sound.parts.apart.one x.id y.id) at (and_from _ _ (eq-eqb c.home.publisher x.id its) (eq-eqb c.home.subscriber y.id to))) in
         let none_in = no-numbers environment f sound i j x y at_x at_y due free opened none in
         let waits : length c.waiting ≡ 0 = nil-map (numbers_of f.books x.id) c.waiting (ap (λ (m : Mailbox). m.waiting) (sym box) ∙ none_in.1) in
@@ -197,9 +191,9 @@ module _ {T U : Type 0} (environment : Environment) (f : Fields T U) (sound : Is
         by true e = absurd (none-some key (sym e))
         by false e = refl
 
-      no_receiver : has_receiver_end s x.id y.id ≡ false
+      no_receiver : has_receiver_end (seen f) x.id y.id ≡ false
       no_receiver =
-          ap (λ o. option_map_or (λ (z : Subscriber). option_map_or (λ (w : Publisher). is_port (occupant z.ends w.place) x.id) (s.publishers x.id) false) o false) (subscriber-stands f sound.parts j y at_y)
+          ap (λ o. option_map_or (λ (z : Subscriber). option_map_or (λ (w : Publisher). is_port (occupant z.ends w.place) x.id) ((seen f).publishers x.id) false) o false) (subscriber-stands f sound.parts j y at_y)
           ∙ ap (λ o. option_map_or (λ (w : Publisher). is_port (occupant ((subscriber_of f.books f.connections y).port).ends w.place) x.id) o false) (publisher-stands f sound.parts i x at_x)
           ∙ ap (λ o. is_port o x.id)
           (ap (occupant ((subscriber_of f.books f.connections y).port).ends) (publisher-place f sound.parts sound.well_formed i x at_x)

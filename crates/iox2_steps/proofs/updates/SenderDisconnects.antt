@@ -1,6 +1,5 @@
 -- A publisher loses its end of a connection whose subscriber is gone, and what waits there.
 use Rattle.std.proofs.Common.{◌≡◌, ◌<◌, ℕ, true, false, not, List, [], ◌∷◌, map, length, get_or, slice_set, refl, ap, sym, subst, ◌∙◌, arith}
-use Rattle.std.proofs.lemmas.Bool.{eqb-true}
 use Rattle.std.proofs.lemmas.Option.{same_Some}
 use Rattle.std.specs.declared.option.Option.{Option}
 use Rattle.std.specs.declared.option.Option.TheVariants.{None, Some}
@@ -17,28 +16,27 @@ use Rattle.iox2_store.specs.machine.PublisherUpdate.{SenderSide, dropped, discon
 use Rattle.iox2_store.specs.machine.WellFormed.{IsWellFormed}
 use Rattle.iox2_ends.specs.Drops.{RemovesConnection}
 use Rattle.iox2_ends.specs.Mailboxes.{mailbox_of}
-use Rattle.iox2_ends.proofs.LookUps.{look_up-there}
 use Rattle.iox2_ends.proofs.MailboxChanges.{mailbox-there}
-use Rattle.iox2_ends.specs.LookUp.{look_up}
 use Rattle.iox2_laws.proofs.PublisherUpdates.{with_sender_side_keeps}
 use Rattle.iox2_laws.proofs.Puts.{put_at-same, put_at-twice}
 use Rattle.iox2_laws.proofs.SenderSides.{SenderSideIsWellFormed, sender_side_begins, unused_keeps}
 use Rattle.iox2_domain.specs.Ports.{PublisherFields, SubscriberFields}
-use Rattle.iox2_domain.specs.Kept.{Named, state_of, is_named}
+use Rattle.iox2_domain.specs.Kept.{state_of}
 use Rattle.iox2_domain.specs.Fields.{Fields, kept_of, publisher_of, subscriber_of, numbers_of}
-use Rattle.iox2_domain.specs.Invariant.{IsDomain, ReceiverHas, is_subscriber, details_of}
+use Rattle.iox2_domain.specs.Invariant.{IsDomain, ReceiverHas, details_of}
 use Rattle.iox2_domain.specs.Reaches.{Reaches}
 use Rattle.iox2_domain.specs.Drops.{with_waiting_dropped, LosesSenderEnd, StandsElsewhere}
 use Rattle.iox2_domain.specs.KeptLinks.{ChannelsFollow}
 use Rattle.iox2_domain.specs.Midway.{with_channels_of}
 use Rattle.iox2_laws.proofs.PortChanges.{with_all_channels_keeps}
 use Rattle.iox2_steps.proofs.updates.FollowedChannels.{follow-both, follow-same}
-use Rattle.iox2_domain.proofs.lemmas.containers.LookUps.{look_up-map, map-at}
+use Rattle.iox2_domain.proofs.lemmas.containers.LookUps.{map-at}
 use Rattle.iox2_domain.proofs.lemmas.fields.ConnectionEnds.{publisher-stands}
 use Rattle.iox2_domain.proofs.lemmas.fields.Standing.{place-within}
 use Rattle.iox2_domain.proofs.lemmas.fields.Views.{mailboxes-are, unblocked}
 use Rattle.iox2_steps.proofs.updates.SenderLeft.{LeavesEmpty, left-is, left-agrees, left-follows}
 use Rattle.iox2_steps.proofs.updates.WaitingDropped.{dropped_fields, dropped-reaches, dropped-side, dropped-well, end-own, end-leads}
+use Rattle.iox2_domain.proofs.lemmas.fields.NamedPorts.{named-there}
 
 -- No subscriber stands that has this id.
 pub record IsGone (subscribers : List (Option SubscriberFields)) (q : ℕ) : Type 0 where
@@ -47,13 +45,7 @@ pub record IsGone (subscribers : List (Option SubscriberFields)) (q : ℕ) : Typ
 module _ {T U : Type 0} (f : Fields T U) (sound : IsDomain f) where
   -- the machine has no such subscriber either
   pub gone-is : (q : ℕ) → IsGone f.subscribers q → (y : Subscriber) → (state_of (kept_of f)).subscribers q ≡ Some y → ⊥
-  gone-is q gone y at = by (look_up (is_subscriber q) f.subscribers) refl where
-    shown : (state_of (kept_of f)).subscribers q ≡ option_map (λ (z : Named Subscriber). z.port) (option_map (subscriber_of f.books f.connections) (look_up (is_subscriber q) f.subscribers))
-    shown = ap (option_map (λ (z : Named Subscriber). z.port)) (look_up-map (is_named q) (subscriber_of f.books f.connections) f.subscribers)
-
-    by : (o : Option SubscriberFields) → look_up (is_subscriber q) f.subscribers ≡ o → ⊥
-    by None e = let no : None ≡ Some y = sym (shown ∙ ap (λ o. option_map (λ (z : Named Subscriber). z.port) (option_map (subscriber_of f.books f.connections) o)) e) ∙ at in absurd cc
-    by (Some z) e = let there = look_up-there (is_subscriber q) f.subscribers z e in gone.nobody there.0 z there.1 (eqb-true z.id q there.2)
+  gone-is q gone y at = let there = named-there (subscriber_of f.books f.connections) q f.subscribers y at in gone.nobody there.0 there.1 there.2 there.3
 
   -- a subscriber that doesn't stand at its connection's place is gone
   pub gone-from : (key j : ℕ) (c : Link) → get f.connections key ≡ Some c → c.home.subscriber_place ≡ j

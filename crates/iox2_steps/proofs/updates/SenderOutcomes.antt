@@ -1,5 +1,5 @@
 -- What a publisher's connection at a place comes to, by what its update found there.
-use Rattle.std.proofs.Common.{◌≡◌, ◌<◌, ◌≤◌, ℕ, true, false, Bool, cond, eqb, List, get_or, refl, ap, sym, subst, ◌∙◌, slice_set}
+use Rattle.std.proofs.Common.{◌≡◌, ◌<◌, ℕ, true, false, Bool, cond, eqb, List, get_or, refl, ap, sym, subst, ◌∙◌, slice_set}
 use Rattle.std.specs.declared.option.Option.{Option}
 use Rattle.std.specs.declared.option.Option.TheVariants.{None, Some}
 use Rattle.std.specs.Option.{option_map, option_map_or, option_and_then}
@@ -17,12 +17,12 @@ use Rattle.iox2_domain.specs.WarningRing.{WarningRing, warning_ring}
 use Rattle.iox2_domain.specs.Ports.{PublisherFields, SubscriberFields}
 use Rattle.iox2_domain.specs.Fields.{Fields}
 use Rattle.iox2_domain.specs.Invariant.{IsDomain, connection_count}
-use Rattle.iox2_domain.specs.Updates.{changed_at, with_sender_key, with_sender_room, with_receiver_rooms, sender_key, receiver_key, key_from, is_open_subscriber, sender_room, receiver_room, expired_room_at, home_of, refused_between, MakesConnection, StandApart}
+use Rattle.iox2_domain.specs.Updates.{changed_at, with_sender_key, with_sender_room, with_receiver_rooms, sender_key, receiver_key, key_from, is_open_subscriber, home_of, refused_between, MakesConnection, StandApart}
 use Rattle.iox2_domain.specs.Connects.{ConnectsSender, MakesSenderEnd, MakesRoom}
-use Rattle.iox2_domain.proofs.lemmas.containers.ChangedRecords.{changed-here}
-use Rattle.iox2_steps.proofs.updates.Grown.{grown, grown-agrees, sender-from, end-from}
+use Rattle.iox2_steps.proofs.updates.Grown.{grown, sender-from, end-from}
 use Rattle.iox2_domain.proofs.lemmas.fields.Standing.{receiver-joins, sender-room}
 use Rattle.iox2_steps.proofs.updates.SenderCases.{joins-connection, makes-connection, misses-connection}
+use Rattle.iox2_steps.proofs.updates.GrownPorts.{HasGrown, has-grown}
 
 -- a key that leads to a connection of the publisher, and that connection
 pub some_from : (connections : Slab Link) (p : ℕ) (o : Option ℕ) (key : ℕ) → key_from connections p o ≡ Some key
@@ -81,42 +81,11 @@ module _ {T U : Type 0} (environment : Environment) (f : Fields T U) (sound : Is
       -- no connection is there, and both ports get room for one
       module _ (nobody : key_from f.connections home.publisher (receiver_key f.subscribers j i) ≡ None)
           (mid : Fields T U) (rooms : MakesRoom f i j mid) where
-        abbrev n : ℕ
-        n = sender_room mid.publishers i
-
-        abbrev m : ℕ
-        m = receiver_room mid.subscribers j
-
-        abbrev e : ℕ
-        e = expired_room_at mid.subscribers j
+        r : HasGrown f i j x y mid
+        r = has-grown f i j x y mid sound at_x apart.subscriber_stands rooms
 
         abbrev g : Fields T U
-        g = grown f i j x y n m e
-
-        more_x : x.key_room ≤ n
-        more_x = subst (λ (k : ℕ). k ≤ n) (ap (λ o. option_map_or (λ (z : PublisherFields). z.key_room) o 0) at_x) rooms.sender
-
-        more_y : y.key_room ≤ m
-        more_y = subst (λ (k : ℕ). k ≤ m) (ap (λ o. option_map_or (λ (z : SubscriberFields). z.key_room) o 0) apart.subscriber_stands) rooms.receiver
-
-        more_e : y.expired_room ≤ e
-        more_e = subst (λ (k : ℕ). k ≤ e) (ap (λ o. option_map_or (λ (z : SubscriberFields). z.expired_room) o 0) apart.subscriber_stands) rooms.expired
-
-        grown-here : IsDomain g
-        grown-here = grown-agrees f i j x y n m e sound at_x apart.subscriber_stands more_x more_y more_e
-
-        here_x : get_or g.publishers i None ≡ Some (with_sender_room n x)
-        here_x = changed-here f.publishers i x (with_sender_room n x) at_x
-
-        here_y : get_or g.subscribers j None ≡ Some (with_receiver_rooms m e y)
-        here_y = changed-here f.subscribers j y (with_receiver_rooms m e y) apart.subscriber_stands
-
-        mid-is : mid ≡ record g { connections = mid.connections }
-        mid-is = rooms.fields ∙ (λ k. record f {
-          publishers = slice_set f.publishers i (option_map (with_sender_room n) (at_x k));
-          subscribers = slice_set f.subscribers j (option_map (with_receiver_rooms m e) (apart.subscriber_stands k));
-          connections = mid.connections;
-        })
+        g = grown f i j x y r.keys r.receiver_keys r.expired
 
         no_key_y : key_from f.connections x.id (get_or y.keys i None) ≡ None
         no_key_y = sym (from-is f sound i j x at_x home size apart) ∙ nobody
@@ -128,20 +97,20 @@ module _ {T U : Type 0} (environment : Environment) (f : Fields T U) (sound : Is
             → (key : ℕ) → MakesConnection f.connections home size (f.config).subscriber_max_borrowed_samples (channel_count f.config) key mid.connections
             → (f' : Fields T U) → f' ≡ record mid { publishers = changed_at (with_sender_key j key) mid.publishers i } → MakesSenderEnd environment f i j x key f'
         makes-as room_x room_y room_expired key made f' is =
-            end-from f i j x y n m e sound at_x apart.subscriber_stands more_x more_y more_e environment key f'
-            (subst (λ (h : Fields T U). MakesSenderEnd environment g i j (with_sender_room n x) key h) (sym after)
-            (makes-connection environment g grown-here i j (with_sender_room n x) (with_receiver_rooms m e y) here_x here_y due free opened_y no_key no_key_y
-            (room_x (with_sender_room n x) (ap (λ (h : Fields T U). get_or h.publishers i None) mid-is ∙ here_x))
-            (room_y (with_receiver_rooms m e y) (ap (λ (h : Fields T U). get_or h.subscribers j None) mid-is ∙ here_y))
-            (subst (λ (h : Home). connection_count f.connections h.subscriber < e) (home-is f sound i j x at_x home size apart) (room_expired (with_receiver_rooms m e y) (ap (λ (h : Fields T U). get_or h.subscribers j None) mid-is ∙ here_y)))
+            end-from f i j x y r.keys r.receiver_keys r.expired sound at_x apart.subscriber_stands r.more_keys r.more_receiver_keys r.more_expired environment key f'
+            (subst (λ (h : Fields T U). MakesSenderEnd environment g i j (with_sender_room r.keys x) key h) (sym after)
+            (makes-connection environment g r.sound i j (with_sender_room r.keys x) (with_receiver_rooms r.receiver_keys r.expired y) r.publisher r.subscriber due free opened_y no_key no_key_y
+            (room_x (with_sender_room r.keys x) (ap (λ (h : Fields T U). get_or h.publishers i None) r.is ∙ r.publisher))
+            (room_y (with_receiver_rooms r.receiver_keys r.expired y) (ap (λ (h : Fields T U). get_or h.subscribers j None) r.is ∙ r.subscriber))
+            (subst (λ (h : Home). connection_count f.connections h.subscriber < r.expired) (home-is f sound i j x at_x home size apart) (room_expired (with_receiver_rooms r.receiver_keys r.expired y) (ap (λ (h : Fields T U). get_or h.subscribers j None) r.is ∙ r.subscriber)))
             key mid.connections
             (subst (λ (h : Home). MakesConnection f.connections h y.buffer (f.config).subscriber_max_borrowed_samples (channel_count f.config) key mid.connections) (home-is f sound i j x at_x home size apart)
             (subst (λ k. MakesConnection f.connections home k (f.config).subscriber_max_borrowed_samples (channel_count f.config) key mid.connections) apart.buffer_is made))))
           where
-            after : f' ≡ record g { publishers = slice_set g.publishers i (Some (with_sender_key j key (with_sender_room n x))); connections = mid.connections }
+            after : f' ≡ record g { publishers = slice_set g.publishers i (Some (with_sender_key j key (with_sender_room r.keys x))); connections = mid.connections }
             after = is
-                ∙ (λ k. record (mid-is k) { publishers = changed_at (with_sender_key j key) ((mid-is k).publishers) i })
-                ∙ ap (λ o. record g { publishers = slice_set g.publishers i (option_map (with_sender_key j key) o); connections = mid.connections }) here_x
+                ∙ (λ k. record (r.is k) { publishers = changed_at (with_sender_key j key) ((r.is k).publishers) i })
+                ∙ ap (λ o. record g { publishers = slice_set g.publishers i (option_map (with_sender_key j key) o); connections = mid.connections }) r.publisher
 
         -- memory for a new one is refused, and the publisher's handler says what comes of that
         pub misses-as : environment.may_refuse_memory → (service : ℕ) (handler : Handler DegradationAction) → service ≡ (f.config).service_id → x.degradation_handler ≡ handler
@@ -150,10 +119,10 @@ module _ {T U : Type 0} (environment : Environment) (f : Fields T U) (sound : Is
             → warnings ≡ warning_ring (warnings_after home.publisher home.subscriber action f.warnings.items) warning_limit
             → (f' : Fields T U) → f' ≡ record mid { warnings = warnings } → ConnectsSender environment f i j x f' (failure_of action)
         misses-as may service handler serviced handled action answers warnings same warned_is f' is =
-            sender-from f i j x y n m e sound at_x apart.subscriber_stands more_x more_y more_e environment f' (failure_of action)
-            (subst (λ (h : Fields T U). ConnectsSender environment g i j (with_sender_room n x) h (failure_of action))
-            (sym (is ∙ (λ k. record (mid-is k) { warnings = told k }) ∙ (λ k. record g { connections = same k; warnings = warning_ring (warnings_after x.id y.id action f.warnings.items) warning_limit })))
-            (misses-connection environment g grown-here i j (with_sender_room n x) (with_receiver_rooms m e y) here_x here_y due free opened_y no_key no_key_y may action asked mid.connections.capacity))
+            sender-from f i j x y r.keys r.receiver_keys r.expired sound at_x apart.subscriber_stands r.more_keys r.more_receiver_keys r.more_expired environment f' (failure_of action)
+            (subst (λ (h : Fields T U). ConnectsSender environment g i j (with_sender_room r.keys x) h (failure_of action))
+            (sym (is ∙ (λ k. record (r.is k) { warnings = told k }) ∙ (λ k. record g { connections = same k; warnings = warning_ring (warnings_after x.id y.id action f.warnings.items) warning_limit })))
+            (misses-connection environment g r.sound i j (with_sender_room r.keys x) (with_receiver_rooms r.receiver_keys r.expired y) r.publisher r.subscriber due free opened_y no_key no_key_y may action asked mid.connections.capacity))
           where
             asked : DegradationAnswers environment x.id x.degradation_handler (refused_between (f.config).service_id (home_of i j x y)) action
             asked = subst (λ h. DegradationAnswers environment x.id h (refused_between (f.config).service_id (home_of i j x y)) action) (sym handled)

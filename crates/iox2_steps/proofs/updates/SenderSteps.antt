@@ -34,6 +34,7 @@ use Rattle.iox2_steps.proofs.updates.SenderActions.{update-keeps, update-connect
 use Rattle.iox2_steps.proofs.updates.SenderAgrees.{sender-agrees}
 use Rattle.iox2_domain.proofs.lemmas.fields.Standing.{subscriber-listed, subscriber-place}
 use Rattle.iox2_laws.proofs.MailboxLemmas.{nothing_anywhere}
+use Rattle.iox2_domain.proofs.lemmas.fields.NamedPorts.{seen, seen_publisher}
 
 module _ {T U : Type 0} (f : Fields T U) where
   abbrev pub now : State T U
@@ -59,15 +60,6 @@ module _ {T U : Type 0} (f : Fields T U) where
 
 module _ {T U : Type 0} (environment : Environment) (f : Fields T U) (sound : IsDomain f) (i j : ℕ) (x : PublisherFields) (y : SubscriberFields)
     (at_x : get_or f.publishers i None ≡ Some x) (at_y : get_or f.subscribers j None ≡ Some y) (due : x.is_due ≡ false) (free : x.blocked ≡ None) (opened : y.is_open ≡ true) where
-  abbrev s : State T U
-  s = state_of (kept_of f)
-
-  abbrev P : Publisher
-  P = (publisher_of f.books f.connections x).port
-
-  present : s.publishers x.id ≡ Some P
-  present = publisher-stands f sound.parts i x at_x
-
   -- the machine's step is done where the fields change so
   pub steps-connect : (keys : List (Option ℕ)) (connections : Slab Link) (warnings : WarningRing) (failure : Option ConnectionFailure) → FitsSender f i x keys x.key_room connections
       → warnings.capacity ≡ warning_limit → StepsSender f environment j x (side_with f x keys connections warnings) failure
@@ -80,26 +72,26 @@ module _ {T U : Type 0} (environment : Environment) (f : Fields T U) (sound : Is
     others = refl;
     side = side_with f x keys connections warnings;
     steps = step;
-    state = but-channels (connected_sender f i x keys connections warnings) (with_sender_side s x.id P (side_with f x keys connections warnings)) state;
+    state = but-channels (connected_sender f i x keys connections warnings) (with_sender_side (seen f) x.id (seen_publisher f x) (side_with f x keys connections warnings)) state;
     channels = fits-follow f sound i x at_x keys x.key_room x.is_due connections warnings fits;
     entries = λ n entry e. e;
   } where
     after : SenderSide
     after = side_with f x keys connections warnings
 
-    state : state_of (kept_of (connected_sender f i x keys connections warnings)) ≡ with_sender_side s x.id P (side_with f x keys connections warnings)
+    state : state_of (kept_of (connected_sender f i x keys connections warnings)) ≡ with_sender_side (seen f) x.id (seen_publisher f x) (side_with f x keys connections warnings)
     state =
         sender-is f sound i x at_x keys x.key_room x.is_due connections warnings fits
-        ∙ (λ k. record s {
-          publishers = put_at s.publishers x.id (Some (record P { ends = sender_ends connections keys; is_due = due k }));
-          mailboxes = put_at-own s.mailboxes x.id k;
+        ∙ (λ k. record (seen f) {
+          publishers = put_at (seen f).publishers x.id (Some (record (seen_publisher f x) { ends = sender_ends connections keys; is_due = due k }));
+          mailboxes = put_at-own (seen f).mailboxes x.id k;
           warnings = warnings.items;
         })
 
-    well : IsWellFormed (with_sender_side s x.id P (side_with f x keys connections warnings))
-    well = with_sender_side_keeps s sound.well_formed x.id P present (unblocked f.books f.connections x free) (side_with f x keys connections warnings)
-        (performed_keeps s sound.well_formed x.id P present environment j _ _ (sender_side s x.id P) (side_with f x keys connections warnings) failure
-        (occupied_within s.subscriber_places j y.id (subscriber-listed f sound.parts j y at_y)) refl refl (sender_side_begins s sound.well_formed x.id P present) step)
+    well : IsWellFormed (with_sender_side (seen f) x.id (seen_publisher f x) (side_with f x keys connections warnings))
+    well = with_sender_side_keeps (seen f) sound.well_formed x.id (seen_publisher f x) (publisher-stands f sound.parts i x at_x) (unblocked f.books f.connections x free) (side_with f x keys connections warnings)
+        (performed_keeps (seen f) sound.well_formed x.id (seen_publisher f x) (publisher-stands f sound.parts i x at_x) environment j _ _ (sender_side (seen f) x.id (seen_publisher f x)) (side_with f x keys connections warnings) failure
+        (occupied_within (seen f).subscriber_places j y.id (subscriber-listed f sound.parts j y at_y)) refl refl (sender_side_begins (seen f) sound.well_formed x.id (seen_publisher f x) (publisher-stands f sound.parts i x at_x)) step)
 
   -- ---- what the machine does
 
@@ -110,53 +102,53 @@ module _ {T U : Type 0} (environment : Environment) (f : Fields T U) (sound : Is
   Step side failure = StepsSender f environment j x side failure
 
   -- the subscriber takes messages
-  open_buffer : receiving_buffer s y.id ≡ Some y.buffer
+  open_buffer : receiving_buffer (seen f) y.id ≡ Some y.buffer
   open_buffer =
       ap (option_and_then (λ (z : Subscriber). cond z.is_open (Some z.buffer) None)) (subscriber-stands f sound.parts j y at_y)
       ∙ ap (λ b. cond b (Some y.buffer) None) opened
 
   -- an end to the subscriber stays
-  pub keeps-end : occupant P.ends j ≡ Some y.id → Step (sender_side s x.id P) None
+  pub keeps-end : occupant (seen_publisher f x).ends j ≡ Some y.id → Step (sender_side (seen f) x.id (seen_publisher f x)) None
   keeps-end there =
-      update-keeps environment (f.config).service_id x.id P.degradation_handler (histories_of f x) (receiving_buffer s) (has_receiver_end s x.id) j y.id y.buffer
-      (occupant s.subscriber_places j) (sender_side s x.id P) (subscriber-listed f sound.parts j y at_y) open_buffer there
+      update-keeps environment (f.config).service_id x.id (seen_publisher f x).degradation_handler (histories_of f x) (receiving_buffer (seen f)) (has_receiver_end (seen f) x.id) j y.id y.buffer
+      (occupant (seen f).subscriber_places j) (sender_side (seen f) x.id (seen_publisher f x)) (subscriber-listed f sound.parts j y at_y) open_buffer there
 
   -- without an end one is made
-  pub makes-end : occupant P.ends j ≡ None → (side : SenderSide) (failure : Option ConnectionFailure)
-      → ConnectSender environment (f.config).service_id x.id P.degradation_handler (histories_of f x) (receiving_buffer s) (has_receiver_end s x.id) (sender_side s x.id P) j y.id y.buffer side failure
+  pub makes-end : occupant (seen_publisher f x).ends j ≡ None → (side : SenderSide) (failure : Option ConnectionFailure)
+      → ConnectSender environment (f.config).service_id x.id (seen_publisher f x).degradation_handler (histories_of f x) (receiving_buffer (seen f)) (has_receiver_end (seen f) x.id) (sender_side (seen f) x.id (seen_publisher f x)) j y.id y.buffer side failure
       → Step side failure
   makes-end none side failure step =
-      update-connects environment (f.config).service_id x.id P.degradation_handler (histories_of f x) (receiving_buffer s) (has_receiver_end s x.id) j y.id y.buffer
-      (occupant s.subscriber_places j) (sender_side s x.id P) (subscriber-listed f sound.parts j y at_y) open_buffer side failure none step
+      update-connects environment (f.config).service_id x.id (seen_publisher f x).degradation_handler (histories_of f x) (receiving_buffer (seen f)) (has_receiver_end (seen f) x.id) j y.id y.buffer
+      (occupant (seen f).subscriber_places j) (sender_side (seen f) x.id (seen_publisher f x)) (subscriber-listed f sound.parts j y at_y) open_buffer side failure none step
 
-  pub no_end : get_or x.keys j None ≡ None → occupant P.ends j ≡ None
+  pub no_end : get_or x.keys j None ≡ None → occupant (seen_publisher f x).ends j ≡ None
   no_end none = occupant-sender_ends f.connections x.keys j ∙ ap (subscriber_of_key f.connections) none
 
   -- ---- the mailbox
 
   -- without an end there is nothing in the mailbox
-  pub no-numbers : get_or x.keys j None ≡ None → (other_numbers (s.mailboxes x.id y.id) ≡ []) × ((s.mailboxes x.id y.id).waiting ≡ []) × ((s.mailboxes x.id y.id).borrowed ≡ [])
-  no-numbers none = nothing_anywhere (s.mailboxes x.id y.id) (by (has_numbers (s.mailboxes x.id y.id)) refl) where
-    by : (b : Bool) → has_numbers (s.mailboxes x.id y.id) ≡ b → b ≡ false
+  pub no-numbers : get_or x.keys j None ≡ None → (other_numbers ((seen f).mailboxes x.id y.id) ≡ []) × (((seen f).mailboxes x.id y.id).waiting ≡ []) × (((seen f).mailboxes x.id y.id).borrowed ≡ [])
+  no-numbers none = nothing_anywhere ((seen f).mailboxes x.id y.id) (by (has_numbers ((seen f).mailboxes x.id y.id)) refl) where
+    by : (b : Bool) → has_numbers ((seen f).mailboxes x.id y.id) ≡ b → b ≡ false
     by false e = refl
     by true e =
-        let leads : LeadsTo P.ends y.id = (sound.well_formed.mailboxes x.id y.id).sender_end P present e in
-        let place : y.place ≡ leads.0 = (sound.well_formed.publishers x.id P present).ends_stand leads.0 y.id Q leads.1 (subscriber-stands f sound.parts j y at_y) in
+        let leads : LeadsTo (seen_publisher f x).ends y.id = (sound.well_formed.mailboxes x.id y.id).sender_end (seen_publisher f x) (publisher-stands f sound.parts i x at_x) e in
+        let place : y.place ≡ leads.0 = (sound.well_formed.publishers x.id (seen_publisher f x) (publisher-stands f sound.parts i x at_x)).ends_stand leads.0 y.id Q leads.1 (subscriber-stands f sound.parts j y at_y) in
         let here : leads.0 ≡ j = sym place ∙ subscriber-place f sound.parts sound.well_formed j y at_y in
-        absurd (let no : None ≡ Some y.id = sym (no_end none) ∙ ap (occupant P.ends) (sym here) ∙ leads.1 in cc)
+        absurd (let no : None ≡ Some y.id = sym (no_end none) ∙ ap (occupant (seen_publisher f x).ends) (sym here) ∙ leads.1 in cc)
 
   last_of_none : (n : ℕ) → last_n {X = ℕ} n [] ≡ []
   last_of_none n = drop_all (0 - n) [] (omega arith)
 
   -- no message adds nothing to it
-  same_mailboxes : get_or x.keys j None ≡ None → s.mailboxes x.id ≡ put_at (s.mailboxes x.id) y.id (with_waiting (last_n y.buffer []) (s.mailboxes x.id y.id))
+  same_mailboxes : get_or x.keys j None ≡ None → (seen f).mailboxes x.id ≡ put_at ((seen f).mailboxes x.id) y.id (with_waiting (last_n y.buffer []) ((seen f).mailboxes x.id y.id))
   same_mailboxes none =
-      put_at-own (s.mailboxes x.id) y.id
-      ∙ ap (λ (ns : List ℕ). put_at (s.mailboxes x.id) y.id (with_waiting ns (s.mailboxes x.id y.id))) ((no-numbers none).1 ∙ sym (last_of_none y.buffer))
+      put_at-own ((seen f).mailboxes x.id) y.id
+      ∙ ap (λ (ns : List ℕ). put_at ((seen f).mailboxes x.id) y.id (with_waiting ns ((seen f).mailboxes x.id y.id))) ((no-numbers none).1 ∙ sym (last_of_none y.buffer))
 
   -- an end is made where the keys lead to it, and nothing waits there yet
   pub makes-empty : get_or x.keys j None ≡ None → (keys : List (Option ℕ)) (connections : Slab Link) → FitsSender f i x keys x.key_room connections
-      → sender_ends connections keys ≡ set_place P.ends j (Some y.id)
+      → sender_ends connections keys ≡ set_place (seen_publisher f x).ends j (Some y.id)
       → (key : ℕ) (c : Link) → get connections key ≡ Some c → c.home.publisher ≡ x.id → c.home.subscriber ≡ y.id → c.buffer ≡ y.buffer → load c ≡ 0
       → MakesSenderEnd environment f i j x key (connected_sender f i x keys connections f.warnings)
   makes-empty none keys connections fits leads key c at its to size nobody = record {
@@ -169,34 +161,34 @@ module _ {T U : Type 0} (environment : Environment) (f : Fields T U) (sound : Is
     stands = at;
     is_its = its;
     empty = nobody;
-    steps = subst (λ (q : ℕ). Step (connected (histories_of f x q) (sender_side s x.id P) j q c.buffer) None) (sym to)
-        (subst (λ (n : ℕ). Step (connected (histories_of f x y.id) (sender_side s x.id P) j y.id n) None) (sym size)
-        (makes-end (no_end none) (connected (histories_of f x y.id) (sender_side s x.id P) j y.id y.buffer) None (inl (refl, refl))));
+    steps = subst (λ (q : ℕ). Step (connected (histories_of f x q) (sender_side (seen f) x.id (seen_publisher f x)) j q c.buffer) None) (sym to)
+        (subst (λ (n : ℕ). Step (connected (histories_of f x y.id) (sender_side (seen f) x.id (seen_publisher f x)) j y.id n) None) (sym size)
+        (makes-end (no_end none) (connected (histories_of f x y.id) (sender_side (seen f) x.id (seen_publisher f x)) j y.id y.buffer) None (inl (refl, refl))));
     channels = fits-follow f sound i x at_x keys x.key_room x.is_due connections f.warnings fits;
-    state = subst (λ (q : ℕ). state_of (kept_of after) ≡ with_sender_side s x.id P (connected [] (sender_side s x.id P) j q c.buffer)) (sym to)
-        (subst (λ (n : ℕ). state_of (kept_of after) ≡ with_sender_side s x.id P (connected [] (sender_side s x.id P) j y.id n)) (sym size) state);
+    state = subst (λ (q : ℕ). state_of (kept_of after) ≡ with_sender_side (seen f) x.id (seen_publisher f x) (connected [] (sender_side (seen f) x.id (seen_publisher f x)) j q c.buffer)) (sym to)
+        (subst (λ (n : ℕ). state_of (kept_of after) ≡ with_sender_side (seen f) x.id (seen_publisher f x) (connected [] (sender_side (seen f) x.id (seen_publisher f x)) j y.id n)) (sym size) state);
   } where
     after : Fields T U
     after = connected_sender f i x keys connections f.warnings
 
     bare : SenderSide
-    bare = connected [] (sender_side s x.id P) j y.id y.buffer
+    bare = connected [] (sender_side (seen f) x.id (seen_publisher f x)) j y.id y.buffer
 
     side-is : side_with f x keys connections f.warnings ≡ bare
     side-is = λ k. record { ends = leads k; mailboxes = same_mailboxes none k; warnings = f.warnings.items }
 
-    state : state_of (kept_of (connected_sender f i x keys connections f.warnings)) ≡ with_sender_side s x.id P (connected [] (sender_side s x.id P) j y.id y.buffer)
+    state : state_of (kept_of (connected_sender f i x keys connections f.warnings)) ≡ with_sender_side (seen f) x.id (seen_publisher f x) (connected [] (sender_side (seen f) x.id (seen_publisher f x)) j y.id y.buffer)
     state =
         sender-is f sound i x at_x keys x.key_room x.is_due connections f.warnings fits
-        ∙ (λ k. record s {
-          publishers = put_at s.publishers x.id (Some (record P { ends = sender_ends connections keys; is_due = due k }));
-          mailboxes = put_at-own s.mailboxes x.id k;
+        ∙ (λ k. record (seen f) {
+          publishers = put_at (seen f).publishers x.id (Some (record (seen_publisher f x) { ends = sender_ends connections keys; is_due = due k }));
+          mailboxes = put_at-own (seen f).mailboxes x.id k;
           warnings = f.warnings.items;
         })
-        ∙ ap (with_sender_side s x.id P) side-is
+        ∙ ap (with_sender_side (seen f) x.id (seen_publisher f x)) side-is
 
-    well : IsWellFormed (with_sender_side s x.id P (connected [] (sender_side s x.id P) j y.id y.buffer))
-    well = with_sender_side_keeps s sound.well_formed x.id P present (unblocked f.books f.connections x free) (connected [] (sender_side s x.id P) j y.id y.buffer)
-        (connected_with_keeps s sound.well_formed x.id P present [] tt (λ n no. absurd cc) (sender_side s x.id P) j y.id y.buffer
-        (occupied_within s.subscriber_places j y.id (subscriber-listed f sound.parts j y at_y)) (subscriber-listed f sound.parts j y at_y) open_buffer (no_end none)
-        (sender_side_begins s sound.well_formed x.id P present))
+    well : IsWellFormed (with_sender_side (seen f) x.id (seen_publisher f x) (connected [] (sender_side (seen f) x.id (seen_publisher f x)) j y.id y.buffer))
+    well = with_sender_side_keeps (seen f) sound.well_formed x.id (seen_publisher f x) (publisher-stands f sound.parts i x at_x) (unblocked f.books f.connections x free) (connected [] (sender_side (seen f) x.id (seen_publisher f x)) j y.id y.buffer)
+        (connected_with_keeps (seen f) sound.well_formed x.id (seen_publisher f x) (publisher-stands f sound.parts i x at_x) [] tt (λ n no. absurd cc) (sender_side (seen f) x.id (seen_publisher f x)) j y.id y.buffer
+        (occupied_within (seen f).subscriber_places j y.id (subscriber-listed f sound.parts j y at_y)) (subscriber-listed f sound.parts j y at_y) open_buffer (no_end none)
+        (sender_side_begins (seen f) sound.well_formed x.id (seen_publisher f x) (publisher-stands f sound.parts i x at_x)))

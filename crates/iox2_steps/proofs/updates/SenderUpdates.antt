@@ -35,6 +35,7 @@ use Rattle.iox2_domain.proofs.lemmas.containers.ChangedRecords.{changed-here}
 use Rattle.iox2_steps.proofs.updates.SenderChanges.{sender-is, fits-same}
 use Rattle.iox2_steps.proofs.updates.SenderAgrees.{sender-agrees}
 use Rattle.iox2_steps.proofs.updates.SenderWalk.{AtPlace, publisher_mid, state-again, step-again, walk-goes-on, walk-ends, due-updates, idle-updates as machine-idle, first_failure-none, first_failure-assoc}
+use Rattle.iox2_domain.proofs.lemmas.fields.NamedPorts.{seen, seen_publisher}
 
 -- The publisher x at the place i was updated at the places below j, with this failure if any: whatever the rest of the
 -- walk comes to from here, the whole walk comes to.
@@ -56,45 +57,36 @@ pub record WalksSender {T U : Type 0} (environment : Environment) (f : Fields T 
   pub entries : (n : ℕ) (entry : Entry T U) → entries_of (kept_of f') n ≡ Some entry → entries_of (kept_of f) n ≡ Some entry
 
 module _ {T U : Type 0} (environment : Environment) (f : Fields T U) (sound : IsDomain f) (i : ℕ) (x : PublisherFields) (at : get_or f.publishers i None ≡ Some x) where
-  abbrev s : State T U
-  s = state_of (kept_of f)
-
-  abbrev P : Publisher
-  P = (publisher_of f.books f.connections x).port
-
-  present : s.publishers x.id ≡ Some P
-  present = publisher-stands f sound.parts i x at
-
   -- the walk over all places
   abbrev Whole : SenderSide → Option ConnectionFailure → Type 0
-  Whole end failure = ForEachPlace (AtPlace environment s x.id P present) 0 s.subscriber_places (sender_side s x.id P) end failure
+  Whole end failure = ForEachPlace (AtPlace environment (seen f) x.id (seen_publisher f x) (publisher-stands f sound.parts i x at)) 0 (seen f).subscriber_places (sender_side (seen f) x.id (seen_publisher f x)) end failure
 
   -- the publisher that is due no more
   abbrev settled : Fields T U
   settled = record f { publishers = slice_set f.publishers i (Some (record x { is_due = false })) }
 
-  settled-is : state_of (kept_of settled) ≡ with_sender_side s x.id P (sender_side s x.id P)
+  settled-is : state_of (kept_of settled) ≡ with_sender_side (seen f) x.id (seen_publisher f x) (sender_side (seen f) x.id (seen_publisher f x))
   settled-is =
       sender-is f sound i x at x.keys x.key_room false f.connections f.warnings (fits-same f sound i x at f.connections.capacity)
-      ∙ (λ k. record s { publishers = put_at s.publishers x.id (Some (record P { is_due = false })); mailboxes = put_at-own s.mailboxes x.id k })
+      ∙ (λ k. record (seen f) { publishers = put_at (seen f).publishers x.id (Some (record (seen_publisher f x) { is_due = false })); mailboxes = put_at-own (seen f).mailboxes x.id k })
 
   -- the walk begins where the publisher is due no more
   pub walk-begins : x.blocked ≡ None → WalksSender environment f i x 0 settled None
   walk-begins free = record {
     agrees = sender-agrees f sound i x at x.keys x.key_room false f.connections f.warnings (fits-same f sound i x at f.connections.capacity) sound.parts.warning_room
-        (rw settled-is (with_sender_side_keeps s sound.well_formed x.id P present (unblocked f.books f.connections x free) (sender_side s x.id P) (sender_side_begins s sound.well_formed x.id P present)));
+        (rw settled-is (with_sender_side_keeps (seen f) sound.well_formed x.id (seen_publisher f x) (publisher-stands f sound.parts i x at) (unblocked f.books f.connections x free) (sender_side (seen f) x.id (seen_publisher f x)) (sender_side_begins (seen f) sound.well_formed x.id (seen_publisher f x) (publisher-stands f sound.parts i x at))));
     keys = x.keys;
     key_room = x.key_room;
     fields = refl;
     others = refl;
-    side = sender_side s x.id P;
-    state = but-channels settled (with_sender_side s x.id P (sender_side s x.id P)) settled-is;
-    channels = follow-same (λ home. home.publisher ≡ x.id) (λ p q. s.subscribers q ≡ None) f.connections f.connections (record { same = λ key. refl });
+    side = sender_side (seen f) x.id (seen_publisher f x);
+    state = but-channels settled (with_sender_side (seen f) x.id (seen_publisher f x) (sender_side (seen f) x.id (seen_publisher f x))) settled-is;
+    channels = follow-same (λ home. home.publisher ≡ x.id) (λ p q. (seen f).subscribers q ≡ None) f.connections f.connections (record { same = λ key. refl });
     walk = λ end later rest. rest;
     entries = λ n entry e. e;
   }
 
-  listed : length s.subscriber_places ≡ length f.subscribers
+  listed : length (seen f).subscriber_places ≡ length f.subscribers
   listed =
       length-map (map (option_map (subscriber_of f.books f.connections)) f.subscribers) (option_map (λ (n : _). n.id))
       ∙ length-map f.subscribers (option_map (subscriber_of f.books f.connections))
@@ -108,11 +100,11 @@ module _ {T U : Type 0} (environment : Environment) (f : Fields T U) (sound : Is
     walking-stands = ap (λ (g : Fields T U). get_or g.publishers i None) walks.fields ∙ changed-here f.publishers i x walking at
 
     -- as the machine sees it
-    port-is : (publisher_of f'.books f'.connections walking).port ≡ publisher_mid environment s x.id P present walks.side
+    port-is : (publisher_of f'.books f'.connections walking).port ≡ publisher_mid environment (seen f) x.id (seen_publisher f x) (publisher-stands f sound.parts i x at) walks.side
     port-is =
         same_Some _ _ (sym (publisher-stands f' walks.agrees.parts i walking walking-stands)
         ∙ ap (λ (t : State T U). t.publishers x.id) walks.state
-        ∙ put_at-same s.publishers x.id (Some (publisher_mid environment s x.id P present walks.side)))
+        ∙ put_at-same (seen f).publishers x.id (Some (publisher_mid environment (seen f) x.id (seen_publisher f x) (publisher-stands f sound.parts i x at) walks.side)))
 
     -- one place more
     pub walk-more : j < length f.subscribers → (f'' : Fields T U) (first : Option ConnectionFailure) → ConnectsSender environment f' i j walking f'' first
@@ -127,40 +119,40 @@ module _ {T U : Type 0} (environment : Environment) (f : Fields T U) (sound : Is
           (set-set f.publishers i (Some walking) (Some (record x { keys = step.keys; key_room = step.key_room; is_due = false })));
       others = step.others ∙ walks.others;
       side = step.side;
-      state = step.state ∙ (λ k. with_channels_of f'' (with_sender_side (walks.state k) x.id (port-is k) step.side)) ∙ ap (with_channels_of f'') (state-again environment s x.id P present walks.side step.side);
-      channels = follow-both (λ home. home.publisher ≡ x.id) (λ p q. s.subscribers q ≡ None) f.connections f'.connections f''.connections walks.channels
+      state = step.state ∙ (λ k. with_channels_of f'' (with_sender_side (walks.state k) x.id (port-is k) step.side)) ∙ ap (with_channels_of f'') (state-again environment (seen f) x.id (seen_publisher f x) (publisher-stands f sound.parts i x at) walks.side step.side);
+      channels = follow-both (λ home. home.publisher ≡ x.id) (λ p q. (seen f).subscribers q ≡ None) f.connections f'.connections f''.connections walks.channels
           (subst (λ (subscribers : ℕ → Option Subscriber). ChannelsFollow (λ home. home.publisher ≡ x.id) (λ p q. subscribers q ≡ None) f'.connections f''.connections) (ap (λ (t : State T U). t.subscribers) walks.state) step.channels);
       walk = λ end later rest. subst (Whole end) (sym (first_failure-assoc failure first later))
-          (walks.walk end (first_failure first later) (walk-goes-on environment s x.id P present j walks.side step.side end first later (omega (arith, listed)) machine rest));
+          (walks.walk end (first_failure first later) (walk-goes-on environment (seen f) x.id (seen_publisher f x) (publisher-stands f sound.parts i x at) j walks.side step.side end first later (omega (arith, listed)) machine rest));
       entries = λ n entry e. walks.entries n entry (step.entries n entry e);
     } where
       -- what is handed out to whoever stands there
-      same-history : (q : ℕ) → occupant s.subscriber_places j ≡ Some q → histories_of f' walking q ≡ histories_of f x q
+      same-history : (q : ℕ) → occupant (seen f).subscriber_places j ≡ Some q → histories_of f' walking q ≡ histories_of f x q
       same-history q stands =
           (λ k. cond (is_closed ((channels-kept k) 0)) [] (port-is k).history)
         where
-          channels-kept : (state_of (kept_of f')).channels x.id q ≡ s.channels x.id q
+          channels-kept : (state_of (kept_of f')).channels x.id q ≡ (seen f).channels x.id q
           channels-kept =
               ap (λ (channels : ℕ → ℕ → ℕ → Channel). channels x.id q) (channels-are f')
-              ∙ follow-present (λ home. home.publisher ≡ x.id) (λ p r. s.subscribers r ≡ None) f.connections f'.connections sound.parts.apart walks.agrees.parts.apart walks.channels x.id q
+              ∙ follow-present (λ home. home.publisher ≡ x.id) (λ p r. (seen f).subscribers r ≡ None) f.connections f'.connections sound.parts.apart walks.agrees.parts.apart walks.channels x.id q
               (λ gone. stands-present f sound j q stands gone)
               ∙ sym (ap (λ (channels : ℕ → ℕ → ℕ → Channel). channels x.id q) (channels-are f))
 
-      machine : AtPlace environment s x.id P present j (occupant s.subscriber_places j) walks.side step.side first
-      machine = step-again environment s x.id P present walks.side (histories_of f' walking) j step.side first same-history
-          (subst (λ (z : Publisher). UpdateSenderPlace environment (f.config).service_id x.id z.degradation_handler (histories_of f' walking) (receiving_buffer (with_sender_side s x.id P walks.side))
-          (has_receiver_end (with_sender_side s x.id P walks.side) x.id) j (occupant s.subscriber_places j) (sender_side (with_sender_side s x.id P walks.side) x.id z) step.side first) port-is
+      machine : AtPlace environment (seen f) x.id (seen_publisher f x) (publisher-stands f sound.parts i x at) j (occupant (seen f).subscriber_places j) walks.side step.side first
+      machine = step-again environment (seen f) x.id (seen_publisher f x) (publisher-stands f sound.parts i x at) walks.side (histories_of f' walking) j step.side first same-history
+          (subst (λ (z : Publisher). UpdateSenderPlace environment (f.config).service_id x.id z.degradation_handler (histories_of f' walking) (receiving_buffer (with_sender_side (seen f) x.id (seen_publisher f x) walks.side))
+          (has_receiver_end (with_sender_side (seen f) x.id (seen_publisher f x) walks.side) x.id) j (occupant (seen f).subscriber_places j) (sender_side (with_sender_side (seen f) x.id (seen_publisher f x) walks.side) x.id z) step.side first) port-is
           (subst (λ (t : State T U). UpdateSenderPlace environment (t.config).service_id x.id (publisher_of f'.books f'.connections walking).port.degradation_handler (histories_of f' walking)
           (receiving_buffer t) (has_receiver_end t x.id) j (occupant t.subscriber_places j) (sender_side t x.id (publisher_of f'.books f'.connections walking).port) step.side first) walks.state step.steps))
 
     -- the publisher is updated where the walk is over
     pub walk-updates : x.is_due ≡ true → length f.subscribers ≤ j → UpdatesPublisher environment f i x f' failure
     walk-updates due past = record {
-      after = sender_channels_reset (with_sender_side s x.id P walks.side) x.id;
-      updates = due-updates environment s x.id P present due walks.side failure (subst (Whole walks.side) (first_failure-none failure) (walks.walk walks.side None (walk-ends environment s x.id P present j walks.side (omega (arith, listed)))));
+      after = sender_channels_reset (with_sender_side (seen f) x.id (seen_publisher f x) walks.side) x.id;
+      updates = due-updates environment (seen f) x.id (seen_publisher f x) (publisher-stands f sound.parts i x at) due walks.side failure (subst (Whole walks.side) (first_failure-none failure) (walks.walk walks.side None (walk-ends environment (seen f) x.id (seen_publisher f x) (publisher-stands f sound.parts i x at) j walks.side (omega (arith, listed)))));
       reaches = record {
         agrees = walks.agrees;
-        state = sender-reset f f' sound.parts walks.agrees.parts x.id (λ p q. s.subscribers q ≡ None) walks.channels (with_sender_side s x.id P walks.side) walks.state refl;
+        state = sender-reset f f' sound.parts walks.agrees.parts x.id (λ p q. (seen f).subscribers q ≡ None) walks.channels (with_sender_side (seen f) x.id (seen_publisher f x) walks.side) walks.state refl;
         entries = walks.entries;
       };
       keys = walks.keys;
@@ -172,8 +164,8 @@ module _ {T U : Type 0} (environment : Environment) (f : Fields T U) (sound : Is
   -- a publisher that isn't due is as it is
   pub idle-updates : x.is_due ≡ false → UpdatesPublisher environment f i x f None
   idle-updates due = record {
-    after = s;
-    updates = machine-idle environment s x.id P present due;
+    after = (seen f);
+    updates = machine-idle environment (seen f) x.id (seen_publisher f x) (publisher-stands f sound.parts i x at) due;
     reaches = record { agrees = sound; state = refl; entries = λ n entry e. e };
     keys = x.keys;
     key_room = x.key_room;

@@ -24,7 +24,7 @@ use Rattle.iox2_laws.proofs.Puts.{at_each}
 use Rattle.iox2_laws.proofs.SenderSides.{sender_side_begins, dropped_keeps}
 use Rattle.iox2_domain.specs.Ports.{PublisherFields}
 use Rattle.iox2_domain.specs.Kept.{state_of}
-use Rattle.iox2_domain.specs.Fields.{Fields, kept_of, publisher_of, numbers_of}
+use Rattle.iox2_domain.specs.Fields.{Fields, kept_of, numbers_of}
 use Rattle.iox2_domain.specs.Invariant.{IsDomain}
 use Rattle.iox2_domain.specs.Reaches.{Reaches}
 use Rattle.iox2_domain.specs.Drops.{with_waiting_dropped}
@@ -36,6 +36,7 @@ use Rattle.iox2_domain.proofs.lemmas.slots.LoneLoans.{lone-counters}
 use Rattle.iox2_domain.proofs.lemmas.slots.PublisherBooks.{book-own, book-owned}
 use Rattle.iox2_domain.proofs.lemmas.slots.RecountedLoans.{recounted_fields, recounted-kept, parts-recounted, recounted-is, recounted-entries, recounted-keeps}
 use mathlib.Core.Path.{fun_ext}
+use Rattle.iox2_domain.proofs.lemmas.fields.NamedPorts.{seen, seen_publisher}
 
 module _ {T U : Type 0} (f : Fields T U) (sound : IsDomain f) (i : ℕ) (x : PublisherFields) (here : get_or f.publishers i None ≡ Some x)
     (b : Book) (at : get f.books x.book ≡ Some b) (key : ℕ) (holders : List ℕ) (new : Slab Link) (drops : DropsAll x.id b.holders f.connections key holders new) where
@@ -85,12 +86,6 @@ module _ {T U : Type 0} (f : Fields T U) (sound : IsDomain f) (i : ℕ) (x : Pub
 
 module _ {T U : Type 0} (f : Fields T U) (sound : IsDomain f) (i j : ℕ) (x : PublisherFields) (here : get_or f.publishers i None ≡ Some x) (due : x.is_due ≡ false)
     (key : ℕ) (has : get_or x.keys j None ≡ Some key) (c : Link) (there : get f.connections key ≡ Some c) where
-  abbrev before : State T U
-  before = state_of (kept_of f)
-
-  abbrev port : Publisher
-  port = (publisher_of f.books f.connections x).port
-
   abbrev to : ℕ
   to = c.home.subscriber
 
@@ -103,20 +98,17 @@ module _ {T U : Type 0} (f : Fields T U) (sound : IsDomain f) (i j : ℕ) (x : P
       subst (IsSenders x.id j) one is.2
 
   -- where its end leads
-  pub end-leads : occupant port.ends j ≡ Some to
+  pub end-leads : occupant (seen_publisher f x).ends j ≡ Some to
   end-leads = occupant-sender_ends f.connections x.keys j ∙ ap (subscriber_of_key f.connections) has ∙ ap (option_map (λ (d : Link). d.home.subscriber)) there
 
-  present : before.publishers x.id ≡ Some port
-  present = publisher-stands f sound.parts i x here
-
   -- the machine's step at the place, of a publisher that isn't due
-  pub dropped-side : with_waiting_dropped f x c ≡ with_sender_side before x.id port (dropped (sender_side before x.id port) to)
+  pub dropped-side : with_waiting_dropped f x c ≡ with_sender_side (seen f) x.id (seen_publisher f x) (dropped (sender_side (seen f) x.id (seen_publisher f x)) to)
   dropped-side =
       ap (λ (publishers : ℕ → Option Publisher). record (with_waiting_dropped f x c) { publishers = publishers })
-      (put_at-own before.publishers x.id ∙ ap (put_at before.publishers x.id) present ∙ (λ t. put_at before.publishers x.id (Some (record port { is_due = due t }))))
+      (put_at-own (seen f).publishers x.id ∙ ap (put_at (seen f).publishers x.id) (publisher-stands f sound.parts i x here) ∙ (λ t. put_at (seen f).publishers x.id (Some (record (seen_publisher f x) { is_due = due t }))))
 
   pub dropped-well : x.blocked ≡ None → IsWellFormed (with_waiting_dropped f x c)
   dropped-well free =
       subst IsWellFormed (sym dropped-side)
-      (with_sender_side_keeps before sound.well_formed x.id port present (unblocked f.books f.connections x free) (dropped (sender_side before x.id port) to)
-      (dropped_keeps before sound.well_formed x.id port present (sender_side before x.id port) j to end-leads (sender_side_begins before sound.well_formed x.id port present)))
+      (with_sender_side_keeps (seen f) sound.well_formed x.id (seen_publisher f x) (publisher-stands f sound.parts i x here) (unblocked f.books f.connections x free) (dropped (sender_side (seen f) x.id (seen_publisher f x)) to)
+      (dropped_keeps (seen f) sound.well_formed x.id (seen_publisher f x) (publisher-stands f sound.parts i x here) (sender_side (seen f) x.id (seen_publisher f x)) j to end-leads (sender_side_begins (seen f) sound.well_formed x.id (seen_publisher f x) (publisher-stands f sound.parts i x here))))
