@@ -3,18 +3,19 @@ use Rattle.std.proofs.Common.{◌≡◌, ℕ, ◌+◌, ◌<◌, List, [], length
 use Rattle.std.proofs.lemmas.List.{length-set}
 use Rattle.std.specs.Prelude.{IsSomeAnd}
 use Rattle.slab.specs.Slab.{Slab, ContainsKey, get, Updates, with_value}
+use Rattle.iox2_slots.specs.SlotBook.{Book}
 use Rattle.iox2_slots.specs.Link.{Link, other_slots, IsDropped, IsOtherDropped, borrowed_alone}
 use Rattle.iox2_store.specs.machine.Mailbox.{Mailbox, ChannelNumber, waiting_dropped}
 use Rattle.iox2_ends.specs.Mailboxes.{mailbox_of, mailboxes_of, with_box}
 use Rattle.iox2_ends.specs.Homes.{IsApart, fixed_of}
-use Rattle.iox2_ends.specs.Counters.{times, stands_in, one_holder_less}
+use Rattle.iox2_ends.specs.Counters.{times, stands_in, one_holder_less, with_counters}
 use Rattle.iox2_ends.specs.Recounts.{Recounts}
 use Rattle.iox2_ends.specs.Drops.{DropsFrom, DropsWaiting, EmptiesFrom, DropsAll, RemovesConnection, without_waiting}
 use Rattle.iox2_ends.specs.Reclaims.{IsHeld, ReclaimsFrom}
 use Rattle.iox2_ends.proofs.MailboxChanges.{Updates-with_value, mailbox-there, mailboxes-changed}
 use Rattle.iox2_ends.proofs.Counts.{one_if, one_if_same, times-cons, get_or-one_holder_less}
 use Rattle.iox2_ends.proofs.Recounts.{Recounts-one}
-use Rattle.iox2_ends.proofs.ReclaimSteps.{own-at}
+use Rattle.iox2_ends.proofs.ReclaimSteps.{Follows, boxes-at, follows-more, own-at, recounts-at}
 
 -- ---- from one connection
 
@@ -65,12 +66,17 @@ DropsFrom-trans hs hs' hs'' a b c x y = record {
 }
 
 -- one slot more went
-pub drops-more : (hs hs' : List ℕ) (slot : ℕ) (a c d : Link) → IsHeld hs' c → DropsFrom hs a hs' c → LosesOne slot c d → DropsFrom hs a (one_holder_less slot hs') d
+drops-more : (hs hs' : List ℕ) (slot : ℕ) (a c d : Link) → IsHeld hs' c → DropsFrom hs a hs' c → LosesOne slot c d → DropsFrom hs a (one_holder_less slot hs') d
 drops-more hs hs' slot a c d held x r = DropsFrom-trans hs hs' (one_holder_less slot hs') a c d x (drops-one hs' slot c d held r)
 
 -- counters that follow still hold what stands in the connection
-pub dropped-held : (hs : List ℕ) (slot : ℕ) (c d : Link) → IsHeld hs c → LosesOne slot c d → IsHeld (one_holder_less slot hs) d
+dropped-held : (hs : List ℕ) (slot : ℕ) (c d : Link) → IsHeld hs c → LosesOne slot c d → IsHeld (one_holder_less slot hs) d
 dropped-held hs slot c d held r = record { at = λ n. omega (arith, held.at n, (drops-one hs slot c d held r).counters n) }
+
+-- the book's counters follow it
+pub drops-next : (old book : Book) (slot : ℕ) (a c d : Link) → Follows DropsFrom old a book c → LosesOne slot c d → Follows DropsFrom old a (with_counters book (one_holder_less slot book.holders)) d
+drops-next old book slot a c d follows r =
+    follows-more DropsFrom old book slot a c d follows (dropped-held book.holders slot c d follows.held r) (drops-more old.holders book.holders slot a c d follows.held follows.went r)
 
 -- then what was given back is reclaimed
 pub drops-reclaims : (hs hs' hs'' : List ℕ) (a b c : Link) → DropsFrom hs a hs' b → ReclaimsFrom hs' b hs'' c → EmptiesFrom hs a hs'' c
@@ -97,24 +103,17 @@ pub drops-at : (p : ℕ) (hs hs' : List ℕ) (slab : Slab Link) (key : ℕ) (c d
 drops-at p hs hs' slab key c d apart own at r is = record {
   link = c;
   stood = at;
-  updates = record { changed = u.changed ∙ ap Some is; others = u.others };
-  mailboxes = λ number.
-      mailboxes-changed number slab (with_value slab key d) key c d apart at fixed u
+  updates = let u = Updates-with_value slab key c d at in record { changed = u.changed ∙ ap Some is; others = u.others };
+  mailboxes =
+      let mine = own-at p slab key c own at in
+      λ number.
+      boxes-at p hs hs' slab key c d own at (ap fixed_of r.kept) apart number
       ∙ ap (λ (q : ℕ). with_box (mailboxes_of number slab) q c.home.subscriber (mailbox_of (number q) d)) mine
       ∙ ap (with_box (mailboxes_of number slab) p c.home.subscriber)
       (ap (mailbox_of (number p)) is ∙ ap waiting_dropped (sym (mailbox-there number slab key p c.home.subscriber c apart at mine refl)));
-  recounts = Recounts-one p hs hs' slab key c d at mine fixed r.counters r.slots (λ n some. omega (arith, r.shrinks n, some)) r.fewer;
+  recounts = recounts-at p hs hs' slab key c d own at (ap fixed_of r.kept) r.counters r.slots r.shrinks r.fewer;
   shrinks = r.shrinks;
 }
-  where
-    fixed : fixed_of d ≡ fixed_of c
-    fixed = ap fixed_of r.kept
-
-    mine : c.home.publisher ≡ p
-    mine = own-at p slab key c own at
-
-    u : Updates slab (with_value slab key d) key (Some d)
-    u = Updates-with_value slab key c d at
 
 -- ---- the connection goes
 

@@ -1,16 +1,17 @@
 -- A publisher's reclaims, one after the other.
-use Rattle.std.proofs.Common.{◌≡◌, ℕ, ◌+◌, ◌<◌, List, Option, None, Some, get_or, refl, ap, sym, ◌∙◌, inl, inr, arith}
+use Rattle.std.proofs.Common.{◌≡◌, ℕ, ◌+◌, ◌<◌, ◌≤◌, List, length, Option, None, Some, get_or, refl, ap, sym, ◌∙◌, inl, inr, arith}
 use Rattle.std.proofs.lemmas.Bool.{cases_eq}
 use Rattle.std.proofs.lemmas.List.{length-set}
 use Rattle.std.specs.Prelude.{IsSomeAnd}
-use Rattle.slab.specs.Slab.{Slab, get, Updates, with_value}
+use Rattle.slab.specs.Slab.{Slab, get, with_value}
 use Rattle.iox2_slots.specs.Link.{Link, IsReclaimed}
+use Rattle.iox2_slots.specs.SlotBook.{Book}
 use Rattle.iox2_store.specs.machine.Mailbox.{Mailbox}
 use Rattle.iox2_store.specs.machine.Numbers.{put_at}
 use Rattle.iox2_ends.specs.Mailboxes.{mailbox_of, mailboxes_of, with_box}
 use Rattle.iox2_ends.specs.Homes.{IsApart, IsSenderLinked, fixed_of}
-use Rattle.iox2_ends.specs.Counters.{stands_in, IsCovered, one_holder_less}
-use Rattle.iox2_ends.specs.Recounts.{returned_count}
+use Rattle.iox2_ends.specs.Counters.{stands_in, IsCovered, one_holder_less, with_counters}
+use Rattle.iox2_ends.specs.Recounts.{Recounts, returned_count}
 use Rattle.iox2_ends.specs.Reclaims.{IsHeld, Reclaims, ReclaimsFrom}
 use Rattle.iox2_ends.proofs.MailboxChanges.{Updates-with_value, IsApart-same, mailbox-there, mailboxes-changed, put_at-own}
 use Rattle.iox2_ends.proofs.Counts.{one_if_same, times-cons, get_or-one_holder_less, IsCovered-follows}
@@ -64,28 +65,47 @@ reclaims-more hs hs' slot a c d held x r = ReclaimsFrom-trans hs hs' (one_holder
 pub held-more : (hs : List ℕ) (slot : ℕ) (c d : Link) → IsHeld hs c → IsReclaimed c (Some slot) d → IsHeld (one_holder_less slot hs) d
 held-more hs slot c d held r = record { at = λ n. omega (arith, held.at n, (reclaims-one hs slot c d held r).counters n) }
 
+-- ---- while slots go from one connection, one after the other
+
+-- Slots went from the connection so far, as Went says, and the book's counters follow.
+pub record Follows (Went : (hs : List ℕ) (old : Link) (hs' : List ℕ) (new : Link) → Type 0) (old : Book) (a : Link) (book : Book) (c : Link) : Type 0 where
+  pub held : IsHeld book.holders c
+  pub book_is : book ≡ with_counters old book.holders
+  pub went : Went old.holders a book.holders c
+
+-- one more went
+pub follows-more : (Went : (hs : List ℕ) (old : Link) (hs' : List ℕ) (new : Link) → Type 0) (old book : Book) (slot : ℕ) (a c d : Link) → Follows Went old a book c
+    → IsHeld (one_holder_less slot book.holders) d → Went old.holders a (one_holder_less slot book.holders) d → Follows Went old a (with_counters book (one_holder_less slot book.holders)) d
+follows-more Went old book slot a c d follows held went = record {
+  held = held;
+  book_is = ap (λ (b : Book). with_counters b (one_holder_less slot book.holders)) follows.book_is;
+  went = went;
+}
+
 -- ---- from a connection of a slab
+
+module _ (p : ℕ) (hs hs' : List ℕ) (slab : Slab Link) (key : ℕ) (c d : Link) (own : IsSomeAnd (get slab key) (λ (x : Link). x.home.publisher ≡ p)) (at : get slab key ≡ Some c) (fixed : fixed_of d ≡ fixed_of c) where
+  -- the counters of the publisher follow where its connection at the key stands otherwise
+  pub recounts-at : ((n : ℕ) → get_or hs' n 0 + stands_in n c ≡ get_or hs n 0 + stands_in n d) → length hs' ≡ length hs → ((n : ℕ) → get_or hs' n 0 ≤ get_or hs n 0) → length d.returned ≤ length c.returned
+      → Recounts p hs slab hs' (with_value slab key d)
+  recounts-at counters slots shrinks fewer = Recounts-one p hs hs' slab key c d at (own-at p slab key c own at) fixed counters slots (λ n some. omega (arith, shrinks n, some)) fewer
+
+  -- and so does its mailbox
+  pub boxes-at : IsApart slab → (number : ℕ → ℕ → ℕ)
+      → mailboxes_of number (with_value slab key d) ≡ with_box (mailboxes_of number slab) c.home.publisher c.home.subscriber (mailbox_of (number c.home.publisher) d)
+  boxes-at apart number = mailboxes-changed number slab (with_value slab key d) key c d apart at fixed (Updates-with_value slab key c d at)
 
 -- what was reclaimed from one connection was reclaimed from the publisher's
 pub reclaims-at : (p : ℕ) (hs hs' : List ℕ) (slab : Slab Link) (key : ℕ) (c d : Link) → IsApart slab → IsSomeAnd (get slab key) (λ (x : Link). x.home.publisher ≡ p) → get slab key ≡ Some c → ReclaimsFrom hs c hs' d
     → Reclaims p hs slab hs' (with_value slab key d)
 reclaims-at p hs hs' slab key c d apart own at r = record {
   mailboxes = λ number.
-      mailboxes-changed number slab (with_value slab key d) key c d apart at fixed u
+      boxes-at p hs hs' slab key c d own at (ap fixed_of r.kept) apart number
       ∙ ap (with_box (mailboxes_of number slab) c.home.publisher c.home.subscriber) (ap (mailbox_of (number c.home.publisher)) r.kept ∙ sym (mailbox-there number slab key c.home.publisher c.home.subscriber c apart at refl refl))
       ∙ with_box-same (mailboxes_of number slab) c.home.publisher c.home.subscriber;
-  recounts = Recounts-one p hs hs' slab key c d at mine fixed r.counters r.slots (λ n some. omega (arith, r.shrinks n, some)) r.fewer;
+  recounts = recounts-at p hs hs' slab key c d own at (ap fixed_of r.kept) r.counters r.slots r.shrinks r.fewer;
   shrinks = r.shrinks;
 }
-  where
-    fixed : fixed_of d ≡ fixed_of c
-    fixed = ap fixed_of r.kept
-
-    mine : c.home.publisher ≡ p
-    mine = own-at p slab key c own at
-
-    u : Updates slab (with_value slab key d) key (Some d)
-    u = Updates-with_value slab key c d at
 
 -- ---- many reclaims
 

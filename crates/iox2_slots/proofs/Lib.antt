@@ -5,6 +5,7 @@ pub mod FurtherLists
 pub mod FreeSlots
 pub mod LaterSlots
 pub mod LinkLemmas
+pub mod RecountedSlots
 pub mod SlotRecords
 pub mod SlotHeaders
 pub mod TakenSlots

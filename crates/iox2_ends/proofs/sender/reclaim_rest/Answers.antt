@@ -1,8 +1,6 @@
-use Rattle.std.proofs.Common.{ap}
-use Rattle.iox2_slots.specs.SlotBook.{Book}
-use Rattle.iox2_ends.specs.Counters.{one_holder_less, with_counters}
+use Rattle.iox2_ends.specs.Reclaims.{ReclaimsFrom}
 use Rattle.iox2_ends.proofs.Counts.{in_range}
-use Rattle.iox2_ends.proofs.ReclaimSteps.{reclaimed-in_use, reclaims-more, held-more}
+use Rattle.iox2_ends.proofs.ReclaimSteps.{follows-more, reclaimed-in_use, reclaims-more, held-more}
 use Rattle.iox2_ends.proofs.sender.reclaim_rest.Goals as goal
 
 pub release-requires : goal.release-requires
@@ -11,9 +9,7 @@ release-requires c =
     record { in_bounds = in_range _ _ in_use; in_use = in_use }
 
 pub loop-slot-preserved : goal.loop-slot-preserved
-loop-slot-preserved c = rw c.release.ensures.released (record {
-  held = held-more c.loop-slot.book.holders c.in-Some.slot c.loop-slot.connection c.reclaim.new.self c.loop-slot.invariant.held c.in-Some.ensures.reclaims;
-  book = ap (λ (b : Book). with_counters b (one_holder_less c.in-Some.slot c.loop-slot.book.holders)) c.loop-slot.invariant.book;
-  reclaims = reclaims-more c.args.book.now.holders c.loop-slot.book.holders c.in-Some.slot c.args.connection.now c.loop-slot.connection c.reclaim.new.self
-      c.loop-slot.invariant.held c.loop-slot.invariant.reclaims c.in-Some.ensures.reclaims;
-})
+loop-slot-preserved c =
+    rw c.release.ensures.released (follows-more ReclaimsFrom c.args.book.now c.loop-slot.book c.in-Some.slot c.args.connection.now c.loop-slot.connection c.reclaim.new.self c.loop-slot.invariant
+    (held-more c.loop-slot.book.holders c.in-Some.slot c.loop-slot.connection c.reclaim.new.self c.loop-slot.invariant.held c.in-Some.ensures.reclaims)
+    (reclaims-more c.args.book.now.holders c.loop-slot.book.holders c.in-Some.slot c.args.connection.now c.loop-slot.connection c.reclaim.new.self c.loop-slot.invariant.held c.loop-slot.invariant.went c.in-Some.ensures.reclaims))

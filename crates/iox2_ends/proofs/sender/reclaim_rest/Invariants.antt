@@ -1,14 +1,10 @@
-use Rattle.std.proofs.Common.{◌≡◌, length}
-use Rattle.iox2_ends.specs.Counters.{with_counters}
-use Rattle.iox2_ends.specs.Reclaims.{IsHeld, ReclaimsFrom}
+use Rattle.std.proofs.Common.{length}
+use Rattle.iox2_ends.specs.Reclaims.{ReclaimsFrom}
+use Rattle.iox2_ends.proofs.ReclaimSteps.{Follows}
 use Rattle.iox2_ends.proofs.sender.reclaim_rest.Given as goal
 
 abbrev pub invariant-loop-slot : goal.invariant-loop-slot
-invariant-loop-slot l = record {
-  held : IsHeld l.book.holders l.connection;
-  book : l.book ≡ with_counters l.fn.book l.book.holders;
-  reclaims : ReclaimsFrom l.fn.book.holders l.fn.connection l.book.holders l.connection;
-}
+invariant-loop-slot l = Follows ReclaimsFrom l.fn.book l.fn.connection l.book l.connection
 
 abbrev pub decreases-loop-slot : goal.decreases-loop-slot
 decreases-loop-slot l = length l.connection.returned

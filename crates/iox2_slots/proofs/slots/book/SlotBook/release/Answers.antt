@@ -1,7 +1,8 @@
 use Rattle.std.proofs.Common.{◌-◌, refl, arith}
 use Rattle.std.proofs.lemmas.List.{length-map, length-set, map-set}
 use Rattle.iox2_slots.proofs.FreeSlots.{free_kept, free_pushed, free_room}
-use Rattle.iox2_slots.proofs.SlotRecords.{count_read, field_kept, within_records}
+use Rattle.iox2_slots.proofs.RecountedSlots.{holders-read, recounted}
+use Rattle.iox2_slots.proofs.SlotRecords.{field_kept}
 use Rattle.iox2_slots.proofs.slots.book.SlotBook.release.Goals as goal
 
 pub invariant_of-self : goal.invariant_of-self
@@ -30,25 +31,18 @@ push_reserved-requires c =
 
 pub returns-then-left-eq0-clause-last : goal.returns-then-left-eq0-clause-last
 returns-then-left-eq0-clause-last c =
-    let slots = c.self.inside.slots.items in
     let before = rw (← c.self.view_is) at c.requires in
-    let read = count_read (λ slot. slot.holders) slots _ _ (within_records _ slots _ before.in_bounds) c.index.ensures in
+    let read = holders-read c.self.inside.slots.items c.args.slot c.index.result.now c.index.ensures before.in_bounds in
     (λ _. rw (← c.self.view_is) (omega (arith, read, before.in_use)), λ _. refl)
 
 pub returns-then-left-eq0-clause-released : goal.returns-then-left-eq0-clause-released
 returns-then-left-eq0-clause-released c =
-    let slots = c.self.inside.slots.items in
     let before = rw (← c.self.view_is) at c.requires in
-    let old = c.index_mut.ensures.value in
-    let new = record c.index_mut.result.now { holders = c.index.result.now.holders - 1 } in
-    let read = count_read (λ slot. slot.holders) slots _ _ (within_records _ slots _ before.in_bounds) c.index.ensures in
-    rw (← c.self.view_is, field_kept (λ slot. slot.number) slots _ _ new old refl, field_kept (λ slot. slot.header) slots _ _ new old refl, field_kept (λ slot. slot.mark) slots _ _ new old refl, map-set (λ slot. slot.holders) slots _ _, read) refl
+    rw (← c.self.view_is, holders-read c.self.inside.slots.items c.args.slot c.index.result.now c.index.ensures before.in_bounds)
+    (recounted c.self.inside.slots.items c.args.slot c.index_mut.result.now c.index_mut.ensures.value c.self.inside.node c.self.inside.publisher _)
 
 pub returns-clause-released : goal.returns-clause-released
 returns-clause-released c =
-    let slots = c.self.inside.slots.items in
     let before = rw (← c.self.view_is) at c.requires in
-    let old = c.index_mut.ensures.value in
-    let new = record c.index_mut.result.now { holders = c.index.result.now.holders - 1 } in
-    let read = count_read (λ slot. slot.holders) slots _ _ (within_records _ slots _ before.in_bounds) c.index.ensures in
-    rw (← c.self.view_is, field_kept (λ slot. slot.number) slots _ _ new old refl, field_kept (λ slot. slot.header) slots _ _ new old refl, field_kept (λ slot. slot.mark) slots _ _ new old refl, map-set (λ slot. slot.holders) slots _ _, read) refl
+    rw (← c.self.view_is, holders-read c.self.inside.slots.items c.args.slot c.index.result.now c.index.ensures before.in_bounds)
+    (recounted c.self.inside.slots.items c.args.slot c.index_mut.result.now c.index_mut.ensures.value c.self.inside.node c.self.inside.publisher _)
