@@ -8,5 +8,4 @@ mod laws;
 mod many_units;
 mod runs;
 mod steps;
-mod warnings;
 mod worst_cases;

@@ -1,8 +1,7 @@
 //! Sends that wait for a full subscriber are tried again and given up.
 use crate::tests::waiting_publishers::{
-    blocked, blocked_again, blocked_ports, deliver, delivered, delivered_at_last, given_up,
-    has_blocked_send, message_of, next_reading, subscriber_of, waiting_domain, waiting_ports,
-    waiting_publisher,
+    blocked, blocked_ports, deliver, delivered, delivered_at_last, given_up, has_blocked_send,
+    message_of, next_reading, subscriber_of, waiting_domain, waiting_ports, waiting_publisher,
 };
 use iox2_fixtures::{Reading, Weather, elsewhere};
 use iox2_pubsub::{BlockedSend, LoanParts, Publisher};
@@ -118,23 +117,4 @@ fn a_blocked_send_is_had_again_until_it_has_ended(rt: HostRuntime) {
     assert!(rt; count == 0);
     assert!(rt; before == [true, false]);
     assert!(rt; !after);
-}
-
-#[test]
-fn a_retry_without_room_stays_blocked(rt: HostRuntime) {
-    let (mut ports, waiting) = blocked_ports(&rt, rt.alloc());
-    let key = waiting.key();
-    let waiting = blocked_again(&rt, &mut ports.domain, waiting);
-    let again = waiting.key();
-    let waiting = blocked_again(&rt, &mut ports.domain, waiting);
-    let is_blocked = has_blocked_send(&rt, &ports.domain, &ports.publisher);
-    let read = next_reading(&rt, &mut ports.domain, &ports.subscriber);
-    let count = delivered_at_last(&rt, &mut ports.domain, waiting);
-    let last = next_reading(&rt, &mut ports.domain, &ports.subscriber);
-    let nothing = next_reading(&rt, &mut ports.domain, &ports.subscriber);
-    ports.end();
-    assert!(rt; count == 1);
-    assert!(rt; again == key);
-    assert!(rt; is_blocked);
-    assert!(rt; [read, last, nothing] == [Some(20), Some(21), None]);
 }

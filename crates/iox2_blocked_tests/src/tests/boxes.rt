@@ -7,7 +7,7 @@ use crate::tests::waiting_publishers::{
     Ports, block, blocked, blocked_again, deliver, delivered, given_up, has_blocked_send,
     next_reading, retry, send, subscriber_of, waiting_domain,
 };
-use iox2_fixtures::{Weather, close_publisher, close_subscriber, slices};
+use iox2_fixtures::{Weather, close_publisher, slices};
 use iox2_handler_fixtures::Patience;
 use iox2_pubsub::{
     BackpressureAction, BackpressureFn, BackpressureHandler, BackpressureInfo,
@@ -72,33 +72,6 @@ fn a_box_waits_twice_and_fails_the_send_then(rt: HostRuntime) {
     assert!(rt; error == SendError::UnableToDeliver);
     assert!(rt; !is_blocked);
     assert!(rt; [read, nothing] == [Some(1), None]);
-}
-
-#[test]
-fn what_a_box_waits_for_is_given_up(rt: HostRuntime) {
-    let (mut ports, waiting) = patient_ports(&rt, rt.alloc(), 2);
-    let count = given_up(&rt, &mut ports.domain, waiting);
-    ports.end();
-    assert!(rt; count == 0);
-}
-
-// Asked about it, the box would wait again.
-#[test]
-fn no_box_is_asked_about_a_closed_subscriber(rt: HostRuntime) {
-    let (ports, waiting) = patient_ports(&rt, rt.alloc(), 2);
-    let Ports {
-        mut domain,
-        publisher,
-        subscriber,
-    } = ports;
-    assert!(rt; close_subscriber(&mut domain, subscriber));
-    let count = delivered(
-        &rt,
-        retry(&rt, &mut domain, waiting, Duration::from_millis(5)),
-    );
-    publisher.disown();
-    drop(domain);
-    assert!(rt; count == 0);
 }
 
 // The one box waits, the other one fails the send at once. Neither stays for a publisher that comes

@@ -324,24 +324,6 @@ fn replies_with_four_slots() -> [Reply<u64, u8>; 14] {
     ]
 }
 
-#[test]
-fn a_list_is_granted_with_four_slots(rt: HostRuntime) {
-    let config = smallest_with_history();
-    let replies = replies_to_list(rt.alloc(), &config, 1, None).expect(&rt, "replies");
-    assert_eq!(rt; worst_case_slots(&config, 1), Some(4));
-    assert!(rt; replies.as_slice() == replies_with_four_slots().as_slice());
-}
-
-// Though no other loan is out.
-#[test]
-fn with_three_slots_its_last_loan_is_refused(rt: HostRuntime) {
-    let config = smallest_with_history();
-    let replies = replies_to_list(rt.alloc(), &config, 1, Some(3)).expect(&rt, "replies");
-    let mut expected = replies_with_four_slots();
-    expected[13] = NO_SLOT;
-    assert!(rt; replies.as_slice() == expected.as_slice());
-}
-
 // The second loan and each later one is refused, and what was to be done with it is skipped.
 #[test]
 fn an_override_of_zero_gives_a_list_one_slot(rt: HostRuntime) {

@@ -125,53 +125,6 @@ fn close_first(rt: &impl Abort, domain: &mut Numbers, publisher: &Publisher, at:
     publisher.close_channel(domain, at.0, 0, at.1);
 }
 
-#[test]
-fn a_closed_channel_takes_no_slice(rt: HostRuntime) {
-    let mut domain: Numbers = Domain::new(rt.alloc(), two_channels()).expect(&rt, "a domain");
-    let subscriber = slice_subscriber(&rt, &mut domain);
-    let publisher = slice_publisher(&rt, &mut domain, 1);
-    let unconnected = [
-        set(&rt, &mut domain, &subscriber, (0, 9)),
-        is_any(&rt, &domain, &subscriber, (0, 0)),
-    ];
-    assert!(rt; subscriber.is_in(&domain));
-    let updated = subscriber.update_connections(&mut domain).is_ok();
-    assert!(rt; is_slice_publisher_ready(&domain, &publisher));
-    let places = [
-        publisher.get_connection_id_of(&domain, 1),
-        publisher.get_connection_id_of(&domain, 7),
-    ];
-    let further = is_any(&rt, &domain, &subscriber, (1, 0));
-    close(&rt, &mut domain, &subscriber, (0, 5));
-    close(&rt, &mut domain, &subscriber, (0, 0));
-    let closed = is_first(&rt, &domain, &publisher, (0, u64::MAX));
-    let passed = sent(&rt, &mut domain, &publisher, 1);
-    let nothing = gets_nothing(&rt, &mut domain, &subscriber);
-    let was_closed = set(&rt, &mut domain, &subscriber, (0, 7));
-    let taken = sent(&rt, &mut domain, &publisher, 2);
-    hint(&rt, &mut domain, &subscriber, (0, 0));
-    let unhinted = is_first(&rt, &domain, &publisher, (0, 7));
-    hint(&rt, &mut domain, &subscriber, (0, 7));
-    let hinted = is_first(&rt, &domain, &publisher, (0, 7));
-    let was_open = set(&rt, &mut domain, &subscriber, (0, 3));
-    let still = is_first(&rt, &domain, &publisher, (0, 7));
-    close_first(&rt, &mut domain, &publisher, (0, 7));
-    let closed_again = is_first(&rt, &domain, &publisher, (0, u64::MAX));
-    let second = gets(&rt, &mut domain, &subscriber, 2);
-    publisher.disown();
-    subscriber.disown();
-    drop(domain);
-    assert!(rt; unconnected == [true, false]);
-    assert!(rt; updated && places == [Some(0), None]);
-    assert!(rt; further && closed == [true, false]);
-    assert!(rt; [passed, taken] == [0, 1]);
-    assert!(rt; nothing && second);
-    assert!(rt; [was_closed, was_open] == [true, false]);
-    assert!(rt; unhinted == [true, false]);
-    assert!(rt; [hinted, still] == [[true, true], [true, true]]);
-    assert!(rt; closed_again == [true, false]);
-}
-
 // A send goes to channel 0 alone, and no call on one channel changes another.
 #[test]
 fn a_further_channel_of_slices_has_a_state_of_its_own(rt: HostRuntime) {

@@ -4,14 +4,10 @@ ghost use Rattle.iox2_pubsub.specs.Slices.{IsSliced};
 ghost use Rattle.iox2_store.specs.declared.service_config.TypeVariant.TheVariants.{Dynamic};
 ghost use Rattle.std.specs.Prelude.{◌≡◌, IfOk};
 
-use crate::tests::fixtures::{
-    Bytes, byte_domain, receive_slice, send_slice, slice_factory, slice_subscriber,
-};
-use iox2_fixtures::{
-    Numbers, close_publisher, close_subscriber, is_slice_publisher_ready, is_sliced, smallest,
-};
+use crate::tests::fixtures::{Bytes, byte_domain, slice_factory};
+use iox2_fixtures::{Numbers, is_slice_publisher_ready, is_sliced, smallest};
 use iox2_pubsub::Domain;
-use iox2_pubsub::slice::{Publisher, Sample, SampleMutUninit};
+use iox2_pubsub::slice::{Publisher, SampleMutUninit};
 use iox2_store::{AllocationStrategy, LoanError, ServiceConfig, TypeVariant};
 use std::alloc::Global;
 use std::process::Abort;
@@ -67,22 +63,6 @@ fn lends(
     Ok(())
 }
 
-// Sends that many times this value, which one subscriber takes.
-fn send(rt: &impl Abort, domain: &mut Numbers, publisher: &Publisher, len: usize, value: u64) {
-    let loan = lend(rt, domain, publisher, len).expect(rt, "a loan");
-    let message = loan.write_from_fn(domain, |_| value);
-    let takers = send_slice(rt, domain, message);
-    assert!(rt; takers == 1);
-}
-
-// Whether the sample is that many times this value.
-fn reads(rt: &impl Abort, domain: &Numbers, sample: &Sample, len: usize, value: u64) -> bool {
-    assert!(rt; is_sliced(domain));
-    assert!(rt; domain.holds_sample(sample.key()));
-    let payload = sample.payload(domain);
-    payload.len() == len && payload.iter().all(|read| *read == value)
-}
-
 // How many loans of rising length are granted, from 2 on, each of which is given back.
 fn granted_up_to(
     rt: &impl Abort,
@@ -116,34 +96,6 @@ fn powers_of_two_need_few_segments(rt: HostRuntime) {
     let up_to_256 = granted_up_to(&rt, &mut domain, &publisher, 256);
     publisher.disown();
     assert!(rt; up_to_256 == Ok(()));
-}
-
-#[test]
-fn lengths_rise_and_fall_around_a_sample_that_is_kept(rt: HostRuntime) {
-    let mut domain: Numbers = Domain::new(rt.alloc(), slices()).expect(&rt, "a domain");
-    let subscriber = slice_subscriber(&rt, &mut domain);
-    let publisher = growing(&rt, &mut domain, 1, AllocationStrategy::BestFit);
-    let lengths = [3, 1, 0, 7, 7, 2, 40, 1, 39, 41, 0];
-    send(&rt, &mut domain, &publisher, 2, 100);
-    let mut kept = receive_slice(&rt, &mut domain, &subscriber);
-    let mut kept_length = 2;
-    let mut kept_value = 100;
-    for value in 0..lengths.len() {
-        send(&rt, &mut domain, &publisher, lengths[value], value as u64);
-        assert!(rt; reads(&rt, &domain, &kept, kept_length, kept_value));
-        assert!(rt; domain.holds_sample(kept.key()));
-        kept.release(&mut domain);
-        kept = receive_slice(&rt, &mut domain, &subscriber);
-        kept_length = lengths[value];
-        kept_value = value as u64;
-    }
-    assert!(rt; close_publisher(&mut domain, publisher.into_inner()));
-    assert!(rt; reads(&rt, &domain, &kept, kept_length, kept_value));
-    assert!(rt; domain.holds_sample(kept.key()));
-    kept.release(&mut domain);
-    assert!(rt; subscriber.is_in(&domain));
-    assert!(rt; close_subscriber(&mut domain, subscriber.into_inner()));
-    assert!(rt; domain.book_count() == 0);
 }
 
 // Asserts that messages are slices, of elements of any number of units.

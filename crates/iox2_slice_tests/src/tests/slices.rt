@@ -13,7 +13,7 @@ use iox2_fixtures::{
 };
 use iox2_pubsub::slice::{Publisher, Sample, SampleMut, SampleMutUninit, Subscriber};
 use iox2_pubsub::{DegradationHandler, Domain, UpdateConnections};
-use iox2_store::{DegradationAction, LoanError, PublisherCreateError};
+use iox2_store::{DegradationAction, LoanError};
 use std::cell::Cell;
 use std::process::Abort;
 use std::time::CpuClock;
@@ -184,26 +184,6 @@ fn a_loan_may_be_as_long_as_its_publisher_lends(rt: HostRuntime) {
 }
 
 #[test]
-fn the_length_is_looked_at_first(rt: HostRuntime) {
-    let mut domain: Domain<Tag, Tag> = Domain::new(rt.alloc(), slices()).expect(&rt, "a domain");
-    let factory = slice_factory(&domain).max_loaned_samples(1);
-    let publisher = factory
-        .initial_max_slice_len(16)
-        .create(&mut domain)
-        .expect(&rt, "a publisher");
-    let only = lend_slice(&rt, &mut domain, &publisher, 16);
-    let longer = lent_length(&rt, &mut domain, &publisher, 17);
-    let permitted = lent_length(&rt, &mut domain, &publisher, 16);
-    only.discard(&mut domain);
-    let empty = lent_length(&rt, &mut domain, &publisher, 0);
-    publisher.disown();
-    drop(domain);
-    assert!(rt; longer == Err(LoanError::ExceedsMaxLoanSize));
-    assert!(rt; permitted == Err(LoanError::ExceedsMaxLoans));
-    assert!(rt; empty == Ok(0));
-}
-
-#[test]
 fn a_loan_is_taken_as_written_once_each_cell_is(rt: HostRuntime) {
     let mut domain: Domain<Tag, Tag> = Domain::new(rt.alloc(), slices()).expect(&rt, "a domain");
     let publisher = slice_publisher(&rt, &mut domain, 2);
@@ -338,51 +318,6 @@ fn ports_of_slices_are_told_of_their_channels(rt: HostRuntime) {
     assert!(rt; told == [true, true, false]);
 }
 
-// Whether the publisher's first channel is in the state, and whether it has a hint too.
-fn is_first(
-    rt: &impl Abort,
-    domain: &Domain<Tag, Tag>,
-    publisher: &Publisher,
-    state: u64,
-) -> [bool; 2] {
-    assert!(rt; is_slice_publisher_ready(domain, publisher));
-    [
-        publisher.has_channel_state(domain, 0, 0, state),
-        publisher.has_disconnect_hint(domain, 0, 0, state),
-    ]
-}
-
-#[test]
-fn ports_of_slices_change_their_channels(rt: HostRuntime) {
-    let mut domain: Domain<Tag, Tag> = Domain::new(rt.alloc(), slices()).expect(&rt, "a domain");
-    let subscriber = slice_subscriber(&rt, &mut domain);
-    let publisher = slice_publisher(&rt, &mut domain, 1);
-    let is_updated = update_both(&rt, &mut domain, &publisher, &subscriber);
-    assert!(rt; subscriber.is_in(&domain));
-    subscriber.close_channel(&mut domain, 0, 0);
-    let closed = is_first(&rt, &domain, &publisher, u64::MAX);
-    let loan = lend_defaults(&rt, &mut domain, &publisher, 1);
-    let passed = send_slice(&rt, &mut domain, loan);
-    assert!(rt; subscriber.is_in(&domain));
-    let was_closed = subscriber.set_channel_state(&mut domain, 0, 7);
-    subscriber.set_disconnect_hint(&mut domain, 0, 7);
-    let hinted = is_first(&rt, &domain, &publisher, 7);
-    let loan = lend_defaults(&rt, &mut domain, &publisher, 1);
-    let taken = send_slice(&rt, &mut domain, loan);
-    assert!(rt; is_slice_publisher_ready(&domain, &publisher));
-    publisher.close_channel(&mut domain, 0, 0, 7);
-    let closed_again = is_first(&rt, &domain, &publisher, u64::MAX);
-    publisher.disown();
-    subscriber.disown();
-    drop(domain);
-    assert!(rt; is_updated == [true, true]);
-    assert!(rt; closed == [true, false]);
-    assert!(rt; [passed, taken] == [0, 1]);
-    assert!(rt; was_closed);
-    assert!(rt; hinted == [true, true]);
-    assert!(rt; closed_again == [true, false]);
-}
-
 // The number in one of the cells, where there is one.
 fn written_number(cells: &[Option<Tag>], index: usize) -> Option<u64> {
     cells.get(index)?.as_ref().map(|tag| tag.0)
@@ -512,16 +447,6 @@ fn handles_of_slices_are_made_of_those_of_single_values(rt: HostRuntime) {
     drop(domain);
     assert!(rt; takers == 1);
     assert!(rt; keys == again);
-}
-
-#[test]
-fn slices_that_no_segment_holds_are_refused(rt: HostRuntime) {
-    let mut domain: Domain<Tag, Tag> = Domain::new(rt.alloc(), slices()).expect(&rt, "a domain");
-    let factory = slice_factory(&domain).initial_max_slice_len(usize::MAX);
-    let created = factory.create(&mut domain);
-    let created = created.map(|publisher| publisher.disown());
-    drop(domain);
-    assert!(rt; created == Err(PublisherCreateError::UnableToCreateDataSegment));
 }
 
 #[test]

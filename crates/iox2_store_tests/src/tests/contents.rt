@@ -154,16 +154,6 @@ fn is_written_at(contents: &Contents<Reading, Station>, at: usize) -> Option<boo
 }
 
 #[test]
-fn a_slice_of_one_lies_in_a_list_where_it_is_to(rt: HostRuntime) {
-    let mut contents = listed(&rt, rt.alloc(), 1);
-    write_cell(&mut contents, 0, 21);
-    let is_written = assume_init(&mut contents);
-    let read = [celsius_at(&contents, 0), celsius_at(&contents, 1)];
-    drop(contents);
-    assert!(rt; is_written && read == [Some(21), None]);
-}
-
-#[test]
 fn a_value_is_changed_where_it_lies(rt: HostRuntime) {
     let mut contents = written_beside_a_loan(&rt, rt.alloc(), 21);
     contents.value_mut(1).celsius = 22;

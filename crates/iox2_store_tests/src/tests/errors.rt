@@ -73,21 +73,6 @@ fn insert<K: Hash + Eq + Drop>(rt: &impl Abort, map: &mut HashMap<K, u8>, error:
 }
 
 #[test]
-fn refused_loans_are_keys_of_a_map(rt: HostRuntime) {
-    let mut refusals = HashMap::new(rt.alloc());
-    insert(&rt, &mut refusals, LoanError::OutOfMemory, 1);
-    insert(&rt, &mut refusals, LoanError::ExceedsMaxLoans, 2);
-    insert(&rt, &mut refusals, LoanError::OutOfMemory, 3);
-    let found = [
-        refusals.get(&LoanError::OutOfMemory).copied(),
-        refusals.get(&LoanError::InternalFailure).copied(),
-    ];
-    let len = refusals.len();
-    drop(refusals);
-    assert!(rt; len == 2 && found == [Some(3), None]);
-}
-
-#[test]
 fn failed_connections_are_keys_of_a_map(rt: HostRuntime) {
     let refused = ConnectionFailure::from(ZeroCopyCreationError::OutOfMemory);
     let unmapped = ConnectionFailure::from(SharedMemoryOpenError::InternalError);

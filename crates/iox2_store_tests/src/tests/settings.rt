@@ -1,29 +1,5 @@
 use iox2_store::{AllocationStrategy, BackpressureStrategy, ServiceConfig, TypeVariant};
 
-#[test]
-fn settings_start_with_the_defaults(rt: HostRuntime) {
-    let expected = ServiceConfig {
-        service_id: 7,
-        node_id: 0,
-        variant: TypeVariant::FixedSize,
-        units_per_element: 1,
-        lists_cells: true,
-        max_publishers: 2,
-        max_subscribers: 8,
-        subscriber_max_buffer_size: 2,
-        subscriber_max_borrowed_samples: 2,
-        history_size: 0,
-        number_of_channels: 1,
-        enable_safe_overflow: true,
-        subscriber_expired_connection_buffer: 128,
-        publisher_max_loaned_samples: 2,
-        backpressure_strategy: BackpressureStrategy::RetryUntilDelivered,
-        publisher_allocation_strategy: AllocationStrategy::Static,
-    };
-    let is_alike = ServiceConfig::new(7) == expected;
-    assert!(rt; is_alike);
-}
-
 // The defaults with one field changed, of which there are so many.
 const FIELDS: usize = 16;
 
