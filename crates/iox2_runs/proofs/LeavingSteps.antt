@@ -98,10 +98,6 @@ module _ {T U F G : Type 0} (old new : Domain T U F G) (table : List Made) where
     placed = λ are. (all-placed No_item stays are, placed);
   }
 
-  -- so where what it used is back in its place
-  pub leaves-making-here : (table' : List Made) → table' ≡ table → Stays old new → (made : Made) → IsNewIn old (item_of made) → IsPlacedMade new made → Leaves old new table table' made
-  leaves-making-here table' same stays made is placed = subst (λ (t : List Made). Leaves old new table t made) (sym same) (leaves-making stays made is placed)
-
   -- one that uses what stands at a position, puts something in its place, and may make something
   pub leaves-using : (table' : List Made) (of : ℕ) (made put made' : Made) → slice_index_or table of Nothing ≡ made → (spent : Item) → StaysBut spent old new
       → ((start : Domain T U F G) → IsNewIn start (item_of made) → IsNewIn start spent)

@@ -9,6 +9,7 @@ pub mod RunsOn
 pub mod TableEntries
 pub mod LiveEntries
 pub mod RunLoop
+pub mod Turned
 pub mod CarriedLoans
 pub mod CarriedDiscards
 pub mod CarriedPorts

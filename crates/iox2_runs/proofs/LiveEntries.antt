@@ -1,7 +1,7 @@
--- What a run's table has entries for is live in its domain.
-use Rattle.std.proofs.Common.{◌≡◌, ℕ, ◌<◌, Bool, true, false, List, map, refl, sym, subst, ◌∙◌}
+-- What is held is live in its domain.
+use Rattle.std.proofs.Common.{◌≡◌, ◌<◌, Bool, true, false, map, refl, sym, subst, ◌∙◌}
 use Rattle.std.proofs.lemmas.Bool.{true≢false}
-use Rattle.std.specs.Prelude.{◌↔◌, slice_index_or}
+use Rattle.std.specs.Prelude.{◌↔◌}
 use Rattle.iox2_store.specs.machine.State.{State, Messages}
 use Rattle.iox2_store.specs.machine.WellFormed.{IsWellFormed}
 use Rattle.iox2_store.specs.declared.key.Key.{Key}
@@ -18,7 +18,8 @@ use Rattle.iox2_pubsub.specs.declared.sample_mut.SampleMut.{SampleMut}
 use Rattle.iox2_pubsub.specs.declared.sample.Sample.{Sample as SampleHandle}
 use Rattle.iox2_commands.specs.Outcomes.{Handle}
 use Rattle.iox2_runs.specs.Tables.{IsUnblocked as IsFree, HasNoBox, HasNoReceiverBox, IsEntryOf}
-use Rattle.iox2_runs.specs.Carries.{entry_for, IsLiveTable}
+use Rattle.iox2_runs.specs.Carries.{entry_for}
+use Rattle.iox2_runs.specs.Turns.{IsHeld}
 use Rattle.iox2_runs.specs.Placed.{IsPlacedMade}
 use Rattle.iox2_runs.specs.declared.runs.made.Made.{Made}
 use Rattle.iox2_runs.specs.declared.runs.made.Made.TheVariants.{Nothing, Publisher as MadePublisher, Subscriber as MadeSubscriber, Unwritten, Written, Blocked, Sample as MadeSample}
@@ -36,71 +37,72 @@ module _ {T U F G : Type 0} (domain : Domain T U F G) (key : Key) where
   shown_waits low answer tells is m s shown free =
       true≢false (sym is ∙ tells.1 (unblocked-free domain key (low, subst (λ (t : State T U). IsFree t key.port) shown.state free)))
 
-module _ {T U F G : Type 0} (domain : Domain T U F G) (table : List Made) (keeps : IsLiveTable domain table) (of : ℕ) where
-  -- what stands at a position is the entry of some handle, in the state that the domain keeps
-  has_entry : (made : Made) → slice_index_or table of Nothing ≡ made → (made ≡ Nothing → ⊥) → (h : Handle) × IsEntryOf (state_of domain) h (entry_for made)
-  has_entry made at some =
-      let v = handle_of keeps.1 keeps.2 keeps.3 (map entry_for table) keeps.5 of (entry_for made) (entry-stands table of made at some) in
-      (v.0, subst (λ (s : State T U). IsEntryOf s v.0 (entry_for made)) (keeps.4).state v.2)
+module _ {T U F G : Type 0} (domain : Domain T U F G) (held : Made) (keeps : IsHeld domain held) where
+  -- it is the entry of some handle, in the state that the domain keeps
+  has_entry : (made : Made) → held ≡ made → (made ≡ Nothing → ⊥) → (h : Handle) × IsEntryOf (state_of domain) h (entry_for made)
+  has_entry made is some =
+      let live = keeps.live in
+      let v = handle_of live.1 live.2 live.3 (map entry_for keeps.table) live.5 keeps.of (entry_for made) (entry-stands keeps.table keeps.of made (keeps.stands ∙ is) some) in
+      (v.0, subst (λ (s : State T U). IsEntryOf s v.0 (entry_for made)) (live.4).state v.2)
 
   -- the domain hands out cells
   pub listed : (domain.config).lists_cells ≡ true
-  listed = (keeps.6).lists_cells
+  listed = ((keeps.live).6).lists_cells
 
-  pub live_publisher : (h : PublisherHandle) → slice_index_or table of Nothing ≡ MadePublisher h → IsPublisherKey domain (publisher_key h)
-  live_publisher h at =
-      let v = (has_entry (MadePublisher h) at (λ e. let clash : MadePublisher h ≡ Nothing = e in cc)).1 in
+  pub live_publisher : (h : PublisherHandle) → held ≡ MadePublisher h → IsPublisherKey domain (publisher_key h)
+  live_publisher h is =
+      let v = (has_entry (MadePublisher h) is (λ e. let clash : MadePublisher h ≡ Nothing = e in cc)).1 in
       publisher-live domain _ (refl, v.0, (v.2, v.3))
 
   -- it is one of those whose ids were given out
-  pub known_publisher : (h : PublisherHandle) → slice_index_or table of Nothing ≡ MadePublisher h → h.id < (state_of domain).next_port
-  known_publisher h at =
-      let v = (has_entry (MadePublisher h) at (λ e. let clash : MadePublisher h ≡ Nothing = e in cc)).1 in
-      ((subst IsWellFormed (keeps.4).state (keeps.4).well_formed).publishers h.id v.2 v.3).is_known
+  pub known_publisher : (h : PublisherHandle) → held ≡ MadePublisher h → h.id < (state_of domain).next_port
+  known_publisher h is =
+      let v = (has_entry (MadePublisher h) is (λ e. let clash : MadePublisher h ≡ Nothing = e in cc)).1 in
+      ((subst IsWellFormed ((keeps.live).4).state ((keeps.live).4).well_formed).publishers h.id v.2 v.3).is_known
 
   -- no box answers for it
-  pub unboxed_publisher : (h : PublisherHandle) → slice_index_or table of Nothing ≡ MadePublisher h → HasNoBox (state_of domain) h.id
-  unboxed_publisher h at = ((has_entry (MadePublisher h) at (λ e. let clash : MadePublisher h ≡ Nothing = e in cc)).1).4
+  pub unboxed_publisher : (h : PublisherHandle) → held ≡ MadePublisher h → HasNoBox (state_of domain) h.id
+  unboxed_publisher h is = ((has_entry (MadePublisher h) is (λ e. let clash : MadePublisher h ≡ Nothing = e in cc)).1).4
 
   -- where no send of it is blocked it is ready
-  pub ready_publisher : (h : PublisherHandle) → slice_index_or table of Nothing ≡ MadePublisher h → IsUnblocked domain (publisher_key h) → IsReadyPublisher domain h
-  ready_publisher h at free = record { there = live_publisher h at; placed = subst (IsPlacedMade domain) at ((keeps.6).ports of); unblocked = free }
+  pub ready_publisher : (h : PublisherHandle) → held ≡ MadePublisher h → IsUnblocked domain (publisher_key h) → IsReadyPublisher domain h
+  ready_publisher h is free = record { there = live_publisher h is; placed = subst (IsPlacedMade domain) (keeps.stands ∙ is) (((keeps.live).6).ports keeps.of); unblocked = free }
 
-  pub live_subscriber : (h : SubscriberHandle) → slice_index_or table of Nothing ≡ MadeSubscriber h → IsLiveSubscriber domain h
-  live_subscriber h at =
-      let v = (has_entry (MadeSubscriber h) at (λ e. let clash : MadeSubscriber h ≡ Nothing = e in cc)).1 in
-      record { there = subscriber-live domain _ (refl, v.0, (v.2, v.3, v.4)); placed = subst (IsPlacedMade domain) at ((keeps.6).ports of) }
+  pub live_subscriber : (h : SubscriberHandle) → held ≡ MadeSubscriber h → IsLiveSubscriber domain h
+  live_subscriber h is =
+      let v = (has_entry (MadeSubscriber h) is (λ e. let clash : MadeSubscriber h ≡ Nothing = e in cc)).1 in
+      record { there = subscriber-live domain _ (refl, v.0, (v.2, v.3, v.4)); placed = subst (IsPlacedMade domain) (keeps.stands ∙ is) (((keeps.live).6).ports keeps.of) }
 
   -- nor does one for it
-  pub unboxed_subscriber : (h : SubscriberHandle) → slice_index_or table of Nothing ≡ MadeSubscriber h → HasNoReceiverBox (state_of domain) h.id
-  unboxed_subscriber h at = ((has_entry (MadeSubscriber h) at (λ e. let clash : MadeSubscriber h ≡ Nothing = e in cc)).1).5
+  pub unboxed_subscriber : (h : SubscriberHandle) → held ≡ MadeSubscriber h → HasNoReceiverBox (state_of domain) h.id
+  unboxed_subscriber h is = ((has_entry (MadeSubscriber h) is (λ e. let clash : MadeSubscriber h ≡ Nothing = e in cc)).1).5
 
-  pub live_unwritten : (h : SampleMutUninit) → slice_index_or table of Nothing ≡ Unwritten h → IsUnwritten domain h
-  live_unwritten h at =
-      let v = (has_entry (Unwritten h) at (λ e. let clash : Unwritten h ≡ Nothing = e in cc)).1 in
+  pub live_unwritten : (h : SampleMutUninit) → held ≡ Unwritten h → IsUnwritten domain h
+  live_unwritten h is =
+      let v = (has_entry (Unwritten h) is (λ e. let clash : Unwritten h ≡ Nothing = e in cc)).1 in
       unwritten-live domain h v.0 (v.2).0
 
-  pub live_written : (h : SampleMut) → slice_index_or table of Nothing ≡ Written h → IsWritten domain h
-  live_written h at =
-      let v = (has_entry (Written h) at (λ e. let clash : Written h ≡ Nothing = e in cc)).1 in
+  pub live_written : (h : SampleMut) → held ≡ Written h → IsWritten domain h
+  live_written h is =
+      let v = (has_entry (Written h) is (λ e. let clash : Written h ≡ Nothing = e in cc)).1 in
       written-live domain h v.0 (v.2).0
 
   -- the id of its publisher was given out
-  pub known_lender : (h : SampleMut) → slice_index_or table of Nothing ≡ Written h → h.loan.publisher < (state_of domain).next_port
-  known_lender h at =
-      let v = (has_entry (Written h) at (λ e. let clash : Written h ≡ Nothing = e in cc)).1 in
+  pub known_lender : (h : SampleMut) → held ≡ Written h → h.loan.publisher < (state_of domain).next_port
+  known_lender h is =
+      let v = (has_entry (Written h) is (λ e. let clash : Written h ≡ Nothing = e in cc)).1 in
       (v.2).1
 
-  pub live_blocked : (h : BlockedHandle) → slice_index_or table of Nothing ≡ Blocked h → IsBlockedSend domain h
-  live_blocked h at =
-      let v = (has_entry (Blocked h) at (λ e. let clash : Blocked h ≡ Nothing = e in cc)).1 in
+  pub live_blocked : (h : BlockedHandle) → held ≡ Blocked h → IsBlockedSend domain h
+  live_blocked h is =
+      let v = (has_entry (Blocked h) is (λ e. let clash : Blocked h ≡ Nothing = e in cc)).1 in
       blocked-live domain (blocked_key h) (v.0, v.2)
 
-  pub live_sample : (h : SampleHandle) → slice_index_or table of Nothing ≡ MadeSample h → IsLiveSample domain h
-  live_sample h at =
-      let v = (has_entry (MadeSample h) at (λ e. let clash : MadeSample h ≡ Nothing = e in cc)).1 in
+  pub live_sample : (h : SampleHandle) → held ≡ MadeSample h → IsLiveSample domain h
+  live_sample h is =
+      let v = (has_entry (MadeSample h) is (λ e. let clash : MadeSample h ≡ Nothing = e in cc)).1 in
       sample-live domain _ (v.0, (h.origin, v.2))
 
   -- its message is borrowed from its publisher
-  pub borrowed_there : (h : SampleHandle) → slice_index_or table of Nothing ≡ MadeSample h → is_borrowed h.sample.number ((state_of domain).mailboxes h.origin h.sample.subscriber) ≡ true
-  borrowed_there h at = ((has_entry (MadeSample h) at (λ e. let clash : MadeSample h ≡ Nothing = e in cc)).1).2
+  pub borrowed_there : (h : SampleHandle) → held ≡ MadeSample h → is_borrowed h.sample.number ((state_of domain).mailboxes h.origin h.sample.subscriber) ≡ true
+  borrowed_there h is = ((has_entry (MadeSample h) is (λ e. let clash : MadeSample h ≡ Nothing = e in cc)).1).2

@@ -1,9 +1,6 @@
 -- The entries of what a run's commands made.
-use Rattle.std.proofs.Common.{◌≡◌, ℕ, zero, suc, Bool, false, List, [], ◌∷◌, map, refl, sym, ap, ◌∙◌, Option, None, Some, arith}
+use Rattle.std.proofs.Common.{◌≡◌, ℕ, zero, suc, Bool, false, List, [], ◌∷◌, map, refl, sym, ap, Some}
 use Rattle.std.specs.Prelude.{slice_get, slice_set, slice_index_or}
-use Rattle.std.specs.Borrow.{Bor}
-use Rattle.std.specs.Option.{option_map, unwrap_or}
-use Rattle.std.specs.Slice.{IsItemAt}
 use Rattle.iox2_runs.specs.Tables.{TableEntry, No_entry}
 use Rattle.iox2_runs.specs.Carries.{entry_for}
 use Rattle.iox2_runs.specs.declared.runs.made.Made.{Made}
@@ -22,12 +19,6 @@ entries-set [] of made = refl
 entries-set (h ∷ table) zero made = refl
 entries-set (h ∷ table) (suc of) made = ap (λ ks. entry_for h ∷ ks) (entries-set table of made)
 
--- what was taken is put back
-pub put_back : (table : List Made) (of : ℕ) → slice_set (slice_set table of Nothing) of (slice_index_or table of Nothing) ≡ table
-put_back [] of = refl
-put_back (h ∷ table) zero = refl
-put_back (h ∷ table) (suc of) = ap (λ hs. h ∷ hs) (put_back table of)
-
 -- one setting after another is the second
 pub set_again : (table : List Made) (of : ℕ) (first second : Made) → slice_set (slice_set table of first) of second ≡ slice_set table of second
 set_again [] of first second = refl
@@ -45,16 +36,6 @@ pub entry-stands : (table : List Made) (of : ℕ) (made : Made) → slice_index_
 entry-stands [] of made at some = absurd (some (sym at))
 entry-stands (h ∷ table) zero made at some = ap (λ k. Some (entry_for k)) at
 entry-stands (h ∷ table) (suc of) made at some = entry-stands table of made at some
-
--- what a look at a position of the table finds
-pub looked : (table : List Made) (of : ℕ) (found : Option (Bor Made)) (b : Bor Made) (made : Made) → IsItemAt table of found → found ≡ Some b → b.now ≡ made → slice_index_or table of Nothing ≡ made
-looked table of found b made lookup some is =
-    sym (lookup.4 (omega arith) Nothing) ∙ ap (λ (r : Option (Bor Made)). unwrap_or (option_map (λ (x : Bor Made). x.now) r) Nothing) some ∙ is
-
--- nothing is found past the end of the table
-pub looked_past : (table : List Made) (of : ℕ) (found : Option (Bor Made)) → IsItemAt table of found → found ≡ None → slice_index_or table of Nothing ≡ Nothing
-looked_past table of found lookup none =
-    sym (lookup.4 (omega arith) Nothing) ∙ ap (λ (r : Option (Bor Made)). unwrap_or (option_map (λ (x : Bor Made). x.now) r) Nothing) none
 
 -- a kind that isn't there
 pub lacks : (kind : TableEntry → Bool) → kind No_entry ≡ false → (table : List Made) (of : ℕ) → kind (entry_for (slice_index_or table of Nothing)) ≡ false → Lacks kind (map entry_for table) of
@@ -116,11 +97,6 @@ not_subscriber (Unwritten h) other = refl
 not_subscriber (Written h) other = refl
 not_subscriber (Blocked h) other = refl
 not_subscriber (MadeSample h) other = refl
-
--- what was taken out and put back
-pub back : (table taken put : List Made) (of : ℕ) (made : Made) → taken ≡ slice_set table of Nothing → slice_index_or table of Nothing ≡ made → put ≡ slice_set taken of made → put ≡ table
-back table taken put of made took stood is =
-    is ∙ ap (λ (t : List Made). slice_set t of made) took ∙ ap (λ (h : Made). slice_set (slice_set table of Nothing) of h) (sym stood) ∙ put_back table of
 
 pub not_loan : (made : Made) → ((h : SampleMutUninit) → made ≡ Unwritten h → ⊥) → ((h : SampleMut) → made ≡ Written h → ⊥) → is_loan_entry (entry_for made) ≡ false
 not_loan Nothing other other' = refl

@@ -6,6 +6,7 @@ pub mod Placed
 pub mod Carries
 pub mod DomainRuns
 pub mod Leaves
+pub mod Turns
 pub mod CarriesOut
 pub mod Compared
 pub mod Services

@@ -21,6 +21,7 @@ mod made;
 mod ports;
 mod publishers;
 mod reads;
+mod ready;
 mod receives;
 mod send_replies;
 mod services;
@@ -31,6 +32,7 @@ use iox2_commands::{Command, Reply};
 use iox2_pubsub::Domain;
 use iox2_store::{BackpressureFn, DegradationFn};
 pub use made::{Made, disown_all};
+use made::{settle, take};
 use std::alloc::Global;
 
 // There is a default value of the type. For proofs alone
@@ -92,45 +94,75 @@ pub fn carry_out<
             buffer,
             degradation,
         } => ports::create_subscriber(domain, table, buffer, degradation),
-        Command::LoanUninit { of } => lends::loan_uninit(domain, table, of),
-        Command::Loan { of } => lends::loan(domain, table, of),
-        Command::LoanSlice { of, len } => lends::loan_slice(domain, table, of, len),
-        Command::WriteCell { of, at, value } => (
-            changes::write_cell(domain, table, of, at, value),
-            Made::Nothing,
+        Command::LoanUninit { of } => settle(
+            lends::loan_uninit(domain, take(table, of)),
+            table,
+            of,
         ),
-        Command::WriteAll { of, value } => {
-            (changes::write_all(domain, table, of, value), Made::Nothing)
-        }
-        Command::AssumeInit { of } => { (changes::assume_init(domain, table, of), Made::Nothing) }
-        Command::WriteHeader { of, value } => {
-            (
-                changes::write_header(domain, table, of, value),
-                Made::Nothing,
-            )
-        }
-        Command::SetPayload { of, at, value } => (
-            changes::set_payload(domain, table, of, at, value),
-            Made::Nothing,
+        Command::Loan { of } => settle(lends::loan(domain, take(table, of)), table, of),
+        Command::LoanSlice { of, len } => settle(
+            lends::loan_slice(domain, take(table, of), len),
+            table,
+            of,
         ),
-        Command::Send { of } => spends::send(domain, table, of),
-        Command::SendCopy { of, value } => lends::send_copy(domain, table, of, value),
-        Command::Discard { of } => (spends::discard(domain, table, of), Made::Nothing),
-        Command::Retry { of, elapsed } => (
-            spends::retry(domain, table, of, elapsed),
-            Made::Nothing,
+        Command::WriteCell { of, at, value } => settle(
+            changes::write_cell(domain, take(table, of), at, value),
+            table,
+            of,
         ),
-        Command::GiveUp { of } => (spends::give_up(domain, table, of), Made::Nothing),
-        Command::Update { of } => (updates::update(domain, table, of), Made::Nothing),
-        Command::Receive { of } => receives::receive(domain, table, of),
-        Command::HasSamples { of } => (receives::has_samples(domain, table, of), Made::Nothing),
-        Command::Read { of, at } => (reads::read(domain, table, of, at), Made::Nothing),
-        Command::ReadHeader { of } => (reads::read_header(domain, table, of), Made::Nothing),
-        Command::ReadUserHeader { of } => {
-            (reads::read_user_header(domain, table, of), Made::Nothing)
-        }
-        Command::Release { of } => (spends::release(domain, table, of), Made::Nothing),
-        Command::Close { of } => (spends::close(domain, table, of), Made::Nothing),
+        Command::WriteAll { of, value } => settle(
+            changes::write_all(domain, take(table, of), value),
+            table,
+            of,
+        ),
+        Command::AssumeInit { of } => settle(
+            changes::assume_init(domain, take(table, of)),
+            table,
+            of,
+        ),
+        Command::WriteHeader { of, value } => settle(
+            changes::write_header(domain, take(table, of), value),
+            table,
+            of,
+        ),
+        Command::SetPayload { of, at, value } => settle(
+            changes::set_payload(domain, take(table, of), at, value),
+            table,
+            of,
+        ),
+        Command::Send { of } => settle(spends::send(domain, take(table, of)), table, of),
+        Command::SendCopy { of, value } => settle(
+            lends::send_copy(domain, take(table, of), value),
+            table,
+            of,
+        ),
+        Command::Discard { of } => settle(spends::discard(domain, take(table, of)), table, of),
+        Command::Retry { of, elapsed } => settle(
+            spends::retry(domain, take(table, of), elapsed),
+            table,
+            of,
+        ),
+        Command::GiveUp { of } => settle(spends::give_up(domain, take(table, of)), table, of),
+        Command::Update { of } => settle(updates::update(domain, take(table, of)), table, of),
+        Command::Receive { of } => settle(receives::receive(domain, take(table, of)), table, of),
+        Command::HasSamples { of } => settle(
+            receives::has_samples(domain, take(table, of)),
+            table,
+            of,
+        ),
+        Command::Read { of, at } => settle(reads::read(domain, take(table, of), at), table, of),
+        Command::ReadHeader { of } => settle(
+            reads::read_header(domain, take(table, of)),
+            table,
+            of,
+        ),
+        Command::ReadUserHeader { of } => settle(
+            reads::read_user_header(domain, take(table, of)),
+            table,
+            of,
+        ),
+        Command::Release { of } => settle(spends::release(domain, take(table, of)), table, of),
+        Command::Close { of } => settle(spends::close(domain, take(table, of)), table, of),
         Command::Nothing => (Reply::Done, Made::Nothing),
     }
 }

@@ -1,8 +1,5 @@
 //! What a run's commands made.
-ghost use Rattle.std.specs.Prelude.{◌≡◌, ◌<◌, slice_set, slice_index_or};
-ghost use Rattle.iox2_runs.specs.Rooms.{SameRoom};
-ghost use Rattle.iox2_commands.specs.declared.reply.Reply.TheVariants.{Skipped};
-ghost use Rattle.iox2_runs.specs.declared.runs.made.Made.TheVariants.{Nothing};
+ghost use Rattle.iox2_runs.specs.Turns.{IsTaken, IsSettled};
 
 use iox2_commands::Reply;
 use iox2_pubsub::{BlockedSend, Publisher, Sample, SampleMut, SampleMutUninit, Subscriber};
@@ -49,11 +46,12 @@ pub fn disown_all(mut table: Vec<Made>) {
     table.destroy_empty();
 }
 
+/// What a command came to: its reply, what it left of what its handle named, and what it made.
+pub(crate) type Turn<T, U> = (Reply<T, U>, Made, Made);
+
 /// Takes what the command at the position made out of the table, if there is any.
 pub(crate) fn take(table: &mut Vec<Made>, of: usize) -> Made
-    ensures items { table.new.items ≡ slice_set table.old.items of Nothing }
-    ensures room { SameRoom table.old table.new }
-    ensures made { result ≡ slice_index_or table.old.items of Nothing }
+    ensures { IsTaken table.old table.new of result }
 {
     if of < table.len() {
         mem::replace(&mut table[of], Made::Nothing)
@@ -62,25 +60,20 @@ pub(crate) fn take(table: &mut Vec<Made>, of: usize) -> Made
     }
 }
 
-/// Puts something into the table, at the position of the command that made it, in place of what is
-/// there. Past the end it is spent.
-pub(crate) fn put(table: &mut Vec<Made>, of: usize, made: Made)
-    ensures items { table.new.items ≡ slice_set table.old.items of made }
-    ensures room { SameRoom table.old table.new }
+/// Puts what a command left of what was taken for it back into the table, at the position of the
+/// command that made it, and returns the reply and what is made. Past the end it is spent.
+pub(crate) fn settle<T, U>(
+    turn: Turn<T, U>,
+    table: &mut Vec<Made>,
+    of: usize,
+) -> (Reply<T, U>, Made)
+    ensures { IsSettled table.old table.new of turn result }
 {
+    let (reply, kept, made) = turn;
     if of < table.len() {
-        mem::replace(&mut table[of], made).disown();
+        mem::replace(&mut table[of], kept).disown();
     } else {
-        made.disown();
+        kept.disown();
     }
-}
-
-/// Puts what was taken back in its place, and replies that nothing was done.
-pub(crate) fn skip<T, U>(table: &mut Vec<Made>, of: usize, made: Made) -> Reply<T, U>
-    ensures reply { result ≡ Skipped }
-    ensures items { table.new.items ≡ slice_set table.old.items of made }
-    ensures room { SameRoom table.old table.new }
-{
-    put(table, of, made);
-    Reply::Skipped
+    (reply, made)
 }

@@ -3,44 +3,40 @@ ghost use Rattle.std.specs.Prelude.{◌≡◌, Some};
 ghost use Rattle.std.specs.Option.{option_map_or};
 ghost use Rattle.iox2_commands.specs.declared.reply.Reply.TheVariants.{Cell, Skipped};
 ghost use Rattle.iox2_store.specs.machine.Environments.{fixed_handlers};
-ghost use Rattle.iox2_runs.specs.Carries.{IsLiveTable, Carries, defaults_of};
-ghost use Rattle.iox2_runs.specs.CarriesOut.{CarriesOut};
+ghost use Rattle.iox2_runs.specs.Carries.{defaults_of};
+ghost use Rattle.iox2_runs.specs.Turns.{IsHeld, Turns};
 ghost use Rattle.iox2_commands.specs.declared.command.Command.TheVariants.{Read, ReadHeader, ReadUserHeader};
-ghost use Rattle.iox2_runs.specs.declared.runs.made.Made.TheVariants.{Nothing};
 
 use super::cells::{received_value, unwritten_cell, written_value};
-use super::made::{Made, put, skip, take};
+use super::made::{Made, Turn};
 use iox2_commands::Reply;
 use iox2_pubsub::Domain;
 use iox2_store::{BackpressureFn, DegradationFn};
 
-/// Reads a value of the sample, or a cell of the loan, that the command at the position made.
+/// Reads a value of the sample, or a cell of the loan.
 pub(crate) fn read<
     T: Copy + Default + Drop,
     U: Default + Drop,
     F: BackpressureFn,
     G: DegradationFn,
->(domain: &Domain<T, U, F, G>, table: &mut Vec<Made>, of: usize, at: usize) -> Reply<T, U>
-    requires { IsLiveTable domain.now table.old.items }
-    ensures { CarriesOut fixed_handlers (defaults_of T.is_default U.is_default) domain.now domain.now table.old table.new (Read of at) result Nothing }
+>(domain: &Domain<T, U, F, G>, held: Made, at: usize) -> Turn<T, U>
+    requires { IsHeld domain.now held }
+    ensures { Turns fixed_handlers (defaults_of T.is_default U.is_default) domain.now domain.now held (λ of. Read of at) result }
 {
-    match take(table, of) {
+    match held {
         Made::Unwritten(loan) => {
             let (cell, loan) = unwritten_cell(domain, loan, at);
-            put(table, of, Made::Unwritten(loan));
-            cell_reply(cell)
+            (cell_reply(cell), Made::Unwritten(loan), Made::Nothing)
         }
         Made::Written(loan) => {
             let (value, loan) = written_value(domain, loan, at);
-            put(table, of, Made::Written(loan));
-            value_reply(value)
+            (value_reply(value), Made::Written(loan), Made::Nothing)
         }
         Made::Sample(sample) => {
             let (value, sample) = received_value(domain, sample, at);
-            put(table, of, Made::Sample(sample));
-            value_reply(value)
+            (value_reply(value), Made::Sample(sample), Made::Nothing)
         }
-        other => skip(table, of, other),
+        other => (Reply::Skipped, other, Made::Nothing),
     }
 }
 
@@ -64,44 +60,56 @@ fn value_reply<T: Drop, U>(value: Option<T>) -> Reply<T, U>
     }
 }
 
-/// Reads the header of the sample or the loan that the command at the position made.
+/// Reads the header of the sample or the loan.
 pub(crate) fn read_header<
     T: Default + Drop,
     U: Default + Drop,
     F: BackpressureFn,
     G: DegradationFn,
->(domain: &Domain<T, U, F, G>, table: &[Made], of: usize) -> Reply<T, U>
-    requires { IsLiveTable domain.now table.now }
-    ensures { Carries fixed_handlers (defaults_of T.is_default U.is_default) domain.now domain.now table.now (ReadHeader of) result table.now Nothing }
+>(domain: &Domain<T, U, F, G>, held: Made) -> Turn<T, U>
+    requires { IsHeld domain.now held }
+    ensures { Turns fixed_handlers (defaults_of T.is_default U.is_default) domain.now domain.now held ReadHeader result }
 {
-    let Some(made) = table.get(of) else {
-        return Reply::Skipped;
-    };
-    match made {
-        Made::Unwritten(loan) => Reply::Header(*loan.header(domain)),
-        Made::Written(loan) => Reply::Header(*loan.header(domain)),
-        Made::Sample(sample) => Reply::Header(*sample.header(domain)),
-        _ => Reply::Skipped,
+    match held {
+        Made::Unwritten(loan) => {
+            let reply = Reply::Header(*loan.header(domain));
+            (reply, Made::Unwritten(loan), Made::Nothing)
+        }
+        Made::Written(loan) => {
+            let reply = Reply::Header(*loan.header(domain));
+            (reply, Made::Written(loan), Made::Nothing)
+        }
+        Made::Sample(sample) => {
+            let reply = Reply::Header(*sample.header(domain));
+            (reply, Made::Sample(sample), Made::Nothing)
+        }
+        other => (Reply::Skipped, other, Made::Nothing),
     }
 }
 
-/// Reads the user header of the sample or the loan that the command at the position made.
+/// Reads the user header of the sample or the loan.
 pub(crate) fn read_user_header<
     T: Default + Drop,
     U: Copy + Default + Drop,
     F: BackpressureFn,
     G: DegradationFn,
->(domain: &Domain<T, U, F, G>, table: &[Made], of: usize) -> Reply<T, U>
-    requires { IsLiveTable domain.now table.now }
-    ensures { Carries fixed_handlers (defaults_of T.is_default U.is_default) domain.now domain.now table.now (ReadUserHeader of) result table.now Nothing }
+>(domain: &Domain<T, U, F, G>, held: Made) -> Turn<T, U>
+    requires { IsHeld domain.now held }
+    ensures { Turns fixed_handlers (defaults_of T.is_default U.is_default) domain.now domain.now held ReadUserHeader result }
 {
-    let Some(made) = table.get(of) else {
-        return Reply::Skipped;
-    };
-    match made {
-        Made::Unwritten(loan) => Reply::UserHeader(*loan.user_header(domain)),
-        Made::Written(loan) => Reply::UserHeader(*loan.user_header(domain)),
-        Made::Sample(sample) => Reply::UserHeader(*sample.user_header(domain)),
-        _ => Reply::Skipped,
+    match held {
+        Made::Unwritten(loan) => {
+            let reply = Reply::UserHeader(*loan.user_header(domain));
+            (reply, Made::Unwritten(loan), Made::Nothing)
+        }
+        Made::Written(loan) => {
+            let reply = Reply::UserHeader(*loan.user_header(domain));
+            (reply, Made::Written(loan), Made::Nothing)
+        }
+        Made::Sample(sample) => {
+            let reply = Reply::UserHeader(*sample.user_header(domain));
+            (reply, Made::Sample(sample), Made::Nothing)
+        }
+        other => (Reply::Skipped, other, Made::Nothing),
     }
 }

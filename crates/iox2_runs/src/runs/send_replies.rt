@@ -1,9 +1,8 @@
 //! What a run says of a send.
-ghost use Rattle.std.specs.Prelude.{◌≡◌, slice_set};
-ghost use Rattle.iox2_runs.specs.Rooms.{SameRoom};
+ghost use Rattle.std.specs.Prelude.{◌≡◌};
 ghost use Rattle.iox2_runs.specs.SendReplies.{reply_to_send, made_by_send};
 
-use super::made::{Made, put};
+use super::made::Made;
 use iox2_commands::Reply;
 use iox2_pubsub::SendOutcome;
 use iox2_store::SendError;
@@ -19,19 +18,4 @@ pub(crate) fn send_reply<T, U>(outcome: Result<SendOutcome, SendError>) -> (Repl
         Ok(SendOutcome::Blocked(blocked)) => (Reply::Blocked, Made::Blocked(blocked)),
         Err(error) => (Reply::SendRefused(error), Made::Nothing),
     }
-}
-
-/// Puts what a blocked send came to in its place, and returns the reply.
-pub(crate) fn put_outcome<T, U>(
-    table: &mut Vec<Made>,
-    of: usize,
-    outcome: Result<SendOutcome, SendError>,
-) -> Reply<T, U>
-    ensures reply { result ≡ reply_to_send outcome }
-    ensures items { table.new.items ≡ slice_set table.old.items of (made_by_send outcome) }
-    ensures room { SameRoom table.old table.new }
-{
-    let (reply, made) = send_reply(outcome);
-    put(table, of, made);
-    reply
 }

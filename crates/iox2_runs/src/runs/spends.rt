@@ -1,135 +1,130 @@
 //! Commands that spend what one before them made.
 ghost use Rattle.iox2_store.specs.machine.Environments.{fixed_handlers};
-ghost use Rattle.iox2_runs.specs.Carries.{IsLiveTable, defaults_of};
-ghost use Rattle.iox2_runs.specs.CarriesOut.{CarriesOut};
+ghost use Rattle.iox2_runs.specs.Carries.{defaults_of};
+ghost use Rattle.iox2_runs.specs.Turns.{IsHeld, Turns};
 ghost use Rattle.iox2_commands.specs.declared.command.Command.TheVariants.{Send, Discard, Retry, GiveUp, Release, Close};
-ghost use Rattle.iox2_runs.specs.declared.runs.made.Made.TheVariants.{Nothing};
 
-use super::made::{Made, put, skip, take};
-use super::send_replies::{put_outcome, send_reply};
+use super::made::{Made, Turn};
+use super::ready::ready_publisher;
+use super::send_replies::send_reply;
 use iox2_commands::Reply;
 use iox2_pubsub::Domain;
 use iox2_store::{BackpressureFn, DegradationFn};
 use std::time::Duration;
 
-/// Sends the loan that the command at the position made, and returns the blocked send too, where it
-/// is blocked.
+/// Sends the loan, and makes the blocked send, where it is blocked.
 pub(crate) fn send<T: Default + Drop, U: Default + Drop, F: BackpressureFn, G: DegradationFn>(
     domain: &mut Domain<T, U, F, G>,
-    table: &mut Vec<Made>,
-    of: usize,
-) -> (Reply<T, U>, Made)
-    requires { IsLiveTable domain.old table.old.items }
-    ensures { CarriesOut fixed_handlers (defaults_of T.is_default U.is_default) domain.old domain.new table.old table.new (Send of) result.0 result.1 }
+    held: Made,
+) -> Turn<T, U>
+    requires { IsHeld domain.old held }
+    ensures { Turns fixed_handlers (defaults_of T.is_default U.is_default) domain.old domain.new held Send result }
 {
-    match take(table, of) {
+    match held {
         Made::Written(loan) => {
             if loan.is_blocked(domain) {
-                put(table, of, Made::Written(loan));
-                return (Reply::Skipped, Made::Nothing);
+                return (Reply::Skipped, Made::Written(loan), Made::Nothing);
             }
-            send_reply(loan.send(domain))
+            let (reply, made) = send_reply(loan.send(domain));
+            (reply, Made::Nothing, made)
         }
-        other => (skip(table, of, other), Made::Nothing),
+        other => (Reply::Skipped, other, Made::Nothing),
     }
 }
 
-/// Gives back the loan that the command at the position made.
+/// Gives back the loan.
 pub(crate) fn discard<T: Default + Drop, U: Default + Drop, F: BackpressureFn, G: DegradationFn>(
     domain: &mut Domain<T, U, F, G>,
-    table: &mut Vec<Made>,
-    of: usize,
-) -> Reply<T, U>
-    requires { IsLiveTable domain.old table.old.items }
-    ensures { CarriesOut fixed_handlers (defaults_of T.is_default U.is_default) domain.old domain.new table.old table.new (Discard of) result Nothing }
+    held: Made,
+) -> Turn<T, U>
+    requires { IsHeld domain.old held }
+    ensures { Turns fixed_handlers (defaults_of T.is_default U.is_default) domain.old domain.new held Discard result }
 {
-    match take(table, of) {
+    match held {
         Made::Unwritten(loan) => {
             loan.discard(domain);
-            Reply::Done
+            (Reply::Done, Made::Nothing, Made::Nothing)
         }
         Made::Written(loan) => {
             loan.discard(domain);
-            Reply::Done
+            (Reply::Done, Made::Nothing, Made::Nothing)
         }
-        other => skip(table, of, other),
+        other => (Reply::Skipped, other, Made::Nothing),
     }
 }
 
-/// Tries the blocked send of the command at the position again. It keeps its position where it is
-/// blocked again.
+/// Tries the blocked send again. It keeps its position where it is blocked again.
 pub(crate) fn retry<T: Default + Drop, U: Default + Drop, F: BackpressureFn, G: DegradationFn>(
     domain: &mut Domain<T, U, F, G>,
-    table: &mut Vec<Made>,
-    of: usize,
+    held: Made,
     elapsed: Duration,
-) -> Reply<T, U>
-    requires { IsLiveTable domain.old table.old.items }
-    ensures { CarriesOut fixed_handlers (defaults_of T.is_default U.is_default) domain.old domain.new table.old table.new (Retry of elapsed) result Nothing }
+) -> Turn<T, U>
+    requires { IsHeld domain.old held }
+    ensures { Turns fixed_handlers (defaults_of T.is_default U.is_default) domain.old domain.new held (λ of. Retry of elapsed) result }
 {
-    match take(table, of) {
-        Made::Blocked(blocked) => put_outcome(table, of, blocked.retry(domain, elapsed)),
-        other => skip(table, of, other),
+    match held {
+        Made::Blocked(blocked) => {
+            let (reply, kept) = send_reply(blocked.retry(domain, elapsed));
+            (reply, kept, Made::Nothing)
+        }
+        other => (Reply::Skipped, other, Made::Nothing),
     }
 }
 
-/// Gives up the receiver that the blocked send of the command at the position waits for. The send
-/// keeps its position where it is blocked at a later one.
+/// Gives up the receiver that the blocked send waits for. The send keeps its position where it is
+/// blocked at a later one.
 pub(crate) fn give_up<T: Default + Drop, U: Default + Drop, F: BackpressureFn, G: DegradationFn>(
     domain: &mut Domain<T, U, F, G>,
-    table: &mut Vec<Made>,
-    of: usize,
-) -> Reply<T, U>
-    requires { IsLiveTable domain.old table.old.items }
-    ensures { CarriesOut fixed_handlers (defaults_of T.is_default U.is_default) domain.old domain.new table.old table.new (GiveUp of) result Nothing }
+    held: Made,
+) -> Turn<T, U>
+    requires { IsHeld domain.old held }
+    ensures { Turns fixed_handlers (defaults_of T.is_default U.is_default) domain.old domain.new held GiveUp result }
 {
-    match take(table, of) {
-        Made::Blocked(blocked) => put_outcome(table, of, blocked.give_up(domain)),
-        other => skip(table, of, other),
+    match held {
+        Made::Blocked(blocked) => {
+            let (reply, kept) = send_reply(blocked.give_up(domain));
+            (reply, kept, Made::Nothing)
+        }
+        other => (Reply::Skipped, other, Made::Nothing),
     }
 }
 
-/// Releases the sample that the command at the position received.
+/// Releases the sample.
 pub(crate) fn release<T: Default + Drop, U: Default + Drop, F: BackpressureFn, G: DegradationFn>(
     domain: &mut Domain<T, U, F, G>,
-    table: &mut Vec<Made>,
-    of: usize,
-) -> Reply<T, U>
-    requires { IsLiveTable domain.old table.old.items }
-    ensures { CarriesOut fixed_handlers (defaults_of T.is_default U.is_default) domain.old domain.new table.old table.new (Release of) result Nothing }
+    held: Made,
+) -> Turn<T, U>
+    requires { IsHeld domain.old held }
+    ensures { Turns fixed_handlers (defaults_of T.is_default U.is_default) domain.old domain.new held Release result }
 {
-    match take(table, of) {
+    match held {
         Made::Sample(sample) => {
             sample.release(domain);
-            Reply::Done
+            (Reply::Done, Made::Nothing, Made::Nothing)
         }
-        other => skip(table, of, other),
+        other => (Reply::Skipped, other, Made::Nothing),
     }
 }
 
-/// Closes the port that the command at the position made, unless it is a publisher that waits for a
-/// receiver.
+/// Closes the port, unless it is a publisher that waits for a receiver.
 pub(crate) fn close<T: Default + Drop, U: Default + Drop, F: BackpressureFn, G: DegradationFn>(
     domain: &mut Domain<T, U, F, G>,
-    table: &mut Vec<Made>,
-    of: usize,
-) -> Reply<T, U>
-    requires { IsLiveTable domain.old table.old.items }
-    ensures { CarriesOut fixed_handlers (defaults_of T.is_default U.is_default) domain.old domain.new table.old table.new (Close of) result Nothing }
+    held: Made,
+) -> Turn<T, U>
+    requires { IsHeld domain.old held }
+    ensures { Turns fixed_handlers (defaults_of T.is_default U.is_default) domain.old domain.new held Close result }
 {
-    match take(table, of) {
-        Made::Publisher(publisher) => {
-            if publisher.is_blocked(domain) {
-                put(table, of, Made::Publisher(publisher));
-                return Reply::Skipped;
-            }
-            publisher.close(domain);
-            Reply::Done
-        }
+    match held {
         Made::Subscriber(subscriber) => {
             subscriber.close(domain);
-            Reply::Done
+            (Reply::Done, Made::Nothing, Made::Nothing)
         }
-        other => skip(table, of, other),
+        other => match ready_publisher(domain, other) {
+            Ok(publisher) => {
+                publisher.close(domain);
+                (Reply::Done, Made::Nothing, Made::Nothing)
+            }
+            Err(other) => (Reply::Skipped, other, Made::Nothing),
+        },
     }
 }

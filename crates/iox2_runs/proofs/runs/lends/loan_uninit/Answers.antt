@@ -1,92 +1,39 @@
-use Rattle.std.proofs.Common.{ℕ, refl, sym, ap, ◌∙◌}
-use Rattle.iox2_store.specs.machine.Environments.{fixed_handlers}
-use Rattle.iox2_runs.specs.Carries.{entry_for}
-use Rattle.iox2_runs.specs.declared.runs.made.Made.{Made}
-use Rattle.iox2_runs.proofs.TableLooks.{is_publisher_entry}
-use Rattle.iox2_runs.proofs.TableEntries.{looked, looked_past, not_publisher}
 use Rattle.iox2_pubsub.proofs.LiveParts.{unwritten-parts}
-use Rattle.iox2_runs.proofs.Services.{single-here}
-use Rattle.iox2_pubsub.specs.Live.{A_loan, A_blocked_send, Both, publisher_key}
-use Rattle.iox2_runs.proofs.LiveEntries.{live_publisher, known_publisher, ready_publisher, shown_free, shown_waits}
-use Rattle.iox2_runs.proofs.CarriedLoans.{loan_passed, loan_of_other, loan_held_up, loan_carried, loan_denied}
-use Rattle.iox2_runs.proofs.LeavingSteps.{leaves-all, leaves-making, leaves-lending}
 use Rattle.iox2_pubsub.proofs.StaysBut.{nothing-is-new}
+use Rattle.iox2_pubsub.specs.Live.{A_blocked_send, A_loan, Both, publisher_key}
+use Rattle.iox2_runs.proofs.CarriedLoans.{loan_passed, loan_of_other, loan_held_up, loan_carried, loan_denied}
+use Rattle.iox2_runs.proofs.LeavingSteps.{leaves-lending}
+use Rattle.iox2_runs.proofs.LiveEntries.{shown_free}
+use Rattle.iox2_runs.proofs.Services.{single-here}
+use Rattle.iox2_runs.proofs.Turned.{keeps, looks, makes, unready}
 use Rattle.iox2_runs.specs.declared.runs.made.Made.TheVariants.{Nothing, Unwritten}
+use Rattle.iox2_store.specs.machine.Environments.{fixed_handlers}
+use Rattle.std.proofs.Common.{ℕ, refl, sym, ap, ◌∙◌}
 use Rattle.iox2_runs.proofs.runs.lends.loan_uninit.Goals as goal
 
-pub returns-then-not-is_single_valued-clause-carries : goal.returns-then-not-is_single_valued-clause-carries
-returns-then-not-is_single_valued-clause-carries g c =
-    loan_of_other {T = g.row.T.Denot} {U = g.row.U.Denot} fixed_handlers _ c.args.domain.now c.args.domain.now c.args.table.now c.args.table.now c.args.of
-    (sym c.is_single_valued.ensures ∙ c.if-not-is_single_valued.true) refl
+pub returns-then-not-is_single_valued : goal.returns-then-not-is_single_valued
+returns-then-not-is_single_valued g c =
+    looks {T = g.row.T.Denot} {U = g.row.U.Denot} _ _ c.args.domain.now c.args.held _ _ (λ table of at. loan_of_other {T = g.row.T.Denot} {U = g.row.U.Denot} fixed_handlers _ c.args.domain.now c.args.domain.now table table of (sym c.is_single_valued.ensures ∙ c.if-not-is_single_valued.true) refl)
 
-pub loan_uninit-requires-clause-single_valued : goal.loan_uninit-requires-clause-single_valued
-loan_uninit-requires-clause-single_valued g c = single-here {T = g.row.T.Denot} {U = g.row.U.Denot} c.args.domain.now (sym c.is_single_valued.ensures ∙ c.if-not-is_single_valued.false)
+pub loan_uninit-requires : goal.loan_uninit-requires
+loan_uninit-requires g c = record { ready = c.in-Ok.ensures.1; single_valued = single-here {T = g.row.T.Denot} {U = g.row.U.Denot} c.args.domain.now (sym c.is_single_valued.ensures ∙ c.if-not-is_single_valued.false) }
 
-pub returns-in-Ok-clause-carries : goal.returns-in-Ok-clause-carries
-returns-in-Ok-clause-carries g c =
-    loan_carried {T = g.row.T.Denot} {U = g.row.U.Denot} fixed_handlers _ c.args.domain.now c.loan_uninit.new.domain c.args.table.now c.args.table.now c.args.of
-    refl c.in-Publisher.publisher c.in-Ok.loan
-    (looked c.args.table.now c.args.of c.get.result c.in-Some.made _ c.get.ensures.lookup c.in-Some.is c.in-Publisher.is)
-    (shown_free {T = g.row.T.Denot} {U = g.row.U.Denot} c.args.domain.now (publisher_key c.in-Publisher.publisher) (c.is_blocked.ensures.0 c.if-is_blocked.false))
-    (sym c.is_single_valued.ensures ∙ c.if-not-is_single_valued.false)
-    c.in-Ok.ensures.lends (unwritten-parts {T = g.row.T.Denot} {U = g.row.U.Denot} c.loan_uninit.new.domain c.in-Ok.loan c.in-Ok.ensures.out).0 c.in-Ok.ensures.publisher c.in-Ok.ensures.number
+pub returns-in-Ok-loan_uninit : goal.returns-in-Ok-loan_uninit
+returns-in-Ok-loan_uninit g c =
+    rw c.in-Ok.ensures.0 (keeps {T = g.row.T.Denot} {U = g.row.U.Denot} _ _ c.args.domain.now c.loan_uninit.new.domain _ _ _ (Unwritten c.in-Ok-loan_uninit.loan) (λ table of at.
+    loan_carried {T = g.row.T.Denot} {U = g.row.U.Denot} fixed_handlers _ c.args.domain.now c.loan_uninit.new.domain table table of refl c.in-Ok.publisher c.in-Ok-loan_uninit.loan at (shown_free {T = g.row.T.Denot} {U = g.row.U.Denot} c.args.domain.now (publisher_key c.in-Ok.publisher) (c.in-Ok.ensures.1).unblocked) (sym c.is_single_valued.ensures ∙ c.if-not-is_single_valued.false)
+    c.in-Ok-loan_uninit.ensures.lends (unwritten-parts {T = g.row.T.Denot} {U = g.row.U.Denot} c.loan_uninit.new.domain c.in-Ok-loan_uninit.loan c.in-Ok-loan_uninit.ensures.out).0 c.in-Ok-loan_uninit.ensures.publisher c.in-Ok-loan_uninit.ensures.number)
+    (λ table of at. leaves-lending {T = g.row.T.Denot} {U = g.row.U.Denot} c.args.domain.now c.loan_uninit.new.domain table table refl of c.in-Ok.publisher (Unwritten c.in-Ok-loan_uninit.loan) (A_loan c.in-Ok-loan_uninit.loan.loan.number) at
+    c.loan_uninit.ensures.stays c.in-Ok-loan_uninit.ensures.new (ap (λ (p : ℕ). Both (A_loan c.in-Ok-loan_uninit.loan.loan.number) (A_blocked_send p)) c.in-Ok-loan_uninit.ensures.publisher) tt))
 
-pub returns-in-Err-clause-carries : goal.returns-in-Err-clause-carries
-returns-in-Err-clause-carries g c =
-    loan_denied {T = g.row.T.Denot} {U = g.row.U.Denot} fixed_handlers _ c.args.domain.now c.loan_uninit.new.domain c.args.table.now c.args.table.now c.args.of
-    refl c.in-Publisher.publisher c.in-Err.error
-    (looked c.args.table.now c.args.of c.get.result c.in-Some.made _ c.get.ensures.lookup c.in-Some.is c.in-Publisher.is)
-    (shown_free {T = g.row.T.Denot} {U = g.row.U.Denot} c.args.domain.now (publisher_key c.in-Publisher.publisher) (c.is_blocked.ensures.0 c.if-is_blocked.false))
-    (sym c.is_single_valued.ensures ∙ c.if-not-is_single_valued.false)
-    c.in-Err.ensures.lends
+pub returns-in-Err-loan_uninit : goal.returns-in-Err-loan_uninit
+returns-in-Err-loan_uninit g c =
+    rw c.in-Ok.ensures.0 (makes {T = g.row.T.Denot} {U = g.row.U.Denot} _ _ c.args.domain.now c.loan_uninit.new.domain _ _ _ Nothing (λ table of at.
+    loan_denied {T = g.row.T.Denot} {U = g.row.U.Denot} fixed_handlers _ c.args.domain.now c.loan_uninit.new.domain table table of refl c.in-Ok.publisher c.in-Err-loan_uninit.error at (shown_free {T = g.row.T.Denot} {U = g.row.U.Denot} c.args.domain.now (publisher_key c.in-Ok.publisher) (c.in-Ok.ensures.1).unblocked) (sym c.is_single_valued.ensures ∙ c.if-not-is_single_valued.false) c.in-Err-loan_uninit.ensures.lends)
+    c.loan_uninit.ensures.stays (nothing-is-new {T = g.row.T.Denot} {U = g.row.U.Denot} c.args.domain.now) tt)
 
-pub returns-in_default-made-clause-carries : goal.returns-in_default-made-clause-carries
-returns-in_default-made-clause-carries g c =
-    loan_passed {T = g.row.T.Denot} {U = g.row.U.Denot} fixed_handlers _ c.args.domain.now c.args.domain.now c.args.table.now c.args.table.now c.args.of refl
-    (ap (λ (h : Made). is_publisher_entry (entry_for h)) (looked c.args.table.now c.args.of c.get.result c.in-Some.made _ c.get.ensures.lookup c.in-Some.is refl) ∙ not_publisher c.in-Some.made.now c.in_default-made.not-Publisher) refl
-
-pub returns-in_default-clause-carries : goal.returns-in_default-clause-carries
-returns-in_default-clause-carries g c =
-    loan_passed {T = g.row.T.Denot} {U = g.row.U.Denot} fixed_handlers _ c.args.domain.now c.args.domain.now c.args.table.now c.args.table.now c.args.of refl
-    (ap (λ (h : Made). is_publisher_entry (entry_for h)) (looked_past c.args.table.now c.args.of c.get.result c.get.ensures.lookup c.in_default.is)) refl
-
-pub returns-then-not-is_single_valued-clause-leaves : goal.returns-then-not-is_single_valued-clause-leaves
-returns-then-not-is_single_valued-clause-leaves g c =
-    leaves-all {T = g.row.T.Denot} {U = g.row.U.Denot} c.args.domain.now c.args.domain.now c.args.table.now c.args.table.now refl refl
-
-pub returns-in-Ok-clause-leaves : goal.returns-in-Ok-clause-leaves
-returns-in-Ok-clause-leaves g c =
-    leaves-lending {T = g.row.T.Denot} {U = g.row.U.Denot} c.args.domain.now c.loan_uninit.new.domain c.args.table.now c.args.table.now refl c.args.of c.in-Publisher.publisher (Unwritten c.in-Ok.loan) (A_loan c.in-Ok.loan.loan.number)
-    (looked c.args.table.now c.args.of c.get.result c.in-Some.made _ c.get.ensures.lookup c.in-Some.is c.in-Publisher.is)
-    c.loan_uninit.ensures.stays c.in-Ok.ensures.new (ap (λ (p : ℕ). Both (A_loan c.in-Ok.loan.loan.number) (A_blocked_send p)) c.in-Ok.ensures.publisher) tt
-
-pub returns-in-Err-clause-leaves : goal.returns-in-Err-clause-leaves
-returns-in-Err-clause-leaves g c =
-    leaves-making {T = g.row.T.Denot} {U = g.row.U.Denot} c.args.domain.now c.loan_uninit.new.domain c.args.table.now c.loan_uninit.ensures.stays Nothing (nothing-is-new {T = g.row.T.Denot} {U = g.row.U.Denot} c.args.domain.now) tt
-
-pub returns-in_default-made-clause-leaves : goal.returns-in_default-made-clause-leaves
-returns-in_default-made-clause-leaves g c =
-    leaves-all {T = g.row.T.Denot} {U = g.row.U.Denot} c.args.domain.now c.args.domain.now c.args.table.now c.args.table.now refl refl
-
-pub returns-in_default-clause-leaves : goal.returns-in_default-clause-leaves
-returns-in_default-clause-leaves g c =
-    leaves-all {T = g.row.T.Denot} {U = g.row.U.Denot} c.args.domain.now c.args.domain.now c.args.table.now c.args.table.now refl refl
-
-pub is_blocked-requires : goal.is_blocked-requires
-is_blocked-requires g c = record {
-  live = live_publisher {T = g.row.T.Denot} {U = g.row.U.Denot} c.args.domain.now c.args.table.now c.requires c.args.of c.in-Publisher.publisher (looked c.args.table.now c.args.of c.get.result c.in-Some.made _ c.get.ensures.lookup c.in-Some.is c.in-Publisher.is);
-}
-
-pub loan_uninit-requires-clause-ready : goal.loan_uninit-requires-clause-ready
-loan_uninit-requires-clause-ready g c =
-    ready_publisher {T = g.row.T.Denot} {U = g.row.U.Denot} c.args.domain.now c.args.table.now c.requires c.args.of c.in-Publisher.publisher (looked c.args.table.now c.args.of c.get.result c.in-Some.made _ c.get.ensures.lookup c.in-Some.is c.in-Publisher.is) (c.is_blocked.ensures.0 c.if-is_blocked.false)
-
-pub returns-then-is_blocked-clause-carries : goal.returns-then-is_blocked-clause-carries
-returns-then-is_blocked-clause-carries g c =
-    loan_held_up {T = g.row.T.Denot} {U = g.row.U.Denot} fixed_handlers _ c.args.domain.now c.args.domain.now c.args.table.now c.args.table.now c.args.of refl c.in-Publisher.publisher
-    (looked c.args.table.now c.args.of c.get.result c.in-Some.made _ c.get.ensures.lookup c.in-Some.is c.in-Publisher.is)
-    (shown_waits {T = g.row.T.Denot} {U = g.row.U.Denot} c.args.domain.now (publisher_key c.in-Publisher.publisher) (known_publisher {T = g.row.T.Denot} {U = g.row.U.Denot} c.args.domain.now c.args.table.now c.requires c.args.of c.in-Publisher.publisher (looked c.args.table.now c.args.of c.get.result c.in-Some.made _ c.get.ensures.lookup c.in-Some.is c.in-Publisher.is)) c.is_blocked.result c.is_blocked.ensures c.if-is_blocked.true) refl
-
-pub returns-then-is_blocked-clause-leaves : goal.returns-then-is_blocked-clause-leaves
-returns-then-is_blocked-clause-leaves g c =
-    leaves-all {T = g.row.T.Denot} {U = g.row.U.Denot} c.args.domain.now c.args.domain.now c.args.table.now c.args.table.now refl refl
+pub returns-in-Err : goal.returns-in-Err
+returns-in-Err g c =
+    rw c.in-Err.ensures.0 (unready {T = g.row.T.Denot} {U = g.row.U.Denot} _ _ c.args.domain.now c.args.held _ c.in-Err.ensures.1
+    (λ table of other at. loan_passed {T = g.row.T.Denot} {U = g.row.U.Denot} fixed_handlers _ c.args.domain.now c.args.domain.now table table of refl other refl)
+    (λ table of h at waits. loan_held_up {T = g.row.T.Denot} {U = g.row.U.Denot} fixed_handlers _ c.args.domain.now c.args.domain.now table table of refl h at waits refl))

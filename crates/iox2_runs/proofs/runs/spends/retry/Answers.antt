@@ -1,48 +1,31 @@
-use Rattle.std.proofs.Common.{List, refl, sym, ap, ◌∙◌}
-use Rattle.std.specs.Prelude.{slice_set}
+use Rattle.iox2_domain.specs.Boxes.{answers_of}
+use Rattle.iox2_runs.proofs.CarriedBlocked.{each_blocked, goes_on_carried, goes_on_passed, retry_goes}
+use Rattle.iox2_runs.proofs.LeavingSteps.{leaves-going-on}
+use Rattle.iox2_runs.proofs.LiveEntries.{live_blocked}
+use Rattle.iox2_runs.proofs.TableEntries.{not_blocked}
+use Rattle.iox2_runs.proofs.TableLooks.{is_blocked_entry}
+use Rattle.iox2_runs.proofs.Turned.{looks}
+use Rattle.iox2_runs.specs.Carries.{entry_for}
+use Rattle.iox2_runs.specs.declared.runs.made.Made.{Made}
 use Rattle.iox2_store.specs.declared.key.Key.{Key}
 use Rattle.iox2_store.specs.machine.Environments.{fixed_handlers}
-use Rattle.iox2_domain.specs.Boxes.{answers_of}
-use Rattle.iox2_runs.specs.Carries.{entry_for}
-use Rattle.iox2_runs.specs.SendReplies.{made_by_send}
-use Rattle.iox2_runs.specs.declared.runs.made.Made.{Made}
-use Rattle.iox2_runs.specs.declared.runs.made.Made.TheVariants.{Nothing}
-use Rattle.iox2_runs.proofs.CarriedBlocked.{each_blocked, goes_on_carried, goes_on_passed, retry_goes}
-use Rattle.iox2_runs.proofs.LeavingSteps.{leaves-all, leaves-going-on}
-use Rattle.iox2_runs.proofs.LiveEntries.{live_blocked}
-use Rattle.iox2_runs.proofs.TableEntries.{back, set_again, not_blocked}
-use Rattle.iox2_runs.proofs.TableLooks.{is_blocked_entry}
-use Rattle.iox2_runs.proofs.SameRooms.{same-room-twice}
+use Rattle.std.proofs.Common.{refl, ap, ◌∙◌}
 use Rattle.iox2_runs.proofs.runs.spends.retry.Goals as goal
 
 pub retry-requires : goal.retry-requires
-retry-requires g c = record {
-  live = live_blocked {T = g.row.T.Denot} {U = g.row.U.Denot} c.args.domain.now c.args.table.now.items c.requires c.args.of c.in-Blocked.blocked (sym c.take.ensures.made ∙ c.in-Blocked.is);
-}
+retry-requires g c = record { live = live_blocked {T = g.row.T.Denot} {U = g.row.U.Denot} c.args.domain.now c.args.held c.requires c.in-Blocked.blocked c.in-Blocked.is }
 
 pub returns-in-Blocked : goal.returns-in-Blocked
-returns-in-Blocked g c = record {
-  carries =
-      rw c.put_outcome.ensures.reply
-      (goes_on_carried {T = g.row.T.Denot} {U = g.row.U.Denot} _ c.args.domain.now c.retry.new.domain c.args.table.now.items c.put_outcome.new.table.items c.args.of _ (retry_goes (answers_of g.F.BackpressureFn.allows g.G.DegradationFn.allows c.args.domain.now.boxes.publishers) c.args.of c.args.elapsed) c.in-Blocked.blocked c.retry.result (sym c.take.ensures.made ∙ c.in-Blocked.is)
-      c.retry.ensures.retries c.retry.ensures.blocked
-      (c.put_outcome.ensures.items ∙ ap (λ (t : List Made). slice_set t c.args.of (made_by_send c.retry.result)) c.take.ensures.items ∙ set_again c.args.table.now.items c.args.of Nothing (made_by_send c.retry.result)));
-  leaves =
-      leaves-going-on {T = g.row.T.Denot} {U = g.row.U.Denot} c.args.domain.now c.retry.new.domain c.args.table.now.items c.put_outcome.new.table.items c.args.of c.in-Blocked.blocked c.retry.result (sym c.take.ensures.made ∙ c.in-Blocked.is) c.retry.ensures.stays
-      (each_blocked _ _ (λ blocked is. ap (λ (k : Key). k.port) is.1) c.retry.result c.retry.ensures.blocked)
-      (c.put_outcome.ensures.items ∙ ap (λ (t : List Made). slice_set t c.args.of (made_by_send c.retry.result)) c.take.ensures.items ∙ set_again c.args.table.now.items c.args.of Nothing (made_by_send c.retry.result));
-  room = same-room-twice c.take.ensures.room c.put_outcome.ensures.room;
-}
+returns-in-Blocked g c = rw (c.in-Blocked.is, c.send_reply-reply.ensures.reply, c.send_reply-reply.ensures.made) (record {
+  carries = λ table of at.
+      goes_on_carried {T = g.row.T.Denot} {U = g.row.U.Denot} _ c.args.domain.now c.retry.new.domain table _ of _ (retry_goes (answers_of g.F.BackpressureFn.allows g.G.DegradationFn.allows c.args.domain.now.boxes.publishers) of c.args.elapsed) c.in-Blocked.blocked c.retry.result at
+      c.retry.ensures.retries c.retry.ensures.blocked refl;
+  leaves = λ table of at.
+      leaves-going-on {T = g.row.T.Denot} {U = g.row.U.Denot} c.args.domain.now c.retry.new.domain table _ of c.in-Blocked.blocked c.retry.result at c.retry.ensures.stays
+      (each_blocked _ _ (λ blocked is. ap (λ (k : Key). k.port) is.1) c.retry.result c.retry.ensures.blocked) refl;
+})
 
 pub returns-in_default : goal.returns-in_default
-returns-in_default g c = record {
-  carries =
-      rw c.skip.ensures.reply
-      (goes_on_passed {T = g.row.T.Denot} {U = g.row.U.Denot} _ c.args.domain.now c.args.domain.now c.args.table.now.items c.skip.new.table.items c.args.of _ (retry_goes fixed_handlers c.args.of c.args.elapsed)
-      (ap (λ (h : Made). is_blocked_entry (entry_for h)) (sym c.take.ensures.made) ∙ not_blocked c.take.result c.in_default.not-Blocked) refl
-      (back c.args.table.now.items c.take.new.table.items c.skip.new.table.items c.args.of c.take.result c.take.ensures.items (sym c.take.ensures.made) c.skip.ensures.items));
-  leaves =
-      leaves-all {T = g.row.T.Denot} {U = g.row.U.Denot} c.args.domain.now c.args.domain.now c.args.table.now.items c.skip.new.table.items refl
-      (back c.args.table.now.items c.take.new.table.items c.skip.new.table.items c.args.of c.take.result c.take.ensures.items (sym c.take.ensures.made) c.skip.ensures.items);
-  room = same-room-twice c.take.ensures.room c.skip.ensures.room;
-}
+returns-in_default g c =
+    looks {T = g.row.T.Denot} {U = g.row.U.Denot} _ _ c.args.domain.now c.args.held _ _ (λ table of at.
+    goes_on_passed {T = g.row.T.Denot} {U = g.row.U.Denot} _ c.args.domain.now c.args.domain.now table table of _ (retry_goes fixed_handlers of c.args.elapsed) (ap (λ (h : Made). is_blocked_entry (entry_for h)) at ∙ not_blocked c.args.held c.in_default.not-Blocked) refl refl)

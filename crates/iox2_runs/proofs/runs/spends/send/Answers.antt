@@ -1,67 +1,46 @@
-use Rattle.std.proofs.Common.{refl, sym, ap, ◌∙◌}
-use Rattle.iox2_store.specs.machine.Environments.{fixed_handlers}
-use Rattle.iox2_store.specs.declared.key.Key.{Key}
+use Rattle.iox2_domain.specs.Boxes.{answers_of}
 use Rattle.iox2_pubsub.specs.Live.{written_key}
+use Rattle.iox2_runs.proofs.CarriedBlocked.{each_blocked}
+use Rattle.iox2_runs.proofs.CarriedLoans.{either-failure, send_passed, send_held_up, send_carried}
+use Rattle.iox2_runs.proofs.LeavingSteps.{leaves-sending}
+use Rattle.iox2_runs.proofs.LiveEntries.{live_written, known_lender, shown_free, shown_waits}
+use Rattle.iox2_runs.proofs.TableEntries.{not_written}
+use Rattle.iox2_runs.proofs.TableLooks.{is_written_entry}
+use Rattle.iox2_runs.proofs.Turned.{looks}
 use Rattle.iox2_runs.specs.Carries.{entry_for}
 use Rattle.iox2_runs.specs.declared.runs.made.Made.{Made}
-use Rattle.iox2_runs.specs.declared.runs.made.Made.TheVariants.{Written}
-use Rattle.iox2_runs.proofs.CarriedBlocked.{each_blocked}
-use Rattle.iox2_domain.specs.Boxes.{answers_of}
-use Rattle.iox2_runs.proofs.CarriedLoans.{either-failure, send_passed, send_held_up, send_carried}
-use Rattle.iox2_runs.proofs.LeavingSteps.{leaves-all, leaves-sending}
-use Rattle.iox2_runs.proofs.LiveEntries.{live_written, known_lender, shown_free, shown_waits}
-use Rattle.iox2_runs.proofs.TableEntries.{back, not_written}
-use Rattle.iox2_runs.proofs.TableLooks.{is_written_entry}
-use Rattle.iox2_runs.proofs.SameRooms.{same-room-twice}
+use Rattle.iox2_store.specs.declared.key.Key.{Key}
+use Rattle.iox2_store.specs.machine.Environments.{fixed_handlers}
+use Rattle.std.proofs.Common.{refl, ap, ◌∙◌}
 use Rattle.iox2_runs.proofs.runs.spends.send.Goals as goal
 
 pub is_blocked-requires : goal.is_blocked-requires
-is_blocked-requires g c = record {
-  live = (live_written {T = g.row.T.Denot} {U = g.row.U.Denot} c.args.domain.now c.args.table.now.items c.requires c.args.of c.in-Written.loan (sym c.take.ensures.made ∙ c.in-Written.is)).live;
-}
+is_blocked-requires g c = record { live = (live_written {T = g.row.T.Denot} {U = g.row.U.Denot} c.args.domain.now c.args.held c.requires c.in-Written.loan c.in-Written.is).live }
 
 pub send-requires-clause-live : goal.send-requires-clause-live
-send-requires-clause-live g c =
-    live_written {T = g.row.T.Denot} {U = g.row.U.Denot} c.args.domain.now c.args.table.now.items c.requires c.args.of c.in-Written.loan (sym c.take.ensures.made ∙ c.in-Written.is)
+send-requires-clause-live g c = live_written {T = g.row.T.Denot} {U = g.row.U.Denot} c.args.domain.now c.args.held c.requires c.in-Written.loan c.in-Written.is
 
 pub send-requires-clause-unblocked : goal.send-requires-clause-unblocked
 send-requires-clause-unblocked g c = c.is_blocked.ensures.0 c.if-is_blocked.false
 
 pub returns-then-is_blocked : goal.returns-then-is_blocked
-returns-then-is_blocked g c = record {
-  carries =
-      send_held_up {T = g.row.T.Denot} {U = g.row.U.Denot} fixed_handlers _ c.args.domain.now c.args.domain.now c.args.table.now.items c.put.new.table.items c.args.of c.in-Written.loan (sym c.take.ensures.made ∙ c.in-Written.is)
-      (shown_waits {T = g.row.T.Denot} {U = g.row.U.Denot} c.args.domain.now (written_key c.in-Written.loan) (known_lender {T = g.row.T.Denot} {U = g.row.U.Denot} c.args.domain.now c.args.table.now.items c.requires c.args.of c.in-Written.loan (sym c.take.ensures.made ∙ c.in-Written.is)) c.is_blocked.result c.is_blocked.ensures c.if-is_blocked.true) refl
-      (back c.args.table.now.items c.take.new.table.items c.put.new.table.items c.args.of (Written c.in-Written.loan) c.take.ensures.items (sym c.take.ensures.made ∙ c.in-Written.is) c.put.ensures.items);
-  leaves =
-      leaves-all {T = g.row.T.Denot} {U = g.row.U.Denot} c.args.domain.now c.args.domain.now c.args.table.now.items c.put.new.table.items refl
-      (back c.args.table.now.items c.take.new.table.items c.put.new.table.items c.args.of (Written c.in-Written.loan) c.take.ensures.items (sym c.take.ensures.made ∙ c.in-Written.is) c.put.ensures.items);
-  room = same-room-twice c.take.ensures.room c.put.ensures.room;
-}
+returns-then-is_blocked g c =
+    rw c.in-Written.is (looks {T = g.row.T.Denot} {U = g.row.U.Denot} _ _ c.args.domain.now _ _ _ (λ table of at.
+    send_held_up {T = g.row.T.Denot} {U = g.row.U.Denot} fixed_handlers _ c.args.domain.now c.args.domain.now table table of c.in-Written.loan at
+    (shown_waits {T = g.row.T.Denot} {U = g.row.U.Denot} c.args.domain.now (written_key c.in-Written.loan) (known_lender {T = g.row.T.Denot} {U = g.row.U.Denot} c.args.domain.now c.args.held c.requires c.in-Written.loan c.in-Written.is) c.is_blocked.result c.is_blocked.ensures c.if-is_blocked.true) refl refl))
 
 pub returns-else-is_blocked : goal.returns-else-is_blocked
-returns-else-is_blocked g c = record {
-  carries =
-      rw (c.send_reply.ensures.reply, c.send_reply.ensures.made)
-      (send_carried {T = g.row.T.Denot} {U = g.row.U.Denot} (answers_of g.F.BackpressureFn.allows g.G.DegradationFn.allows c.args.domain.now.boxes.publishers) _ c.args.domain.now c.send.new.domain c.args.table.now.items c.take.new.table.items c.args.of c.in-Written.loan c.send.result (sym c.take.ensures.made ∙ c.in-Written.is)
+returns-else-is_blocked g c = rw (c.in-Written.is, c.send_reply-reply.ensures.reply, c.send_reply-reply.ensures.made) (record {
+  carries = λ table of at.
+      send_carried {T = g.row.T.Denot} {U = g.row.U.Denot} (answers_of g.F.BackpressureFn.allows g.G.DegradationFn.allows c.args.domain.now.boxes.publishers) _ c.args.domain.now c.send.new.domain table _ of c.in-Written.loan c.send.result at
       (shown_free {T = g.row.T.Denot} {U = g.row.U.Denot} c.args.domain.now (written_key c.in-Written.loan) (c.is_blocked.ensures.0 c.if-is_blocked.false)) c.send.ensures.sent c.send.ensures.blocked
-      (either-failure c.args.domain.now (written_key c.in-Written.loan) c.send.result c.send.ensures.errors) c.take.ensures.items);
-  leaves =
-      rw c.send_reply.ensures.made
-      (leaves-sending {T = g.row.T.Denot} {U = g.row.U.Denot} c.args.domain.now c.send.new.domain c.args.table.now.items c.take.new.table.items c.args.of c.in-Written.loan c.send.result (sym c.take.ensures.made ∙ c.in-Written.is)
-      c.send.ensures.stays (each_blocked _ _ (λ blocked is. ap (λ (k : Key). k.port) is.1) c.send.result c.send.ensures.blocked) c.take.ensures.items);
-  room = c.take.ensures.room;
-}
+      (either-failure c.args.domain.now (written_key c.in-Written.loan) c.send.result c.send.ensures.errors) refl;
+  leaves = λ table of at.
+      leaves-sending {T = g.row.T.Denot} {U = g.row.U.Denot} c.args.domain.now c.send.new.domain table _ of c.in-Written.loan c.send.result at c.send.ensures.stays
+      (each_blocked _ _ (λ blocked is. ap (λ (k : Key). k.port) is.1) c.send.result c.send.ensures.blocked) refl;
+})
 
 pub returns-in_default : goal.returns-in_default
-returns-in_default g c = record {
-  carries =
-      rw c.skip.ensures.reply
-      (send_passed {T = g.row.T.Denot} {U = g.row.U.Denot} fixed_handlers _ c.args.domain.now c.args.domain.now c.args.table.now.items c.skip.new.table.items c.args.of
-      (ap (λ (h : Made). is_written_entry (entry_for h)) (sym c.take.ensures.made) ∙ not_written c.take.result c.in_default.not-Written) refl
-      (back c.args.table.now.items c.take.new.table.items c.skip.new.table.items c.args.of c.take.result c.take.ensures.items (sym c.take.ensures.made) c.skip.ensures.items));
-  leaves =
-      leaves-all {T = g.row.T.Denot} {U = g.row.U.Denot} c.args.domain.now c.args.domain.now c.args.table.now.items c.skip.new.table.items refl
-      (back c.args.table.now.items c.take.new.table.items c.skip.new.table.items c.args.of c.take.result c.take.ensures.items (sym c.take.ensures.made) c.skip.ensures.items);
-  room = same-room-twice c.take.ensures.room c.skip.ensures.room;
-}
+returns-in_default g c =
+    looks {T = g.row.T.Denot} {U = g.row.U.Denot} _ _ c.args.domain.now c.args.held _ _ (λ table of at.
+    send_passed {T = g.row.T.Denot} {U = g.row.U.Denot} fixed_handlers _ c.args.domain.now c.args.domain.now table table of (ap (λ (h : Made). is_written_entry (entry_for h)) at ∙ not_written c.args.held c.in_default.not-Written) refl refl)
