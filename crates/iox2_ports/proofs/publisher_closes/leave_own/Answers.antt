@@ -14,6 +14,7 @@ use Rattle.iox2_ends.proofs.Counts.{CountersFollow-changed, stands-own}
 use Rattle.iox2_ends.proofs.ReclaimSteps.{own-at}
 use Rattle.iox2_domain.specs.Ports.{SubscriberFields}
 use Rattle.iox2_domain.specs.Closes.{is_awaited, after_close, if_holding}
+use Rattle.iox2_ports.proofs.publisher_closes.leave_own.Goals.{After-holds_slots, After-leave}
 use Rattle.iox2_ports.proofs.publisher_closes.leave_own.Goals as goal
 
 -- no slot stands where none waits, is borrowed or was given back
@@ -55,35 +56,38 @@ module _ (p : ℕ) (subscribers : List (Option SubscriberFields)) (slab : Slab L
           omega (arith, changed, follows.at n, stands-own p n d (ap (λ (l : Link). l.home.publisher) left ∙ mine), empty);
     })
 
+-- the connection is left as its publisher leaves it
+is_left : (c : After-leave) → c.leave.new.connection ≡ left_link (is_awaited c.args.subscribers.now c.args.key c.index_mut.result.now) c.index_mut.result.now
+is_left c =
+    let same : c.index.result.now ≡ c.index_mut.result.now = (let both : Some c.index.result.now ≡ Some c.index_mut.result.now = sym c.index.ensures ∙ c.index_mut.ensures.value in cc) in
+    c.leave.ensures.connection ∙ ap (λ (awaited : Bool). left_link awaited c.index_mut.result.now) (c.is_awaited-awaited.ensures ∙ ap (is_awaited c.args.subscribers.now c.args.key) same)
+
+-- whether it holds slots was asked of it as it is left
+holding : (c : After-holds_slots) → holds_slots c.leave.new.connection ≡ c.holds_slots.result
+holding c =
+    let there = Updates-with_value c.args.connections.now c.args.key c.index_mut.result.now c.leave.new.connection c.index_mut.ensures.value in
+    let again : c.leave.new.connection ≡ c.index-2.result.now = (let both : Some c.leave.new.connection ≡ Some c.index-2.result.now = sym there.changed ∙ c.index-2.ensures in cc) in
+    ap holds_slots again ∙ sym c.holds_slots.ensures
+
 pub returns-then-not-holds_slots-clause-connections : goal.returns-then-not-holds_slots-clause-connections
 returns-then-not-holds_slots-clause-connections c =
-    let same : c.index.result.now ≡ c.index_mut.result.now = (let both : Some c.index.result.now ≡ Some c.index_mut.result.now = sym c.index.ensures ∙ c.index_mut.ensures.value in cc) in
-    let left = c.leave.ensures.connection ∙ ap (λ (awaited : Bool). left_link awaited c.index_mut.result.now) (c.is_awaited-awaited.ensures ∙ ap (is_awaited c.args.subscribers.now c.args.key) same) in
-    let there = updated c.args.publisher c.args.subscribers.now c.args.connections.now c.args.key c.index_mut.result.now c.leave.new.connection c.requires.own c.index_mut.ensures.value left in
-    let again : c.leave.new.connection ≡ c.index-2.result.now = (let both : Some c.leave.new.connection ≡ Some c.index-2.result.now = sym there.changed ∙ c.index-2.ensures in cc) in
-    let holds : holds_slots c.leave.new.connection ≡ false = ap holds_slots again ∙ sym c.holds_slots.ensures ∙ c.if-not-holds_slots.true in
+    let left = is_left (goal.at.returns-then-not-holds_slots-clause-connections c).After-leave in
+    let holds : holds_slots c.leave.new.connection ≡ false = holding (goal.at.returns-then-not-holds_slots-clause-connections c).After-holds_slots ∙ c.if-not-holds_slots.true in
     goes c.args.publisher c.args.subscribers.now c.args.connections.now c.args.key c.index_mut.result.now c.leave.new.connection c.requires.own c.index_mut.ensures.value left holds c.remove.new.self c.remove.ensures.updates
 
 pub returns-then-not-holds_slots-clause-counters : goal.returns-then-not-holds_slots-clause-counters
 returns-then-not-holds_slots-clause-counters c =
-    let same : c.index.result.now ≡ c.index_mut.result.now = (let both : Some c.index.result.now ≡ Some c.index_mut.result.now = sym c.index.ensures ∙ c.index_mut.ensures.value in cc) in
-    let left = c.leave.ensures.connection ∙ ap (λ (awaited : Bool). left_link awaited c.index_mut.result.now) (c.is_awaited-awaited.ensures ∙ ap (is_awaited c.args.subscribers.now c.args.key) same) in
-    let there = updated c.args.publisher c.args.subscribers.now c.args.connections.now c.args.key c.index_mut.result.now c.leave.new.connection c.requires.own c.index_mut.ensures.value left in
-    let again : c.leave.new.connection ≡ c.index-2.result.now = (let both : Some c.leave.new.connection ≡ Some c.index-2.result.now = sym there.changed ∙ c.index-2.ensures in cc) in
-    let holds : holds_slots c.leave.new.connection ≡ false = ap holds_slots again ∙ sym c.holds_slots.ensures ∙ c.if-not-holds_slots.true in
+    let left = is_left (goal.at.returns-then-not-holds_slots-clause-counters c).After-leave in
+    let holds : holds_slots c.leave.new.connection ≡ false = holding (goal.at.returns-then-not-holds_slots-clause-counters c).After-holds_slots ∙ c.if-not-holds_slots.true in
     follows-gone c.args.publisher c.args.subscribers.now c.args.connections.now c.args.key c.index_mut.result.now c.leave.new.connection c.requires.own c.index_mut.ensures.value left c.args.book.now.holders c.leave.new.book.holders c.leave.ensures.releases holds c.remove.new.self.slots c.remove.ensures.slots
 
 pub returns-else-not-holds_slots-clause-connections : goal.returns-else-not-holds_slots-clause-connections
 returns-else-not-holds_slots-clause-connections c =
-    let same : c.index.result.now ≡ c.index_mut.result.now = (let both : Some c.index.result.now ≡ Some c.index_mut.result.now = sym c.index.ensures ∙ c.index_mut.ensures.value in cc) in
-    let left = c.leave.ensures.connection ∙ ap (λ (awaited : Bool). left_link awaited c.index_mut.result.now) (c.is_awaited-awaited.ensures ∙ ap (is_awaited c.args.subscribers.now c.args.key) same) in
-    let there = updated c.args.publisher c.args.subscribers.now c.args.connections.now c.args.key c.index_mut.result.now c.leave.new.connection c.requires.own c.index_mut.ensures.value left in
-    let again : c.leave.new.connection ≡ c.index-2.result.now = (let both : Some c.leave.new.connection ≡ Some c.index-2.result.now = sym there.changed ∙ c.index-2.ensures in cc) in
-    let holds : holds_slots c.leave.new.connection ≡ true = ap holds_slots again ∙ sym c.holds_slots.ensures ∙ c.if-not-holds_slots.false in
+    let left = is_left (goal.at.returns-else-not-holds_slots-clause-connections c).After-leave in
+    let holds : holds_slots c.leave.new.connection ≡ true = holding (goal.at.returns-else-not-holds_slots-clause-connections c).After-holds_slots ∙ c.if-not-holds_slots.false in
     stays c.args.publisher c.args.subscribers.now c.args.connections.now c.args.key c.index_mut.result.now c.leave.new.connection c.requires.own c.index_mut.ensures.value left holds
 
 pub returns-else-not-holds_slots-clause-counters : goal.returns-else-not-holds_slots-clause-counters
 returns-else-not-holds_slots-clause-counters c =
-    let same : c.index.result.now ≡ c.index_mut.result.now = (let both : Some c.index.result.now ≡ Some c.index_mut.result.now = sym c.index.ensures ∙ c.index_mut.ensures.value in cc) in
-    let left = c.leave.ensures.connection ∙ ap (λ (awaited : Bool). left_link awaited c.index_mut.result.now) (c.is_awaited-awaited.ensures ∙ ap (is_awaited c.args.subscribers.now c.args.key) same) in
+    let left = is_left (goal.at.returns-else-not-holds_slots-clause-counters c).After-leave in
     follows c.args.publisher c.args.subscribers.now c.args.connections.now c.args.key c.index_mut.result.now c.leave.new.connection c.requires.own c.index_mut.ensures.value left c.args.book.now.holders c.leave.new.book.holders c.leave.ensures.releases

@@ -5,6 +5,8 @@ use Rattle.std.specs.declared.option.Option.TheVariants.{None}
 use Rattle.circular_buffer.specs.Buffer.{buffer}
 use Rattle.iox2_store.specs.machine.Limits.{last_number, segment_fits}
 use Rattle.iox2_contents.specs.SlotContents.{ContentState, lists_for}
+use denote.Param.{param}
+use Rattle.iox2_domain.specs.contracts.state.DomainState.{the_view}
 use Rattle.iox2_domain.specs.Handlers.{handler_if_any}
 use Rattle.iox2_domain.specs.NewPublisher.{entering_publisher, subscriber_due}
 use Rattle.iox2_ports.specs.Settings.{settings_with}
@@ -21,33 +23,13 @@ returns-in_default-entering-clause-step g c = (reaches-same c.args.state.now c.r
 
 pub returns-in_default-try_reserve-clause-step : goal.returns-in_default-try_reserve-clause-step
 returns-in_default-try_reserve-clause-step g c = (
-  room-reaches {T = g.row.T.Denot} {U = g.row.U.Denot} c.args.state.now _ _ c.state.inside.books.capacity c.state.view_is c.requires.agrees (λ i. record {
-    config = c.state.inside.config;
-    next_port = c.state.inside.next_port;
-    next_message = c.state.inside.next_message;
-    warnings = c.state.inside.warnings;
-    publishers = c.in_default-try_reserve.ensures.items i;
-    subscribers = c.state.inside.subscribers.items;
-    connections = c.state.inside.connections;
-    books = c.state.inside.books;
-    contents = c.state.inside.contents.items;
-  }),
+  room-reaches {T = g.row.T.Denot} {U = g.row.U.Denot} c.args.state.now _ _ c.state.inside.books.capacity c.state.view_is c.requires.agrees (λ i. record (the_view (param 0 g.row.T) (param 1 g.row.U) c.state.inside) { publishers = c.in_default-try_reserve.ensures.items i }),
   inr refl,
 )
 
 pub returns-in_default-add_segment-clause-step : goal.returns-in_default-add_segment-clause-step
 returns-in_default-add_segment-clause-step g c = (
-  room-reaches {T = g.row.T.Denot} {U = g.row.U.Denot} c.args.state.now _ _ c.add_segment.new.books.capacity c.state.view_is c.requires.agrees (λ i. record {
-    config = c.state.inside.config;
-    next_port = c.state.inside.next_port;
-    next_message = c.state.inside.next_message;
-    warnings = c.state.inside.warnings;
-    publishers = c.in-Ok-try_reserve.ensures.items i;
-    subscribers = c.state.inside.subscribers.items;
-    connections = c.state.inside.connections;
-    books = c.in_default-add_segment.ensures.same_books i;
-    contents = c.in_default-add_segment.ensures.same_contents i;
-  }),
+  room-reaches {T = g.row.T.Denot} {U = g.row.U.Denot} c.args.state.now _ _ c.add_segment.new.books.capacity c.state.view_is c.requires.agrees (λ i. record (the_view (param 0 g.row.T) (param 1 g.row.U) c.state.inside) { publishers = c.in-Ok-try_reserve.ensures.items i; books = c.in_default-add_segment.ensures.same_books i; contents = c.in_default-add_segment.ensures.same_contents i }),
   inl refl,
 )
 
@@ -82,17 +64,7 @@ returns-clause-step g c =
           (λ i. lists_for (not (c.is_single_valued-in_lists.ensures i)) (c.lists_wanted-lists.ensures i)) c.in-Ok.ensures.contents_lists;
       vacant = c.in-Ok-add_segment.ensures.vacant;
       updates = c.in-Ok-add_segment.ensures.updates;
-      changed = λ i. record {
-        config = c.state.inside.config;
-        next_port = c.state.inside.next_port + 1;
-        next_message = c.state.inside.next_message;
-        warnings = c.state.inside.warnings;
-        publishers = (c.put_at_place.ensures.items ∙ ap (λ xs. placed xs c.args.place c.in-Ok-entering.publisher) c.in-Ok-try_reserve.ensures.items) i;
-        subscribers = (with_items_is c.state.inside.subscribers c.make_all_due.new.ports (c.make_all_due.auto.ports ∙ c.deref_mut.ensures.len) ∙ c.make_all_due.ensures ∙ ap (map (option_map subscriber_due)) c.deref_mut.ensures.value) i;
-        connections = c.state.inside.connections;
-        books = c.add_segment.new.books;
-        contents = c.in-Ok-add_segment.ensures.contents i;
-      };
+      changed = λ i. record (the_view (param 0 g.row.T) (param 1 g.row.U) c.state.inside) { next_port = c.state.inside.next_port + 1; publishers = (c.put_at_place.ensures.items ∙ ap (λ xs. placed xs c.args.place c.in-Ok-entering.publisher) c.in-Ok-try_reserve.ensures.items) i; subscribers = (with_items_is c.state.inside.subscribers c.make_all_due.new.ports (c.make_all_due.auto.ports ∙ c.deref_mut.ensures.len) ∙ c.make_all_due.ensures ∙ ap (map (option_map subscriber_due)) c.deref_mut.ensures.value) i; books = c.add_segment.new.books; contents = c.in-Ok-add_segment.ensures.contents i };
     })
 
 pub returns-clause-stands : goal.returns-clause-stands

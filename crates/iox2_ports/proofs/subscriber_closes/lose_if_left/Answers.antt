@@ -8,6 +8,7 @@ use Rattle.iox2_domain.specs.Ports.{PublisherFields}
 use Rattle.iox2_domain.specs.Fields.{Fields}
 use Rattle.iox2_closes.specs.Closes.{IsLeftAt, IsStanding, HasNoPublisher}
 use Rattle.iox2_closes.proofs.CloseReads.{home-read, left-there, left-after, left-loses, left-home, left-within, left-only, left-settles, left-settled, others-after}
+use Rattle.iox2_ports.proofs.subscriber_closes.lose_if_left.Goals.{After-lose_waiting, Then-is_left}
 use Rattle.iox2_ports.proofs.subscriber_closes.lose_if_left.Goals as goal
 
 -- a connection whose publisher stands nowhere isn't of the one at its place
@@ -18,16 +19,27 @@ departs-from publishers c nowhere standing = by (slice_index_or publishers c.hom
     by None at standing = standing
     by (Some x) at mine = nowhere c.home.publisher_place x at mine
 
+-- the connection's publisher is gone
+abbrev left_at : (g : _) (c : Then-is_left g) → IsLeftAt c.args.state.now c.args.place c.in-Some.key
+left_at g c =
+    left-there c.args.state.now c.requires.parts c.args.place c.in-Some.key (c.requires.known c.in-Some.key c.in-Some.is) c.args.state.now refl (c.is_left.ensures.0 c.if-is_left.true)
+
+-- and still is once nothing waits there
+abbrev after : (g : _) (c : After-lose_waiting g) → IsLeftAt c.args.state.now c.args.place c.in-Some.key → IsLeftAt c.lose_waiting.new.state c.args.place c.in-Some.key
+after g c left = left-after c.args.state.now c.args.place c.in-Some.key left c.lose_waiting.new.state (c.lose_waiting.ensures left.link left.link_stands)
+
+-- where it stood was read
+home : (g : _) (c : After-lose_waiting g) (left : IsLeftAt c.args.state.now c.args.place c.in-Some.key) → c.home-home.result ≡ left.link.home
+home g c left = c.home-home.ensures.value ∙ home-read c.args.state.now c.args.place c.in-Some.key left _ c.state.view_is c.index.result.now c.index.ensures
+
 pub index-requires : goal.index-requires
 index-requires g c =
-    let left : IsLeftAt c.args.state.now c.args.place c.in-Some.key =
-    left-there c.args.state.now c.requires.parts c.args.place c.in-Some.key (c.requires.known c.in-Some.key c.in-Some.is) c.args.state.now refl (c.is_left.ensures.0 c.if-is_left.true) in
+    let left = left_at g (goal.at.index-requires g c).Then-is_left in
     subst (λ (f : Fields g.row.T.Denot g.row.U.Denot). ContainsKey f.connections c.in-Some.key) (sym c.state.view_is) (rw left.link_stands refl)
 
 pub lose_waiting-requires-clause-departed : goal.lose_waiting-requires-clause-departed
 lose_waiting-requires-clause-departed g c =
-    let left : IsLeftAt c.args.state.now c.args.place c.in-Some.key =
-    left-there c.args.state.now c.requires.parts c.args.place c.in-Some.key (c.requires.known c.in-Some.key c.in-Some.is) c.args.state.now refl (c.is_left.ensures.0 c.if-is_left.true) in
+    let left = left_at g (goal.at.lose_waiting-requires-clause-departed g c).Then-is_left in
     rw left.link_stands left.departed
 
 pub returns-else-is_left : goal.returns-else-is_left
@@ -42,51 +54,41 @@ returns-else-is_left g c =
 
 pub forget_if_empty-requires-clause-home : goal.forget_if_empty-requires-clause-home
 forget_if_empty-requires-clause-home g c =
-    let left : IsLeftAt c.args.state.now c.args.place c.in-Some.key =
-    left-there c.args.state.now c.requires.parts c.args.place c.in-Some.key (c.requires.known c.in-Some.key c.in-Some.is) c.args.state.now refl (c.is_left.ensures.0 c.if-is_left.true) in
+    let at = goal.at.forget_if_empty-requires-clause-home g c in
+    let left = left_at g at.Then-is_left in
     let loses = c.lose_waiting.ensures left.link left.link_stands in
-    let after = left-after c.args.state.now c.args.place c.in-Some.key left c.lose_waiting.new.state loses in
-    let home = c.home-home.ensures.value ∙ home-read c.args.state.now c.args.place c.in-Some.key left _ c.state.view_is c.index.result.now c.index.ensures in
-    left-home c.lose_waiting.new.state loses.passes.parts c.args.place c.in-Some.key after c.home-home.result home
+    left-home c.lose_waiting.new.state loses.passes.parts c.args.place c.in-Some.key (after g at.After-lose_waiting left) c.home-home.result (home g at.After-lose_waiting left)
 
 pub forget_if_empty-requires-clause-stands : goal.forget_if_empty-requires-clause-stands
 forget_if_empty-requires-clause-stands g c =
-    let left : IsLeftAt c.args.state.now c.args.place c.in-Some.key =
-    left-there c.args.state.now c.requires.parts c.args.place c.in-Some.key (c.requires.known c.in-Some.key c.in-Some.is) c.args.state.now refl (c.is_left.ensures.0 c.if-is_left.true) in
+    let at = goal.at.forget_if_empty-requires-clause-stands g c in
+    let left = left_at g at.Then-is_left in
     let loses = c.lose_waiting.ensures left.link left.link_stands in
-    let after = left-after c.args.state.now c.args.place c.in-Some.key left c.lose_waiting.new.state loses in
-    let home = c.home-home.ensures.value ∙ home-read c.args.state.now c.args.place c.in-Some.key left _ c.state.view_is c.index.result.now c.index.ensures in
-    left-within c.lose_waiting.new.state loses.passes.parts c.args.place c.in-Some.key after c.home-home.result home
+    left-within c.lose_waiting.new.state loses.passes.parts c.args.place c.in-Some.key (after g at.After-lose_waiting left) c.home-home.result (home g at.After-lose_waiting left)
 
 pub forget_if_empty-requires-clause-only : goal.forget_if_empty-requires-clause-only
 forget_if_empty-requires-clause-only g c =
-    let left : IsLeftAt c.args.state.now c.args.place c.in-Some.key =
-    left-there c.args.state.now c.requires.parts c.args.place c.in-Some.key (c.requires.known c.in-Some.key c.in-Some.is) c.args.state.now refl (c.is_left.ensures.0 c.if-is_left.true) in
+    let at = goal.at.forget_if_empty-requires-clause-only g c in
+    let left = left_at g at.Then-is_left in
     let loses = c.lose_waiting.ensures left.link left.link_stands in
-    let after = left-after c.args.state.now c.args.place c.in-Some.key left c.lose_waiting.new.state loses in
-    let home = c.home-home.ensures.value ∙ home-read c.args.state.now c.args.place c.in-Some.key left _ c.state.view_is c.index.result.now c.index.ensures in
-    left-only c.lose_waiting.new.state loses.passes.parts c.args.place c.in-Some.key after c.home-home.result home
+    left-only c.lose_waiting.new.state loses.passes.parts c.args.place c.in-Some.key (after g at.After-lose_waiting left) c.home-home.result (home g at.After-lose_waiting left)
 
 pub settle_book-requires : goal.settle_book-requires
 settle_book-requires g c =
-    let left : IsLeftAt c.args.state.now c.args.place c.in-Some.key =
-    left-there c.args.state.now c.requires.parts c.args.place c.in-Some.key (c.requires.known c.in-Some.key c.in-Some.is) c.args.state.now refl (c.is_left.ensures.0 c.if-is_left.true) in
+    let at = goal.at.settle_book-requires g c in
+    let left = left_at g at.Then-is_left in
     let loses = c.lose_waiting.ensures left.link left.link_stands in
-    let after = left-after c.args.state.now c.args.place c.in-Some.key left c.lose_waiting.new.state loses in
-    let home = c.home-home.ensures.value ∙ home-read c.args.state.now c.args.place c.in-Some.key left _ c.state.view_is c.index.result.now c.index.ensures in
-    left-settles c.lose_waiting.new.state loses.passes.parts c.args.place c.in-Some.key after c.home-home.result home
+    left-settles c.lose_waiting.new.state loses.passes.parts c.args.place c.in-Some.key (after g at.After-lose_waiting left) c.home-home.result (home g at.After-lose_waiting left)
     c.forget_if_empty.new.state c.forget_if_empty.ensures.empty c.forget_if_empty.ensures.full
     (others-after c.args.state.now c.args.place c.in-Some.key left c.lose_waiting.new.state loses c.requires.busy)
 
 pub returns-then-is_left : goal.returns-then-is_left
 returns-then-is_left g c =
-    let left : IsLeftAt c.args.state.now c.args.place c.in-Some.key =
-    left-there c.args.state.now c.requires.parts c.args.place c.in-Some.key (c.requires.known c.in-Some.key c.in-Some.is) c.args.state.now refl (c.is_left.ensures.0 c.if-is_left.true) in
+    let at = goal.at.returns-then-is_left g c in
+    let left = left_at g at.Then-is_left in
     let loses = c.lose_waiting.ensures left.link left.link_stands in
-    let after = left-after c.args.state.now c.args.place c.in-Some.key left c.lose_waiting.new.state loses in
-    let home = c.home-home.ensures.value ∙ home-read c.args.state.now c.args.place c.in-Some.key left _ c.state.view_is c.index.result.now c.index.ensures in
     rw c.in-Some.is (inl (left-loses c.args.state.now c.args.place c.in-Some.key left c.lose_waiting.new.state loses c.settle_book.new.self
-    (left-settled c.lose_waiting.new.state loses.passes.parts c.args.place c.in-Some.key after c.home-home.result home
+    (left-settled c.lose_waiting.new.state loses.passes.parts c.args.place c.in-Some.key (after g at.After-lose_waiting left) c.home-home.result (home g at.After-lose_waiting left)
     c.forget_if_empty.new.state c.forget_if_empty.ensures.empty c.forget_if_empty.ensures.full
     (others-after c.args.state.now c.args.place c.in-Some.key left c.lose_waiting.new.state loses c.requires.busy)
     c.settle_book.new.self c.settle_book.ensures)))

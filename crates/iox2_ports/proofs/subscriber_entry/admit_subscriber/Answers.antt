@@ -1,6 +1,8 @@
 use Rattle.std.proofs.Common.{rules, ◌≡◌, ◌∙◌, ◌≤◌, length, vec_len, max, ap, map, refl, arith}
 use Rattle.std.proofs.lemmas.List.{with_items_is}
 use Rattle.std.specs.Option.{option_map}
+use denote.Param.{param}
+use Rattle.iox2_domain.specs.contracts.state.DomainState.{the_view}
 use Rattle.iox2_domain.specs.Handlers.{handler_of}
 use Rattle.iox2_domain.specs.SubscriberEntry.{asked_for}
 use Rattle.iox2_domain.specs.Fields.{Fields}
@@ -11,17 +13,7 @@ use Rattle.iox2_ports.proofs.subscriber_entry.admit_subscriber.Goals as goal
 
 pub returns-in_default-clause-step : goal.returns-in_default-clause-step
 returns-in_default-clause-step g c = (
-  (λ k. record {
-    config = c.state.inside.config;
-    next_port = c.state.inside.next_port;
-    next_message = c.state.inside.next_message;
-    warnings = c.state.inside.warnings;
-    publishers = c.state.inside.publishers.items;
-    subscribers = c.in_default.ensures.items k;
-    connections = c.state.inside.connections;
-    books = c.state.inside.books;
-    contents = c.state.inside.contents.items;
-  }) ∙ c.state.view_is,
+  (λ k. record (the_view (param 0 g.row.T) (param 1 g.row.U) c.state.inside) { subscribers = c.in_default.ensures.items k }) ∙ c.state.view_is,
   refl,
 )
 
