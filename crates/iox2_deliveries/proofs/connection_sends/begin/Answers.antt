@@ -8,7 +8,9 @@ use Rattle.iox2_domain.specs.ConnectionSends.{begun_delivery, with_begun}
 use Rattle.iox2_domain.specs.Deliveries.{with_sent}
 use Rattle.iox2_domain.specs.Fields.{Fields}
 use Rattle.iox2_domain.specs.Ports.{PublisherFields}
+use denote.Param.{param}
 use Rattle.iox2_domain.specs.contracts.publisher_state.PublisherState.{the_view}
+use Rattle.iox2_domain.specs.contracts.state.DomainState.{the_view as domain_view}
 use Rattle.iox2_domain.proofs.lemmas.slots.PublisherBooks.{read-there}
 use Rattle.iox2_deliveries.proofs.connection_sends.begin.Goals as goal
 
@@ -54,14 +56,4 @@ returns g c = λ x b at has.
     let waiting : (λ (p : PublisherFields) (at : Progress). record p { blocked = Some (record { slot = c.args.slot; channel = c.args.channel; is_alone = true; progress = at }) }) (the_view c.publisher.inside) c.begun_at.result
     ≡ record x { blocked = Some (begun_delivery c.args.slot c.args.channel c.args.connection) } =
     λ i. record (view i) { blocked = Some (record { slot = c.args.slot; channel = c.args.channel; is_alone = true; progress = c.begun_at.ensures i }) } in
-    (λ i. record {
-      config = c.state.inside.config;
-      next_port = c.state.inside.next_port;
-      next_message = c.state.inside.next_message;
-      warnings = c.state.inside.warnings;
-      publishers = slice_set c.state.inside.publishers.items c.args.place (Some (waiting i));
-      subscribers = c.state.inside.subscribers.items;
-      connections = c.state.inside.connections;
-      books = with_value c.state.inside.books (key i) (marked i);
-      contents = c.state.inside.contents.items;
-    }) ∙ ap (λ (f : Fields g.row.T.Denot g.row.U.Denot). with_begun f c.args.place x (begun_delivery c.args.slot c.args.channel c.args.connection) b) c.state.view_is
+    (λ i. record (domain_view (param 0 g.row.T) (param 1 g.row.U) c.state.inside) { publishers = slice_set c.state.inside.publishers.items c.args.place (Some (waiting i)); books = with_value c.state.inside.books (key i) (marked i) }) ∙ ap (λ (f : Fields g.row.T.Denot g.row.U.Denot). with_begun f c.args.place x (begun_delivery c.args.slot c.args.channel c.args.connection) b) c.state.view_is
