@@ -4,7 +4,7 @@ use Rattle.iox2_slots.specs.Link.{Link}
 use Rattle.iox2_slots.specs.declared.connection.Home.{Home}
 use Rattle.iox2_domain.specs.Boxes.{answers_of}
 use Rattle.iox2_domain.specs.Fields.{Fields}
-use Rattle.iox2_domain.specs.Drops.{StandsElsewhere}
+use Rattle.iox2_domain.specs.Drops.{HasEnd, StandsElsewhere}
 use Rattle.iox2_domain.specs.Ports.{SubscriberFields}
 use Rattle.iox2_domain.specs.Updates.{sender_key, is_open_subscriber}
 use Rattle.iox2_steps.proofs.updates.PlaceCalls.{stands-elsewhere, stands-there, alone-there, unused-there, end-stands, keeps-there, drops-there, loses-there, lost-stands, lost-within, lost-settled, lost-free, lost-key}
@@ -19,6 +19,20 @@ named g c = key-read c.args.state.now _ c.state.view_is _ c.deref.ensures.value 
 -- its connection stands at that key
 linked : (g : _) (c : After-index g) → get c.args.state.now.connections c.in-Some.key ≡ Some c.index.result.now
 linked g c = ap (λ (f : Fields g.row.T.Denot g.row.U.Denot). get f.connections c.in-Some.key) (sym c.state.view_is) ∙ c.index.ensures
+
+-- the publisher has this end
+end : (g : _) (c : After-index g) → sender_key c.args.state.now.publishers c.args.publisher_place c.args.subscriber_place ≡ Some c.in-Some.key → HasEnd c.args.state.now c.args.publisher_place c.args.subscriber_place c.in-Some.key
+end g c key =
+    let there = c.requires.publisher in
+    record {
+      publisher = there.0;
+      stands = there.1;
+      settled = c.requires.settled there.0 there.1;
+      unblocked = c.requires.unblocked there.0 there.1;
+      has = rw there.1 at key;
+      link = c.index.result.now;
+      connected = linked g c;
+    }
 
 -- no subscriber stands at the place that the connection is with
 elsewhere : (g : _) (c : After-stands_at g) → c.stands_at.result ≡ false → StandsElsewhere c.args.state.now.subscribers c.args.subscriber_place c.index.result.now.home.subscriber
@@ -65,38 +79,11 @@ pub disconnect_sender-requires-clause-subscriber : goal.disconnect_sender-requir
 disconnect_sender-requires-clause-subscriber g c = c.requires.subscriber
 
 pub disconnect_sender-requires-clause-end : goal.disconnect_sender-requires-clause-end
-disconnect_sender-requires-clause-end g c =
-    let old = c.args.state.now in
-    let there = c.requires.publisher in
-    let its_key = named g (goal.at.disconnect_sender-requires-clause-end g c).In-Some in
-    let at_c = linked g (goal.at.disconnect_sender-requires-clause-end g c).After-index in
-    record {
-      publisher = there.0;
-      stands = there.1;
-      settled = c.requires.settled there.0 there.1;
-      unblocked = c.requires.unblocked there.0 there.1;
-      has = rw there.1 at its_key;
-      link = c.index.result.now;
-      connected = at_c;
-    }
+disconnect_sender-requires-clause-end g c = end g (goal.at.disconnect_sender-requires-clause-end g c).After-index (named g (goal.at.disconnect_sender-requires-clause-end g c).In-Some)
 
 pub drop_waiting_at-requires-clause-end : goal.drop_waiting_at-requires-clause-end
 drop_waiting_at-requires-clause-end g c =
-    let old = c.args.state.now in
-    let there = c.requires.publisher in
-    let its_key = named g (goal.at.drop_waiting_at-requires-clause-end g c).In-Some in
-    let at_c = linked g (goal.at.drop_waiting_at-requires-clause-end g c).After-index in (
-      c.args.subscriber_place,
-      record {
-        publisher = there.0;
-        stands = there.1;
-        settled = c.requires.settled there.0 there.1;
-        unblocked = c.requires.unblocked there.0 there.1;
-        has = rw there.1 at its_key;
-        link = c.index.result.now;
-        connected = at_c;
-      },
-    )
+    (c.args.subscriber_place, end g (goal.at.drop_waiting_at-requires-clause-end g c).After-index (named g (goal.at.drop_waiting_at-requires-clause-end g c).In-Some))
 
 pub drop_waiting_at-requires-clause-agrees : goal.drop_waiting_at-requires-clause-agrees
 drop_waiting_at-requires-clause-agrees g c = c.requires.agrees
