@@ -40,8 +40,7 @@ pub loop-other-preserved : goal.loop-other-preserved
 loop-other-preserved g c =
     let old = c.args.state.now in
     let end = places g (goal.at.loop-other-preserved g c).After-len-other-end in
-    let below = c.loop-other-test.true in
-    let low : c.loop-other.other < length old.publishers = omega (arith, end, below) in
+    let low : c.loop-other.other < length old.publishers = omega (arith, end, c.loop-other-test.true) in
     first-more (answers_of g.F.BackpressureFn.allows g.G.DegradationFn.allows c.args.boxes.now.boxes) old c.args.place c.loop-other.other c.loop-other.state c.loop-other.first c.loop-other.invariant low
     c.connect_at-failure.new.state c.connect_at-failure.result c.first_of-first.result c.connect_at-failure.ensures c.first_of-first.ensures
 
@@ -49,16 +48,14 @@ pub loop-empty-init : goal.loop-empty-init
 loop-empty-init g c =
     let old = c.args.state.now in
     let end = places g (goal.at.loop-empty-init g c).After-len-other-end in
-    let past = c.loop-other-test.false in
-    let over : length old.publishers ≤ c.loop-other.other = omega (arith, end, past) in
+    let over : length old.publishers ≤ c.loop-other.other = omega (arith, end, c.loop-other-test.false) in
     begins-both (answers_of g.F.BackpressureFn.allows g.G.DegradationFn.allows c.args.boxes.now.boxes) old c.args.place c.loop-other.other c.loop-other.state c.loop-other.first c.loop-other.invariant over
 
 pub loop-empty-preserved : goal.loop-empty-preserved
 loop-empty-preserved g c =
     let old = c.args.state.now in
     let end = places_again g (goal.at.loop-empty-preserved g c).After-len-empty-end in
-    let below = c.loop-empty-test.true in
-    let low : c.loop-empty.empty < length old.publishers = omega (arith, end, below) in
+    let low : c.loop-empty.empty < length old.publishers = omega (arith, end, c.loop-empty-test.true) in
     both-more (answers_of g.F.BackpressureFn.allows g.G.DegradationFn.allows c.args.boxes.now.boxes) old c.args.place c.loop-empty.empty c.loop-empty.state c.loop-other.first c.loop-empty.later c.loop-empty.invariant low
     c.disconnect_at-failure.new.state c.disconnect_at-failure.result c.first_of-later.result c.disconnect_at-failure.ensures c.first_of-later.ensures
 
@@ -66,6 +63,5 @@ pub returns : goal.returns
 returns g c =
     let old = c.args.state.now in
     let end = places_again g (goal.at.returns g c).After-len-empty-end in
-    let past = c.loop-empty-test.false in
-    let over : length old.publishers ≤ c.loop-empty.empty = omega (arith, end, past) in
+    let over : length old.publishers ≤ c.loop-empty.empty = omega (arith, end, c.loop-empty-test.false) in
     both-update (answers_of g.F.BackpressureFn.allows g.G.DegradationFn.allows c.args.boxes.now.boxes) old c.args.place c.loop-empty.empty c.loop-empty.state c.loop-other.first c.loop-empty.later c.loop-empty.invariant over c.requires.due c.first_of.result c.first_of.ensures
