@@ -11,4 +11,4 @@ all-listed lists room listed unlisted some are ready full = grind (arith, nat_te
 pub returns : goal.returns
 returns g c =
     let none : c.self.inside.unlisted ≡ 0 = all-listed _ (vec_capacity c.self.inside.listed) (length c.self.inside.listed.items) c.self.inside.unlisted (rw (← c.self.view_is) at c.requires.lists) refl (rw (← c.self.view_is, length-append, length-replicate) at c.requires.ready) c.self.invariant.1 in
-    ((refl, λ w. rw (← c.self.view_is, none, append-nil) (cells-each _ _ _ _ _ w c.self.inside.listed.ok.0 (append-nil c.self.inside.listed.items))), record { writes_back = tt; value = c.as_mut_slice.ensures.value ∙ rw (← c.self.view_is, none, append-nil) refl })
+    ((refl, λ w. rw (← c.self.view_is, none, append-nil) (cells-each _ (vec_capacity c.self.inside.listed) _ _ _ w c.self.inside.listed.ok.0 (append-nil c.self.inside.listed.items))), record { writes_back = tt; value = c.as_mut_slice.ensures.value ∙ rw (← c.self.view_is, none, append-nil) refl })

@@ -1,5 +1,4 @@
-use Rattle.std.proofs.Common.{◌≡◌, ◌∙◌, [], arith}
-use Rattle.iox2_contents.specs.SlotContents.{lists_for}
+use Rattle.std.proofs.Common.{◌≡◌, [], arith}
 use Rattle.iox2_contents.proofs.NewSlots.{new-contents, new-forms, new-lists, new-lists-are, without}
 use Rattle.iox2_contents.proofs.contents.Contents.new.Goals as goal
 

@@ -1,4 +1,4 @@
-use Rattle.std.proofs.Common.{◌≡◌, ◌∙◌, false, refl}
+use Rattle.std.proofs.Common.{◌≡◌, false, refl}
 use Rattle.iox2_contents.proofs.SlotReads.{content_read}
 use Rattle.iox2_contents.proofs.SlotLists.{writes, written-settled}
 use Rattle.iox2_contents.proofs.contents.Contents.write_from_fn.Goals as goal

@@ -1,4 +1,4 @@
-use Rattle.std.proofs.Common.{◌≡◌, ◌∙◌, false, length, refl}
+use Rattle.std.proofs.Common.{◌≡◌, false, length}
 use Rattle.iox2_contents.proofs.SlotReads.{content_read}
 use Rattle.iox2_contents.proofs.SlotLists.{writes, written-lists, written-has}
 use Rattle.iox2_contents.proofs.contents.Contents.write_from_slice.Goals as goal

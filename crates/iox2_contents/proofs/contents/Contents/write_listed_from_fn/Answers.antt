@@ -1,4 +1,4 @@
-use Rattle.std.proofs.Common.{◌≡◌, ◌∙◌, false, refl}
+use Rattle.std.proofs.Common.{◌≡◌, false}
 use Rattle.iox2_contents.proofs.SlotReads.{content_read}
 use Rattle.iox2_contents.proofs.SlotLists.{writes, written-lists, written-has}
 use Rattle.iox2_contents.proofs.contents.Contents.write_listed_from_fn.Goals as goal

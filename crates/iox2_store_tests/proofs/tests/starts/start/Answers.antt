@@ -1,6 +1,7 @@
 use Rattle.std.proofs.Common.{◌≡◌, ◌<◌, ◌≤◌, ◌∙◌, [], length, ap, arith}
 use Rattle.iox2_contents.specs.SlotContents.{open_count}
-use Rattle.iox2_store_tests.proofs.Starts.{changed-long, open-within, some-weaker}
+use Rattle.iox2_contents.proofs.SlotSums.{changed-long}
+use Rattle.iox2_store_tests.proofs.Starts.{open-within, some-weaker}
 use Rattle.iox2_store_tests.proofs.tests.starts.start.Goals as goal
 
 pub start-requires-clause-few : goal.start-requires-clause-few
