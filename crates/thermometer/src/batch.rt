@@ -1,9 +1,11 @@
 //! Temperatures go in batches: a message is a slice of them, and has the number of its sensor in its
 //! user header.
 ghost use Rattle.std.specs.Prelude.{◌≡◌, ℕ, List, MatchResult};
-ghost use Rattle.iox2_pubsub.specs.Live.{AreApart, IsLiveSample, IsUnwrittenLoan, IsWrittenLoan, LoanHasUserHeader, StaysBut, UpToDateStay, payloads, unwritten_key, unwritten_loan, written_key, written_loan};
+ghost use Rattle.iox2_pubsub.specs.Leaves.{LeavesBut};
+ghost use Rattle.iox2_pubsub.specs.Live.{AreApart, IsLiveSample, IsUnwrittenLoan, IsWrittenLoan, LoanHasUserHeader, unwritten_key, unwritten_loan, written_key, written_loan};
 ghost use Rattle.iox2_pubsub.specs.Slices.{HasValues, IsSliced};
 ghost use Rattle.iox2_pubsub.specs.Handles.{as_sample, as_unwritten, as_written, written_number};
+ghost use Rattle.thermometer.specs.Changes.{ChangesLoan, SensorStays};
 
 use iox2_pubsub::Domain;
 use iox2_pubsub::slice::{Sample, SampleMut, SampleMutUninit};
@@ -21,9 +23,7 @@ pub fn write_batch(
         (λ loan. IsUnwrittenLoan domain.new (as_unwritten loan)) }
     ensures sensor { (sensor : ℕ) → LoanHasUserHeader domain.old (unwritten_key (as_unwritten loan)) sensor
         → MatchResult result (λ batch. LoanHasUserHeader domain.new (written_key (as_written batch)) sensor) (λ loan. LoanHasUserHeader domain.new (unwritten_key (as_unwritten loan)) sensor) }
-    ensures waits { payloads domain.new ≡ payloads domain.old }
-    ensures up_to_date { UpToDateStay domain.old domain.new }
-    ensures stays { StaysBut (unwritten_loan (as_unwritten loan)) domain.old domain.new }
+    ensures leaves { LeavesBut (unwritten_loan (as_unwritten loan)) domain.old domain.new }
 {
     if loan.payload(domain).len() != temperatures.len() {
         return Err(loan);
@@ -36,10 +36,8 @@ pub fn repeat(domain: &mut Domain<u32, u32>, loan: SampleMutUninit, celsius: u32
     requires sliced { IsSliced domain.old }
     requires loan { IsUnwrittenLoan domain.old (as_unwritten loan) }
     ensures live { IsWrittenLoan domain.new (as_written result) }
-    ensures sensor { (sensor : ℕ) → LoanHasUserHeader domain.old (unwritten_key (as_unwritten loan)) sensor → LoanHasUserHeader domain.new (written_key (as_written result)) sensor }
-    ensures waits { payloads domain.new ≡ payloads domain.old }
-    ensures up_to_date { UpToDateStay domain.old domain.new }
-    ensures stays { StaysBut (unwritten_loan (as_unwritten loan)) domain.old domain.new }
+    ensures sensor { SensorStays domain.old domain.new (unwritten_key (as_unwritten loan)) (written_key (as_written result)) }
+    ensures leaves { LeavesBut (unwritten_loan (as_unwritten loan)) domain.old domain.new }
 {
     let elements = loan.header(domain).number_of_elements;
     let batch = loan.write_from_fn(domain, |_index| celsius);
@@ -53,12 +51,8 @@ pub fn repeat(domain: &mut Domain<u32, u32>, loan: SampleMutUninit, celsius: u32
 pub fn correct_first(domain: &mut Domain<u32, u32>, batch: &mut SampleMut, celsius: u32)
     requires sliced { IsSliced domain.old }
     requires batch { IsWrittenLoan domain.old (as_written batch.old) }
-    ensures same { batch.new ≡ batch.old }
-    ensures live { IsWrittenLoan domain.new (as_written batch.new) }
-    ensures sensor { (sensor : ℕ) → LoanHasUserHeader domain.old (written_key (as_written batch.old)) sensor → LoanHasUserHeader domain.new (written_key (as_written batch.new)) sensor }
-    ensures waits { payloads domain.new ≡ payloads domain.old }
-    ensures up_to_date { UpToDateStay domain.old domain.new }
-    ensures stays { StaysBut (written_loan (as_written batch.old)) domain.old domain.new }
+    ensures changes { ChangesLoan domain.old domain.new (as_written batch.old) (as_written batch.new) }
+    ensures sensor { SensorStays domain.old domain.new (written_key (as_written batch.old)) (written_key (as_written batch.new)) }
 {
     if let [first, ..] = SampleMut::payload_mut(domain, batch) {
         *first = celsius;
@@ -69,13 +63,9 @@ pub fn correct_first(domain: &mut Domain<u32, u32>, batch: &mut SampleMut, celsi
 /// does.
 pub fn label_batch(domain: &mut Domain<u32, u32>, batch: &mut SampleMut, sensor: u32)
     requires { IsWrittenLoan domain.old (as_written batch.old) }
-    ensures same { batch.new ≡ batch.old }
-    ensures live { IsWrittenLoan domain.new (as_written batch.new) }
+    ensures changes { ChangesLoan domain.old domain.new (as_written batch.old) (as_written batch.new) }
     ensures reads { (temperatures : List ℕ) → HasValues domain.old (written_number (as_written batch.old)) temperatures → HasValues domain.new (written_number (as_written batch.new)) temperatures }
     ensures sensor { LoanHasUserHeader domain.new (written_key (as_written batch.new)) sensor }
-    ensures waits { payloads domain.new ≡ payloads domain.old }
-    ensures up_to_date { UpToDateStay domain.old domain.new }
-    ensures stays { StaysBut (written_loan (as_written batch.old)) domain.old domain.new }
 {
     *SampleMut::user_header_mut(domain, batch) = sensor;
 }

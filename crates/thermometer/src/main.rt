@@ -5,8 +5,8 @@
 //! it runs.
 #![tactic(auto)]
 
-ghost use Rattle.iox2_pubsub.specs.Live.{IsLivePublisher, IsLiveSubscriber, IsSingleValued, Stays};
-ghost use Rattle.iox2_pubsub.specs.LoansLeft.{HasLoansLeft, HasNumbersLeft};
+ghost use Rattle.iox2_pubsub.specs.Live.{IsLiveSubscriber, IsSingleValued, Stays};
+ghost use Rattle.iox2_pubsub.specs.LoansLeft.{HasNumbersLeft};
 
 mod batch;
 mod correction;
@@ -17,9 +17,9 @@ mod series;
 mod waiting;
 
 use failure::Failure;
-use iox2_pubsub::{BackpressureStrategy, Domain, Publisher, ServiceConfig, Subscriber};
+use iox2_pubsub::{BackpressureStrategy, Domain, ServiceConfig, Subscriber};
 use reading::Reading;
-use report::{compare, report_day};
+use report::report_both;
 use series::exchange;
 
 fn main(rt: HostRuntime) -> Result<(), Failure> {
@@ -58,29 +58,5 @@ fn run(
         .create(domain)?;
     let outcome = report_both(rt, domain, &indoors, subscriber);
     indoors.close(domain);
-    outcome
-}
-
-// Reports a day indoors, and then makes the publisher of a second thermometer and compares the two.
-fn report_both(
-    rt: &HostRuntime,
-    domain: &mut Domain<Reading, ()>,
-    indoors: &Publisher,
-    subscriber: &Subscriber,
-) -> Result<(), Failure>
-    requires single_valued { IsSingleValued domain.old }
-    requires indoors { IsLivePublisher domain.old indoors.now }
-    requires subscriber { IsLiveSubscriber domain.old subscriber.now }
-    requires loans { HasLoansLeft domain.old indoors.now 2 }
-    requires numbers { HasNumbersLeft domain.old 2 }
-    ensures { Stays domain.old domain.new }
-{
-    report_day(rt, domain, indoors, subscriber)?;
-    let outdoors = domain
-        .publisher_builder()
-        .backpressure_strategy(BackpressureStrategy::DiscardData)
-        .create(domain)?;
-    let outcome = compare(rt, domain, indoors, &outdoors, subscriber);
-    outdoors.close(domain);
     outcome
 }

@@ -1,10 +1,10 @@
 //! Temperatures go in series, as slices, from a domain's start to its end.
 ghost use Rattle.std.specs.Prelude.{◌≡◌, ℕ, [], ◌∷◌, List, length, IfOk, IfSome};
 ghost use Rattle.iox2_pubsub.specs.Live.{AreAllSlices, IsLivePublisher, IsLiveSubscriber, Stays, payloads, waiting};
-ghost use Rattle.iox2_pubsub.specs.LoansLeft.{HasLoansLeft, HasNumbersLeft};
-ghost use Rattle.iox2_pubsub.specs.Slices.{IsSliced};
+ghost use Rattle.iox2_pubsub.specs.LoansLeft.{HasNumbersLeft};
 ghost use Rattle.iox2_pubsub.specs.declared.subscriber.Subscriber.{Subscriber as SubscriberHandle};
 ghost use Rattle.iox2_pubsub.specs.Handles.{as_publisher, as_subscriber, max_slice_len_of};
+ghost use Rattle.thermometer.specs.Ports.{CanLend, HasSeries, PassesSeries};
 
 use crate::failure::Failure;
 use iox2_pubsub::slice::{Publisher, SampleMut, Subscriber};
@@ -27,9 +27,7 @@ pub fn exchange(alloc: Global) -> Result<Option<usize>, Failure> {
 
 // Makes a publisher of series of three, with one loan out at a time, and sends two series with it.
 fn publish(domain: &mut Domain<u64, ()>, subscriber: &Subscriber) -> Result<Option<usize>, Failure>
-    requires dynamic { (domain.old.config).variant ≡ TypeVariant.Dynamic }
-    requires one_unit { (domain.old.config).units_per_element ≡ 1 }
-    requires sliced { IsSliced domain.old }
+    requires series { HasSeries domain.old }
     requires subscriber { IsLiveSubscriber domain.old (as_subscriber subscriber.now) }
     requires numbers { HasNumbersLeft domain.old 1 }
     ensures { Stays domain.old domain.new }
@@ -52,14 +50,9 @@ fn send_both(
     publisher: &Publisher,
     subscriber: &Subscriber,
 ) -> Result<Option<usize>, Failure>
-    requires dynamic { (domain.old.config).variant ≡ TypeVariant.Dynamic }
-    requires one_unit { (domain.old.config).units_per_element ≡ 1 }
-    requires sliced { IsSliced domain.old }
-    requires publisher { IsLivePublisher domain.old (as_publisher publisher.now) }
-    requires subscriber { IsLiveSubscriber domain.old (as_subscriber subscriber.now) }
+    requires ports { PassesSeries domain.old (as_publisher publisher.now) (as_subscriber subscriber.now) }
     requires longest { max_slice_len_of (as_publisher publisher.now) ≡ 3 }
-    requires loans { HasLoansLeft domain.old (as_publisher publisher.now) 1 }
-    requires numbers { HasNumbersLeft domain.old 1 }
+    requires loans { CanLend domain.old (as_publisher publisher.now) 1 }
     ensures { Stays domain.old domain.new }
 {
     send_made(domain, publisher)?;
@@ -70,13 +63,10 @@ fn send_both(
 // Sends a series of the hours 0, 1 and 2, the first of which is set to 12 where it lies. Its loan
 // can't be refused, so there is no case for that.
 fn send_made(domain: &mut Domain<u64, ()>, publisher: &Publisher) -> Result<(), Failure>
-    requires dynamic { (domain.old.config).variant ≡ TypeVariant.Dynamic }
-    requires one_unit { (domain.old.config).units_per_element ≡ 1 }
-    requires sliced { IsSliced domain.old }
+    requires series { HasSeries domain.old }
     requires publisher { IsLivePublisher domain.old (as_publisher publisher.now) }
     requires longest { max_slice_len_of (as_publisher publisher.now) ≡ 3 }
-    requires loans { HasLoansLeft domain.old (as_publisher publisher.now) 1 }
-    requires numbers { HasNumbersLeft domain.old 1 }
+    requires loans { CanLend domain.old (as_publisher publisher.now) 1 }
     ensures { Stays domain.old domain.new }
 {
     let loan = publisher.loan_slice_uninit(domain, 3).unwrap();
@@ -100,11 +90,7 @@ fn pass_copied(
     publisher: &Publisher,
     subscriber: &Subscriber,
 ) -> Result<Option<usize>, Failure>
-    requires dynamic { (domain.old.config).variant ≡ TypeVariant.Dynamic }
-    requires one_unit { (domain.old.config).units_per_element ≡ 1 }
-    requires sliced { IsSliced domain.old }
-    requires publisher { IsLivePublisher domain.old (as_publisher publisher.now) }
-    requires subscriber { IsLiveSubscriber domain.old (as_subscriber subscriber.now) }
+    requires ports { PassesSeries domain.old (as_publisher publisher.now) (as_subscriber subscriber.now) }
     ensures same { (domain.old.config).history_size ≡ 0 → waiting domain.old (as_subscriber subscriber.now) ≡ 0 → IfOk result (λ length. IfSome length (λ it. it ≡ 3)) }
     ensures stays { Stays domain.old domain.new }
 {
@@ -114,9 +100,7 @@ fn pass_copied(
 
 // Sends a series that is copied into its loan.
 fn send_copied(domain: &mut Domain<u64, ()>, publisher: &Publisher) -> Result<(), Failure>
-    requires dynamic { (domain.old.config).variant ≡ TypeVariant.Dynamic }
-    requires one_unit { (domain.old.config).units_per_element ≡ 1 }
-    requires sliced { IsSliced domain.old }
+    requires series { HasSeries domain.old }
     requires publisher { IsLivePublisher domain.old (as_publisher publisher.now) }
     ensures brings { (subscriber : SubscriberHandle) → (domain.old.config).history_size ≡ 0 → waiting domain.old subscriber ≡ 0
         → IfOk result (λ _. AreAllSlices (payloads domain.new subscriber) (18 ∷ 19 ∷ 20 ∷ [])) }
@@ -133,7 +117,7 @@ fn receive_length(
     domain: &mut Domain<u64, ()>,
     subscriber: &Subscriber,
 ) -> Result<Option<usize>, Failure>
-    requires sliced { IsSliced domain.old }
+    requires series { HasSeries domain.old }
     requires subscriber { IsLiveSubscriber domain.old (as_subscriber subscriber.now) }
     ensures waited { (values : List ℕ) → AreAllSlices (payloads domain.old (as_subscriber subscriber.now)) values → IfOk result (λ shown. IfSome shown (λ it. it ≡ length values)) }
     ensures stays { Stays domain.old domain.new }

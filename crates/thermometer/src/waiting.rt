@@ -1,8 +1,10 @@
 //! Loans are changed while readings wait. Each message has the number of its sensor in its user
 //! header.
 ghost use Rattle.std.specs.Prelude.{◌≡◌, ℕ, suc, IfOk, IfSome, OnOk, OnSome};
+ghost use Rattle.iox2_pubsub.specs.Leaves.{LeavesBut};
 ghost use Rattle.iox2_pubsub.specs.declared.Header.{Header};
-ghost use Rattle.iox2_pubsub.specs.Live.{AreAll, IsLiveSubscriber, IsSingleValued, IsUnwrittenLoan, IsUpToDate, IsWrittenLoan, LoanHasHeader, LoanHasUserHeader, LoanReads, StaysBut, UpToDateStay, payloads, unwritten_key, unwritten_loan, waiting, written_key, written_loan};
+ghost use Rattle.iox2_pubsub.specs.Live.{AreAll, IsLiveSubscriber, IsSingleValued, IsUnwrittenLoan, IsUpToDate, IsWrittenLoan, LoanHasHeader, LoanHasUserHeader, LoanReads, payloads, unwritten_key, unwritten_loan, waiting, written_key};
+ghost use Rattle.thermometer.specs.Changes.{ChangesLoan, SensorStays};
 
 use crate::failure::Failure;
 use crate::reading::Reading;
@@ -13,14 +15,10 @@ use iox2_pubsub::{Domain, SampleMut, SampleMutUninit, Subscriber};
 pub fn replace(domain: &mut Domain<Reading, u32>, message: &mut SampleMut, celsius: u32)
     requires single_valued { IsSingleValued domain.old }
     requires message { IsWrittenLoan domain.old message.old }
-    ensures same { message.new ≡ message.old }
-    ensures live { IsWrittenLoan domain.new message.new }
+    ensures changes { ChangesLoan domain.old domain.new message.old message.new }
     ensures reads { LoanReads domain.new message.new (record { celsius = celsius }) }
     ensures header { (header : Header) → LoanHasHeader domain.old (written_key message.old) header → LoanHasHeader domain.new (written_key message.new) header }
-    ensures sensor { (sensor : ℕ) → LoanHasUserHeader domain.old (written_key message.old) sensor → LoanHasUserHeader domain.new (written_key message.new) sensor }
-    ensures waits { payloads domain.new ≡ payloads domain.old }
-    ensures up_to_date { UpToDateStay domain.old domain.new }
-    ensures stays { StaysBut (written_loan message.old) domain.old domain.new }
+    ensures sensor { SensorStays domain.old domain.new (written_key message.old) (written_key message.new) }
 {
     *SampleMut::payload_mut(domain, message) = Reading { celsius };
 }
@@ -40,7 +38,7 @@ pub fn replace_and_receive(
     ensures waited { (reading : ℕ) → AreAll (payloads domain.old display.now) (record { celsius = reading }) → IfOk result (λ received. IfSome received (λ it. it ≡ reading)) }
     ensures one_fewer { IfOk result (λ received. OnSome received (suc (waiting domain.new display.now) ≡ waiting domain.old display.now)) }
     ensures up_to_date { OnOk result (IsUpToDate domain.new display.now) }
-    ensures sensor { (sensor : ℕ) → LoanHasUserHeader domain.old (written_key message.old) sensor → LoanHasUserHeader domain.new (written_key message.new) sensor }
+    ensures sensor { SensorStays domain.old domain.new (written_key message.old) (written_key message.new) }
     ensures live { IsWrittenLoan domain.new message.new }
 {
     replace(domain, message, celsius);
@@ -56,14 +54,10 @@ pub fn replace_and_receive(
 /// does.
 pub fn label(domain: &mut Domain<Reading, u32>, message: &mut SampleMut, sensor: u32)
     requires message { IsWrittenLoan domain.old message.old }
-    ensures same { message.new ≡ message.old }
-    ensures live { IsWrittenLoan domain.new message.new }
+    ensures changes { ChangesLoan domain.old domain.new message.old message.new }
     ensures reads { (celsius : ℕ) → LoanReads domain.old message.old (record { celsius = celsius }) → LoanReads domain.new message.new (record { celsius = celsius }) }
     ensures header { (header : Header) → LoanHasHeader domain.old (written_key message.old) header → LoanHasHeader domain.new (written_key message.new) header }
     ensures sensor { LoanHasUserHeader domain.new (written_key message.new) sensor }
-    ensures waits { payloads domain.new ≡ payloads domain.old }
-    ensures up_to_date { UpToDateStay domain.old domain.new }
-    ensures stays { StaysBut (written_loan message.old) domain.old domain.new }
 {
     *SampleMut::user_header_mut(domain, message) = sensor;
 }
@@ -82,9 +76,7 @@ pub fn fill(
     ensures reads { LoanReads domain.new result (record { celsius = celsius }) }
     ensures header { (header : Header) → LoanHasHeader domain.old (unwritten_key loan) header → LoanHasHeader domain.new (written_key result) header }
     ensures sensor { LoanHasUserHeader domain.new (written_key result) sensor }
-    ensures waits { payloads domain.new ≡ payloads domain.old }
-    ensures up_to_date { UpToDateStay domain.old domain.new }
-    ensures stays { StaysBut (unwritten_loan loan) domain.old domain.new }
+    ensures leaves { LeavesBut (unwritten_loan loan) domain.old domain.new }
 {
     let mut loan = loan;
     *SampleMutUninit::user_header_mut(domain, &mut loan) = sensor;
