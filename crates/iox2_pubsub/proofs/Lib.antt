@@ -28,6 +28,7 @@ pub mod ReceptionShown
 pub mod LiveParts
 pub mod StaysBut
 pub mod PlacedHandles
+mod ReadyPublishers
 pub mod CallsStay
 mod SentLoans
 pub mod DiscardShows
