@@ -3,7 +3,7 @@ use Rattle.iox2_domain.specs.Boxes.{answers_of}
 use Rattle.iox2_pubsub.proofs.KeptAnswers.{received}
 use Rattle.iox2_store.specs.machine.Receives.{Got_sample, No_sample, Receive_error}
 use Rattle.iox2_domain.specs.Fields.{keeping}
-use Rattle.iox2_pubsub.specs.Live.{IsNewIn, A_sample}
+use Rattle.iox2_pubsub.specs.Live.{A_sample, IsNewIn, LeavesLater, TakesFirst}
 use Rattle.iox2_pubsub.specs.ReceivedSamples.{received_result}
 use Rattle.iox2_domain.specs.declared.sample_slots.Receipt.{Receipt}
 use Rattle.iox2_pubsub.proofs.ReceptionShown.{reception-agrees, reception-at, reception-shows, reception-live, reception-origin, error-shows}
@@ -12,9 +12,10 @@ use Rattle.iox2_pubsub.proofs.CallsStay.{always-shown, received-is-new}
 use Rattle.iox2_pubsub.proofs.WaitingShown.{received-fewer, received-none, received-reads, received-oldest}
 use Rattle.iox2_pubsub.proofs.UpToDateShown.{received-updated}
 use Rattle.iox2_pubsub.proofs.UpdatesLeave.{reception-left}
-use Rattle.iox2_pubsub.proofs.PublisherWaits.{one-is-all, receive-leaves-later, receive-takes-first}
+use Rattle.iox2_pubsub.proofs.PublisherWaits.{one-is-all, receive-takes-first}
 use Rattle.iox2_pubsub.proofs.KeptReceives.{nothing-waited, one-fewer-waits, others-wait-still}
 use Rattle.iox2_pubsub.proofs.StaysBut.{same-boxes}
+use Rattle.iox2_pubsub.proofs.subscriber.Subscriber.receive.Given.{Over}
 use Rattle.iox2_pubsub.proofs.subscriber.Subscriber.receive.Goals as goal
 
 pub returns-in_err-receipt-clause-receives : goal.returns-in_err-receipt-clause-receives
@@ -133,19 +134,18 @@ returns-in_default-clause-nothing g c = λ keeps.
     let step = returns-in_default-clause-receives g c it.0 it.1 it.2 in
     nothing-waited {T = g.row.T.Denot} {U = g.row.U.Denot} c.args.domain.now (keeping (record { publishers = (c.domain.inside.boxes).boxes; subscribers = (c.domain.inside.subscriber_boxes).boxes }) c.receive_at.new.state) it.0 it.0 it.1 step.0 it.2 step.1 (answers_of g.F.BackpressureFn.allows g.G.DegradationFn.allows c.args.domain.now.boxes.subscribers) c.args.self.now keeps step.2
 
-pub returns-clause-first : goal.returns-clause-first
-returns-clause-first g c =
+-- of one publisher's messages the first is taken, and the rest left
+first-later : (g : Over) (c : goal.In-Some g) → TakesFirst c.args.self.now (record { service_id = c.args.self.now.service_id; origin = c.in-Some.receipt.publisher; sample = c.in-Some.receipt.sample }) c.args.domain.now (keeping (record { publishers = (c.domain.inside.boxes).boxes; subscribers = (c.domain.inside.subscriber_boxes).boxes }) c.receive_at.new.state) × LeavesLater c.args.self.now c.args.domain.now (keeping (record { publishers = (c.domain.inside.boxes).boxes; subscribers = (c.domain.inside.subscriber_boxes).boxes }) c.receive_at.new.state)
+first-later g c =
     let it = always-shown {T = g.row.T.Denot} {U = g.row.U.Denot} c.domain.inside.state c.args.domain.now c.domain.invariant c.domain.view_is in
     let step = returns-clause-receives g c it.0 it.1 it.2 in
-    receive-takes-first {T = g.row.T.Denot} {U = g.row.U.Denot} c.args.domain.now (keeping (record { publishers = (c.domain.inside.boxes).boxes; subscribers = (c.domain.inside.subscriber_boxes).boxes }) c.receive_at.new.state) it.0 it.0 it.1 step.0 it.2 step.1 c.args.self.now
-    (record { service_id = c.args.self.now.service_id; origin = c.in-Some.receipt.publisher; sample = c.in-Some.receipt.sample }) (returns-clause-oldest g c) (returns-clause-fewer g c)
+    receive-takes-first {T = g.row.T.Denot} {U = g.row.U.Denot} c.args.domain.now (keeping (record { publishers = (c.domain.inside.boxes).boxes; subscribers = (c.domain.inside.subscriber_boxes).boxes }) c.receive_at.new.state) it.0 it.0 it.1 step.0 it.2 step.1 c.args.self.now (record { service_id = c.args.self.now.service_id; origin = c.in-Some.receipt.publisher; sample = c.in-Some.receipt.sample }) (returns-clause-oldest g c) (returns-clause-fewer g c)
+
+pub returns-clause-first : goal.returns-clause-first
+returns-clause-first g c = (first-later g c).0
 
 pub returns-clause-later : goal.returns-clause-later
-returns-clause-later g c =
-    let it = always-shown {T = g.row.T.Denot} {U = g.row.U.Denot} c.domain.inside.state c.args.domain.now c.domain.invariant c.domain.view_is in
-    let step = returns-clause-receives g c it.0 it.1 it.2 in
-    receive-leaves-later {T = g.row.T.Denot} {U = g.row.U.Denot} c.args.domain.now (keeping (record { publishers = (c.domain.inside.boxes).boxes; subscribers = (c.domain.inside.subscriber_boxes).boxes }) c.receive_at.new.state) it.0 it.0 it.1 step.0 it.2 step.1 c.args.self.now
-    (record { service_id = c.args.self.now.service_id; origin = c.in-Some.receipt.publisher; sample = c.in-Some.receipt.sample }) (returns-clause-oldest g c) (returns-clause-fewer g c)
+returns-clause-later g c = (first-later g c).1
 
 pub returns-clause-rest : goal.returns-clause-rest
 returns-clause-rest g c = λ keeps other away.
