@@ -199,6 +199,7 @@ module _ {T U F G : Type 0} (old new : Kept T U F G) (m m' : Messages T U) (s s'
   -- and a receive takes the first
   pub receive-takes-first : (sample : Sample) → TakesOldest subscriber sample old new → waiting new subscriber < waiting old subscriber
       → TakesFirst subscriber sample old new × LeavesLater subscriber old new
-  receive-takes-first sample oldest fewer =
-      let first = λ p. received-first old new before-well after-well p subscriber sample oldest fewer in
-      (λ p payload later all. (first p payload later all).0, λ p payload later all. (first p payload later all).1)
+  receive-takes-first sample oldest fewer = (
+    λ p payload later all. (received-first old new before-well after-well p subscriber sample oldest fewer payload later all).0,
+    λ p payload later all. (received-first old new before-well after-well p subscriber sample oldest fewer payload later all).1,
+  )
