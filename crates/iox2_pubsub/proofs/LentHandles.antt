@@ -22,7 +22,8 @@ use Rattle.iox2_domain.proofs.lemmas.loans.LentLoans.{IsLent, header-lent, cell-
 use Rattle.iox2_domain.proofs.lemmas.slots.BookContents.{contents-there}
 use Rattle.iox2_domain.proofs.lemmas.loans.LoanCalls.{some-at, is-unwritten, is-written, user_header-read, in-lists, cells-listed, cell-some, cell-read, cells-read, value-some, value-read, values-read}
 use Rattle.iox2_pubsub.specs.ChangedLoans.{with_cell, with_cells, with_payload, with_payloads, with_user_header}
-use Rattle.iox2_pubsub.specs.Live.{IsUnwritten, IsWritten, LoanHasHeader, LoanHasUserHeader, A_loan, StaysBut, UpToDateStay, WaitingStays}
+use Rattle.iox2_pubsub.specs.Leaves.{LeavesBut}
+use Rattle.iox2_pubsub.specs.Live.{IsUnwritten, IsUnwrittenLoan, IsWritten, IsWrittenLoan, LoanHasHeader, LoanHasUserHeader, NeverWaits, A_loan, unwritten_key, written_key}
 use Rattle.iox2_pubsub.specs.Slices.{HasUnwrittenCells, HasValues}
 use Rattle.iox2_pubsub.specs.declared.sample_mut.SampleMut.{SampleMut}
 use Rattle.iox2_pubsub.specs.declared.sample_mut_uninit.SampleMutUninit.{SampleMutUninit}
@@ -33,7 +34,6 @@ use Rattle.iox2_pubsub.proofs.SliceParts.{cells-parts, has-cells, has-values, va
 use Rattle.iox2_pubsub.proofs.StaysBut.{BoxesStayBut, same-boxes}
 use Rattle.iox2_pubsub.proofs.UpToDateShown.{set-leaves}
 use Rattle.iox2_pubsub.proofs.WaitingShown.{set-waits}
-use Rattle.iox2_pubsub.specs.LoansLeft.{LoansLeftStay}
 use Rattle.iox2_pubsub.proofs.LoansLeftShown.{set-left}
 
 -- ---- the words
@@ -93,10 +93,7 @@ pub record Lent {T U F G : Type 0} (inside kept after : Kept T U F G) (n : ℕ) 
   -- what is kept is what the word says
   pub is : inside ≡ after
   pub shown : (m : Messages T U) (s : State T U) → Shows kept m s → (k : Loan T U) × (s.loans n ≡ Some k) × Shows after m (with_loan s n (Some (h k)))
-  pub stays : StaysBut (A_loan n) kept after
-  pub loans_left : LoansLeftStay kept after
-  pub waits : WaitingStays kept after
-  pub up_to_date : UpToDateStay kept after
+  pub leaves : LeavesBut (A_loan n) kept after
   -- what it reads as
   pub cells : (cells : List (Option T)) → (h l).cells ≡ cells → HasUnwrittenCells after n cells
   pub values : (values : List T) → (h l).cells ≡ map Some values → HasValues after n values
@@ -107,7 +104,9 @@ pub record Lent {T U F G : Type 0} (inside kept after : Kept T U F G) (n : ℕ) 
   pub same_header : (h l).header ≡ l.header → (key : Key) → key.message ≡ n → (header : Header) → LoanHasHeader kept key header → LoanHasHeader after key header
   pub same_user_header : (h l).user_header ≡ l.user_header → (key : Key) → key.message ≡ n → (header : U) → LoanHasUserHeader kept key header → LoanHasUserHeader after key header
   pub written : (h l).publisher ≡ l.publisher → (h l).is_written ≡ l.is_written → (loan : SampleMut) → loan.loan.number ≡ n → IsWritten kept loan → IsWritten after loan
+  pub written_live : (h l).publisher ≡ l.publisher → (h l).is_written ≡ l.is_written → (loan : SampleMut) → loan.loan.number ≡ n → IsWritten kept loan → NeverWaits kept (written_key loan) → IsWrittenLoan after loan
   pub unwritten : (h l).publisher ≡ l.publisher → (h l).is_written ≡ l.is_written → (loan : SampleMutUninit) → loan.loan.number ≡ n → IsUnwritten kept loan → IsUnwritten after loan
+  pub unwritten_live : (h l).publisher ≡ l.publisher → (h l).is_written ≡ l.is_written → (loan : SampleMutUninit) → loan.loan.number ≡ n → IsUnwritten kept loan → NeverWaits kept (unwritten_key loan) → IsUnwrittenLoan after loan
 
 module _ {T U F G : Type 0} {boxes : DomainBoxes F G} (f g : Fields T U) (sound : IsDomain f) (kept : Kept T U F G) (view : keeping boxes f ≡ kept) (n : ℕ) (l : Loan T U) (found : (state_of (kept_of f)).loans n ≡ Some l)
     (h : Loan T U → Loan T U) (lent : IsLent f g n l h) (after : Kept T U F G) (is : after ≡ with_loan_changed n h kept) where
@@ -153,13 +152,16 @@ module _ {T U F G : Type 0} {boxes : DomainBoxes F G} (f g : Fields T U) (sound 
   was-lent =
       let it = always-shown f kept sound view in
       let step = lent-shown it.0 it.1 it.2 in
+      let all_else : LeavesBut (A_loan n) kept after = record {
+        stays = change-stays kept after it.0 it.1 it.2 n (h step.0) step.2 (subst (BoxesStayBut (A_loan n) kept) lent-is (same-boxes f g kept view));
+        waits = set-waits kept after it.0 it.1 it.2 n (Some (h step.0)) step.2;
+        up_to_date = set-leaves kept after it.0 it.1 it.2 n (Some (h step.0)) step.2;
+        loans_left = set-left kept after it.0 it.0 it.1 (with_loan it.1 n (Some (h step.0))) it.2 step.2 n (Some (h step.0)) refl;
+      } in
       record {
         is = lent-is;
         shown = lent-shown;
-        stays = change-stays kept after it.0 it.1 it.2 n (h step.0) step.2 (subst (BoxesStayBut (A_loan n) kept) lent-is (same-boxes f g kept view));
-        loans_left = set-left kept after it.0 it.0 it.1 (with_loan it.1 n (Some (h step.0))) it.2 step.2 n (Some (h step.0)) refl;
-        waits = set-waits kept after it.0 it.1 it.2 n (Some (h step.0)) step.2;
-        up_to_date = set-leaves kept after it.0 it.1 it.2 n (Some (h step.0)) step.2;
+        leaves = all_else;
         cells = λ cells is-it. has-cells after n cells (h l, lent-there, is-it);
         values = λ values is-it. has-values after n values (h l, lent-there, is-it);
         user_header = λ key user_header its is-it. loan-user-header after key user_header (h l, ap (state_of after).loans its ∙ lent-there, is-it);
@@ -170,7 +172,9 @@ module _ {T U F G : Type 0} {boxes : DomainBoxes F G} (f g : Fields T U) (sound 
         same_user_header = λ same key its header has.
             subst (λ (k : Kept T U F G). LoanHasUserHeader k key header) lent-is (change-user-header f g kept view n l (h l) found lent.reaches key key its its same header has);
         written = lent-written;
+        written_live = λ same mark loan its live never. record { out = lent-written same mark loan its live; never_waits = (all_else.stays).never_wait (written_key loan) never };
         unwritten = lent-unwritten;
+        unwritten_live = λ same mark loan its live never. record { out = lent-unwritten same mark loan its live; never_waits = (all_else.stays).never_wait (unwritten_key loan) never };
       }
 
 -- a loan whose cells were changed, to as many

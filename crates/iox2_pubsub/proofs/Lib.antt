@@ -5,6 +5,7 @@ pub mod AskedSlots
 pub mod UninitLoans
 pub mod SubscribersShown
 pub mod LoanHandles
+mod LoanReads
 pub mod MarkedLoans
 pub mod LentHandles
 pub mod AssumedLoans
@@ -13,6 +14,7 @@ pub mod DefaultSlices
 pub mod SliceParts
 pub mod FilledLengths
 pub mod FilledLoans
+mod FilledHandles
 mod LocatedLoans
 pub mod SentMessages
 pub mod OverflowSends
@@ -27,7 +29,9 @@ pub mod LiveParts
 pub mod StaysBut
 pub mod PlacedHandles
 pub mod CallsStay
+mod SentLoans
 pub mod DiscardShows
+mod DiscardedLoans
 pub mod QuestionShown
 pub mod UpdatesStay
 pub mod UpdatesLeave
@@ -61,6 +65,7 @@ pub mod CopiesServe
 pub mod SubscribersMade
 pub mod AwaitedShown
 pub mod ConnectionsShown
+mod PublishersMade
 pub mod ClosesWait
 pub mod DepartedShown
 pub mod LoansLeftShown
@@ -68,6 +73,7 @@ mod AtOnce
 pub mod SureLoans
 pub mod KeptCounts
 pub mod BlockedShown
+mod WaitingSends
 pub mod BoxesAlike
 pub mod ReceiversAhead
 pub mod KeptAnswers

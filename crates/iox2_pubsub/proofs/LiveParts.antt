@@ -184,7 +184,7 @@ module _ {T U F G : Type 0} (kept : Kept T U F G) where
         let same : l ≡ has.0 = cc in
         ap (λ (k : Loan T U). k.is_written) same ∙ has.2
 
-  has-mark : (number : ℕ) (is_written : Bool) (l : Loan T U) → (state_of kept).loans number ≡ Some l → l.is_written ≡ is_written → HasMark kept number is_written
+  pub has-mark : (number : ℕ) (is_written : Bool) (l : Loan T U) → (state_of kept).loans number ≡ Some l → l.is_written ≡ is_written → HasMark kept number is_written
   unfolding HasMark
   has-mark number is_written l at mark = (l, at, mark)
 

@@ -126,28 +126,6 @@ module _ {T U F G : Type 0} {boxes : DomainBoxes F G} (f g : Fields T U) (kept :
       let both = change-shown f g kept view n writes.0 (written writes.0 value) writes.1 write-reaches m s shown in
       (writes.0, both.0, both.1)
 
-  -- the written loan is out
-  pub write-live : (loan : SampleMutUninit) (loan' : SampleMut) → loan.loan.number ≡ n → loan'.service_id ≡ loan.service_id → loan'.loan.publisher ≡ loan.loan.publisher
-      → loan'.loan.number ≡ n → IsUnwritten kept loan → IsWritten (keeping boxes g) loan'
-  write-live loan loan' its service publisher number live =
-      let parts = unwritten-parts kept loan live in
-      let out : HoldsLoan (state_of (kept_of f)) loan.loan.publisher n =
-      subst (λ (k : Kept T U F G). HoldsLoan (state_of k) loan.loan.publisher n) (sym view) (subst (HoldsLoan (state_of kept) loan.loan.publisher) its ((parts.1).0, (parts.1).1, (parts.1).2)) in
-      change-written f g kept view n writes.0 (written writes.0 value) writes.1 write-reaches refl loan.loan.publisher loan.service_id parts.0 out refl loan' number service publisher
-
-  -- its headers stay
-  pub write-header : (key key' : Key) → key.message ≡ n → key'.message ≡ n → (header : Header) → LoanHasHeader kept key header → LoanHasHeader (keeping boxes g) key' header
-  write-header key key' here there header has = change-header f g kept view n writes.0 (written writes.0 value) writes.1 write-reaches key key' here there refl header has
-
-  pub write-user-header : (key key' : Key) → key.message ≡ n → key'.message ≡ n → (header : U) → LoanHasUserHeader kept key header → LoanHasUserHeader (keeping boxes g) key' header
-  write-user-header key key' here there header has = change-user-header f g kept view n writes.0 (written writes.0 value) writes.1 write-reaches key key' here there refl header has
-
-  -- and reads as the value
-  pub write-reads : (loan : SampleMut) → loan.loan.number ≡ n → LoanReads (keeping boxes g) loan value
-  write-reads loan number =
-      change-cells f g kept view n writes.0 (written writes.0 value) writes.1 write-reaches refl loan value number
-      (ap (λ (k : ℕ). replicate k (Some value)) (sym writes.2))
-
 -- ---- the header of a loan
 
 module _ {T U : Type 0} (f : Fields T U) (sound : IsDomain f) (number publisher : ℕ) (header : Header) where

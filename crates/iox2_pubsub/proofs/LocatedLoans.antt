@@ -1,8 +1,8 @@
 -- A loan that is granted and filled in one call, seen from outside.
-use Rattle.std.proofs.Common.{◌≡◌, ℕ, ◌+◌, ◌*◌, ◌≤◌, List, length, replicate, true, false, refl, ap, subst, sym, ◌∙◌, arith, get_or, Result, Ok, Err, Option, None, Some}
+use Rattle.std.proofs.Common.{◌≡◌, ℕ, ◌+◌, ◌*◌, ◌≤◌, ◌<◌, List, length, replicate, true, false, refl, ap, subst, sym, ◌∙◌, arith, get_or, Result, Ok, Err, Option, None, Some}
 use Rattle.std.proofs.lemmas.List.{length-replicate}
 use Rattle.std.specs.List.{All}
-use Rattle.std.specs.Prelude.{IsSomeAnd}
+use Rattle.std.specs.Prelude.{◌↔◌, IsSomeAnd, OnErr}
 use Rattle.iox2_store.specs.SingleValues.{is_single_valued}
 use Rattle.iox2_store.specs.declared.errors.LoanError.{LoanError}
 use Rattle.iox2_store.specs.declared.service_config.ServiceConfig.{ServiceConfig}
@@ -39,14 +39,80 @@ use Rattle.iox2_pubsub.proofs.UpToDateShown.{loan-leaves}
 use Rattle.iox2_pubsub.proofs.WaitingShown.{loan-waits}
 use Rattle.iox2_pubsub.proofs.WrittenLoanCalls.{default-grants, default-refused}
 
+-- What a call leaves that lends, granted or refused.
+record Left {T U F G : Type 0} (how : Result LoanAt LoanError) (publisher : Publisher) (old new : Kept T U F G) : Type 0 where
+  pub stays : Stays old new
+  pub waits : WaitingStays old new
+  pub up_to_date : UpToDateStay old new
+  pub loans_left : TakesOneLeft publisher old new
+  pub refused : OnErr how (LoansLeftStay old new)
+
+-- What each call says that lends a slice and fills it, where it was refused.
+pub record Refused {T U F G : Type 0} (A : Type 0) (IsValue : T → Type 0) (is_default : U → Type 0) (publisher : Publisher) (len : ℕ) (old new : Kept T U F G) (e : LoanError) : Type 0 where
+  pub lends : (m : Messages T U) (s : State T U) → Shows old m s → (s' : State T U) × Shows new m s' × DefaultSliceCall {A = A} IsValue is_default len s publisher.id (Err e) s'
+  pub none : (loans numbers : ℕ) → HasLoansLeft old publisher (loans + 1) → HasNumbersLeft old (numbers + 1) → len ≤ publisher.initial_max_slice_len → ⊥
+  pub waits : WaitingStays old new
+  pub up_to_date : UpToDateStay old new
+  pub loans_left : TakesOneLeft publisher old new
+  pub refused : LoansLeftStay old new
+  pub stays : Stays old new
+
+-- And where it was granted, with these values.
+pub record Located {T U F G A : Type 0} (IsValue : T → Type 0) (is_default : U → Type 0) (publisher : Publisher) (len : ℕ) (old new : Kept T U F G) (answer : A) (handle : SampleMut) (values : List T) : Type 0 where
+  pub lends : (m : Messages T U) (s : State T U) → Shows old m s → (s' : State T U) × Shows new m s' × DefaultSliceCall {A = A} IsValue is_default len s publisher.id (Ok answer) s'
+  pub out : IsWritten new handle
+  pub live : NeverWaits old (publisher_key publisher) → IsWrittenLoan new handle
+  pub unblocked : IsUnblocked new (written_key handle)
+  pub size : length values ≡ len
+  pub reads : HasValues new (handle.loan).number values
+  pub new_in : IsNewIn old (A_loan (handle.loan).number)
+  pub number : (handle.loan).number ≡ old.next_message
+  pub its : (handle.loan).publisher ≡ publisher.id
+  pub lender : lender_key (written_key handle) ≡ publisher_key publisher
+  pub lent : HasLender new (written_key handle)
+  pub waits : WaitingStays old new
+  pub up_to_date : UpToDateStay old new
+  pub loans_left : TakesOneLeft publisher old new
+  pub stays : Stays old new
+
+-- it says where its values begin, where it has some
+pub starts : (HasStart IsFilled : Type 0) (n len : ℕ) → HasStart ↔ IsFilled → IsFilled ↔ 0 < n → n ≡ len → HasStart ↔ 0 < len
+starts HasStart IsFilled n len its filled same =
+    let fills = subst (λ (k : ℕ). IsFilled ↔ 0 < k) same filled in
+    (λ has. fills.0 (its.0 has), λ long. its.1 (fills.1 long))
+
+-- a live publisher of a service for slices may lend one
+pub may-lend : {T U F G : Type 0} {boxes : DomainBoxes F G} (len : ℕ) (f : Fields T U) → IsDomain f → (kept : Kept T U F G) → keeping boxes f ≡ kept → (publisher : Publisher) → IsReadyPublisher kept publisher
+    → (kept.config).variant ≡ Dynamic → ((x : PublisherFields) × (get_or f.publishers publisher.place None ≡ Some x)) × ((f.config).variant ≡ FixedSize → len ≡ 1)
+may-lend {T} {U} {F} {G} len f sound kept view publisher ready dynamic =
+    let at = publisher-at-place f sound kept view publisher ready in (
+      (at.0, at.1),
+      λ fixed. let clash : Dynamic ≡ FixedSize = sym dynamic ∙ sym (ap (λ (k : Kept T U F G). (k.config).variant) view) ∙ fixed in absurd cc,
+    )
+
 module _ {T U F G : Type 0} {boxes : DomainBoxes F G} (is_default : U → Type 0) (len : ℕ) (f mid : Fields T U) (sound : IsDomain f) (kept : Kept T U F G) (view : keeping boxes f ≡ kept)
     (publisher : Publisher) (ready : IsReadyPublisher kept publisher) (answer : Result LoanAt LoanError)
     (reaches : IsSomeAnd (get_or f.publishers publisher.place None) (λ x. LoanReaches is_default true len f x answer mid)) where
   stands : (x : PublisherFields) × (get_or f.publishers publisher.place None ≡ Some x) × (x.id ≡ publisher.id)
   stands = publisher-at-place f sound kept view publisher ready
 
+  -- what the call leaves, granted or refused
+  module _ (how : Result LoanAt LoanError) (step : (m : Messages T U) (s : State T U) → Shows kept m s → (s' : State T U) × Shows (kept_of mid) m s' × LoanCall {A = LoanAt} is_default true len s publisher.id how s') where
+    call-leaves : Left how publisher kept (keeping boxes mid)
+    call-leaves =
+        let new : Kept T U F G = keeping boxes mid in
+        let it = always-shown f kept sound view in
+        let now = step it.0 it.1 it.2 in
+        record {
+          stays = loan-stays kept new it.0 it.1 it.2 {A = LoanAt} is_default true len publisher.id how now.0 now.1 now.2 (same-boxes f mid kept view);
+          waits = loan-waits kept new it.0 it.0 it.1 now.0 it.2 now.1 (λ n entry at. at) {A = LoanAt} is_default true len publisher.id how now.2;
+          up_to_date = loan-leaves kept new it.0 it.0 it.1 now.0 it.2 now.1 {A = LoanAt} is_default true len publisher.id how now.2;
+          loans_left = loan-takes kept new it.0 it.0 it.1 now.0 it.2 now.1 {A = LoanAt} is_default true len publisher how now.2;
+          refused = refused-left kept new it.0 it.0 it.1 now.0 it.2 now.1 {A = LoanAt} is_default true len publisher.id how now.2;
+        }
+
   -- a loan that was refused
-  pub refused-lends : (A : Type 0) (e : LoanError) → answer ≡ Err e → (IsValue : T → Type 0) (m : Messages T U) (s : State T U) → Shows kept m s
+  refused-lends : (A : Type 0) (e : LoanError) → answer ≡ Err e → (IsValue : T → Type 0) (m : Messages T U) (s : State T U) → Shows kept m s
       → (s' : State T U) × Shows (kept_of mid) m s' × DefaultSliceCall {A = A} IsValue is_default len s publisher.id (Err e) s'
   refused-lends A e is IsValue m s shown =
       let lends = err-shown is_default true len f mid sound publisher.place publisher.id answer stands reaches A e is (Err e) refl kept view m s shown in
@@ -56,43 +122,27 @@ module _ {T U F G : Type 0} {boxes : DomainBoxes F G} (is_default : U → Type 0
     refused-step : (m : Messages T U) (s : State T U) → Shows kept m s → (s' : State T U) × Shows (kept_of mid) m s' × LoanCall {A = LoanAt} is_default true len s publisher.id (Err e) s'
     refused-step m s shown = err-shown is_default true len f mid sound publisher.place publisher.id answer stands reaches LoanAt e is (Err e) refl kept view m s shown
 
-    pub refused-stays : Stays kept (keeping boxes mid)
-    refused-stays =
-        let it = always-shown f kept sound view in
-        let step = refused-step it.0 it.1 it.2 in
-        loan-stays kept (keeping boxes mid) it.0 it.1 it.2 {A = LoanAt} is_default true len publisher.id (Err e) step.0 step.1 step.2 (same-boxes f mid kept view)
-
-    pub refused-waits : WaitingStays kept (keeping boxes mid)
-    refused-waits =
-        let it = always-shown f kept sound view in
-        let step = refused-step it.0 it.1 it.2 in
-        loan-waits kept (keeping boxes mid) it.0 it.0 it.1 step.0 it.2 step.1 (λ n entry at. at) {A = LoanAt} is_default true len publisher.id (Err e) step.2
-
-    pub refused-updated : UpToDateStay kept (keeping boxes mid)
-    refused-updated =
-        let it = always-shown f kept sound view in
-        let step = refused-step it.0 it.1 it.2 in
-        loan-leaves kept (keeping boxes mid) it.0 it.0 it.1 step.0 it.2 step.1 {A = LoanAt} is_default true len publisher.id (Err e) step.2
-
-    pub refused-takes : TakesOneLeft publisher kept (keeping boxes mid)
-    refused-takes =
-        let it = always-shown f kept sound view in
-        let step = refused-step it.0 it.1 it.2 in
-        loan-takes kept (keeping boxes mid) it.0 it.0 it.1 step.0 it.2 step.1 {A = LoanAt} is_default true len publisher (Err e) step.2
-
-    pub refused-leaves : LoansLeftStay kept (keeping boxes mid)
-    refused-leaves =
-        let it = always-shown f kept sound view in
-        let step = refused-step it.0 it.1 it.2 in
-        refused-left kept (keeping boxes mid) it.0 it.0 it.1 step.0 it.2 step.1 {A = LoanAt} is_default true len publisher.id (Err e) step.2
+    refusal-leaves : Left (Err e) publisher kept (keeping boxes mid)
+    refusal-leaves = call-leaves (Err e) refused-step
 
     -- none that isn't too long, where the publisher has one left
-    pub refused-none : (kept.config).variant ≡ Dynamic → (loans numbers : ℕ) → HasLoansLeft kept publisher (loans + 1) → HasNumbersLeft kept (numbers + 1) → len ≤ publisher.initial_max_slice_len → ⊥
+    refused-none : (kept.config).variant ≡ Dynamic → (loans numbers : ℕ) → HasLoansLeft kept publisher (loans + 1) → HasNumbersLeft kept (numbers + 1) → len ≤ publisher.initial_max_slice_len → ⊥
     refused-none dynamic loans numbers left numbered short =
         sure-granted is_default true len f mid sound publisher.place publisher (λ _. short) (λ no. absurd (let clash : true ≡ false = no in cc)) (λ fixed.
         let clash : Dynamic ≡ FixedSize = sym dynamic ∙ sym (ap (λ (k : Kept T U F G). (k.config).variant) view) ∙ fixed in
         absurd cc)
         stands answer reaches e is kept view (sure-of-loan kept publisher loans numbers left numbered)
+
+    pub was-refused : (A : Type 0) (IsValue : T → Type 0) → (kept.config).variant ≡ Dynamic → Refused A IsValue is_default publisher len kept (keeping boxes mid) e
+    was-refused A IsValue dynamic = record {
+      lends = refused-lends A e is IsValue;
+      none = refused-none dynamic;
+      waits = refusal-leaves.waits;
+      up_to_date = refusal-leaves.up_to_date;
+      loans_left = refusal-leaves.loans_left;
+      refused = refusal-leaves.refused;
+      stays = refusal-leaves.stays;
+    }
 
   module _ (loan : LoanAt) (is : answer ≡ Ok loan) (named : IsSomeAnd (get_or f.publishers publisher.place None) (λ x. IsNamed f x loan)) where
     abbrev unwritten : SampleMutUninit
@@ -104,30 +154,8 @@ module _ {T U F G : Type 0} {boxes : DomainBoxes F G} (is_default : U → Type 0
     granted-step : (m : Messages T U) (s : State T U) → Shows kept m s → (s' : State T U) × Shows (kept_of mid) m s' × LoanCall {A = LoanAt} is_default true len s publisher.id (Ok loan) s'
     granted-step m s shown = ok-shown is_default true len f mid sound publisher.place publisher.id answer stands reaches LoanAt loan loan is kept view m s shown
 
-    -- what was there before stays
-    granted-stays : Stays kept (keeping boxes mid)
-    granted-stays =
-        let it = always-shown f kept sound view in
-        let step = granted-step it.0 it.1 it.2 in
-        loan-stays kept (keeping boxes mid) it.0 it.1 it.2 {A = LoanAt} is_default true len publisher.id (Ok loan) step.0 step.1 step.2 (same-boxes f mid kept view)
-
-    granted-waits : WaitingStays kept (keeping boxes mid)
-    granted-waits =
-        let it = always-shown f kept sound view in
-        let step = granted-step it.0 it.1 it.2 in
-        loan-waits kept (keeping boxes mid) it.0 it.0 it.1 step.0 it.2 step.1 (λ n entry at. at) {A = LoanAt} is_default true len publisher.id (Ok loan) step.2
-
-    granted-updated : UpToDateStay kept (keeping boxes mid)
-    granted-updated =
-        let it = always-shown f kept sound view in
-        let step = granted-step it.0 it.1 it.2 in
-        loan-leaves kept (keeping boxes mid) it.0 it.0 it.1 step.0 it.2 step.1 {A = LoanAt} is_default true len publisher.id (Ok loan) step.2
-
-    granted-takes : TakesOneLeft publisher kept (keeping boxes mid)
-    granted-takes =
-        let it = always-shown f kept sound view in
-        let step = granted-step it.0 it.1 it.2 in
-        loan-takes kept (keeping boxes mid) it.0 it.0 it.1 step.0 it.2 step.1 {A = LoanAt} is_default true len publisher (Ok loan) step.2
+    granted-left : Left (Ok loan) publisher kept (keeping boxes mid)
+    granted-left = call-leaves (Ok loan) granted-step
 
     -- it agrees with the fields, and is out
     pub granted-sound : IsDomain mid
@@ -145,7 +173,7 @@ module _ {T U F G : Type 0} {boxes : DomainBoxes F G} (is_default : U → Type 0
 
     -- the domain is one of slices still
     pub granted-several : (kept.config).variant ≡ Dynamic → is_single_valued mid.config ≡ false
-    granted-several dynamic = dynamic-several mid.config (ap (λ (config : ServiceConfig). config.variant) granted-stays.settings ∙ dynamic)
+    granted-several dynamic = dynamic-several mid.config (ap (λ (config : ServiceConfig). config.variant) granted-left.stays.settings ∙ dynamic)
 
     pub granted-publisher : loan.publisher ≡ publisher.id
     granted-publisher = ok-publisher is_default true len f mid sound publisher.place publisher.id answer stands reaches loan named
@@ -155,7 +183,7 @@ module _ {T U F G : Type 0} {boxes : DomainBoxes F G} (is_default : U → Type 0
 
     -- and then it was filled
     module _ (new : Fields T U) (values : List T) (writes : WritesLoan mid new loan.number values) where
-      pub filled-lends : (A : Type 0) (a : A) (IsValue : T → Type 0) → All IsValue values → (m : Messages T U) (s : State T U) → Shows kept m s
+      filled-lends : (A : Type 0) (a : A) (IsValue : T → Type 0) → All IsValue values → (m : Messages T U) (s : State T U) → Shows kept m s
           → (s' : State T U) × Shows (kept_of new) m s' × DefaultSliceCall {A = A} IsValue is_default len s publisher.id (Ok a) s'
       filled-lends A a IsValue all m s shown =
           let lends = ok-shown is_default true len f mid sound publisher.place publisher.id answer stands reaches A a loan is kept view m s shown in
@@ -166,69 +194,69 @@ module _ {T U F G : Type 0} {boxes : DomainBoxes F G} (is_default : U → Type 0
             (values, (lends.2).0, (lends.2).1, default-grants s lends.0 wrote.2 publisher.id loan.number at wrote.0 wrote.1 IsValue values all (lends.2).0 len (lends.2).2 wrote.3),
           )
 
-      pub filled-since : Stays kept (keeping boxes new)
+      filled-since : Stays kept (keeping boxes new)
       filled-since =
-          stays-on kept (keeping boxes mid) granted-stays (A_loan loan.number) (keeping boxes new) granted-new
+          stays-on kept (keeping boxes mid) granted-left.stays (A_loan loan.number) (keeping boxes new) granted-new
           (filled-stays mid new granted-sound (keeping boxes mid) refl loan.number values writes)
 
-      pub filled-waiting : WaitingStays kept (keeping boxes new)
+      filled-waiting : WaitingStays kept (keeping boxes new)
       filled-waiting =
           let later : WaitingStays (keeping boxes mid) (keeping boxes new) = filled-waits mid new granted-sound (keeping boxes mid) refl loan.number values writes in
-          record { all = later.all ∙ granted-waits.all; from = later.from ∙ granted-waits.from }
+          record { all = later.all ∙ granted-left.waits.all; from = later.from ∙ granted-left.waits.from }
 
-      pub filled-updated : UpToDateStay kept (keeping boxes new)
+      filled-updated : UpToDateStay kept (keeping boxes new)
       filled-updated =
           let later : UpToDateStay (keeping boxes mid) (keeping boxes new) = filled-leaves mid new granted-sound (keeping boxes mid) refl loan.number values writes in record {
-            subscribers = λ subscriber is. later.subscribers subscriber (granted-updated.subscribers subscriber is);
-            connections = λ id subscriber is. later.connections id subscriber (granted-updated.connections id subscriber is);
-            room = λ subscriber closes has. later.room subscriber closes (granted-updated.room subscriber closes has);
+            subscribers = λ subscriber is. later.subscribers subscriber (granted-left.up_to_date.subscribers subscriber is);
+            connections = λ id subscriber is. later.connections id subscriber (granted-left.up_to_date.connections id subscriber is);
+            room = λ subscriber closes has. later.room subscriber closes (granted-left.up_to_date.room subscriber closes has);
           }
 
-      pub filled-takes : TakesOneLeft publisher kept (keeping boxes new)
+      filled-takes : TakesOneLeft publisher kept (keeping boxes new)
       filled-takes =
           let later : LoansLeftStay (keeping boxes mid) (keeping boxes new) = filled-left mid new granted-sound (keeping boxes mid) refl loan.number values writes in record {
-            loans = λ n left. later.loans publisher n (granted-takes.loans n left);
-            others = λ other n away left. later.loans other n (granted-takes.others other n away left);
-            numbers = λ n left. later.numbers n (granted-takes.numbers n left);
+            loans = λ n left. later.loans publisher n (granted-left.loans_left.loans n left);
+            others = λ other n away left. later.loans other n (granted-left.loans_left.others other n away left);
+            numbers = λ n left. later.numbers n (granted-left.loans_left.numbers n left);
           }
 
       -- its handle
       module _ (handle : SampleMut) (same : handle ≡ record { service_id = publisher.service_id; loan = loan }) where
-        pub filled-out : IsWritten (keeping boxes new) handle
+        filled-out : IsWritten (keeping boxes new) handle
         filled-out =
             filled-live mid new granted-sound (keeping boxes mid) refl loan.number values writes unwritten handle refl
             (ap (λ (it : SampleMut). it.service_id) same) (ap (λ (it : SampleMut). (it.loan).publisher) same) (ap (λ (it : SampleMut). (it.loan).number) same) live
 
-        pub filled-new : IsNewIn kept (A_loan (handle.loan).number)
+        filled-new : IsNewIn kept (A_loan (handle.loan).number)
         filled-new = subst (λ (it : SampleMut). IsNewIn kept (A_loan (it.loan).number)) (sym same) granted-new
 
-        pub filled-number : (handle.loan).number ≡ kept.next_message
+        filled-number : (handle.loan).number ≡ kept.next_message
         filled-number = ap (λ (it : SampleMut). (it.loan).number) same ∙ next
 
-        pub filled-publisher : (handle.loan).publisher ≡ publisher.id
+        filled-publisher : (handle.loan).publisher ≡ publisher.id
         filled-publisher = ap (λ (it : SampleMut). (it.loan).publisher) same ∙ granted-publisher
 
-        pub filled-lender : lender_key (written_key handle) ≡ publisher_key publisher
+        filled-lender : lender_key (written_key handle) ≡ publisher_key publisher
         filled-lender =
             ap (λ (it : SampleMut). lender_key (written_key it)) same
             ∙ ap (λ (p : ℕ). record { service_id = publisher.service_id; port = p; message = 0 }) granted-publisher
 
-        pub filled-lent : HasLender (keeping boxes new) (written_key handle)
+        filled-lent : HasLender (keeping boxes new) (written_key handle)
         filled-lent = subst (IsPublisherKey (keeping boxes new)) (sym filled-lender) (filled-since.publishers (publisher_key publisher) ready.there tt)
 
-        pub filled-unblocked : IsUnblocked (keeping boxes new) (written_key handle)
+        filled-unblocked : IsUnblocked (keeping boxes new) (written_key handle)
         filled-unblocked = unblocked-alike (keeping boxes new) (publisher_key publisher) (written_key handle) filled-publisher (filled-since.unblocked (publisher_key publisher) ready.unblocked tt)
 
-        pub filled-never : NeverWaits kept (publisher_key publisher) → IsWrittenLoan (keeping boxes new) handle
+        filled-never : NeverWaits kept (publisher_key publisher) → IsWrittenLoan (keeping boxes new) handle
         filled-never never = record {
           out = filled-out;
           never_waits = never-waits-alike (keeping boxes new) (publisher_key publisher) (written_key handle) filled-publisher (filled-since.never_wait (publisher_key publisher) never);
         }
 
-        pub filled-reads : HasValues (keeping boxes new) (handle.loan).number values
+        filled-reads : HasValues (keeping boxes new) (handle.loan).number values
         filled-reads = filled-values mid new granted-sound (keeping boxes mid) refl loan.number values writes (handle.loan).number (ap (λ (it : SampleMut). (it.loan).number) same)
 
-        pub filled-length : (kept.config).units_per_element ≡ 1 → length values ≡ len
+        filled-length : (kept.config).units_per_element ≡ 1 → length values ≡ len
         filled-length one =
             let cells : HasUnwrittenCells (keeping boxes mid) loan.number (replicate (len * (f.config).units_per_element) None) =
             ok-cells is_default true len f mid sound publisher.place publisher.id answer stands reaches boxes loan is named in
@@ -238,3 +266,23 @@ module _ {T U F G : Type 0} {boxes : DomainBoxes F G} (is_default : U → Type 0
             ∙ length-replicate {A = Option T} (len * (f.config).units_per_element) None
             ∙ ap (λ (n : ℕ). len * n) units
             ∙ omega arith
+
+        pub was-located : (A : Type 0) (a : A) (IsValue : T → Type 0) → All IsValue values → (kept.config).units_per_element ≡ 1
+            → Located IsValue is_default publisher len kept (keeping boxes new) a handle values
+        was-located A a IsValue all one = record {
+          lends = filled-lends A a IsValue all;
+          out = filled-out;
+          live = filled-never;
+          unblocked = filled-unblocked;
+          size = filled-length one;
+          reads = filled-reads;
+          new_in = filled-new;
+          number = filled-number;
+          its = filled-publisher;
+          lender = filled-lender;
+          lent = filled-lent;
+          waits = filled-waiting;
+          up_to_date = filled-updated;
+          loans_left = filled-takes;
+          stays = filled-since;
+        }

@@ -1,5 +1,6 @@
 -- Whether a loan that lies in a slot is written, by the slot's mark.
 use Rattle.std.proofs.Common.{◌≡◌, ◌↔◌, ℕ, Bool, true, false, refl, ap, sym, ◌∙◌}
+use Rattle.std.proofs.lemmas.Option.{same_Some}
 use Rattle.std.specs.Prelude.{slice_get, slice_index}
 use Rattle.std.specs.declared.option.Option.TheVariants.{Some}
 use Rattle.slab.specs.Slab.{get}
@@ -8,14 +9,17 @@ use Rattle.iox2_slots.specs.declared.slots.mark.SlotMark.{SlotMark}
 use Rattle.iox2_slots.specs.declared.slots.mark.SlotMark.TheVariants.{Unwritten, Written, Sent}
 use Rattle.iox2_store.specs.machine.Records.{Loan}
 use Rattle.iox2_store.specs.machine.SingleCalls.{HoldsLoan}
-use Rattle.iox2_domain.specs.Kept.{KeptMessage, Lent_message, Sent_message, state_of}
+use Rattle.iox2_store.specs.machine.State.{State}
+use Rattle.iox2_store.specs.declared.key.Key.{Key}
+use Rattle.iox2_domain.specs.Kept.{Kept, KeptMessage, Lent_message, Sent_message, state_of}
 use Rattle.iox2_domain.specs.Fields.{Fields, kept_of, contents_at, message_of}
-use Rattle.iox2_domain.specs.LoanCalls.{HoldsUnwritten, HoldsWritten}
 use Rattle.iox2_domain.specs.LoanSlots.{LiesInSlot}
 use Rattle.iox2_domain.proofs.lemmas.slots.Messages.{LiesIn, message_in-parts}
 use Rattle.iox2_domain.proofs.lemmas.loans.LoanCalls.{same-loan}
 use Rattle.iox2_domain.proofs.lemmas.loans.LoansOut.{found-out}
-use Rattle.iox2_pubsub.specs.Parts.{IsMarkOf, written_mark}
+use Rattle.iox2_pubsub.specs.Live.{HasMark, IsLoanKey}
+use Rattle.iox2_pubsub.specs.Parts.{HoldsMarked, written_mark}
+use Rattle.iox2_pubsub.proofs.LiveParts.{has-mark, loan-live, loan-parts, marked}
 
 module _ {T U : Type 0} where
   -- whether what lies in a slot is a written loan
@@ -48,24 +52,19 @@ module _ {T U : Type 0} where
         by Written e = ap is_written_message e
         by Sent e = absurd cc
 
-      written-tells : (written_mark mark ≡ true) ↔ HoldsWritten (state_of (kept_of f)) p n
-      written-tells = (
-        λ yes. (at.loan, at.is_out, ap (λ (l : Loan T U). l.publisher) (sym (same-loan f p n key slot at is_its.0 is_its.1)) ∙ is_its.2, mark-tells ∙ yes),
-        λ has. sym mark-tells ∙ ap (λ (l : Loan T U). l.is_written) (sym (same-loan f p n key slot at has.0 has.1)) ∙ has.3,
-      )
+      pub marks-loan : HoldsMarked (state_of (kept_of f)) p n (written_mark mark)
+      marks-loan = (at.loan, at.is_out, ap (λ (l : Loan T U). l.publisher) (sym (same-loan f p n key slot at is_its.0 is_its.1)) ∙ is_its.2, mark-tells)
 
-      unwritten-tells : (written_mark mark ≡ false) ↔ HoldsUnwritten (state_of (kept_of f)) p n
-      unwritten-tells = (
-        λ no. (at.loan, at.is_out, ap (λ (l : Loan T U). l.publisher) (sym (same-loan f p n key slot at is_its.0 is_its.1)) ∙ is_its.2, mark-tells ∙ no),
-        λ has. sym mark-tells ∙ ap (λ (l : Loan T U). l.is_written) (sym (same-loan f p n key slot at has.0 has.1)) ∙ has.3,
-      )
+  -- one that is out is written as its mark says, and not otherwise
+  pub marked-so : (s : State T U) (p n : ℕ) (mark wants : Bool) → HoldsMarked s p n mark → (mark ≡ wants) ↔ HoldsMarked s p n wants
+  marked-so s p n mark wants held = (
+    λ same. (held.0, held.1, held.2, held.3 ∙ same),
+    λ has. sym held.3 ∙ ap (λ (l : Loan T U). l.is_written) (same_Some held.0 has.0 (sym held.1 ∙ has.1)) ∙ has.3,
+  )
 
-      pub marks-loan : IsMarkOf f p n mark
-      marks-loan = record { written = written-tells; unwritten = unwritten-tells }
-
-  -- a loan that isn't out is neither
-  pub no-written : (f : Fields T U) (p n : ℕ) → (HoldsLoan (state_of (kept_of f)) p n → ⊥) → HoldsWritten (state_of (kept_of f)) p n → ⊥
-  no-written f p n none has = none (has.0, has.1, has.2)
-
-  pub no-unwritten : (f : Fields T U) (p n : ℕ) → (HoldsLoan (state_of (kept_of f)) p n → ⊥) → HoldsUnwritten (state_of (kept_of f)) p n → ⊥
-  no-unwritten f p n none has = none (has.0, has.1, has.2)
+  -- and in a domain it is named by its key
+  pub marked-key : {F G : Type 0} (kept : Kept T U F G) (key : Key) (wants : Bool) → key.service_id ≡ (kept.config).service_id → HoldsMarked (state_of kept) key.port key.message wants ↔ (IsLoanKey kept key × HasMark kept key.message wants)
+  marked-key kept key wants service = (
+    λ held. (loan-live kept key (service, (held.0, held.1, held.2)), has-mark kept key.message wants held.0 held.1 held.3),
+    λ both. let held = (loan-parts kept key both.0).1 in (held.0, held.1, held.2, marked kept key.port key.message held.0 held.1 held.2 wants both.1),
+  )

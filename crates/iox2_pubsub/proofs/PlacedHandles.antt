@@ -2,10 +2,9 @@
 use Rattle.std.proofs.Common.{◌≡◌, ℕ, zero, suc, List, [], ◌∷◌, map, get_or, true, Option, None, Some, refl, ap, sym, subst, ◌∙◌}
 use Rattle.std.proofs.lemmas.Bool.{eq-eqb}
 use Rattle.std.specs.Option.{option_map}
-use Rattle.std.specs.Prelude.{◌↔◌, MatchOption}
+use Rattle.std.specs.Prelude.{◌↔◌}
 use Rattle.iox2_store.specs.machine.SingleCalls.{HoldsPublisher, HoldsSubscriber}
-use Rattle.iox2_ends.specs.LookUp.{look_up}
-use Rattle.iox2_domain.proofs.lemmas.fields.OpenPorts.{absent-publisher, open-subscriber, present-publisher, subscriber-open}
+use Rattle.iox2_domain.proofs.lemmas.fields.OpenPorts.{open-subscriber, present-publisher, subscriber-open}
 use Rattle.std.proofs.lemmas.Option.{same_Some}
 use Rattle.iox2_store.specs.machine.Places.{occupant}
 use Rattle.iox2_store.specs.machine.Records.{Publisher, Subscriber}
@@ -13,7 +12,7 @@ use Rattle.iox2_store.specs.machine.State.{State}
 use Rattle.iox2_store.specs.declared.key.Key.{Key}
 use Rattle.iox2_domain.specs.Boxes.{DomainBoxes}
 use Rattle.iox2_domain.specs.Fields.{Fields, kept_of, keeping, publisher_of, subscriber_of}
-use Rattle.iox2_domain.specs.Invariant.{IsDomain, is_publisher}
+use Rattle.iox2_domain.specs.Invariant.{IsDomain}
 use Rattle.iox2_domain.specs.Kept.{Kept, Named, ids, state_of}
 use Rattle.iox2_domain.specs.Ports.{PublisherFields, SubscriberFields}
 use Rattle.iox2_domain.proofs.lemmas.fields.ConnectionEnds.{publisher-stands, subscriber-stands}
@@ -165,11 +164,3 @@ module _ {T U F G : Type 0} {boxes : DomainBoxes F G} (f : Fields T U) (sound : 
         let has = (subscriber-parts (keeping boxes f) (subscriber_key it) (subst (λ (k : Kept T U F G). IsSubscriberKey k (subscriber_key it)) (sym view) live.there)).2 in
         (there.0, there.1, there.2, subscriber-open f it.id sound it.place there.0 there.1 there.2 has),
   )
-
-module _ {T U : Type 0} (f : Fields T U) (id : ℕ) (sound : IsDomain f) where
-  -- whoever a search found wasn't closed, where it is a publisher
-  pub publisher-found : (found : Option ℕ)
-      → MatchOption found (look_up (is_publisher id) f.publishers ≡ None) (λ i. (x : PublisherFields) × (get_or f.publishers i None ≡ Some x) × (x.id ≡ id))
-      → MatchOption found (HoldsPublisher (state_of (kept_of f)) id → ⊥) (λ i. HoldsPublisher (state_of (kept_of f)) id × (x : PublisherFields) × (get_or f.publishers i None ≡ Some x) × (x.id ≡ id))
-  publisher-found None none = absent-publisher f id none
-  publisher-found (Some i) found = (present-publisher f id sound i found.0 found.1 found.2, found.0, found.1, found.2)

@@ -4,12 +4,11 @@ use Rattle.iox2_pubsub.specs.declared.parts.PublisherParts.{PublisherParts}
 use Rattle.iox2_pubsub.specs.declared.parts.SubscriberParts.{SubscriberParts}
 use Rattle.iox2_pubsub.specs.declared.parts.LoanParts.{LoanParts}
 use Rattle.iox2_pubsub.specs.declared.parts.SampleParts.{SampleParts}
-use Rattle.std.specs.Prelude.{◌≡◌, ◌↔◌, ℕ, Bool, true, false}
+use Rattle.std.specs.Prelude.{◌≡◌, ℕ, Bool, true, false}
 use Rattle.std.specs.declared.option.Option.TheVariants.{Some}
-use Rattle.iox2_store.specs.machine.Records.{Publisher as MachinePublisher}
+use Rattle.iox2_store.specs.machine.Records.{Loan, Publisher as MachinePublisher}
+use Rattle.iox2_store.specs.machine.State.{State}
 use Rattle.iox2_domain.specs.Kept.{Kept, state_of}
-use Rattle.iox2_domain.specs.Fields.{Fields, kept_of}
-use Rattle.iox2_domain.specs.LoanCalls.{HoldsUnwritten, HoldsWritten}
 use Rattle.iox2_slots.specs.declared.slots.mark.SlotMark.{SlotMark}
 use Rattle.iox2_slots.specs.declared.slots.mark.SlotMark.TheVariants.{Written}
 use Rattle.iox2_pubsub.specs.declared.blocked_send.BlockedSend.{BlockedSend}
@@ -96,7 +95,6 @@ abbrev pub written_mark : SlotMark → Bool
 written_mark Written = true
 written_mark _ = false
 
--- The mark says whether the publisher's loan is written, which is out.
-pub record IsMarkOf {T U : Type 0} (f : Fields T U) (p n : ℕ) (mark : SlotMark) : Type 0 where
-  pub written : (written_mark mark ≡ true) ↔ HoldsWritten (state_of (kept_of f)) p n
-  pub unwritten : (written_mark mark ≡ false) ↔ HoldsUnwritten (state_of (kept_of f)) p n
+-- The publisher's loan n is out, and is written as this says.
+abbrev pub HoldsMarked : {T U : Type 0} → State T U → (publisher n : ℕ) → (is_written : Bool) → Type 0
+HoldsMarked {T} {U} s publisher n is_written = (l : Loan T U) × (s.loans n ≡ Some l) × (l.publisher ≡ publisher) × (l.is_written ≡ is_written)

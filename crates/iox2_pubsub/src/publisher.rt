@@ -11,7 +11,6 @@ mod update_connections;
 
 use crate::domain::Domain;
 use crate::keys::port_key;
-use crate::parts::hints::find_open_publisher;
 use iox2_deliveries::is_waiting;
 use iox2_store::{BackpressureFn, BackpressureStrategy, DegradationFn, Key, UniquePublisherId};
 
@@ -87,7 +86,7 @@ impl Publisher {
         if self.service_id != domain.state.config().service_id {
             return false;
         }
-        match find_open_publisher(&domain.state, self.id, self.place) {
+        match domain.state.find_publisher(self.id, self.place) {
             Some(place) => place == self.place,
             None => false,
         }

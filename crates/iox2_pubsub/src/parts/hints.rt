@@ -4,33 +4,19 @@ ghost use Rattle.iox2_store.specs.SingleValues.{is_single_valued};
 ghost use Rattle.iox2_store.specs.declared.allocation.AllocationStrategy.TheVariants.{Static};
 ghost use Rattle.iox2_store.specs.machine.Limits.{last_number};
 ghost use Rattle.iox2_store.specs.machine.Records.{Entry};
-ghost use Rattle.iox2_store.specs.machine.SingleCalls.{HoldsLoan, HoldsPublisher, HoldsSample, HoldsSubscriber};
+ghost use Rattle.iox2_store.specs.machine.SingleCalls.{HoldsLoan, HoldsSample, HoldsSubscriber};
 ghost use Rattle.iox2_domain.specs.Kept.{state_of, entries_of};
 ghost use Rattle.iox2_domain.specs.Fields.{kept_of};
 ghost use Rattle.iox2_domain.specs.Invariant.{IsDomain};
-ghost use Rattle.iox2_domain.specs.LoanCalls.{HoldsUnwritten, HoldsWritten};
+ghost use Rattle.iox2_domain.specs.LoanCalls.{HoldsWritten};
 ghost use Rattle.iox2_domain.specs.Ports.{PublisherFields, SubscriberFields};
 ghost use Rattle.iox2_domain.specs.LoanSlots.{IsLoanSlot, LiesInSlot};
 ghost use Rattle.iox2_slots.specs.declared.slots.mark.SlotMark.{SlotMark};
-ghost use Rattle.iox2_pubsub.specs.Parts.{IsMarkOf, written_mark};
+ghost use Rattle.iox2_pubsub.specs.Parts.{HoldsMarked, written_mark};
 
 use iox2_domain::{DomainState, LoanAt, SampleAt, is_loan_slot};
 use iox2_slots::{SlotBook, SlotMark};
 use iox2_store::{AllocationStrategy, UniquePublisherId, UniqueSubscriberId};
-
-/// The place of the publisher with this id, where it wasn't closed. It is looked for at the place
-/// first.
-pub(crate) fn find_open_publisher<T: Drop, U: Default + Drop>(
-    state: &DomainState<T, U>,
-    id: UniquePublisherId,
-    place: usize,
-) -> Option<usize>
-    requires { IsDomain state.now }
-    ensures { MatchOption result (HoldsPublisher (state_of (kept_of state.now)) id → ⊥)
-        (λ i. HoldsPublisher (state_of (kept_of state.now)) id × (x : PublisherFields) × (slice_index_or state.now.publishers i None ≡ Some x) × (x.id ≡ id)) }
-{
-    state.find_publisher(id, place)
-}
 
 /// Whether a publisher has this id, wasn't closed and stands at the place.
 pub(crate) fn has_publisher_at_hint<T: Drop, U: Default + Drop>(
@@ -223,7 +209,7 @@ fn is_written(mark: SlotMark) -> bool
 // What the mark of the publisher's loan is, where it is out.
 fn mark_of<T: Drop, U: Default + Drop>(state: &DomainState<T, U>, loan: &LoanAt) -> Option<SlotMark>
     requires { IsDomain state.now }
-    ensures { MatchOption result (HoldsLoan (state_of (kept_of state.now)) loan.now.publisher loan.now.number → ⊥) (IsMarkOf state.now loan.now.publisher loan.now.number) }
+    ensures { MatchOption result (HoldsLoan (state_of (kept_of state.now)) loan.now.publisher loan.now.number → ⊥) (λ mark. HoldsMarked (state_of (kept_of state.now)) loan.now.publisher loan.now.number (written_mark mark)) }
 {
     if is_lent_at_hint(state, loan) {
         return Some(state.books[loan.book].mark(loan.slot));
@@ -240,7 +226,7 @@ fn search_mark<T: Drop, U: Default + Drop>(
     number: u128,
 ) -> Option<SlotMark>
     requires { IsDomain state.now }
-    ensures { MatchOption result (HoldsLoan (state_of (kept_of state.now)) publisher number → ⊥) (IsMarkOf state.now publisher number) }
+    ensures { MatchOption result (HoldsLoan (state_of (kept_of state.now)) publisher number → ⊥) (λ mark. HoldsMarked (state_of (kept_of state.now)) publisher number (written_mark mark)) }
 {
     let Some(at) = state.find_loan(publisher, number) else {
         return None;
@@ -248,30 +234,18 @@ fn search_mark<T: Drop, U: Default + Drop>(
     Some(state.books[at.book].mark(at.slot))
 }
 
-/// Whether the publisher's loan is out and written.
-pub(crate) fn has_written<T: Drop, U: Default + Drop>(
+/// Whether the publisher's loan is out, and is written as `wants_written` says.
+#[inline(always)]
+pub(crate) fn has_marked<T: Drop, U: Default + Drop>(
     state: &DomainState<T, U>,
     loan: &LoanAt,
+    wants_written: bool,
 ) -> bool
     requires { IsDomain state.now }
-    ensures { IsTrue result ↔ HoldsWritten (state_of (kept_of state.now)) loan.now.publisher loan.now.number }
+    ensures { IsTrue result ↔ HoldsMarked (state_of (kept_of state.now)) loan.now.publisher loan.now.number wants_written }
 {
     match mark_of(state, loan) {
-        Some(mark) => is_written(mark),
-        None => false,
-    }
-}
-
-/// Whether the publisher's loan is out and isn't written.
-pub(crate) fn has_unwritten<T: Drop, U: Default + Drop>(
-    state: &DomainState<T, U>,
-    loan: &LoanAt,
-) -> bool
-    requires { IsDomain state.now }
-    ensures { IsTrue result ↔ HoldsUnwritten (state_of (kept_of state.now)) loan.now.publisher loan.now.number }
-{
-    match mark_of(state, loan) {
-        Some(mark) => !is_written(mark),
+        Some(mark) => is_written(mark) == wants_written,
         None => false,
     }
 }

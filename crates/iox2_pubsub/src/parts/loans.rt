@@ -4,7 +4,7 @@ ghost use Rattle.std.specs.Prelude.{◌↔◌, ◌≡◌, IfNone, IfSome, IsTrue
 use crate::blocked_send::BlockedSend;
 use crate::domain::Domain;
 use crate::parts::LoanParts;
-use crate::parts::hints::{has_unwritten, has_written};
+use crate::parts::hints::has_marked;
 use crate::sample_mut::SampleMut;
 use crate::sample_mut_uninit::SampleMutUninit;
 use iox2_domain::LoanAt;
@@ -67,26 +67,17 @@ impl<T: Drop, U: Default + Drop, F: BackpressureFn, G: DegradationFn> Domain<T, 
     ghost use Rattle.iox2_pubsub.specs.Live.{HasMark, IsLoanKey, IsUnwritten, IsWritten};
     ghost use Rattle.iox2_pubsub.specs.Parts.{loan_named, unwritten_parts, written_parts};
 
-    // Whether the numbers are those of a loan of this domain that is out and written.
+    // Whether the numbers are those of a loan of this domain that is out, and is written as
+    // `wants_written` says.
+    #[inline(always)]
     #[tactic(auto, unfolding(crate::specs::Live::IsLoanKey))]
-    fn has_written_of(&self, parts: &LoanParts) -> bool
-        ensures { IsTrue result ↔ (IsLoanKey self.now (loan_named parts.now) × HasMark self.now (parts.now).number true) }
+    fn has_marked_of(&self, parts: &LoanParts, wants_written: bool) -> bool
+        ensures { IsTrue result ↔ (IsLoanKey self.now (loan_named parts.now) × HasMark self.now (parts.now).number wants_written) }
     {
         if parts.service_id != self.state.config().service_id {
             return false;
         }
-        has_written(&self.state, &parts.loan())
-    }
-
-    // Whether the numbers are those of a loan of this domain that is out and isn't written.
-    #[tactic(auto, unfolding(crate::specs::Live::IsLoanKey))]
-    fn has_unwritten_of(&self, parts: &LoanParts) -> bool
-        ensures { IsTrue result ↔ (IsLoanKey self.now (loan_named parts.now) × HasMark self.now (parts.now).number false) }
-    {
-        if parts.service_id != self.state.config().service_id {
-            return false;
-        }
-        has_unwritten(&self.state, &parts.loan())
+        has_marked(&self.state, &parts.loan(), wants_written)
     }
 
     /// A handle of the written loan with these numbers, and `None` where this domain has none that
@@ -96,7 +87,7 @@ impl<T: Drop, U: Default + Drop, F: BackpressureFn, G: DegradationFn> Domain<T, 
         ensures named { IfSome result (λ loan. written_parts loan ≡ parts.now) }
         ensures none { IfNone result (IsLoanKey self.now (loan_named parts.now) → HasMark self.now (parts.now).number true → ⊥) }
     {
-        if !self.has_written_of(parts) {
+        if !self.has_marked_of(parts, true) {
             return None;
         }
         Some(SampleMut {
@@ -112,7 +103,7 @@ impl<T: Drop, U: Default + Drop, F: BackpressureFn, G: DegradationFn> Domain<T, 
         ensures named { IfSome result (λ loan. unwritten_parts loan ≡ parts.now) }
         ensures none { IfNone result (IsLoanKey self.now (loan_named parts.now) → HasMark self.now (parts.now).number false → ⊥) }
     {
-        if !self.has_unwritten_of(parts) {
+        if !self.has_marked_of(parts, false) {
             return None;
         }
         Some(SampleMutUninit {

@@ -2,7 +2,7 @@
 ghost use Rattle.std.specs.Prelude.{◌≡◌, IfNone, IfSome};
 
 use crate::domain::Domain;
-use crate::parts::hints::{find_open_publisher, find_open_subscriber};
+use crate::parts::hints::find_open_subscriber;
 use crate::parts::{PublisherParts, SubscriberParts};
 use crate::publisher::Publisher;
 use crate::subscriber::Subscriber;
@@ -50,7 +50,7 @@ impl<T: Drop, U: Default + Drop, F: BackpressureFn, G: DegradationFn> Domain<T, 
             return None;
         }
         let id = UniquePublisherId::new(parts.id);
-        let Some(place) = find_open_publisher(&self.state, id, parts.place) else {
+        let Some(place) = self.state.find_publisher(id, parts.place) else {
             return None;
         };
         Some(Publisher {

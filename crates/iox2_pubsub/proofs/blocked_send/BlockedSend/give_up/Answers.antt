@@ -1,4 +1,4 @@
-use Rattle.std.proofs.Common.{List, ◌≡◌, ◌<◌, ap, refl, sym, subst, ◌∙◌, None, Some}
+use Rattle.std.proofs.Common.{List, ◌<◌, ap, refl, sym, subst, ◌∙◌}
 use Rattle.iox2_domain.specs.Boxes.{answers_of}
 use Rattle.iox2_domain.specs.declared.boxes.PortBox.{PortBox}
 use Rattle.iox2_store.specs.machine.Sends.{GiveUp}
@@ -9,11 +9,9 @@ use Rattle.iox2_laws.proofs.SendsRemain.{give_up_waits_with}
 use Rattle.iox2_deliveries.specs.SendEnds.{end_result}
 use Rattle.iox2_domain.specs.Fields.{kept_of, keeping}
 use Rattle.iox2_domain.specs.Kept.{Kept, state_of}
-use Rattle.iox2_domain.proofs.lemmas.slots.LeftConnections.{unknown, stands-nowhere}
 use Rattle.iox2_pubsub.specs.Live.{blocked_key, lender_key, written_key}
 use Rattle.iox2_pubsub.specs.SendCalls.{result_of_send}
-use Rattle.iox2_pubsub.proofs.BlockedShown.{has-blocked, as-machine, some-waits, give-up-shown, give-up-stays, give-up-frees-key, only-undelivered}
-use Rattle.iox2_pubsub.proofs.CallsStay.{always-shown, blocked-shown}
+use Rattle.iox2_pubsub.proofs.BlockedShown.{as-machine, give-up-shown, give-up-stays, give-up-frees-key, only-undelivered}
 use Rattle.iox2_pubsub.proofs.LiveParts.{blocked-parts, blocked-live, unblocked-alike, unfailed-parts}
 use Rattle.iox2_pubsub.proofs.UnfailedSends.{IsMild, give-up-unfailed}
 use Rattle.iox2_pubsub.proofs.LoansLeftShown.{give-up-left, give-up-gives, sent-free}
@@ -22,36 +20,30 @@ use Rattle.iox2_pubsub.specs.BlockedSends.{StaysSince, receivers_ahead}
 use Rattle.iox2_pubsub.specs.declared.blocked_send.BlockedSend.{BlockedSend as Handle}
 use Rattle.iox2_pubsub.proofs.SendShown.{is-blocked, only-ok}
 use Rattle.iox2_pubsub.proofs.StaysBut.{stays-since-block}
+use Rattle.iox2_pubsub.proofs.WaitingSends.{blocked-inside, blocked-stands, delivery-there, from-blocked, waits-there}
 use Rattle.iox2_pubsub.proofs.UpToDateShown.{give-up-leaves}
 use Rattle.iox2_pubsub.proofs.WaitingShown.{give-up-adds}
 use Rattle.iox2_pubsub.proofs.blocked_send.BlockedSend.give_up.Goals as goal
 
 pub find_live_publisher-place-requires : goal.find_live_publisher-place-requires
-find_live_publisher-place-requires g c = λ none.
-    let held = subst (λ (k : Kept g.row.T.Denot g.row.U.Denot g.row.F.Denot g.row.G.Denot). HoldsBlocked (state_of k) c.args.self.loan.publisher c.args.self.loan.number) (sym c.domain.view_is) (blocked-parts c.args.domain.now (blocked_key c.args.self) c.requires.live).1 in
-    let no : None ≡ Some held.0 = sym (unknown c.domain.inside.state c.args.self.loan.publisher (stands-nowhere c.domain.inside.state.publishers c.args.self.loan.publisher none)) ∙ held.2 in
-    absurd cc
+find_live_publisher-place-requires g c = blocked-stands {T = g.row.T.Denot} {U = g.row.U.Denot} c.domain.inside.state c.domain.invariant c.args.domain.now c.domain.view_is c.args.self c.requires.live
 
 pub give_up_send-end-requires-clause-waits : goal.give_up_send-end-requires-clause-waits
-give_up_send-end-requires-clause-waits g c =
-    has-blocked c.domain.inside.state c.domain.invariant c.find_live_publisher-place.result c.args.self.loan.publisher c.args.self.loan.number c.find_live_publisher-place.ensures
-    (subst (λ (k : Kept g.row.T.Denot g.row.U.Denot g.row.F.Denot g.row.G.Denot). HoldsBlocked (state_of k) c.args.self.loan.publisher c.args.self.loan.number) (sym c.domain.view_is) (blocked-parts c.args.domain.now (blocked_key c.args.self) c.requires.live).1)
+give_up_send-end-requires-clause-waits g c = waits-there {T = g.row.T.Denot} {U = g.row.U.Denot} c.domain.inside.state c.domain.invariant c.args.domain.now c.domain.view_is c.args.self c.requires.live c.find_live_publisher-place.result c.find_live_publisher-place.ensures
 
 pub invariant_of-domain : goal.invariant_of-domain
 invariant_of-domain g c =
-    let d = some-waits c.domain.inside.state c.domain.invariant c.find_live_publisher-place.result c.args.self.loan.publisher c.args.self.loan.number c.find_live_publisher-place.ensures
-    (subst (λ (k : Kept g.row.T.Denot g.row.U.Denot g.row.F.Denot g.row.G.Denot). HoldsBlocked (state_of k) c.args.self.loan.publisher c.args.self.loan.number) (sym c.domain.view_is) (blocked-parts c.args.domain.now (blocked_key c.args.self) c.requires.live).1) in
+    let d = delivery-there {T = g.row.T.Denot} {U = g.row.U.Denot} c.domain.inside.state c.domain.invariant c.args.domain.now c.domain.view_is c.args.self c.requires.live c.find_live_publisher-place.result c.find_live_publisher-place.ensures in
     (c.give_up_send-end.ensures.goes c.find_live_publisher-place.ensures.0 (d).0 c.find_live_publisher-place.ensures.1 (d).1).agrees
 
 pub returns-clause-gives_up : goal.returns-clause-gives_up
 returns-clause-gives_up g c = λ m s x b shown at waits.
-    let d = some-waits c.domain.inside.state c.domain.invariant c.find_live_publisher-place.result c.args.self.loan.publisher c.args.self.loan.number c.find_live_publisher-place.ensures
-    (subst (λ (k : Kept g.row.T.Denot g.row.U.Denot g.row.F.Denot g.row.G.Denot). HoldsBlocked (state_of k) c.args.self.loan.publisher c.args.self.loan.number) (sym c.domain.view_is) (blocked-parts c.args.domain.now (blocked_key c.args.self) c.requires.live).1) in
+    let d = delivery-there {T = g.row.T.Denot} {U = g.row.U.Denot} c.domain.inside.state c.domain.invariant c.args.domain.now c.domain.view_is c.args.self c.requires.live c.find_live_publisher-place.result c.find_live_publisher-place.ensures in
     let step = c.give_up_send-end.ensures.goes c.find_live_publisher-place.ensures.0 (d).0 c.find_live_publisher-place.ensures.1 (d).1 in
     let after : State g.row.T.Denot g.row.U.Denot = state_of (kept_of c.give_up_send-end.new.state) in
     let inside : GiveUp (answers_of g.F.BackpressureFn.allows g.G.DegradationFn.allows c.domain.inside.boxes.boxes) s c.args.self.loan.publisher b after (end_result c.give_up_send-end.result) =
     as-machine c.domain.inside.state c.domain.invariant c.find_live_publisher-place.result c.args.self.loan.publisher c.args.self.loan.number c.find_live_publisher-place.ensures
-    (subst (λ (k : Kept g.row.T.Denot g.row.U.Denot g.row.F.Denot g.row.G.Denot). HoldsBlocked (state_of k) c.args.self.loan.publisher c.args.self.loan.number) (sym c.domain.view_is) (blocked-parts c.args.domain.now (blocked_key c.args.self) c.requires.live).1)
+    (blocked-inside {T = g.row.T.Denot} {U = g.row.U.Denot} c.domain.inside.state c.domain.invariant c.args.domain.now c.domain.view_is c.args.self c.requires.live)
     c.args.domain.now c.domain.view_is m s shown x b at waits
     (λ t q w. GiveUp (answers_of g.F.BackpressureFn.allows g.G.DegradationFn.allows c.domain.inside.boxes.boxes) t q w after (end_result c.give_up_send-end.result)) step.gives_up in
     let machine : GiveUp (answers_of g.F.BackpressureFn.allows g.G.DegradationFn.allows c.args.domain.now.boxes.publishers) s c.args.self.loan.publisher b after (end_result c.give_up_send-end.result) =
@@ -65,24 +57,21 @@ returns-clause-gives_up g c = λ m s x b shown at waits.
 
 pub returns-clause-stays : goal.returns-clause-stays
 returns-clause-stays g c =
-    let it = blocked-shown {T = g.row.T.Denot} {U = g.row.U.Denot} c.domain.inside.state c.args.domain.now c.domain.invariant c.domain.view_is (blocked_key c.args.self) c.requires.live in
-    let next = returns-clause-gives_up g c it.0 it.1 (it.3).0 (it.3).1 it.2 (it.3).2 (it.3).3 in
-    let d = some-waits c.domain.inside.state c.domain.invariant c.find_live_publisher-place.result c.args.self.loan.publisher c.args.self.loan.number c.find_live_publisher-place.ensures
-    (subst (λ (k : Kept g.row.T.Denot g.row.U.Denot g.row.F.Denot g.row.G.Denot). HoldsBlocked (state_of k) c.args.self.loan.publisher c.args.self.loan.number) (sym c.domain.view_is) (blocked-parts c.args.domain.now (blocked_key c.args.self) c.requires.live).1) in
+    let it = from-blocked {T = g.row.T.Denot} {U = g.row.U.Denot} c.domain.inside.state c.domain.invariant c.args.domain.now c.domain.view_is c.args.self c.requires.live (returns-clause-gives_up g c) in
+    let d = delivery-there {T = g.row.T.Denot} {U = g.row.U.Denot} c.domain.inside.state c.domain.invariant c.args.domain.now c.domain.view_is c.args.self c.requires.live c.find_live_publisher-place.result c.find_live_publisher-place.ensures in
     let step = c.give_up_send-end.ensures.goes c.find_live_publisher-place.ensures.0 (d).0 c.find_live_publisher-place.ensures.1 (d).1 in
-    give-up-stays {T = g.row.T.Denot} {U = g.row.U.Denot} c.domain.inside.state c.give_up_send-end.new.state c.args.domain.now c.domain.view_is it.0 it.1 it.2 c.args.self.loan.publisher (result_of_send c.outcome_of.result) (answers_of g.F.BackpressureFn.allows g.G.DegradationFn.allows c.args.domain.now.boxes.publishers) (it.3).0 (it.3).1 (it.3).2 (it.3).3
-    step.agrees (subst (λ (t : State g.row.T.Denot g.row.U.Denot). GiveUp (answers_of g.F.BackpressureFn.allows g.G.DegradationFn.allows c.args.domain.now.boxes.publishers) it.1 c.args.self.loan.publisher (it.3).1 t (result_of_send c.outcome_of.result)) (next.1).state next.2) step.entries
+    give-up-stays {T = g.row.T.Denot} {U = g.row.U.Denot} c.domain.inside.state c.give_up_send-end.new.state c.args.domain.now c.domain.view_is it.m it.s it.shown c.args.self.loan.publisher (result_of_send c.outcome_of.result) (answers_of g.F.BackpressureFn.allows g.G.DegradationFn.allows c.args.domain.now.boxes.publishers) it.held.0 it.held.1 it.at it.held.3
+    step.agrees (subst (λ (t : State g.row.T.Denot g.row.U.Denot). GiveUp (answers_of g.F.BackpressureFn.allows g.G.DegradationFn.allows c.args.domain.now.boxes.publishers) it.s c.args.self.loan.publisher it.held.1 t (result_of_send c.outcome_of.result)) (it.step.1).state it.step.2) step.entries
 
 pub returns-clause-blocked : goal.returns-clause-blocked
 returns-clause-blocked g c =
-    let it = blocked-shown {T = g.row.T.Denot} {U = g.row.U.Denot} c.domain.inside.state c.args.domain.now c.domain.invariant c.domain.view_is (blocked_key c.args.self) c.requires.live in
-    let next = returns-clause-gives_up g c it.0 it.1 (it.3).0 (it.3).1 it.2 (it.3).2 (it.3).3 in
+    let it = from-blocked {T = g.row.T.Denot} {U = g.row.U.Denot} c.domain.inside.state c.domain.invariant c.args.domain.now c.domain.view_is c.args.self c.requires.live (returns-clause-gives_up g c) in
     is-blocked {T = g.row.T.Denot} {U = g.row.U.Denot} (keeping _ c.give_up_send-end.new.state) (blocked_key c.args.self) c.args.self refl c.outcome_of.result c.outcome_of.ensures.blocked (λ blocked.
     blocked-live (keeping _ c.give_up_send-end.new.state) (blocked_key c.args.self) (
       (blocked-parts c.args.domain.now (blocked_key c.args.self) c.requires.live).0 ∙ sym (ap (λ (k : ServiceConfig). k.service_id) (returns-clause-stays g c).settings),
-      subst (HoldsBlocked (state_of (kept_of c.give_up_send-end.new.state)) c.args.self.loan.publisher) (it.3).4
-          (subst (λ (t : State g.row.T.Denot g.row.U.Denot). HoldsBlocked t c.args.self.loan.publisher ((it.3).1).message) (next.1).state
-          (give_up_waits_with (answers_of g.F.BackpressureFn.allows g.G.DegradationFn.allows c.args.domain.now.boxes.publishers) it.1 c.args.self.loan.publisher (it.3).1 next.0 _ next.2 blocked)),
+      subst (HoldsBlocked (state_of (kept_of c.give_up_send-end.new.state)) c.args.self.loan.publisher) it.held.4
+          (subst (λ (t : State g.row.T.Denot g.row.U.Denot). HoldsBlocked t c.args.self.loan.publisher it.held.1.message) (it.step.1).state
+          (give_up_waits_with (answers_of g.F.BackpressureFn.allows g.G.DegradationFn.allows c.args.domain.now.boxes.publishers) it.s c.args.self.loan.publisher it.held.1 it.step.0 _ it.step.2 blocked)),
     ))
 
 pub returns-clause-failed : goal.returns-clause-failed
@@ -90,67 +79,54 @@ returns-clause-failed g c = only-undelivered c.give_up_send-end.result c.give_up
 
 pub returns-clause-freed : goal.returns-clause-freed
 returns-clause-freed g c = λ ends.
-    let it = blocked-shown {T = g.row.T.Denot} {U = g.row.U.Denot} c.domain.inside.state c.args.domain.now c.domain.invariant c.domain.view_is (blocked_key c.args.self) c.requires.live in
-    let next = returns-clause-gives_up g c it.0 it.1 (it.3).0 (it.3).1 it.2 (it.3).2 (it.3).3 in
-    give-up-frees-key {T = g.row.T.Denot} {U = g.row.U.Denot} (keeping _ c.give_up_send-end.new.state) it.0 it.1 next.0 next.1 c.args.self.loan.publisher (it.3).0 (it.3).1 (it.3).2 (result_of_send c.outcome_of.result) (sent-free c.outcome_of.result ends) (answers_of g.F.BackpressureFn.allows g.G.DegradationFn.allows c.args.domain.now.boxes.publishers) next.2 (lender_key (blocked_key c.args.self)) refl
+    let it = from-blocked {T = g.row.T.Denot} {U = g.row.U.Denot} c.domain.inside.state c.domain.invariant c.args.domain.now c.domain.view_is c.args.self c.requires.live (returns-clause-gives_up g c) in
+    give-up-frees-key {T = g.row.T.Denot} {U = g.row.U.Denot} (keeping _ c.give_up_send-end.new.state) it.m it.s it.step.0 it.step.1 c.args.self.loan.publisher it.held.0 it.held.1 it.at (result_of_send c.outcome_of.result) (sent-free c.outcome_of.result ends) (answers_of g.F.BackpressureFn.allows g.G.DegradationFn.allows c.args.domain.now.boxes.publishers) it.step.2 (lender_key (blocked_key c.args.self)) refl
 
 pub returns-clause-loans_freed : goal.returns-clause-loans_freed
 returns-clause-loans_freed g c = λ ends loan its.
-    let it = blocked-shown {T = g.row.T.Denot} {U = g.row.U.Denot} c.domain.inside.state c.args.domain.now c.domain.invariant c.domain.view_is (blocked_key c.args.self) c.requires.live in
-    let next = returns-clause-gives_up g c it.0 it.1 (it.3).0 (it.3).1 it.2 (it.3).2 (it.3).3 in
-    give-up-frees-key {T = g.row.T.Denot} {U = g.row.U.Denot} (keeping _ c.give_up_send-end.new.state) it.0 it.1 next.0 next.1 c.args.self.loan.publisher (it.3).0 (it.3).1 (it.3).2 (result_of_send c.outcome_of.result) (sent-free c.outcome_of.result ends) (answers_of g.F.BackpressureFn.allows g.G.DegradationFn.allows c.args.domain.now.boxes.publishers) next.2 (written_key loan) its
+    let it = from-blocked {T = g.row.T.Denot} {U = g.row.U.Denot} c.domain.inside.state c.domain.invariant c.args.domain.now c.domain.view_is c.args.self c.requires.live (returns-clause-gives_up g c) in
+    give-up-frees-key {T = g.row.T.Denot} {U = g.row.U.Denot} (keeping _ c.give_up_send-end.new.state) it.m it.s it.step.0 it.step.1 c.args.self.loan.publisher it.held.0 it.held.1 it.at (result_of_send c.outcome_of.result) (sent-free c.outcome_of.result ends) (answers_of g.F.BackpressureFn.allows g.G.DegradationFn.allows c.args.domain.now.boxes.publishers) it.step.2 (written_key loan) its
 
 pub returns-clause-adds : goal.returns-clause-adds
 returns-clause-adds g c =
-    let it = blocked-shown {T = g.row.T.Denot} {U = g.row.U.Denot} c.domain.inside.state c.args.domain.now c.domain.invariant c.domain.view_is (blocked_key c.args.self) c.requires.live in
-    let next = returns-clause-gives_up g c it.0 it.1 (it.3).0 (it.3).1 it.2 (it.3).2 (it.3).3 in
-    give-up-adds {T = g.row.T.Denot} {U = g.row.U.Denot} c.args.domain.now (keeping _ c.give_up_send-end.new.state) it.0 it.0 it.1 next.0 it.2 next.1 (answers_of g.F.BackpressureFn.allows g.G.DegradationFn.allows c.args.domain.now.boxes.publishers) c.args.self.loan.publisher (it.3).0 (it.3).1 (result_of_send c.outcome_of.result) (it.3).2 (it.3).3 next.2
+    let it = from-blocked {T = g.row.T.Denot} {U = g.row.U.Denot} c.domain.inside.state c.domain.invariant c.args.domain.now c.domain.view_is c.args.self c.requires.live (returns-clause-gives_up g c) in
+    give-up-adds {T = g.row.T.Denot} {U = g.row.U.Denot} c.args.domain.now (keeping _ c.give_up_send-end.new.state) it.m it.m it.s it.step.0 it.shown it.step.1 (answers_of g.F.BackpressureFn.allows g.G.DegradationFn.allows c.args.domain.now.boxes.publishers) c.args.self.loan.publisher it.held.0 it.held.1 (result_of_send c.outcome_of.result) it.at it.held.3 it.step.2
 
 pub returns-clause-up_to_date : goal.returns-clause-up_to_date
 returns-clause-up_to_date g c =
-    let it = blocked-shown {T = g.row.T.Denot} {U = g.row.U.Denot} c.domain.inside.state c.args.domain.now c.domain.invariant c.domain.view_is (blocked_key c.args.self) c.requires.live in
-    let next = returns-clause-gives_up g c it.0 it.1 (it.3).0 (it.3).1 it.2 (it.3).2 (it.3).3 in
-    give-up-leaves {T = g.row.T.Denot} {U = g.row.U.Denot} c.args.domain.now (keeping _ c.give_up_send-end.new.state) it.0 it.0 it.1 next.0 it.2 next.1 (answers_of g.F.BackpressureFn.allows g.G.DegradationFn.allows c.args.domain.now.boxes.publishers) c.args.self.loan.publisher (it.3).1 (result_of_send c.outcome_of.result) next.2
+    let it = from-blocked {T = g.row.T.Denot} {U = g.row.U.Denot} c.domain.inside.state c.domain.invariant c.args.domain.now c.domain.view_is c.args.self c.requires.live (returns-clause-gives_up g c) in
+    give-up-leaves {T = g.row.T.Denot} {U = g.row.U.Denot} c.args.domain.now (keeping _ c.give_up_send-end.new.state) it.m it.m it.s it.step.0 it.shown it.step.1 (answers_of g.F.BackpressureFn.allows g.G.DegradationFn.allows c.args.domain.now.boxes.publishers) c.args.self.loan.publisher it.held.1 (result_of_send c.outcome_of.result) it.step.2
 
 pub returns-clause-loans_left : goal.returns-clause-loans_left
 returns-clause-loans_left g c =
-    let it = blocked-shown {T = g.row.T.Denot} {U = g.row.U.Denot} c.domain.inside.state c.args.domain.now c.domain.invariant c.domain.view_is (blocked_key c.args.self) c.requires.live in
-    let next = returns-clause-gives_up g c it.0 it.1 (it.3).0 (it.3).1 it.2 (it.3).2 (it.3).3 in
-    give-up-left {T = g.row.T.Denot} {U = g.row.U.Denot} c.args.domain.now (keeping _ c.give_up_send-end.new.state) it.0 it.0 it.1 next.0 it.2 next.1 c.args.self.loan.publisher (it.3).0 (it.3).1 (it.3).2 (it.3).3 (answers_of g.F.BackpressureFn.allows g.G.DegradationFn.allows c.args.domain.now.boxes.publishers) (result_of_send c.outcome_of.result) next.2
+    let it = from-blocked {T = g.row.T.Denot} {U = g.row.U.Denot} c.domain.inside.state c.domain.invariant c.args.domain.now c.domain.view_is c.args.self c.requires.live (returns-clause-gives_up g c) in
+    give-up-left {T = g.row.T.Denot} {U = g.row.U.Denot} c.args.domain.now (keeping _ c.give_up_send-end.new.state) it.m it.m it.s it.step.0 it.shown it.step.1 c.args.self.loan.publisher it.held.0 it.held.1 it.at it.held.3 (answers_of g.F.BackpressureFn.allows g.G.DegradationFn.allows c.args.domain.now.boxes.publishers) (result_of_send c.outcome_of.result) it.step.2
 
 pub returns-clause-given_back : goal.returns-clause-given_back
 returns-clause-given_back g c = λ ends.
-    let it = blocked-shown {T = g.row.T.Denot} {U = g.row.U.Denot} c.domain.inside.state c.args.domain.now c.domain.invariant c.domain.view_is (blocked_key c.args.self) c.requires.live in
-    let next = returns-clause-gives_up g c it.0 it.1 (it.3).0 (it.3).1 it.2 (it.3).2 (it.3).3 in
-    give-up-gives {T = g.row.T.Denot} {U = g.row.U.Denot} c.args.domain.now (keeping _ c.give_up_send-end.new.state) it.0 it.0 it.1 next.0 it.2 next.1 c.args.self.loan.publisher (it.3).0 (it.3).1 (it.3).2 (it.3).3 (answers_of g.F.BackpressureFn.allows g.G.DegradationFn.allows c.args.domain.now.boxes.publishers) (result_of_send c.outcome_of.result) (sent-free c.outcome_of.result ends) next.2
+    let it = from-blocked {T = g.row.T.Denot} {U = g.row.U.Denot} c.domain.inside.state c.domain.invariant c.args.domain.now c.domain.view_is c.args.self c.requires.live (returns-clause-gives_up g c) in
+    give-up-gives {T = g.row.T.Denot} {U = g.row.U.Denot} c.args.domain.now (keeping _ c.give_up_send-end.new.state) it.m it.m it.s it.step.0 it.shown it.step.1 c.args.self.loan.publisher it.held.0 it.held.1 it.at it.held.3 (answers_of g.F.BackpressureFn.allows g.G.DegradationFn.allows c.args.domain.now.boxes.publishers) (result_of_send c.outcome_of.result) (sent-free c.outcome_of.result ends) it.step.2
 
 pub returns-clause-stays_since : goal.returns-clause-stays_since
 unfolding StaysSince
 returns-clause-stays_since g c = λ ends start free before.
-    let it = blocked-shown {T = g.row.T.Denot} {U = g.row.U.Denot} c.domain.inside.state c.args.domain.now c.domain.invariant c.domain.view_is (blocked_key c.args.self) c.requires.live in
-    let next = returns-clause-gives_up g c it.0 it.1 (it.3).0 (it.3).1 it.2 (it.3).2 (it.3).3 in
+    let it = from-blocked {T = g.row.T.Denot} {U = g.row.U.Denot} c.domain.inside.state c.domain.invariant c.args.domain.now c.domain.view_is c.args.self c.requires.live (returns-clause-gives_up g c) in
     stays-since-block c.args.self.loan.publisher start c.args.domain.now _ (λ key its. unblocked-alike start (lender_key (blocked_key c.args.self)) key its free) before (returns-clause-stays g c)
-    (give-up-frees-key {T = g.row.T.Denot} {U = g.row.U.Denot} (keeping _ c.give_up_send-end.new.state) it.0 it.1 next.0 next.1 c.args.self.loan.publisher (it.3).0 (it.3).1 (it.3).2 (result_of_send c.outcome_of.result) (sent-free c.outcome_of.result ends) (answers_of g.F.BackpressureFn.allows g.G.DegradationFn.allows c.args.domain.now.boxes.publishers) next.2)
+    (give-up-frees-key {T = g.row.T.Denot} {U = g.row.U.Denot} (keeping _ c.give_up_send-end.new.state) it.m it.s it.step.0 it.step.1 c.args.self.loan.publisher it.held.0 it.held.1 it.at (result_of_send c.outcome_of.result) (sent-free c.outcome_of.result ends) (answers_of g.F.BackpressureFn.allows g.G.DegradationFn.allows c.args.domain.now.boxes.publishers) it.step.2)
 
 pub returns-clause-fewer : goal.returns-clause-fewer
 returns-clause-fewer g c =
-    let it = always-shown {T = g.row.T.Denot} {U = g.row.U.Denot} c.domain.inside.state c.args.domain.now c.domain.invariant c.domain.view_is in
-    let held = (blocked-parts c.args.domain.now (blocked_key c.args.self) c.requires.live).1 in
-    let at = ap (λ (t : State g.row.T.Denot g.row.U.Denot). t.publishers c.args.self.loan.publisher) (it.2).state ∙ held.2 in
-    let next = returns-clause-gives_up g c it.0 it.1 held.0 held.1 it.2 at held.3 in
+    let it = from-blocked {T = g.row.T.Denot} {U = g.row.U.Denot} c.domain.inside.state c.domain.invariant c.args.domain.now c.domain.view_is c.args.self c.requires.live (returns-clause-gives_up g c) in
     where-blocked (λ (again : Handle). receivers_ahead (keeping _ c.give_up_send-end.new.state) again < receivers_ahead c.args.domain.now c.args.self) c.args.self c.outcome_of.result c.outcome_of.ensures.blocked (λ waits.
-    give-up-fewer {T = g.row.T.Denot} {U = g.row.U.Denot} c.args.domain.now (keeping _ c.give_up_send-end.new.state) c.args.self held it.1 next.0 (it.2).state (next.1).state (answers_of g.F.BackpressureFn.allows g.G.DegradationFn.allows c.args.domain.now.boxes.publishers) (result_of_send c.outcome_of.result) waits next.2)
+    give-up-fewer {T = g.row.T.Denot} {U = g.row.U.Denot} c.args.domain.now (keeping _ c.give_up_send-end.new.state) c.args.self it.held it.s it.step.0 it.shown.state (it.step.1).state (answers_of g.F.BackpressureFn.allows g.G.DegradationFn.allows c.args.domain.now.boxes.publishers) (result_of_send c.outcome_of.result) waits it.step.2)
 
 pub returns-clause-ok : goal.returns-clause-ok
 returns-clause-ok g c = λ never.
-    let it = always-shown {T = g.row.T.Denot} {U = g.row.U.Denot} c.domain.inside.state c.args.domain.now c.domain.invariant c.domain.view_is in
-    let held = (blocked-parts c.args.domain.now (blocked_key c.args.self) c.requires.live).1 in
-    let at = ap (λ (t : State g.row.T.Denot g.row.U.Denot). t.publishers c.args.self.loan.publisher) (it.2).state ∙ held.2 in
-    let next = returns-clause-gives_up g c it.0 it.1 held.0 held.1 it.2 at held.3 in
+    let it = from-blocked {T = g.row.T.Denot} {U = g.row.U.Denot} c.domain.inside.state c.domain.invariant c.args.domain.now c.domain.view_is c.args.self c.requires.live (returns-clause-gives_up g c) in
     let has = unfailed-parts c.args.domain.now c.args.self.loan.publisher never in
-    let mild : IsMild it.1 c.args.self.loan.publisher = subst (λ (t : State g.row.T.Denot g.row.U.Denot). IsMild t c.args.self.loan.publisher) (sym (it.2).state) has.1 in
+    let mild : IsMild it.s c.args.self.loan.publisher = subst (λ (t : State g.row.T.Denot g.row.U.Denot). IsMild t c.args.self.loan.publisher) (sym it.shown.state) has.1 in
     only-ok c.give_up_send-end.result c.give_up_send-end.ensures.kept (λ failed.
-    (give-up-unfailed {T = g.row.T.Denot} {U = g.row.U.Denot} (answers_of g.F.BackpressureFn.allows g.G.DegradationFn.allows c.args.domain.now.boxes.publishers) it.1 c.args.self.loan.publisher held.1 next.0 (result_of_send c.outcome_of.result) mild (has.2 held.0 held.1 held.2 held.3) next.2).1
+    (give-up-unfailed {T = g.row.T.Denot} {U = g.row.U.Denot} (answers_of g.F.BackpressureFn.allows g.G.DegradationFn.allows c.args.domain.now.boxes.publishers) it.s c.args.self.loan.publisher it.held.1 it.step.0 (result_of_send c.outcome_of.result) mild (has.2 it.held.0 it.held.1 it.held.2 it.held.3) it.step.2).1
     (c.outcome_of.ensures.same ∙ failed))
     c.outcome_of.result c.outcome_of.ensures.same
 

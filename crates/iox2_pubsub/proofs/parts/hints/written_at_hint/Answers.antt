@@ -1,10 +1,11 @@
-use Rattle.std.proofs.Common.{◌≡◌, ℕ, is_some, ap, sym, subst, ◌∙◌}
+use Rattle.std.proofs.Common.{◌≡◌, ℕ, is_some, true, ap, sym, subst, ◌∙◌}
 use Rattle.std.specs.declared.option.Option.TheVariants.{Some}
 use Rattle.slab.specs.Slab.{get}
-use Rattle.iox2_domain.specs.Fields.{Fields}
+use Rattle.iox2_domain.specs.Fields.{Fields, kept_of}
+use Rattle.iox2_domain.specs.Kept.{state_of}
 use Rattle.iox2_domain.specs.LoanSlots.{LiesInSlot}
 use Rattle.iox2_domain.proofs.lemmas.loans.LoanSlots.{book-its, lies-in-book}
-use Rattle.iox2_pubsub.proofs.MarkedLoans.{marks-loan}
+use Rattle.iox2_pubsub.proofs.MarkedLoans.{marked-so, marks-loan}
 use Rattle.iox2_pubsub.proofs.parts.hints.written_at_hint.Goals as goal
 
 pub index-requires : goal.index-requires
@@ -23,4 +24,4 @@ returns-then-is_written_slot-clause-written g c =
     let lies = subst (λ (q : ℕ). LiesInSlot {T = g.row.T.Denot} {U = g.row.U.Denot} c.args.state.now q c.args.loan.now.number c.in-Some.key c.args.loan.now.slot) its
     (lies-in-book {T = g.row.T.Denot} {U = g.row.U.Denot} c.args.state.now c.requires c.in-Some.key c.args.loan.now.slot c.args.loan.now.number c.index.result.now here (c.is_written_slot.ensures.loan c.if-is_written_slot.true)) in
     let marked = c.is_written_slot.ensures.written c.if-is_written_slot.true in
-    (marks-loan {T = g.row.T.Denot} {U = g.row.U.Denot} c.args.state.now c.args.loan.now.publisher c.args.loan.now.number c.in-Some.key c.args.loan.now.slot lies c.index.result.now here marked.0 marked.1).written.0 marked.2
+    (marked-so (state_of (kept_of c.args.state.now)) c.args.loan.now.publisher c.args.loan.now.number _ true (marks-loan {T = g.row.T.Denot} {U = g.row.U.Denot} c.args.state.now c.args.loan.now.publisher c.args.loan.now.number c.in-Some.key c.args.loan.now.slot lies c.index.result.now here marked.0 marked.1)).0 marked.2

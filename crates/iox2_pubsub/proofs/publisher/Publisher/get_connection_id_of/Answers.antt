@@ -1,9 +1,7 @@
-use Rattle.std.proofs.Common.{ℕ, ap, ◌∙◌}
+use Rattle.std.proofs.Common.{ℕ}
 use Rattle.iox2_store.specs.machine.ChannelCalls.{connection_place}
 use Rattle.iox2_store.specs.machine.State.{State}
-use Rattle.iox2_domain.specs.Fields.{kept_of}
-use Rattle.iox2_domain.specs.Kept.{state_of}
-use Rattle.iox2_pubsub.proofs.ChannelsShown.{shown-answer}
+use Rattle.iox2_pubsub.proofs.ChannelsShown.{publisher-answer}
 use Rattle.iox2_pubsub.proofs.PlacedHandles.{publisher-there}
 use Rattle.iox2_pubsub.proofs.publisher.Publisher.get_connection_id_of.Goals as goal
 
@@ -14,8 +12,5 @@ place_of_receiver-requires-clause-stands g c =
 
 pub returns : goal.returns
 returns g c =
-    let at = publisher-there {T = g.row.T.Denot} {U = g.row.U.Denot} c.domain.inside.state c.domain.invariant c.args.domain.now c.domain.view_is c.args.self.now c.requires.there c.requires.placed in
-    shown-answer {T = g.row.T.Denot} {U = g.row.U.Denot} c.domain.inside.state c.args.domain.now c.domain.view_is
-    (λ (s : State g.row.T.Denot g.row.U.Denot). connection_place s c.args.self.now.id c.args.receiver_port_id) c.place_of_receiver.result
-    (c.place_of_receiver.ensures at.0 at.1
-    ∙ ap (λ (p : ℕ). connection_place (state_of (kept_of c.domain.inside.state)) p c.args.receiver_port_id) at.2)
+    publisher-answer {T = g.row.T.Denot} {U = g.row.U.Denot} c.domain.inside.state c.args.domain.now c.domain.view_is c.domain.invariant c.args.self.now c.requires.there c.requires.placed
+    (λ (s : State g.row.T.Denot g.row.U.Denot) (p : ℕ). connection_place s p c.args.receiver_port_id) c.place_of_receiver.result c.place_of_receiver.ensures

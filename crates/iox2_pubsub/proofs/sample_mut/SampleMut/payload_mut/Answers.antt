@@ -31,15 +31,10 @@ returns g c =
         payload = loan-reads c.args.domain.now c.args.sample.now c.value_at_mut.result.now (subst (λ (k : Kept g.row.T.Denot g.row.U.Denot g.row.F.Denot g.row.G.Denot). HasCell (state_of k) c.args.sample.now.loan.number (Some c.value_at_mut.result.now)) c.domain.view_is known);
         changes = λ m s w shown. (lent w).shown m s shown;
         out = λ w. (lent w).written refl refl c.args.sample.now refl c.requires.live;
-        live = λ never w. record { out = (lent w).written refl refl c.args.sample.now refl c.requires.live; never_waits = ((lent w).stays).never_wait (written_key c.args.sample.now) never };
+        live = λ never w. (lent w).written_live refl refl c.args.sample.now refl c.requires.live never;
         reads = λ w. (lent w).values (w ∷ []) (one-changed _ (Some w) one);
         header = λ w header. (lent w).same_header refl (written_key c.args.sample.now) refl header;
         user_header = λ w header. (lent w).same_user_header refl (written_key c.args.sample.now) refl header;
-        leaves = λ w. record {
-          stays = (lent w).stays;
-          waits = (lent w).waits;
-          up_to_date = (lent w).up_to_date;
-          loans_left = (lent w).loans_left;
-        };
+        leaves = λ w. (lent w).leaves;
       },
     )

@@ -18,7 +18,8 @@ use Rattle.iox2_domain.specs.Shows.{Shows}
 use Rattle.iox2_pubsub.proofs.SendShown.{machine-sends, steady-ok, never-unconnected-here, only-error, handler-error, either-error, fails-send, never-waits-send, never-fails-here, is-delivered, is-blocked, sent-entry, sent-shown}
 use Rattle.iox2_pubsub.specs.Live.{lender_key, written_key}
 use Rattle.iox2_pubsub.specs.SendCalls.{result_of_send}
-use Rattle.iox2_pubsub.proofs.CallsStay.{always-shown, sent-stays, send-spends}
+use Rattle.iox2_pubsub.proofs.CallsStay.{sent-stays, send-spends}
+use Rattle.iox2_pubsub.proofs.SentLoans.{from-shown}
 use Rattle.iox2_pubsub.proofs.LiveParts.{publisher-parts, written-parts, unblocked-parts, unblocked-test, blocked-live}
 use Rattle.iox2_pubsub.proofs.WaitingShown.{send-adds, send-brings}
 use Rattle.iox2_pubsub.proofs.UpToDateShown.{send-leaves}
@@ -49,21 +50,16 @@ returns-clause-sent g c = λ m s l shown out.
 
 pub returns-clause-spent : goal.returns-clause-spent
 returns-clause-spent g c = λ live.
-    let it = always-shown {T = g.row.T.Denot} {U = g.row.U.Denot} c.domain.inside.state c.args.domain.now c.domain.invariant c.domain.view_is in
-    let has = (written-parts c.args.domain.now c.args.self c.requires.live).1 in
-    let step = returns-clause-sent g c it.0 it.1 has.0 it.2 (ap (λ (t : State g.row.T.Denot g.row.U.Denot). t.loans c.args.self.loan.number) (it.2).state ∙ has.1) in
-    send-spends {T = g.row.T.Denot} {U = g.row.U.Denot} c.args.domain.now _ it.0 it.1 it.2 (answers_of g.F.BackpressureFn.allows g.G.DegradationFn.allows c.args.domain.now.boxes.publishers) (written_key c.args.self) has.0 (result_of_send c.send_loan.result) _ step.0 step.1 step.2 live
+    let it = from-shown {T = g.row.T.Denot} {U = g.row.U.Denot} c.domain.inside.state c.domain.invariant c.args.domain.now c.domain.view_is c.args.self c.requires.live (returns-clause-sent g c) in
+    send-spends {T = g.row.T.Denot} {U = g.row.U.Denot} c.args.domain.now _ it.m it.s it.shown (answers_of g.F.BackpressureFn.allows g.G.DegradationFn.allows c.args.domain.now.boxes.publishers) (written_key c.args.self) it.l (result_of_send c.send_loan.result) _ it.step.0 it.step.1 it.step.2 live
 
 pub returns-clause-stays : goal.returns-clause-stays
 returns-clause-stays g c =
-    let it = always-shown {T = g.row.T.Denot} {U = g.row.U.Denot} c.domain.inside.state c.args.domain.now c.domain.invariant c.domain.view_is in
-    let has = (written-parts c.args.domain.now c.args.self c.requires.live).1 in
-    let out = ap (λ (t : State g.row.T.Denot g.row.U.Denot). t.loans c.args.self.loan.number) (it.2).state ∙ has.1 in
-    let step = returns-clause-sent g c it.0 it.1 has.0 it.2 out in
-    sent-stays {T = g.row.T.Denot} {U = g.row.U.Denot} c.args.domain.now _ it.0 it.1 it.2 (answers_of g.F.BackpressureFn.allows g.G.DegradationFn.allows c.args.domain.now.boxes.publishers) c.args.self has.0 out has.2
+    let it = from-shown {T = g.row.T.Denot} {U = g.row.U.Denot} c.domain.inside.state c.domain.invariant c.args.domain.now c.domain.view_is c.args.self c.requires.live (returns-clause-sent g c) in
+    sent-stays {T = g.row.T.Denot} {U = g.row.U.Denot} c.args.domain.now _ it.m it.s it.shown (answers_of g.F.BackpressureFn.allows g.G.DegradationFn.allows c.args.domain.now.boxes.publishers) c.args.self it.l it.out it.its
     (λ x at. (unblocked-parts c.args.domain.now (written_key c.args.self) c.requires.unblocked).1 x
-    (sym (ap (λ (t : State g.row.T.Denot g.row.U.Denot). t.publishers c.args.self.loan.publisher) (it.2).state) ∙ ap (it.1).publishers (sym has.2) ∙ at))
-    c.send_loan.result step.0 step.1 step.2 (same-boxes c.domain.inside.state c.send_loan.new.state c.args.domain.now c.domain.view_is)
+    (sym (ap (λ (t : State g.row.T.Denot g.row.U.Denot). t.publishers c.args.self.loan.publisher) it.shown.state) ∙ ap it.s.publishers (sym it.its) ∙ at))
+    c.send_loan.result it.step.0 it.step.1 it.step.2 (same-boxes c.domain.inside.state c.send_loan.new.state c.args.domain.now c.domain.view_is)
 
 pub returns-clause-ok : goal.returns-clause-ok
 returns-clause-ok g c = λ lent never.
@@ -110,102 +106,69 @@ send_loan-requires-clause-unblocked g c =
 
 pub returns-clause-delivered : goal.returns-clause-delivered
 returns-clause-delivered g c = λ never.
-    let it = always-shown {T = g.row.T.Denot} {U = g.row.U.Denot} c.domain.inside.state c.args.domain.now c.domain.invariant c.domain.view_is in
-    let has = (written-parts c.args.domain.now c.args.self c.requires.live).1 in
-    let out = ap (λ (t : State g.row.T.Denot g.row.U.Denot). t.loans c.args.self.loan.number) (it.2).state ∙ has.1 in
-    let step = returns-clause-sent g c it.0 it.1 has.0 it.2 out in
+    let it = from-shown {T = g.row.T.Denot} {U = g.row.U.Denot} c.domain.inside.state c.domain.invariant c.args.domain.now c.domain.view_is c.args.self c.requires.live (returns-clause-sent g c) in
     is-delivered c.send_loan.result (λ blocked.
-    never-waits-send {T = g.row.T.Denot} {U = g.row.U.Denot} (answers_of g.F.BackpressureFn.allows g.G.DegradationFn.allows c.args.domain.now.boxes.publishers) c.args.domain.now (written_key c.args.self) it.0 it.1 it.2 never c.args.self.loan.number has.0 out (sym has.2) step.0
-    (subst (Send (answers_of g.F.BackpressureFn.allows g.G.DegradationFn.allows c.args.domain.now.boxes.publishers) it.1 c.args.self.loan.number has.0 step.0) blocked step.2))
+    never-waits-send {T = g.row.T.Denot} {U = g.row.U.Denot} (answers_of g.F.BackpressureFn.allows g.G.DegradationFn.allows c.args.domain.now.boxes.publishers) c.args.domain.now (written_key c.args.self) it.m it.s it.shown never c.args.self.loan.number it.l it.out (sym it.its) it.step.0
+    (subst (Send (answers_of g.F.BackpressureFn.allows g.G.DegradationFn.allows c.args.domain.now.boxes.publishers) it.s c.args.self.loan.number it.l it.step.0) blocked it.step.2))
 
 pub returns-clause-blocked : goal.returns-clause-blocked
 returns-clause-blocked g c =
-    let it = always-shown {T = g.row.T.Denot} {U = g.row.U.Denot} c.domain.inside.state c.args.domain.now c.domain.invariant c.domain.view_is in
     let parts = written-parts c.args.domain.now c.args.self c.requires.live in
-    let has = parts.1 in
-    let out = ap (λ (t : State g.row.T.Denot g.row.U.Denot). t.loans c.args.self.loan.number) (it.2).state ∙ has.1 in
-    let step = returns-clause-sent g c it.0 it.1 has.0 it.2 out in
+    let it = from-shown {T = g.row.T.Denot} {U = g.row.U.Denot} c.domain.inside.state c.domain.invariant c.args.domain.now c.domain.view_is c.args.self c.requires.live (returns-clause-sent g c) in
     is-blocked {T = g.row.T.Denot} {U = g.row.U.Denot} (keeping _ c.send_loan.new.state) (written_key c.args.self) _ refl c.send_loan.result c.send_loan.ensures.blocked (λ blocked.
     blocked-live (keeping _ c.send_loan.new.state) (written_key c.args.self) (
       parts.0 ∙ sym (ap (λ (k : ServiceConfig). k.service_id) (returns-clause-stays g c).settings),
-      subst (λ (p : ℕ). HoldsBlocked (state_of (kept_of c.send_loan.new.state)) p c.args.self.loan.number) has.2
-          (subst (λ (t : State g.row.T.Denot g.row.U.Denot). HoldsBlocked t has.0.publisher c.args.self.loan.number) (step.1).state
-          (send_waits_with (answers_of g.F.BackpressureFn.allows g.G.DegradationFn.allows c.args.domain.now.boxes.publishers) it.1 c.args.self.loan.number has.0 step.0 _ step.2 blocked)),
+      subst (λ (p : ℕ). HoldsBlocked (state_of (kept_of c.send_loan.new.state)) p c.args.self.loan.number) it.its
+          (subst (λ (t : State g.row.T.Denot g.row.U.Denot). HoldsBlocked t it.l.publisher c.args.self.loan.number) (it.step.1).state
+          (send_waits_with (answers_of g.F.BackpressureFn.allows g.G.DegradationFn.allows c.args.domain.now.boxes.publishers) it.s c.args.self.loan.number it.l it.step.0 _ it.step.2 blocked)),
     ))
 
 pub returns-clause-adds : goal.returns-clause-adds
 returns-clause-adds g c =
-    let it = always-shown {T = g.row.T.Denot} {U = g.row.U.Denot} c.domain.inside.state c.args.domain.now c.domain.invariant c.domain.view_is in
-    let has = (written-parts c.args.domain.now c.args.self c.requires.live).1 in
-    let out = ap (λ (t : State g.row.T.Denot g.row.U.Denot). t.loans c.args.self.loan.number) (it.2).state ∙ has.1 in
-    let step = returns-clause-sent g c it.0 it.1 has.0 it.2 out in
-    send-adds {T = g.row.T.Denot} {U = g.row.U.Denot} c.args.domain.now _ it.0 _ it.1 step.0 it.2 step.1 (answers_of g.F.BackpressureFn.allows g.G.DegradationFn.allows c.args.domain.now.boxes.publishers) c.args.self.loan.number has.0 (result_of_send c.send_loan.result) step.2
+    let it = from-shown {T = g.row.T.Denot} {U = g.row.U.Denot} c.domain.inside.state c.domain.invariant c.args.domain.now c.domain.view_is c.args.self c.requires.live (returns-clause-sent g c) in
+    send-adds {T = g.row.T.Denot} {U = g.row.U.Denot} c.args.domain.now _ it.m _ it.s it.step.0 it.shown it.step.1 (answers_of g.F.BackpressureFn.allows g.G.DegradationFn.allows c.args.domain.now.boxes.publishers) c.args.self.loan.number it.l (result_of_send c.send_loan.result) it.step.2
 
 pub returns-clause-brings : goal.returns-clause-brings
 returns-clause-brings g c = λ subscriber values no_history none reads.
-    let it = always-shown {T = g.row.T.Denot} {U = g.row.U.Denot} c.domain.inside.state c.args.domain.now c.domain.invariant c.domain.view_is in
-    let has = (written-parts c.args.domain.now c.args.self c.requires.live).1 in
-    let out = ap (λ (t : State g.row.T.Denot g.row.U.Denot). t.loans c.args.self.loan.number) (it.2).state ∙ has.1 in
-    let step = returns-clause-sent g c it.0 it.1 has.0 it.2 out in
-    send-brings {T = g.row.T.Denot} {U = g.row.U.Denot} c.args.domain.now _ it.0 _ it.1 step.0 it.2 step.1 (answers_of g.F.BackpressureFn.allows g.G.DegradationFn.allows c.args.domain.now.boxes.publishers) c.args.self.loan.number has.0 (result_of_send c.send_loan.result)
-    (λ entry. sent-entry it.0 c.args.self.loan.number has.0 c.send_loan.result ((it.2).unsent c.args.self.loan.number has.0 out) entry) out step.2 subscriber values no_history none reads
+    let it = from-shown {T = g.row.T.Denot} {U = g.row.U.Denot} c.domain.inside.state c.domain.invariant c.args.domain.now c.domain.view_is c.args.self c.requires.live (returns-clause-sent g c) in
+    send-brings {T = g.row.T.Denot} {U = g.row.U.Denot} c.args.domain.now _ it.m _ it.s it.step.0 it.shown it.step.1 (answers_of g.F.BackpressureFn.allows g.G.DegradationFn.allows c.args.domain.now.boxes.publishers) c.args.self.loan.number it.l (result_of_send c.send_loan.result)
+    (λ entry. sent-entry it.m c.args.self.loan.number it.l c.send_loan.result (it.shown.unsent c.args.self.loan.number it.l it.out) entry) it.out it.step.2 subscriber values no_history none reads
 
 pub returns-clause-up_to_date : goal.returns-clause-up_to_date
 returns-clause-up_to_date g c =
-    let it = always-shown {T = g.row.T.Denot} {U = g.row.U.Denot} c.domain.inside.state c.args.domain.now c.domain.invariant c.domain.view_is in
-    let has = (written-parts c.args.domain.now c.args.self c.requires.live).1 in
-    let out = ap (λ (t : State g.row.T.Denot g.row.U.Denot). t.loans c.args.self.loan.number) (it.2).state ∙ has.1 in
-    let step = returns-clause-sent g c it.0 it.1 has.0 it.2 out in
-    send-leaves {T = g.row.T.Denot} {U = g.row.U.Denot} c.args.domain.now _ it.0 _ it.1 step.0 it.2 step.1 (answers_of g.F.BackpressureFn.allows g.G.DegradationFn.allows c.args.domain.now.boxes.publishers) c.args.self.loan.number has.0 (result_of_send c.send_loan.result) step.2
+    let it = from-shown {T = g.row.T.Denot} {U = g.row.U.Denot} c.domain.inside.state c.domain.invariant c.args.domain.now c.domain.view_is c.args.self c.requires.live (returns-clause-sent g c) in
+    send-leaves {T = g.row.T.Denot} {U = g.row.U.Denot} c.args.domain.now _ it.m _ it.s it.step.0 it.shown it.step.1 (answers_of g.F.BackpressureFn.allows g.G.DegradationFn.allows c.args.domain.now.boxes.publishers) c.args.self.loan.number it.l (result_of_send c.send_loan.result) it.step.2
 
 pub returns-clause-loans_left : goal.returns-clause-loans_left
 returns-clause-loans_left g c =
-    let it = always-shown {T = g.row.T.Denot} {U = g.row.U.Denot} c.domain.inside.state c.args.domain.now c.domain.invariant c.domain.view_is in
-    let has = (written-parts c.args.domain.now c.args.self c.requires.live).1 in
-    let out = ap (λ (t : State g.row.T.Denot g.row.U.Denot). t.loans c.args.self.loan.number) (it.2).state ∙ has.1 in
-    let step = returns-clause-sent g c it.0 it.1 has.0 it.2 out in
-    send-left {T = g.row.T.Denot} {U = g.row.U.Denot} c.args.domain.now _ it.0 _ it.1 step.0 it.2 step.1 (answers_of g.F.BackpressureFn.allows g.G.DegradationFn.allows c.args.domain.now.boxes.publishers) c.args.self.loan.number has.0 out c.args.self.loan.publisher has.2 (result_of_send c.send_loan.result) step.2
+    let it = from-shown {T = g.row.T.Denot} {U = g.row.U.Denot} c.domain.inside.state c.domain.invariant c.args.domain.now c.domain.view_is c.args.self c.requires.live (returns-clause-sent g c) in
+    send-left {T = g.row.T.Denot} {U = g.row.U.Denot} c.args.domain.now _ it.m _ it.s it.step.0 it.shown it.step.1 (answers_of g.F.BackpressureFn.allows g.G.DegradationFn.allows c.args.domain.now.boxes.publishers) c.args.self.loan.number it.l it.out c.args.self.loan.publisher it.its (result_of_send c.send_loan.result) it.step.2
 
 pub returns-clause-given_back : goal.returns-clause-given_back
 returns-clause-given_back g c = λ ends.
-    let it = always-shown {T = g.row.T.Denot} {U = g.row.U.Denot} c.domain.inside.state c.args.domain.now c.domain.invariant c.domain.view_is in
-    let has = (written-parts c.args.domain.now c.args.self c.requires.live).1 in
-    let out = ap (λ (t : State g.row.T.Denot g.row.U.Denot). t.loans c.args.self.loan.number) (it.2).state ∙ has.1 in
-    let step = returns-clause-sent g c it.0 it.1 has.0 it.2 out in
-    send-gives {T = g.row.T.Denot} {U = g.row.U.Denot} c.args.domain.now _ it.0 _ it.1 step.0 it.2 step.1 (answers_of g.F.BackpressureFn.allows g.G.DegradationFn.allows c.args.domain.now.boxes.publishers) c.args.self.loan.number has.0 out c.args.self.loan.publisher has.2 (result_of_send c.send_loan.result) (sent-free c.send_loan.result ends) step.2
+    let it = from-shown {T = g.row.T.Denot} {U = g.row.U.Denot} c.domain.inside.state c.domain.invariant c.args.domain.now c.domain.view_is c.args.self c.requires.live (returns-clause-sent g c) in
+    send-gives {T = g.row.T.Denot} {U = g.row.U.Denot} c.args.domain.now _ it.m _ it.s it.step.0 it.shown it.step.1 (answers_of g.F.BackpressureFn.allows g.G.DegradationFn.allows c.args.domain.now.boxes.publishers) c.args.self.loan.number it.l it.out c.args.self.loan.publisher it.its (result_of_send c.send_loan.result) (sent-free c.send_loan.result ends) it.step.2
 
 pub returns-clause-serves : goal.returns-clause-serves
 returns-clause-serves g c = λ subscriber values connected reads.
-    let it = always-shown {T = g.row.T.Denot} {U = g.row.U.Denot} c.domain.inside.state c.args.domain.now c.domain.invariant c.domain.view_is in
-    let has = (written-parts c.args.domain.now c.args.self c.requires.live).1 in
-    let out = ap (λ (t : State g.row.T.Denot g.row.U.Denot). t.loans c.args.self.loan.number) (it.2).state ∙ has.1 in
-    let step = returns-clause-sent g c it.0 it.1 has.0 it.2 out in
-    serves {T = g.row.T.Denot} {U = g.row.U.Denot} c.args.domain.now _ it.0 it.1 (answers_of g.F.BackpressureFn.allows g.G.DegradationFn.allows c.args.domain.now.boxes.publishers) it.2 c.args.self.loan.number has.0 c.args.self.loan.publisher c.send_loan.result step.0 step.1 step.2
-    ((it.2).unsent c.args.self.loan.number has.0 out) out has.2 (unblocked-test c.args.domain.now (written_key c.args.self) c.requires.unblocked) subscriber values connected reads
+    let it = from-shown {T = g.row.T.Denot} {U = g.row.U.Denot} c.domain.inside.state c.domain.invariant c.args.domain.now c.domain.view_is c.args.self c.requires.live (returns-clause-sent g c) in
+    serves {T = g.row.T.Denot} {U = g.row.U.Denot} c.args.domain.now _ it.m it.s (answers_of g.F.BackpressureFn.allows g.G.DegradationFn.allows c.args.domain.now.boxes.publishers) it.shown c.args.self.loan.number it.l c.args.self.loan.publisher c.send_loan.result it.step.0 it.step.1 it.step.2
+    (it.shown.unsent c.args.self.loan.number it.l it.out) it.out it.its (unblocked-test c.args.domain.now (written_key c.args.self) c.requires.unblocked) subscriber values connected reads
 
 pub returns-clause-arrives : goal.returns-clause-arrives
 returns-clause-arrives g c = λ subscriber values none connected reads.
-    let it = always-shown {T = g.row.T.Denot} {U = g.row.U.Denot} c.domain.inside.state c.args.domain.now c.domain.invariant c.domain.view_is in
-    let has = (written-parts c.args.domain.now c.args.self c.requires.live).1 in
-    let out = ap (λ (t : State g.row.T.Denot g.row.U.Denot). t.loans c.args.self.loan.number) (it.2).state ∙ has.1 in
-    let step = returns-clause-sent g c it.0 it.1 has.0 it.2 out in
-    send-arrives {T = g.row.T.Denot} {U = g.row.U.Denot} c.args.domain.now _ it.0 _ it.1 step.0 it.2 step.1
+    let it = from-shown {T = g.row.T.Denot} {U = g.row.U.Denot} c.domain.inside.state c.domain.invariant c.args.domain.now c.domain.view_is c.args.self c.requires.live (returns-clause-sent g c) in
+    send-arrives {T = g.row.T.Denot} {U = g.row.U.Denot} c.args.domain.now _ it.m _ it.s it.step.0 it.shown it.step.1
     subscriber c.args.self.loan.publisher values none c.send_loan.result (returns-clause-serves g c subscriber values connected reads)
 
 pub returns-clause-joins : goal.returns-clause-joins
 returns-clause-joins g c = λ subscriber values earlier all its room connected reads.
-    let it = always-shown {T = g.row.T.Denot} {U = g.row.U.Denot} c.domain.inside.state c.args.domain.now c.domain.invariant c.domain.view_is in
-    let has = (written-parts c.args.domain.now c.args.self c.requires.live).1 in
-    let out = ap (λ (t : State g.row.T.Denot g.row.U.Denot). t.loans c.args.self.loan.number) (it.2).state ∙ has.1 in
-    let step = returns-clause-sent g c it.0 it.1 has.0 it.2 out in
-    send-joins {T = g.row.T.Denot} {U = g.row.U.Denot} c.args.domain.now _ it.0 _ it.1 step.0 it.2 step.1
+    let it = from-shown {T = g.row.T.Denot} {U = g.row.U.Denot} c.domain.inside.state c.domain.invariant c.args.domain.now c.domain.view_is c.args.self c.requires.live (returns-clause-sent g c) in
+    send-joins {T = g.row.T.Denot} {U = g.row.U.Denot} c.args.domain.now _ it.m _ it.s it.step.0 it.shown it.step.1
     subscriber c.args.self.loan.publisher values earlier all its room c.send_loan.result (returns-clause-serves g c subscriber values connected reads)
 
 pub returns-clause-others : goal.returns-clause-others
 returns-clause-others g c =
-    let it = always-shown {T = g.row.T.Denot} {U = g.row.U.Denot} c.domain.inside.state c.args.domain.now c.domain.invariant c.domain.view_is in
-    let has = (written-parts c.args.domain.now c.args.self c.requires.live).1 in
-    let out = ap (λ (t : State g.row.T.Denot g.row.U.Denot). t.loans c.args.self.loan.number) (it.2).state ∙ has.1 in
-    let step = returns-clause-sent g c it.0 it.1 has.0 it.2 out in
-    others-send {T = g.row.T.Denot} {U = g.row.U.Denot} c.args.domain.now _ it.0 it.1 it.2 (answers_of g.F.BackpressureFn.allows g.G.DegradationFn.allows c.args.domain.now.boxes.publishers) c.args.self.loan.number has.0 c.args.self.loan.publisher
-    c.send_loan.result step.0 step.1 step.2 ((it.2).unsent c.args.self.loan.number has.0 out) has.2
+    let it = from-shown {T = g.row.T.Denot} {U = g.row.U.Denot} c.domain.inside.state c.domain.invariant c.args.domain.now c.domain.view_is c.args.self c.requires.live (returns-clause-sent g c) in
+    others-send {T = g.row.T.Denot} {U = g.row.U.Denot} c.args.domain.now _ it.m it.s it.shown (answers_of g.F.BackpressureFn.allows g.G.DegradationFn.allows c.args.domain.now.boxes.publishers) c.args.self.loan.number it.l c.args.self.loan.publisher
+    c.send_loan.result it.step.0 it.step.1 it.step.2 (it.shown.unsent c.args.self.loan.number it.l it.out) it.its

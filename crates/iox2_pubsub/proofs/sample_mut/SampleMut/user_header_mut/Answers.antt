@@ -28,15 +28,10 @@ returns g c =
         user_header = loan-user-header c.args.domain.now (written_key c.args.sample.now) c.user_header_at_mut.result.now (subst (λ (k : Kept g.row.T.Denot g.row.U.Denot g.row.F.Denot g.row.G.Denot). HasLoanUserHeader (state_of k) c.args.sample.now.loan.number c.user_header_at_mut.result.now) c.domain.view_is known);
         changes = λ m s w shown. (lent w).shown m s shown;
         out = λ w. (lent w).written refl refl c.args.sample.now refl c.requires.live;
-        live = λ never w. record { out = (lent w).written refl refl c.args.sample.now refl c.requires.live; never_waits = ((lent w).stays).never_wait (written_key c.args.sample.now) never };
+        live = λ never w. (lent w).written_live refl refl c.args.sample.now refl c.requires.live never;
         is = λ w. (lent w).user_header (written_key c.args.sample.now) w refl refl;
         reads = λ w. (lent w).same_values refl;
         header = λ w header. (lent w).same_header refl (written_key c.args.sample.now) refl header;
-        leaves = λ w. record {
-          stays = (lent w).stays;
-          waits = (lent w).waits;
-          up_to_date = (lent w).up_to_date;
-          loans_left = (lent w).loans_left;
-        };
+        leaves = λ w. (lent w).leaves;
       },
     )

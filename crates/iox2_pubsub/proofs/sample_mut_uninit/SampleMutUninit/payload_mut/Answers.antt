@@ -31,15 +31,10 @@ returns g c =
         payload = unwritten-reads c.args.domain.now c.args.sample.now c.cell_at_mut.result.now (subst (λ (k : Kept g.row.T.Denot g.row.U.Denot g.row.F.Denot g.row.G.Denot). HasCell (state_of k) c.args.sample.now.loan.number c.cell_at_mut.result.now) c.domain.view_is known);
         changes = λ m s w shown. (lent w).shown m s shown;
         out = λ w. (lent w).unwritten refl refl c.args.sample.now refl c.requires.live;
-        live = λ never w. record { out = (lent w).unwritten refl refl c.args.sample.now refl c.requires.live; never_waits = ((lent w).stays).never_wait (unwritten_key c.args.sample.now) never };
+        live = λ never w. (lent w).unwritten_live refl refl c.args.sample.now refl c.requires.live never;
         reads = λ w. (lent w).cells (w ∷ []) (one-changed _ w one);
         header = λ w header. (lent w).same_header refl (unwritten_key c.args.sample.now) refl header;
         user_header = λ w header. (lent w).same_user_header refl (unwritten_key c.args.sample.now) refl header;
-        leaves = λ w. record {
-          stays = (lent w).stays;
-          waits = (lent w).waits;
-          up_to_date = (lent w).up_to_date;
-          loans_left = (lent w).loans_left;
-        };
+        leaves = λ w. (lent w).leaves;
       },
     )

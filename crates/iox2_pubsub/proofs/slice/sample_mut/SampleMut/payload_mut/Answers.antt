@@ -31,15 +31,10 @@ returns g c =
         payload = has-values c.args.domain.now c.args.sample.now.sample.loan.number c.values_at_mut.result.now (subst (λ (k : Kept g.row.T.Denot g.row.U.Denot g.row.F.Denot g.row.G.Denot). HasCells (state_of k) c.args.sample.now.sample.loan.number (map Some c.values_at_mut.result.now)) c.domain.view_is known);
         changes = λ m s w shown. (lent w).shown m s shown;
         out = λ w. (lent w).written refl refl c.args.sample.now.sample refl c.requires.live;
-        live = λ never w. record { out = (lent w).written refl refl c.args.sample.now.sample refl c.requires.live; never_waits = ((lent w).stays).never_wait (written_key c.args.sample.now.sample) never };
+        live = λ never w. (lent w).written_live refl refl c.args.sample.now.sample refl c.requires.live never;
         reads = λ w same. (lent w).values w (values-left (state_of (kept_of c.domain.inside.state)) c.args.sample.now.sample.loan.number (c.find_live_loan-at.ensures).loan (c.find_live_loan-at.ensures).is_out c.values_at_mut.result.now w known same);
         header = λ w header. (lent w).same_header refl (written_key c.args.sample.now.sample) refl header;
         user_header = λ w header. (lent w).same_user_header refl (written_key c.args.sample.now.sample) refl header;
-        leaves = λ w. record {
-          stays = (lent w).stays;
-          waits = (lent w).waits;
-          up_to_date = (lent w).up_to_date;
-          loans_left = (lent w).loans_left;
-        };
+        leaves = λ w. (lent w).leaves;
       },
     )

@@ -32,15 +32,10 @@ returns g c =
         payload = has-cells c.args.domain.now c.args.sample.now.sample.loan.number c.cells_at_mut.result.now (subst (λ (k : Kept g.row.T.Denot g.row.U.Denot g.row.F.Denot g.row.G.Denot). HasCells (state_of k) c.args.sample.now.sample.loan.number c.cells_at_mut.result.now) c.domain.view_is known);
         changes = λ m s w shown. (lent w).shown m s shown;
         out = λ w. (lent w).unwritten refl refl c.args.sample.now.sample refl c.requires.live;
-        live = λ never w. record { out = (lent w).unwritten refl refl c.args.sample.now.sample refl c.requires.live; never_waits = ((lent w).stays).never_wait (unwritten_key c.args.sample.now.sample) never };
+        live = λ never w. (lent w).unwritten_live refl refl c.args.sample.now.sample refl c.requires.live never;
         reads = λ w same. (lent w).cells w (cells-left (state_of (kept_of c.domain.inside.state)) c.args.sample.now.sample.loan.number (c.find_live_loan-at.ensures).loan (c.find_live_loan-at.ensures).is_out c.cells_at_mut.result.now w known same);
         header = λ w header. (lent w).same_header refl (unwritten_key c.args.sample.now.sample) refl header;
         user_header = λ w header. (lent w).same_user_header refl (unwritten_key c.args.sample.now.sample) refl header;
-        leaves = λ w. record {
-          stays = (lent w).stays;
-          waits = (lent w).waits;
-          up_to_date = (lent w).up_to_date;
-          loans_left = (lent w).loans_left;
-        };
+        leaves = λ w. (lent w).leaves;
       },
     )

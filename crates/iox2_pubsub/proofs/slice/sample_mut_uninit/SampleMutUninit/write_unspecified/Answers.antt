@@ -1,60 +1,12 @@
-use Rattle.std.proofs.Common.{◌≡◌, ℕ, false, refl, ap, subst, sym}
-use Rattle.iox2_store.specs.SingleValues.{is_single_valued}
-use Rattle.iox2_domain.specs.Fields.{keeping}
-use Rattle.iox2_domain.specs.Kept.{Kept}
+use Rattle.std.proofs.Common.{ap}
 use Rattle.iox2_domain.specs.declared.loan_slots.LoanAt.{LoanAt}
-use Rattle.iox2_pubsub.specs.Live.{IsPublisherKey, lender_key, unwritten_key, written_key}
+use Rattle.iox2_pubsub.proofs.FilledHandles.{was-filled}
 use Rattle.iox2_pubsub.proofs.LoanHandles.{unwritten-out}
-use Rattle.iox2_pubsub.proofs.FilledLoans.{filled-header, filled-user-header, filled-waits, filled-leaves, filled-shown, filled-values, filled-live, filled-stays, filled-left}
-use Rattle.iox2_pubsub.proofs.FilledLengths.{filled-lengths}
-use Rattle.iox2_pubsub.proofs.LiveParts.{never-waits-alike, unblocked-alike}
-use Rattle.iox2_pubsub.proofs.SliceParts.{holds-parts}
+use Rattle.iox2_pubsub.proofs.LoanReads.{several-inside}
 use Rattle.iox2_pubsub.proofs.slice.sample_mut_uninit.SampleMutUninit.write_unspecified.Goals as goal
 
-pub write_loan_unspecified-loan-requires-clause-live : goal.write_loan_unspecified-loan-requires-clause-live
-write_loan_unspecified-loan-requires-clause-live g c = unwritten-out {T = g.row.T.Denot} {U = g.row.U.Denot} _ c.args.domain.now c.domain.view_is c.args.self.sample c.requires.live
+pub write_loan_unspecified-loan-requires : goal.write_loan_unspecified-loan-requires
+write_loan_unspecified-loan-requires g c = record { agrees = c.domain.invariant; several = several-inside {T = g.row.T.Denot} {U = g.row.U.Denot} _ c.args.domain.now c.domain.view_is c.requires.sliced; live = unwritten-out {T = g.row.T.Denot} {U = g.row.U.Denot} _ c.args.domain.now c.domain.view_is c.args.self.sample c.requires.live }
 
-pub write_loan_unspecified-loan-requires-clause-several : goal.write_loan_unspecified-loan-requires-clause-several
-write_loan_unspecified-loan-requires-clause-several g c = (subst (λ (k : Kept g.row.T.Denot g.row.U.Denot g.row.F.Denot g.row.G.Denot). is_single_valued k.config ≡ false) (sym c.domain.view_is) (holds-parts c.args.domain.now c.requires.sliced))
-
-pub returns-clause-written : goal.returns-clause-written
-returns-clause-written g c = (c.write_loan_unspecified-loan.ensures.writes.0, filled-values {T = g.row.T.Denot} {U = g.row.U.Denot} c.domain.inside.state c.write_loan_unspecified-loan.new.state c.domain.invariant c.args.domain.now c.domain.view_is c.args.self.sample.loan.number c.write_loan_unspecified-loan.ensures.writes.0 c.write_loan_unspecified-loan.ensures.writes.1 _ (ap (λ (at : LoanAt). at.number) c.write_loan_unspecified-loan.ensures.same), filled-shown {T = g.row.T.Denot} {U = g.row.U.Denot} c.domain.inside.state c.write_loan_unspecified-loan.new.state c.domain.invariant c.args.domain.now c.domain.view_is c.args.self.sample.loan.number c.write_loan_unspecified-loan.ensures.writes.0 c.write_loan_unspecified-loan.ensures.writes.1)
-
-pub returns-clause-out : goal.returns-clause-out
-returns-clause-out g c = filled-live {T = g.row.T.Denot} {U = g.row.U.Denot} c.domain.inside.state c.write_loan_unspecified-loan.new.state c.domain.invariant c.args.domain.now c.domain.view_is c.args.self.sample.loan.number c.write_loan_unspecified-loan.ensures.writes.0 c.write_loan_unspecified-loan.ensures.writes.1 c.args.self.sample (record { service_id = c.args.self.sample.service_id; loan = c.write_loan_unspecified-loan.result }) refl refl (ap (λ (at : LoanAt). at.publisher) c.write_loan_unspecified-loan.ensures.same) (ap (λ (at : LoanAt). at.number) c.write_loan_unspecified-loan.ensures.same) c.requires.live
-
-pub returns-clause-leaves : goal.returns-clause-leaves
-returns-clause-leaves g c = record {
-  stays = filled-stays {T = g.row.T.Denot} {U = g.row.U.Denot} c.domain.inside.state c.write_loan_unspecified-loan.new.state c.domain.invariant c.args.domain.now c.domain.view_is c.args.self.sample.loan.number c.write_loan_unspecified-loan.ensures.writes.0 c.write_loan_unspecified-loan.ensures.writes.1;
-  waits = filled-waits {T = g.row.T.Denot} {U = g.row.U.Denot} c.domain.inside.state c.write_loan_unspecified-loan.new.state c.domain.invariant c.args.domain.now c.domain.view_is c.args.self.sample.loan.number c.write_loan_unspecified-loan.ensures.writes.0 c.write_loan_unspecified-loan.ensures.writes.1;
-  up_to_date = filled-leaves {T = g.row.T.Denot} {U = g.row.U.Denot} c.domain.inside.state c.write_loan_unspecified-loan.new.state c.domain.invariant c.args.domain.now c.domain.view_is c.args.self.sample.loan.number c.write_loan_unspecified-loan.ensures.writes.0 c.write_loan_unspecified-loan.ensures.writes.1;
-  loans_left = filled-left {T = g.row.T.Denot} {U = g.row.U.Denot} c.domain.inside.state c.write_loan_unspecified-loan.new.state c.domain.invariant c.args.domain.now c.domain.view_is c.args.self.sample.loan.number c.write_loan_unspecified-loan.ensures.writes.0 c.write_loan_unspecified-loan.ensures.writes.1;
-}
-
-pub returns-clause-live : goal.returns-clause-live
-returns-clause-live g c = λ never. record {
-  out = returns-clause-out g c;
-  never_waits = never-waits-alike (keeping (record { publishers = (c.domain.inside.boxes).boxes; subscribers = (c.domain.inside.subscriber_boxes).boxes }) c.write_loan_unspecified-loan.new.state) (unwritten_key c.args.self.sample) (written_key (record { service_id = c.args.self.sample.service_id; loan = c.write_loan_unspecified-loan.result }))
-      (ap (λ (at : LoanAt). at.publisher) c.write_loan_unspecified-loan.ensures.same) (((returns-clause-leaves g c).stays).never_wait (unwritten_key c.args.self.sample) never);
-}
-
-pub returns-clause-unblocked : goal.returns-clause-unblocked
-returns-clause-unblocked g c = λ free.
-    unblocked-alike (keeping (record { publishers = (c.domain.inside.boxes).boxes; subscribers = (c.domain.inside.subscriber_boxes).boxes }) c.write_loan_unspecified-loan.new.state) (unwritten_key c.args.self.sample) (written_key (record { service_id = c.args.self.sample.service_id; loan = c.write_loan_unspecified-loan.result }))
-    (ap (λ (at : LoanAt). at.publisher) c.write_loan_unspecified-loan.ensures.same) (((returns-clause-leaves g c).stays).unblocked (unwritten_key c.args.self.sample) free tt)
-
-pub returns-clause-lengths : goal.returns-clause-lengths
-returns-clause-lengths g c = λ cells values has reads.
-    filled-lengths {T = g.row.T.Denot} {U = g.row.U.Denot} c.domain.inside.state c.write_loan_unspecified-loan.new.state c.args.domain.now c.domain.view_is c.args.self.sample.loan.number
-    c.write_loan_unspecified-loan.ensures.writes.0 c.write_loan_unspecified-loan.ensures.writes.1 cells has c.write_loan_unspecified-loan.result.number (ap (λ (at : LoanAt). at.number) c.write_loan_unspecified-loan.ensures.same) values reads
-
-pub returns-clause-lent : goal.returns-clause-lent
-returns-clause-lent g c = λ lent.
-    subst (λ (p : ℕ). IsPublisherKey (keeping (record { publishers = (c.domain.inside.boxes).boxes; subscribers = (c.domain.inside.subscriber_boxes).boxes }) c.write_loan_unspecified-loan.new.state) (record { service_id = c.args.self.sample.service_id; port = p; message = 0 })) (sym (ap (λ (at : LoanAt). at.publisher) c.write_loan_unspecified-loan.ensures.same))
-    (((returns-clause-leaves g c).stays).publishers (lender_key (unwritten_key c.args.self.sample)) lent tt)
-
-pub returns-clause-header : goal.returns-clause-header
-returns-clause-header g c = filled-header {T = g.row.T.Denot} {U = g.row.U.Denot} c.domain.inside.state c.write_loan_unspecified-loan.new.state c.domain.invariant c.args.domain.now c.domain.view_is c.args.self.sample.loan.number c.write_loan_unspecified-loan.ensures.writes.0 c.write_loan_unspecified-loan.ensures.writes.1 (unwritten_key c.args.self.sample) (written_key (record { service_id = c.args.self.sample.service_id; loan = c.write_loan_unspecified-loan.result })) refl (ap (λ (at : LoanAt). at.number) c.write_loan_unspecified-loan.ensures.same)
-
-pub returns-clause-user_header : goal.returns-clause-user_header
-returns-clause-user_header g c = filled-user-header {T = g.row.T.Denot} {U = g.row.U.Denot} c.domain.inside.state c.write_loan_unspecified-loan.new.state c.domain.invariant c.args.domain.now c.domain.view_is c.args.self.sample.loan.number c.write_loan_unspecified-loan.ensures.writes.0 c.write_loan_unspecified-loan.ensures.writes.1 (unwritten_key c.args.self.sample) (written_key (record { service_id = c.args.self.sample.service_id; loan = c.write_loan_unspecified-loan.result })) refl (ap (λ (at : LoanAt). at.number) c.write_loan_unspecified-loan.ensures.same)
+pub returns : goal.returns
+returns g c = let it = was-filled {T = g.row.T.Denot} {U = g.row.U.Denot} c.domain.inside.state c.write_loan_unspecified-loan.new.state c.domain.invariant c.args.domain.now c.domain.view_is c.args.self.sample c.requires.live c.write_loan_unspecified-loan.ensures.writes.0 c.write_loan_unspecified-loan.ensures.writes.1 c.write_loan_unspecified-loan.result (ap (λ (at : LoanAt). at.publisher) c.write_loan_unspecified-loan.ensures.same) (ap (λ (at : LoanAt). at.number) c.write_loan_unspecified-loan.ensures.same) in record { written = (c.write_loan_unspecified-loan.ensures.writes.0, it.written, it.shown); lengths = it.lengths; out = it.out; live = it.live; unblocked = it.unblocked; key = it.key; lent = it.lent; header = it.header; user_header = it.user_header; leaves = it.leaves }

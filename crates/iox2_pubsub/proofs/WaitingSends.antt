@@ -1,0 +1,57 @@
+-- A blocked send, and what a call does to it, in a state that its domain shows.
+use Rattle.std.proofs.Common.{◌≡◌, ℕ, None, Some, ap, sym, subst, ◌∙◌}
+use Rattle.std.specs.Prelude.{slice_index_or}
+use Rattle.iox2_store.specs.machine.Records.{BlockedSend, Publisher}
+use Rattle.iox2_store.specs.machine.SingleCalls.{HoldsBlocked}
+use Rattle.iox2_store.specs.machine.State.{State, Messages}
+use Rattle.iox2_ends.specs.LookUp.{look_up}
+use Rattle.iox2_domain.specs.BlockedSends.{HasBlocked, waiting_send}
+use Rattle.iox2_domain.specs.Boxes.{DomainBoxes}
+use Rattle.iox2_domain.specs.Fields.{Fields, kept_of, keeping}
+use Rattle.iox2_domain.specs.Invariant.{IsDomain, is_publisher}
+use Rattle.iox2_domain.specs.Kept.{Kept, state_of}
+use Rattle.iox2_domain.specs.Ports.{PublisherFields}
+use Rattle.iox2_domain.specs.Shows.{Shows}
+use Rattle.iox2_domain.specs.declared.publisher_state.BlockedDelivery.{BlockedDelivery}
+use Rattle.iox2_domain.proofs.lemmas.slots.LeftConnections.{unknown, stands-nowhere}
+use Rattle.iox2_pubsub.specs.Live.{IsBlockedSend, blocked_key}
+use Rattle.iox2_pubsub.specs.declared.blocked_send.BlockedSend.{BlockedSend as Handle}
+use Rattle.iox2_pubsub.proofs.BlockedShown.{has-blocked, some-waits}
+use Rattle.iox2_pubsub.proofs.CallsStay.{always-shown}
+use Rattle.iox2_pubsub.proofs.LiveParts.{blocked-parts}
+
+-- A state that is shown, the send that waits in it, and the step that a call makes from there.
+pub record Waiting {T U F G : Type 0} (kept : Kept T U F G) (blocked : Handle) (Step : Messages T U → State T U → Publisher → BlockedSend → Type 0) : Type 0 where
+  pub m : Messages T U
+  pub s : State T U
+  pub shown : Shows kept m s
+  pub held : HoldsBlocked (state_of kept) blocked.loan.publisher blocked.loan.number
+  pub at : s.publishers blocked.loan.publisher ≡ Some held.0
+  pub step : Step m s held.0 held.1
+
+module _ {T U F G : Type 0} {boxes : DomainBoxes F G} (f : Fields T U) (sound : IsDomain f) (kept : Kept T U F G) (view : keeping boxes f ≡ kept) (blocked : Handle) (live : IsBlockedSend kept blocked) where
+  pub from-blocked : {Step : Messages T U → State T U → Publisher → BlockedSend → Type 0}
+      → ((m : Messages T U) (s : State T U) (x : Publisher) (b : BlockedSend) → Shows kept m s → s.publishers blocked.loan.publisher ≡ Some x → x.blocked ≡ Some b → Step m s x b) → Waiting kept blocked Step
+  from-blocked step =
+      let it = always-shown f kept sound view in
+      let held = (blocked-parts kept (blocked_key blocked) live).1 in
+      let at : (it.1).publishers blocked.loan.publisher ≡ Some held.0 = ap (λ (t : State T U). t.publishers blocked.loan.publisher) (it.2).state ∙ held.2 in
+      record { m = it.0; s = it.1; shown = it.2; held = held; at = at; step = step it.0 it.1 held.0 held.1 it.2 at held.3 }
+
+  -- it waits in what the fields keep
+  pub blocked-inside : HoldsBlocked (state_of (kept_of f)) blocked.loan.publisher blocked.loan.number
+  blocked-inside = subst (λ (k : Kept T U F G). HoldsBlocked (state_of k) blocked.loan.publisher blocked.loan.number) (sym view) (blocked-parts kept (blocked_key blocked) live).1
+
+  -- so its publisher stands somewhere
+  pub blocked-stands : look_up (is_publisher blocked.loan.publisher) f.publishers ≡ None → ⊥
+  blocked-stands none =
+      let no : None ≡ Some blocked-inside.0 = sym (unknown f blocked.loan.publisher (stands-nowhere f.publishers blocked.loan.publisher none)) ∙ blocked-inside.2 in
+      absurd cc
+
+  -- and where that stands, it waits
+  module _ (place : ℕ) (found : (x : PublisherFields) × (slice_index_or f.publishers place None ≡ Some x) × (x.id ≡ blocked.loan.publisher)) where
+    pub waits-there : HasBlocked f place
+    waits-there = has-blocked f sound place blocked.loan.publisher blocked.loan.number found blocked-inside
+
+    abbrev pub delivery-there : (d : BlockedDelivery) × ((found.0).blocked ≡ Some d) × (waiting_send f found.0 d ≡ blocked-inside.1)
+    delivery-there = some-waits f sound place blocked.loan.publisher blocked.loan.number found blocked-inside
