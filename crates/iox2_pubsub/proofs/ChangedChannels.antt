@@ -22,6 +22,7 @@ use Rattle.iox2_pubsub.specs.Live.{IsConnected, IsUpToDate, No_item, RoomStays, 
 use Rattle.iox2_pubsub.specs.LoansLeft.{LoansLeftStay}
 use Rattle.iox2_pubsub.specs.declared.subscriber.Subscriber.{Subscriber}
 use Rattle.iox2_pubsub.proofs.CallsStay.{always-shown}
+use Rattle.iox2_pubsub.proofs.OpenChannels.{still-connects}
 use Rattle.iox2_pubsub.proofs.LoansLeftShown.{all-left}
 use Rattle.iox2_pubsub.proofs.StaysBut.{BoxesStayBut, IsSpared, none-spared, ports-remain, stays-between}
 use Rattle.iox2_pubsub.proofs.UpToDateShown.{connected, connected-in, rooms-stay, up-to-date, up-to-date-in}
@@ -98,15 +99,9 @@ module _ {T U F G : Type 0} {boxes : DomainBoxes F G} (f : Fields T U) (old : Ke
         → IsConnected old p subscriber → IsConnected new p subscriber
     changed-connected p subscriber takes is =
         let was = connected-in old m s shown p subscriber is in
-        connected new m (change s) now p subscriber (record {
-          publisher = was.publisher;
-          stands = ap (λ (t : State T U). t.publishers p) (only s) ∙ was.stands;
-          sends = was.sends;
-          subscriber = was.subscriber;
-          there = ap (λ (t : State T U). t.subscribers subscriber.id) (only s) ∙ was.there;
-          receives = was.receives;
-          takes = subst (λ (t : State T U). is_closed (t.channels p subscriber.id 0) ≡ false → is_closed ((change t).channels p subscriber.id 0) ≡ false) (sym shown.state) takes was.takes;
-        })
+        connected new m (change s) now p subscriber
+        (still-connects s (change s) p subscriber.id was (ap (λ (t : State T U). t.publishers p) (only s)) (ap (λ (t : State T U). t.subscribers subscriber.id) (only s))
+        (subst (λ (t : State T U). is_closed (t.channels p subscriber.id 0) ≡ false → is_closed ((change t).channels p subscriber.id 0) ≡ false) (sym shown.state) takes was.takes))
 
     -- so all but channels is left
     pub changed-leaves : BoxesStayBut No_item old new → (StaysOpen : ℕ → Subscriber → Type 0)

@@ -1,15 +1,11 @@
 -- What a search among a domain's fields tells of the keys of handles.
-use Rattle.std.proofs.Common.{◌≡◌, ℕ, Bool, true, false, Some, ap, sym, subst, eqb, eqb-true, eq-eqb, ◌∙◌}
+use Rattle.std.proofs.Common.{◌≡◌, ℕ, Bool, true, false, ap, sym, subst, eqb, eqb-true, eq-eqb, ◌∙◌}
 use Rattle.std.specs.Prelude.{◌↔◌, IsTrue}
-use Rattle.iox2_store.specs.machine.Records.{Loan}
 use Rattle.iox2_store.specs.machine.State.{State}
-use Rattle.iox2_store.specs.declared.key.Key.{Key}
 use Rattle.iox2_store.specs.declared.service_config.ServiceConfig.{ServiceConfig}
 use Rattle.iox2_domain.specs.Boxes.{DomainBoxes}
 use Rattle.iox2_domain.specs.Fields.{Fields, kept_of, keeping}
 use Rattle.iox2_domain.specs.Kept.{Kept, state_of}
-use Rattle.iox2_pubsub.specs.Live.{HasMark, IsLoanKey}
-use Rattle.iox2_pubsub.proofs.LiveParts.{marked}
 
 -- a handle is of the service whose settings are these, or of another
 pub same-service : {id : ℕ} {config config' : ServiceConfig} → config ≡ config' → id ≡ config.service_id → id ≡ config'.service_id
@@ -47,16 +43,3 @@ module _ {T U F G : Type 0} {boxes : DomainBoxes F G} (f : Fields T U) (kept : K
   pub held-port : {answer : Bool} (Is : State T U → Type 0) (id message : ℕ) → message ≡ 0 → id ≡ (f.config).service_id → (IsTrue answer ↔ Is (state_of (kept_of f)))
       → IsTrue answer ↔ ((message ≡ 0) × (id ≡ (kept.config).service_id) × Is (state_of kept))
   held-port Is id message none ours has = (λ yes. (none, service id ours, (told Is has).0 yes), λ live. (told Is has).1 live.2)
-
-  -- of a loan that is written, or isn't
-  pub held-loan : {answer : Bool} (is_written : Bool) (key : Key) → key.service_id ≡ (f.config).service_id
-      → (IsTrue answer ↔ ((l : Loan T U) × ((state_of (kept_of f)).loans key.message ≡ Some l) × (l.publisher ≡ key.port) × (l.is_written ≡ is_written)))
-      → IsTrue answer ↔ (IsLoanKey kept key × HasMark kept key.message is_written)
-  unfolding IsLoanKey HasMark
-  held-loan is_written key ours has =
-      let known = told (λ (s : State T U). (l : Loan T U) × (s.loans key.message ≡ Some l) × (l.publisher ≡ key.port) × (l.is_written ≡ is_written)) has in (
-        λ yes. let it = known.0 yes in ((service key.service_id ours, (it.0, it.1, it.2)), (it.0, it.1, it.3)),
-        λ both.
-            let it = (both.0).1 in
-            known.1 (it.0, it.1, it.2, marked kept key.port key.message it.0 it.1 it.2 is_written both.1),
-      )

@@ -1,5 +1,6 @@
 -- What updates, questions and receives leave of a domain, told from their steps in the states that the domain shows.
 use Rattle.std.proofs.Common.{◌≡◌, ℕ, Bool, Option, Result}
+use Rattle.std.specs.Prelude.{OnOk}
 use Rattle.iox2_store.specs.machine.PublisherUpdate.{UpdatePublisher}
 use Rattle.iox2_store.specs.machine.Receives.{ReceiveResult, Receive}
 use Rattle.iox2_store.specs.machine.Records.{Environment}
@@ -16,14 +17,14 @@ use Rattle.iox2_domain.specs.Kept.{Kept}
 use Rattle.iox2_domain.specs.Questions.{IsAnswer}
 use Rattle.iox2_domain.specs.Shows.{Shows}
 use Rattle.iox2_pubsub.specs.Leaves.{LeavesAdding, LeavesButWaiting}
-use Rattle.iox2_pubsub.specs.Live.{IsLiveSubscriber, No_item}
+use Rattle.iox2_pubsub.specs.Live.{IsLiveSubscriber, IsUpToDate, No_item}
 use Rattle.iox2_pubsub.specs.declared.subscriber.Subscriber.{Subscriber}
 use Rattle.iox2_pubsub.proofs.CallsStay.{always-shown, receive-stays}
 use Rattle.iox2_pubsub.proofs.LoansLeftShown.{receive-left, update-publisher-left, update-subscriber-left}
 use Rattle.iox2_pubsub.proofs.QuestionShown.{answered}
 use Rattle.iox2_pubsub.proofs.StaysBut.{BoxesStayBut, IsSpared}
 use Rattle.iox2_pubsub.proofs.UpdatesStay.{updates-stay}
-use Rattle.iox2_pubsub.proofs.UpToDateShown.{publisher-update-leaves, receive-leaves, subscriber-update-leaves}
+use Rattle.iox2_pubsub.proofs.UpToDateShown.{answers-updated, publisher-update-leaves, receive-leaves, subscriber-update-leaves}
 use Rattle.iox2_pubsub.proofs.WaitingShown.{publisher-update-adds, received-no-more, received-others, subscriber-update-adds, update-no-more, update-others}
 
 module _ {T U F G : Type 0} {boxes : DomainBoxes F G} (f : Fields T U) (old new : Kept T U F G) (sound : IsDomain f) (view : keeping boxes f ≡ old) (boxed : BoxesStayBut No_item old new) (environment : Environment) where
@@ -76,6 +77,14 @@ module _ {T U F G : Type 0} {boxes : DomainBoxes F G} (f : Fields T U) (old new 
         let step = answers it.0 it.1 it.2 in
         let has = answered environment it.1 subscriber.id result step.0 step.2 in
         update-step-left it.0 it.1 step.0 it.2 step.1 has.0 (has.2).0
+
+    -- after an answer the subscriber is up to date
+    pub question-updated : IsLiveSubscriber old subscriber → (result : Result Bool ConnectionFailure)
+        → ((m : Messages T U) (s : State T U) → Shows old m s → (s' : State T U) × Shows new m s' × IsAnswer environment s subscriber.id result s') → OnOk result (IsUpToDate new subscriber)
+    question-updated live result answers =
+        let it = always-shown f old sound view in
+        let step = answers it.0 it.1 it.2 in
+        answers-updated old new it.0 it.0 it.1 step.0 it.2 step.1 environment subscriber live result step.2
 
     -- a receive
     pub reception-left : IsLiveSubscriber old subscriber → (result : ReceiveResult)

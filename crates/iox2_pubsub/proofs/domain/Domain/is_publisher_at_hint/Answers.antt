@@ -1,10 +1,10 @@
 use Rattle.iox2_pubsub.specs.Parts.{publisher_named, publisher_with}
 use Rattle.iox2_pubsub.proofs.HeldKeys.{other-service, refuted, same-service, told-through}
-use Rattle.iox2_pubsub.proofs.PlacedHandles.{publisher-elsewhere, publisher-hinted}
+use Rattle.iox2_pubsub.proofs.PlacedHandles.{publisher-among, publisher-hinted}
 use Rattle.iox2_pubsub.proofs.domain.Domain.is_publisher_at_hint.Goals as goal
 
 pub returns-then-parts-config : goal.returns-then-parts-config
-returns-then-parts-config g c = refuted (λ live. publisher-elsewhere {T = g.row.T.Denot} {U = g.row.U.Denot} c.self.inside.state c.self.invariant c.args.self.now c.self.view_is (publisher_named c.args.parts.now) (other-service c.config.ensures c.if-parts-config.true) live.0)
+returns-then-parts-config g c = refuted (λ live. other-service c.config.ensures c.if-parts-config.true (publisher-among {T = g.row.T.Denot} {U = g.row.U.Denot} c.self.inside.state c.self.invariant c.args.self.now c.self.view_is (publisher_named c.args.parts.now) live.0).1)
 
 pub returns : goal.returns
 returns g c =

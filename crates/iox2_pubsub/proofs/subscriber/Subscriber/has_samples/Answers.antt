@@ -5,9 +5,8 @@ use Rattle.iox2_pubsub.proofs.PlacedHandles.{subscriber-at-place, subscriber-the
 use Rattle.iox2_pubsub.proofs.CallsStay.{always-shown}
 use Rattle.iox2_pubsub.proofs.QuestionShown.{answer-at, answer-shows, answered}
 use Rattle.iox2_pubsub.proofs.StaysBut.{same-boxes}
-use Rattle.iox2_pubsub.proofs.UpdatesLeave.{question-left}
+use Rattle.iox2_pubsub.proofs.UpdatesLeave.{question-left, question-updated}
 use Rattle.iox2_pubsub.proofs.WaitingShown.{answers-say}
-use Rattle.iox2_pubsub.proofs.UpToDateShown.{answers-updated}
 use Rattle.iox2_pubsub.proofs.KeptReceives.{question-waits}
 use Rattle.iox2_pubsub.proofs.subscriber.Subscriber.has_samples.Goals as goal
 
@@ -31,9 +30,8 @@ returns-clause-waits g c =
 
 pub returns-clause-updated : goal.returns-clause-updated
 returns-clause-updated g c =
-    let it = always-shown {T = g.row.T.Denot} {U = g.row.U.Denot} c.domain.inside.state c.args.domain.now c.domain.invariant c.domain.view_is in
-    let step = returns-clause-answers g c it.0 it.1 it.2 in
-    answers-updated {T = g.row.T.Denot} {U = g.row.U.Denot} c.args.domain.now (keeping _ c.has_samples_at.new.state) it.0 it.0 it.1 step.0 it.2 step.1 (answers_of g.F.BackpressureFn.allows g.G.DegradationFn.allows c.args.domain.now.boxes.subscribers) c.args.self.now c.requires.live c.has_samples_at.result step.2
+    question-updated {T = g.row.T.Denot} {U = g.row.U.Denot} c.domain.inside.state c.args.domain.now (keeping _ c.has_samples_at.new.state) c.domain.invariant c.domain.view_is
+    (same-boxes c.domain.inside.state c.has_samples_at.new.state c.args.domain.now c.domain.view_is) (answers_of g.F.BackpressureFn.allows g.G.DegradationFn.allows c.args.domain.now.boxes.subscribers) c.args.self.now c.requires.live c.has_samples_at.result (returns-clause-answers g c)
 
 pub returns-clause-undisturbed : goal.returns-clause-undisturbed
 returns-clause-undisturbed g c = λ keeps.
