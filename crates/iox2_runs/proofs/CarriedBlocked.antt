@@ -109,13 +109,11 @@ give_up_goes environment of = record {
 
 module _ {T U F G : Type 0} (defaults : Defaults T U) (old new : Domain T U F G) (table table' : List Made) (of : ℕ) (command : Command T U) (on : GoesOn T U command of) where
   -- there is no such send
-  pub goes_on_passed : is_blocked_entry (entry_for (slice_index_or table of Nothing)) ≡ false → old ≡ new → table' ≡ table
-      → Carries fixed_handlers defaults old new table command Skipped table' Nothing
-  goes_on_passed other same is = λ m s handles events shown w default_value default_header is_value is_header.
-      subst (λ (t : List Made). Comes fixed_handlers defaults (Shows new) m s handles events command Skipped (map entry_for t ++ No_entry ∷ [])) (sym is)
-      (skip_comes fixed_handlers defaults (Shows new) m s handles events (map entry_for table) w default_value default_header is_value is_header command
+  pub goes_on_passed : is_blocked_entry (entry_for (slice_index_or table of Nothing)) ≡ false → Carries fixed_handlers defaults old old table command Skipped table Nothing
+  goes_on_passed other = λ m s handles events shown w default_value default_header is_value is_header.
+      skip_comes fixed_handlers defaults (Shows old) m s handles events (map entry_for table) w default_value default_header is_value is_header command
       (on.skips default_value default_header m s handles (lacks_blocked s handles events (map entry_for table) w of (lacks is_blocked_entry refl table of other)))
-      (subst (λ (d : Domain T U F G). Shows d m s) same shown))
+      shown
 
   -- it goes on, and comes out so
   pub goes_on_carried : (h : BlockedSend) (outcome : Result SendOutcome SendError) → slice_index_or table of Nothing ≡ Blocked h

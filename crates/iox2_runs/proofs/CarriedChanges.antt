@@ -79,12 +79,11 @@ module _ {T U F G : Type 0} (defaults : Defaults T U) (old new : Domain T U F G)
           (at_none _ _ _
           (ap (with_cell_at at) named.1 ∙ ap (if_there (h.loan.number, named.0)) (ap (λ (l : Loan T U). nat_lt at (length l.cells)) (sym one) ∙ wrote.2)) refl) wrote.3)
 
-  pub cell_passed : (at : ℕ) (value : T) → is_unwritten_entry (entry_for (slice_index_or table of Nothing)) ≡ false → table' ≡ table
-      → Carries fixed_handlers defaults old old table (WriteCell of at value) Skipped table' Nothing
-  cell_passed at value other is = λ m s handles events shown w default_value default_header is_value is_header.
-      subst (λ (t : List Made). Comes fixed_handlers defaults (Shows old) m s handles events (WriteCell of at value) Skipped (map entry_for t ++ No_entry ∷ [])) (sym is)
-      (skip_comes fixed_handlers defaults (Shows old) m s handles events (map entry_for table) w default_value default_header is_value is_header (WriteCell of at value)
-      (at_none _ _ _ (ap (with_cell_at at) (lacks_unwritten s handles events (map entry_for table) w of (lacks is_unwritten_entry refl table of other))) refl) shown)
+  pub cell_passed : (at : ℕ) (value : T) → is_unwritten_entry (entry_for (slice_index_or table of Nothing)) ≡ false
+      → Carries fixed_handlers defaults old old table (WriteCell of at value) Skipped table Nothing
+  cell_passed at value other = λ m s handles events shown w default_value default_header is_value is_header.
+      skip_comes fixed_handlers defaults (Shows old) m s handles events (map entry_for table) w default_value default_header is_value is_header (WriteCell of at value)
+      (at_none _ _ _ (ap (with_cell_at at) (lacks_unwritten s handles events (map entry_for table) w of (lacks is_unwritten_entry refl table of other))) refl) shown
 
   -- ---- a value is changed
 
@@ -132,12 +131,11 @@ module _ {T U F G : Type 0} (defaults : Defaults T U) (old new : Domain T U F G)
           (ap (with_cell_at at) (named_so s handles h.loan.number named.0 named.2 mark)
           ∙ ap (if_there (h.loan.number, named.0)) (ap (λ (l : Loan T U). nat_lt at (length l.cells)) (sym one) ∙ wrote.2)) refl) wrote.3)
 
-  pub payload_passed : (at : ℕ) (value : T) → is_written_entry (entry_for (slice_index_or table of Nothing)) ≡ false → table' ≡ table
-      → Carries fixed_handlers defaults old old table (SetPayload of at value) Skipped table' Nothing
-  payload_passed at value other is = λ m s handles events shown w default_value default_header is_value is_header.
-      subst (λ (t : List Made). Comes fixed_handlers defaults (Shows old) m s handles events (SetPayload of at value) Skipped (map entry_for t ++ No_entry ∷ [])) (sym is)
-      (skip_comes fixed_handlers defaults (Shows old) m s handles events (map entry_for table) w default_value default_header is_value is_header (SetPayload of at value)
-      (at_none _ _ _ (ap (with_cell_at at) (lacks_written s handles events (map entry_for table) w of (lacks is_written_entry refl table of other))) refl) shown)
+  pub payload_passed : (at : ℕ) (value : T) → is_written_entry (entry_for (slice_index_or table of Nothing)) ≡ false
+      → Carries fixed_handlers defaults old old table (SetPayload of at value) Skipped table Nothing
+  payload_passed at value other = λ m s handles events shown w default_value default_header is_value is_header.
+      skip_comes fixed_handlers defaults (Shows old) m s handles events (map entry_for table) w default_value default_header is_value is_header (SetPayload of at value)
+      (at_none _ _ _ (ap (with_cell_at at) (lacks_written s handles events (map entry_for table) w of (lacks is_written_entry refl table of other))) refl) shown
 
   -- ---- the user header is written
 
@@ -175,12 +173,11 @@ module _ {T U F G : Type 0} (defaults : Defaults T U) (old new : Domain T U F G)
       (written_changes fixed_handlers defaults (Shows new) m s handles events (map entry_for table) w default_value default_header is_value is_header (WriteHeader of value) of h.service_id h.loan.publisher h.loan.number
       (user_header_changed value named.0) (at_some _ _ _ (h.loan.number, named.0) named.2 refl) there named.4 stand mark)
 
-  pub header_passed : (value : U) → is_loan_entry (entry_for (slice_index_or table of Nothing)) ≡ false → table' ≡ table
-      → Carries fixed_handlers defaults old old table (WriteHeader of value) Skipped table' Nothing
-  header_passed value other is = λ m s handles events shown w default_value default_header is_value is_header.
-      subst (λ (t : List Made). Comes fixed_handlers defaults (Shows old) m s handles events (WriteHeader of value) Skipped (map entry_for t ++ No_entry ∷ [])) (sym is)
-      (skip_comes fixed_handlers defaults (Shows old) m s handles events (map entry_for table) w default_value default_header is_value is_header (WriteHeader of value)
-      (at_none _ _ _ (lacks_loan s handles events (map entry_for table) w of (lacks is_loan_entry refl table of other)) refl) shown)
+  pub header_passed : (value : U) → is_loan_entry (entry_for (slice_index_or table of Nothing)) ≡ false
+      → Carries fixed_handlers defaults old old table (WriteHeader of value) Skipped table Nothing
+  header_passed value other = λ m s handles events shown w default_value default_header is_value is_header.
+      skip_comes fixed_handlers defaults (Shows old) m s handles events (map entry_for table) w default_value default_header is_value is_header (WriteHeader of value)
+      (at_none _ _ _ (lacks_loan s handles events (map entry_for table) w of (lacks is_loan_entry refl table of other)) refl) shown
 
   -- ---- a loan is taken as written
 
@@ -218,9 +215,8 @@ module _ {T U F G : Type 0} (defaults : Defaults T U) (old new : Domain T U F G)
       (at_some _ _ _ (h.loan.number, named.0) named.1 (sym (ap (λ (b : Bool). cond b (done (initialized s h.loan.number named.0)) (replied NotWritten s)) part))) (left.2).1
       (ports_stay_themselves s) (ports_come_themselves s) (waits_itself Nobody s) (λ n low. refl) (omega arith))
 
-  pub taken_passed : is_unwritten_entry (entry_for (slice_index_or table of Nothing)) ≡ false → table' ≡ table
-      → Carries fixed_handlers defaults old old table (AssumeInit of) Skipped table' Nothing
-  taken_passed other is = λ m s handles events shown w default_value default_header is_value is_header.
-      subst (λ (t : List Made). Comes fixed_handlers defaults (Shows old) m s handles events (AssumeInit of) Skipped (map entry_for t ++ No_entry ∷ [])) (sym is)
-      (skip_comes fixed_handlers defaults (Shows old) m s handles events (map entry_for table) w default_value default_header is_value is_header (AssumeInit of)
-      (at_none _ _ _ (lacks_unwritten s handles events (map entry_for table) w of (lacks is_unwritten_entry refl table of other)) refl) shown)
+  pub taken_passed : is_unwritten_entry (entry_for (slice_index_or table of Nothing)) ≡ false
+      → Carries fixed_handlers defaults old old table (AssumeInit of) Skipped table Nothing
+  taken_passed other = λ m s handles events shown w default_value default_header is_value is_header.
+      skip_comes fixed_handlers defaults (Shows old) m s handles events (map entry_for table) w default_value default_header is_value is_header (AssumeInit of)
+      (at_none _ _ _ (lacks_unwritten s handles events (map entry_for table) w of (lacks is_unwritten_entry refl table of other)) refl) shown

@@ -103,13 +103,12 @@ module _ {T U : Type 0} (environment : Environment) (defaults : Defaults T U) (S
 module _ {T U F G : Type 0} (environment : Environment) (defaults : Defaults T U) (old new : Domain T U F G) (table table' : List Made) (of : ℕ) where
   -- there is no such port
   pub close_passed : is_publisher_entry (entry_for (slice_index_or table of Nothing)) ≡ false → is_subscriber_entry (entry_for (slice_index_or table of Nothing)) ≡ false
-      → old ≡ new → table' ≡ table → Carries environment defaults old new table (Close of) Skipped table' Nothing
-  close_passed no_publisher no_subscriber same is = λ m s handles events shown w default_value default_header is_value is_header.
-      subst (λ (t : List Made). Comes environment defaults (Shows new) m s handles events (Close of) Skipped (map entry_for t ++ No_entry ∷ [])) (sym is)
-      (skip_comes environment defaults (Shows new) m s handles events (map entry_for table) w default_value default_header is_value is_header (Close of)
+      → Carries environment defaults old old table (Close of) Skipped table Nothing
+  close_passed no_publisher no_subscriber = λ m s handles events shown w default_value default_header is_value is_header.
+      skip_comes environment defaults (Shows old) m s handles events (map entry_for table) w default_value default_header is_value is_header (Close of)
       (at_none _ _ _ (lacks_publisher s handles events (map entry_for table) w of (lacks is_publisher_entry refl table of no_publisher))
       (at_none _ _ _ (lacks_subscriber s handles events (map entry_for table) w of (lacks is_subscriber_entry refl table of no_subscriber)) refl))
-      (subst (λ (d : Domain T U F G). Shows d m s) same shown))
+      shown
 
   -- the table afterwards
   after : table' ≡ slice_set table of Nothing → map entry_for table' ≡ slice_set (map entry_for table) of No_entry
@@ -130,15 +129,13 @@ module _ {T U F G : Type 0} (environment : Environment) (defaults : Defaults T U
       (publisher_closed_borrowed s h.id found.0) (omega arith) (at_some _ _ _ (h.id, found.0) found.1 refl) (closes m s found.0 shown found.2))
 
   -- one that waits for a receiver isn't
-  pub close_held_up : (h : PublisherHandle) → slice_index_or table of Nothing ≡ MadePublisher h → ((m : Messages T U) (s : State T U) → Shows old m s → IsUnblocked s h.id → ⊥) → old ≡ new → table' ≡ table
-      → Carries environment defaults old new table (Close of) Skipped table' Nothing
-  close_held_up h at waits same is = λ m s handles events shown w default_value default_header is_value is_header.
+  pub close_held_up : (h : PublisherHandle) → slice_index_or table of Nothing ≡ MadePublisher h → ((m : Messages T U) (s : State T U) → Shows old m s → IsUnblocked s h.id → ⊥) → Carries environment defaults old old table (Close of) Skipped table Nothing
+  close_held_up h at waits = λ m s handles events shown w default_value default_header is_value is_header.
       let stand = entry-stands table of (MadePublisher h) at (λ e. let clash : MadePublisher h ≡ Nothing = e in cc) in
-      subst (λ (t : List Made). Comes environment defaults (Shows new) m s handles events (Close of) Skipped (map entry_for t ++ No_entry ∷ [])) (sym is)
-      (skip_comes environment defaults (Shows new) m s handles events (map entry_for table) w default_value default_header is_value is_header (Close of)
+      skip_comes environment defaults (Shows old) m s handles events (map entry_for table) w default_value default_header is_value is_header (Close of)
       (at_none _ _ _ (waiting_publisher s handles events (map entry_for table) w of h.service_id h.id stand (waits m s shown))
       (at_none _ _ _ (lacks_subscriber s handles events (map entry_for table) w of (lacks is_subscriber_entry refl table of (ap (λ (v : Made). is_subscriber_entry (entry_for v)) at))) refl))
-      (subst (λ (d : Domain T U F G). Shows d m s) same shown))
+      shown
 
   -- a subscriber is closed
   pub subscriber_close_carried : (h : SubscriberHandle) → slice_index_or table of Nothing ≡ MadeSubscriber h

@@ -122,21 +122,21 @@ module _ {T U F G : Type 0} (environment : Environment) (defaults : Defaults T U
 module _ {T U F G : Type 0} (defaults : Defaults T U) (old new : Domain T U F G) (table : List Made) (of : ℕ) where
   -- ---- a default value
 
-  pub default_passed : is_publisher_entry (entry_for (slice_index_or table of Nothing)) ≡ false → old ≡ new → Carries fixed_handlers defaults old new table (LoanDefault of) Skipped table Nothing
-  default_passed other same = λ m s handles events shown w default_value default_header is_value is_header.
-      default_skipped fixed_handlers defaults (Shows new) m s handles events (map entry_for table) w default_value default_header is_value is_header of
-      (lacks is_publisher_entry refl table of other) (subst (λ (d : Domain T U F G). Shows d m s) same shown)
+  pub default_passed : is_publisher_entry (entry_for (slice_index_or table of Nothing)) ≡ false → Carries fixed_handlers defaults old old table (LoanDefault of) Skipped table Nothing
+  default_passed other = λ m s handles events shown w default_value default_header is_value is_header.
+      default_skipped fixed_handlers defaults (Shows old) m s handles events (map entry_for table) w default_value default_header is_value is_header of
+      (lacks is_publisher_entry refl table of other) shown
 
   -- the publisher waits for a receiver
-  pub default_held_up : (h : PublisherHandle) → slice_index_or table of Nothing ≡ MadePublisher h → ((m : Messages T U) (s : State T U) → Shows old m s → IsUnblocked s h.id → ⊥) → old ≡ new → Carries fixed_handlers defaults old new table (LoanDefault of) Skipped table Nothing
-  default_held_up h at waits same = λ m s handles events shown w default_value default_header is_value is_header.
-      default_waiting fixed_handlers defaults (Shows new) m s handles events (map entry_for table) w default_value default_header is_value is_header of h.service_id h.id
-      (entry-stands table of (MadePublisher h) at (λ e. let clash : MadePublisher h ≡ Nothing = e in cc)) (waits m s shown) (subst (λ (d : Domain T U F G). Shows d m s) same shown)
+  pub default_held_up : (h : PublisherHandle) → slice_index_or table of Nothing ≡ MadePublisher h → ((m : Messages T U) (s : State T U) → Shows old m s → IsUnblocked s h.id → ⊥) → Carries fixed_handlers defaults old old table (LoanDefault of) Skipped table Nothing
+  default_held_up h at waits = λ m s handles events shown w default_value default_header is_value is_header.
+      default_waiting fixed_handlers defaults (Shows old) m s handles events (map entry_for table) w default_value default_header is_value is_header of h.service_id h.id
+      (entry-stands table of (MadePublisher h) at (λ e. let clash : MadePublisher h ≡ Nothing = e in cc)) (waits m s shown) shown
 
-  pub default_of_other : is_single_valued old.config ≡ false → old ≡ new → Carries fixed_handlers defaults old new table (LoanDefault of) Skipped table Nothing
-  default_of_other other same = λ m s handles events shown w default_value default_header is_value is_header.
-      default_elsewhere fixed_handlers defaults (Shows new) m s handles events (map entry_for table) w default_value default_header is_value is_header of
-      (ap (λ (t : State T U). is_single_valued t.config) shown.state ∙ other) (subst (λ (d : Domain T U F G). Shows d m s) same shown)
+  pub default_of_other : is_single_valued old.config ≡ false → Carries fixed_handlers defaults old old table (LoanDefault of) Skipped table Nothing
+  default_of_other other = λ m s handles events shown w default_value default_header is_value is_header.
+      default_elsewhere fixed_handlers defaults (Shows old) m s handles events (map entry_for table) w default_value default_header is_value is_header of
+      (ap (λ (t : State T U). is_single_valued t.config) shown.state ∙ other) shown
 
   pub default_carried : (h : PublisherHandle) (h' : SampleMut) → slice_index_or table of Nothing ≡ MadePublisher h → ((m : Messages T U) (s : State T U) → Shows old m s → IsUnblocked s h.id)
       → is_single_valued old.config ≡ true
@@ -168,22 +168,22 @@ module _ {T U F G : Type 0} (defaults : Defaults T U) (old new : Domain T U F G)
 
   -- ---- a copy
 
-  pub copy_passed : (value : T) → is_publisher_entry (entry_for (slice_index_or table of Nothing)) ≡ false → old ≡ new → Carries fixed_handlers defaults old new table (SendCopy of value) Skipped table Nothing
-  copy_passed value other same = λ m s handles events shown w default_value default_header is_value is_header.
-      copy_skipped fixed_handlers defaults (Shows new) m s handles events (map entry_for table) w default_value default_header is_value is_header of value
-      (lacks is_publisher_entry refl table of other) (subst (λ (d : Domain T U F G). Shows d m s) same shown)
+  pub copy_passed : (value : T) → is_publisher_entry (entry_for (slice_index_or table of Nothing)) ≡ false → Carries fixed_handlers defaults old old table (SendCopy of value) Skipped table Nothing
+  copy_passed value other = λ m s handles events shown w default_value default_header is_value is_header.
+      copy_skipped fixed_handlers defaults (Shows old) m s handles events (map entry_for table) w default_value default_header is_value is_header of value
+      (lacks is_publisher_entry refl table of other) shown
 
-  pub copy_of_other : (value : T) → is_single_valued old.config ≡ false → old ≡ new → Carries fixed_handlers defaults old new table (SendCopy of value) Skipped table Nothing
-  copy_of_other value other same = λ m s handles events shown w default_value default_header is_value is_header.
-      copy_elsewhere fixed_handlers defaults (Shows new) m s handles events (map entry_for table) w default_value default_header is_value is_header of value
-      (ap (λ (t : State T U). is_single_valued t.config) shown.state ∙ other) (subst (λ (d : Domain T U F G). Shows d m s) same shown)
+  pub copy_of_other : (value : T) → is_single_valued old.config ≡ false → Carries fixed_handlers defaults old old table (SendCopy of value) Skipped table Nothing
+  copy_of_other value other = λ m s handles events shown w default_value default_header is_value is_header.
+      copy_elsewhere fixed_handlers defaults (Shows old) m s handles events (map entry_for table) w default_value default_header is_value is_header of value
+      (ap (λ (t : State T U). is_single_valued t.config) shown.state ∙ other) shown
 
   -- the publisher waits for a receiver
-  pub copy_held_up : (value : T) (h : PublisherHandle) → slice_index_or table of Nothing ≡ MadePublisher h → ((m : Messages T U) (s : State T U) → Shows old m s → IsUnblocked s h.id → ⊥) → old ≡ new
-      → Carries fixed_handlers defaults old new table (SendCopy of value) Skipped table Nothing
-  copy_held_up value h at waits same = λ m s handles events shown w default_value default_header is_value is_header.
-      copy_waiting fixed_handlers defaults (Shows new) m s handles events (map entry_for table) w default_value default_header is_value is_header of h.service_id h.id value
-      (entry-stands table of (MadePublisher h) at (λ e. let clash : MadePublisher h ≡ Nothing = e in cc)) (waits m s shown) (subst (λ (d : Domain T U F G). Shows d m s) same shown)
+  pub copy_held_up : (value : T) (h : PublisherHandle) → slice_index_or table of Nothing ≡ MadePublisher h → ((m : Messages T U) (s : State T U) → Shows old m s → IsUnblocked s h.id → ⊥)
+      → Carries fixed_handlers defaults old old table (SendCopy of value) Skipped table Nothing
+  copy_held_up value h at waits = λ m s handles events shown w default_value default_header is_value is_header.
+      copy_waiting fixed_handlers defaults (Shows old) m s handles events (map entry_for table) w default_value default_header is_value is_header of h.service_id h.id value
+      (entry-stands table of (MadePublisher h) at (λ e. let clash : MadePublisher h ≡ Nothing = e in cc)) (waits m s shown) shown
 
 module _ {T U F G : Type 0} (environment : Environment) (defaults : Defaults T U) (old new : Domain T U F G) (table : List Made) (of : ℕ) where
   -- the copy is sent: to all receivers, or it waits for one

@@ -64,12 +64,10 @@ module _ {T U : Type 0} (environment : Environment) (defaults : Defaults T U) (S
 
 module _ {T U F G : Type 0} (environment : Environment) (defaults : Defaults T U) (old new : Domain T U F G) (table table' : List Made) (of : ℕ) where
   -- there is no such loan
-  pub discard_passed : is_loan_entry (entry_for (slice_index_or table of Nothing)) ≡ false → old ≡ new → table' ≡ table
-      → Carries environment defaults old new table (Discard of) Skipped table' Nothing
-  discard_passed other same is = λ m s handles events shown w default_value default_header is_value is_header.
-      subst (λ (t : List Made). Comes environment defaults (Shows new) m s handles events (Discard of) Skipped (map entry_for t ++ No_entry ∷ [])) (sym is)
-      (discard_skipped environment defaults (Shows new) m s handles events (map entry_for table) w default_value default_header is_value is_header of
-      (lacks is_loan_entry refl table of other) (subst (λ (d : Domain T U F G). Shows d m s) same shown))
+  pub discard_passed : is_loan_entry (entry_for (slice_index_or table of Nothing)) ≡ false → Carries environment defaults old old table (Discard of) Skipped table Nothing
+  discard_passed other = λ m s handles events shown w default_value default_header is_value is_header.
+      discard_skipped environment defaults (Shows old) m s handles events (map entry_for table) w default_value default_header is_value is_header of
+      (lacks is_loan_entry refl table of other) shown
 
   -- what the loan n comes to
   abbrev Discards : (n : ℕ) → Type 0

@@ -62,81 +62,71 @@ module _ {T U F G : Type 0} (environment : Environment) (defaults : Defaults T U
       same_loan k l e = cc
 
   -- there is no such loan
-  pub write_passed : (value : T) → is_unwritten_entry (entry_for (slice_index_or table of Nothing)) ≡ false → old ≡ new → table' ≡ table
-      → Carries environment defaults old new table (WriteAll of value) Skipped table' Nothing
-  write_passed value other same is = λ m s handles events shown w default_value default_header is_value is_header.
-      subst (λ (t : List Made). Comes environment defaults (Shows new) m s handles events (WriteAll of value) Skipped (map entry_for t ++ No_entry ∷ [])) (sym is)
-      (write_skipped environment defaults (Shows new) m s handles events (map entry_for table) w default_value default_header is_value is_header of value
-      (lacks is_unwritten_entry refl table of other) (subst (λ (d : Domain T U F G). Shows d m s) same shown))
+  pub write_passed : (value : T) → is_unwritten_entry (entry_for (slice_index_or table of Nothing)) ≡ false → Carries environment defaults old old table (WriteAll of value) Skipped table Nothing
+  write_passed value other = λ m s handles events shown w default_value default_header is_value is_header.
+      write_skipped environment defaults (Shows old) m s handles events (map entry_for table) w default_value default_header is_value is_header of value
+      (lacks is_unwritten_entry refl table of other) shown
 
   -- ---- a loan
 
-  pub loan_passed : table' ≡ table → is_publisher_entry (entry_for (slice_index_or table of Nothing)) ≡ false → old ≡ new → Carries environment defaults old new table (LoanUninit of) Skipped table' Nothing
-  loan_passed is other same = λ m s handles events shown w default_value default_header is_value is_header.
-      subst (λ (t : List Made). Comes environment defaults (Shows new) m s handles events (LoanUninit of) Skipped (map entry_for t ++ No_entry ∷ [])) (sym is)
-      (loan_skipped environment defaults (Shows new) m s handles events (map entry_for table) w default_value default_header is_value is_header of
-      (lacks is_publisher_entry refl table of other) (subst (λ (d : Domain T U F G). Shows d m s) same shown))
+  pub loan_passed : is_publisher_entry (entry_for (slice_index_or table of Nothing)) ≡ false → Carries environment defaults old old table (LoanUninit of) Skipped table Nothing
+  loan_passed other = λ m s handles events shown w default_value default_header is_value is_header.
+      loan_skipped environment defaults (Shows old) m s handles events (map entry_for table) w default_value default_header is_value is_header of
+      (lacks is_publisher_entry refl table of other) shown
 
-  pub loan_of_other : is_single_valued old.config ≡ false → old ≡ new → Carries environment defaults old new table (LoanUninit of) Skipped table Nothing
-  loan_of_other other same = λ m s handles events shown w default_value default_header is_value is_header.
-      loan_elsewhere environment defaults (Shows new) m s handles events (map entry_for table) w default_value default_header is_value is_header of
-      (ap (λ (t : State T U). is_single_valued t.config) shown.state ∙ other) (subst (λ (d : Domain T U F G). Shows d m s) same shown)
+  pub loan_of_other : is_single_valued old.config ≡ false → Carries environment defaults old old table (LoanUninit of) Skipped table Nothing
+  loan_of_other other = λ m s handles events shown w default_value default_header is_value is_header.
+      loan_elsewhere environment defaults (Shows old) m s handles events (map entry_for table) w default_value default_header is_value is_header of
+      (ap (λ (t : State T U). is_single_valued t.config) shown.state ∙ other) shown
 
   -- the publisher waits for a receiver
-  pub loan_held_up : table' ≡ table → (h : PublisherHandle) → slice_index_or table of Nothing ≡ MadePublisher h → ((m : Messages T U) (s : State T U) → Shows old m s → IsUnblocked s h.id → ⊥) → old ≡ new
-      → Carries environment defaults old new table (LoanUninit of) Skipped table' Nothing
-  loan_held_up is h at waits same = λ m s handles events shown w default_value default_header is_value is_header.
-      subst (λ (t : List Made). Comes environment defaults (Shows new) m s handles events (LoanUninit of) Skipped (map entry_for t ++ No_entry ∷ [])) (sym is)
-      (loan_waiting environment defaults (Shows new) m s handles events (map entry_for table) w default_value default_header is_value is_header of h.service_id h.id
-      (entry-stands table of (MadePublisher h) at (λ e. let clash : MadePublisher h ≡ Nothing = e in cc)) (waits m s shown) (subst (λ (d : Domain T U F G). Shows d m s) same shown))
+  pub loan_held_up : (h : PublisherHandle) → slice_index_or table of Nothing ≡ MadePublisher h → ((m : Messages T U) (s : State T U) → Shows old m s → IsUnblocked s h.id → ⊥)
+      → Carries environment defaults old old table (LoanUninit of) Skipped table Nothing
+  loan_held_up h at waits = λ m s handles events shown w default_value default_header is_value is_header.
+      loan_waiting environment defaults (Shows old) m s handles events (map entry_for table) w default_value default_header is_value is_header of h.service_id h.id
+      (entry-stands table of (MadePublisher h) at (λ e. let clash : MadePublisher h ≡ Nothing = e in cc)) (waits m s shown) shown
 
-  pub loan_carried : table' ≡ table → (h : PublisherHandle) (h' : SampleMutUninit) → slice_index_or table of Nothing ≡ MadePublisher h → ((m : Messages T U) (s : State T U) → Shows old m s → IsUnblocked s h.id)
+  pub loan_carried : (h : PublisherHandle) (h' : SampleMutUninit) → slice_index_or table of Nothing ≡ MadePublisher h → ((m : Messages T U) (s : State T U) → Shows old m s → IsUnblocked s h.id)
       → is_single_valued old.config ≡ true
       → ((m : Messages T U) (s : State T U) → Shows old m s → (s' : State T U) × Shows new m s'
       × ((header : U) × defaults.IsDefaultHeader header × GrantLoan (loan_memory s h.id) header false 1 s h.id s' None))
       → h'.service_id ≡ (new.config).service_id → h'.loan.publisher ≡ h.id → h'.loan.number ≡ old.next_message
-      → Carries fixed_handlers defaults old new table (LoanUninit of) Loaned table' (Unwritten h')
-  loan_carried is h h' at free single lends service publisher number = λ m s handles events shown w default_value default_header is_value is_header.
+      → Carries fixed_handlers defaults old new table (LoanUninit of) Loaned table (Unwritten h')
+  loan_carried h h' at free single lends service publisher number = λ m s handles events shown w default_value default_header is_value is_header.
       let lent = lends m s shown in
       let loan = lent.2 in
       let made : Unwritten_entry h'.service_id h.id s.next_message ≡ entry_for (Unwritten h') =
       λ i. Unwritten_entry h'.service_id (sym publisher i) ((ap (λ (t : State T U). t.next_message) shown.state ∙ sym number) i) in
-      subst (λ (t : List Made). Comes fixed_handlers defaults (Shows new) m s handles events (LoanUninit of) Loaned (map entry_for t ++ entry_for (Unwritten h') ∷ [])) (sym is)
-      (subst (λ (k : TableEntry). Comes fixed_handlers defaults (Shows new) m s handles events (LoanUninit of) Loaned (map entry_for table ++ k ∷ [])) made
+      subst (λ (k : TableEntry). Comes fixed_handlers defaults (Shows new) m s handles events (LoanUninit of) Loaned (map entry_for table ++ k ∷ [])) made
       (loan_comes fixed_handlers defaults (Shows new) m s handles events (map entry_for table) w default_value default_header is_value is_header of h.service_id h.id
       (entry-stands table of (MadePublisher h) at (λ e. let clash : MadePublisher h ≡ Nothing = e in cc)) (free m s shown)
       (ap (λ (t : State T U). is_single_valued t.config) shown.state ∙ single)
       loan.0 loan.1 lent.0 (loan_any (loan_memory s h.id) loan.0 false 1 s h.id lent.0 None loan.2) lent.1
-      h'.service_id (service ∙ sym (ap (λ (t : State T U). (t.config).service_id) (lent.1).state))))
+      h'.service_id (service ∙ sym (ap (λ (t : State T U). (t.config).service_id) (lent.1).state)))
 
-  pub loan_denied : table' ≡ table → (h : PublisherHandle) (e : LoanError) → slice_index_or table of Nothing ≡ MadePublisher h → ((m : Messages T U) (s : State T U) → Shows old m s → IsUnblocked s h.id)
+  pub loan_denied : (h : PublisherHandle) (e : LoanError) → slice_index_or table of Nothing ≡ MadePublisher h → ((m : Messages T U) (s : State T U) → Shows old m s → IsUnblocked s h.id)
       → is_single_valued old.config ≡ true
       → ((m : Messages T U) (s : State T U) → Shows old m s → (s' : State T U) × Shows new m s' × ((s' ≡ s) × ((header : U) → GrantLoan (loan_memory s h.id) header false 1 s h.id s' (Some e))))
-      → Carries fixed_handlers defaults old new table (LoanUninit of) (LoanRefused e) table' Nothing
-  loan_denied is h e at free single refuses = λ m s handles events shown w default_value default_header is_value is_header.
+      → Carries fixed_handlers defaults old new table (LoanUninit of) (LoanRefused e) table Nothing
+  loan_denied h e at free single refuses = λ m s handles events shown w default_value default_header is_value is_header.
       let refused = refuses m s shown in
-      subst (λ (t : List Made). Comes fixed_handlers defaults (Shows new) m s handles events (LoanUninit of) (LoanRefused e) (map entry_for t ++ No_entry ∷ [])) (sym is)
-      (loan_refused_comes fixed_handlers defaults (Shows new) m s handles events (map entry_for table) w default_value default_header is_value is_header of h.service_id h.id
+      loan_refused_comes fixed_handlers defaults (Shows new) m s handles events (map entry_for table) w default_value default_header is_value is_header of h.service_id h.id
       (entry-stands table of (MadePublisher h) at (λ e. let clash : MadePublisher h ≡ Nothing = e in cc)) (free m s shown)
       (ap (λ (t : State T U). is_single_valued t.config) shown.state ∙ single)
-      default_header is_header refused.0 e (loan_any (loan_memory s h.id) default_header false 1 s h.id refused.0 (Some e) ((refused.2).1 default_header)) refused.1)
+      default_header is_header refused.0 e (loan_any (loan_memory s h.id) default_header false 1 s h.id refused.0 (Some e) ((refused.2).1 default_header)) refused.1
 
   -- ---- a send
 
-  pub send_passed : is_written_entry (entry_for (slice_index_or table of Nothing)) ≡ false → old ≡ new → table' ≡ table
-      → Carries environment defaults old new table (SendLoan of) Skipped table' Nothing
-  send_passed other same is = λ m s handles events shown w default_value default_header is_value is_header.
-      subst (λ (t : List Made). Comes environment defaults (Shows new) m s handles events (SendLoan of) Skipped (map entry_for t ++ No_entry ∷ [])) (sym is)
-      (send_skipped environment defaults (Shows new) m s handles events (map entry_for table) w default_value default_header is_value is_header of
-      (lacks is_written_entry refl table of other) (subst (λ (d : Domain T U F G). Shows d m s) same shown))
+  pub send_passed : is_written_entry (entry_for (slice_index_or table of Nothing)) ≡ false → Carries environment defaults old old table (SendLoan of) Skipped table Nothing
+  send_passed other = λ m s handles events shown w default_value default_header is_value is_header.
+      send_skipped environment defaults (Shows old) m s handles events (map entry_for table) w default_value default_header is_value is_header of
+      (lacks is_written_entry refl table of other) shown
 
   -- its publisher waits for a receiver
-  pub send_held_up : (h : SampleMut) → slice_index_or table of Nothing ≡ Written h → ((m : Messages T U) (s : State T U) → Shows old m s → IsUnblocked s h.loan.publisher → ⊥) → old ≡ new → table' ≡ table
-      → Carries environment defaults old new table (SendLoan of) Skipped table' Nothing
-  send_held_up h at waits same is = λ m s handles events shown w default_value default_header is_value is_header.
-      subst (λ (t : List Made). Comes environment defaults (Shows new) m s handles events (SendLoan of) Skipped (map entry_for t ++ No_entry ∷ [])) (sym is)
-      (send_waiting environment defaults (Shows new) m s handles events (map entry_for table) w default_value default_header is_value is_header of h.service_id h.loan.publisher h.loan.number
-      (entry-stands table of (Written h) at (λ e. let clash : Written h ≡ Nothing = e in cc)) (waits m s shown) (subst (λ (d : Domain T U F G). Shows d m s) same shown))
+  pub send_held_up : (h : SampleMut) → slice_index_or table of Nothing ≡ Written h → ((m : Messages T U) (s : State T U) → Shows old m s → IsUnblocked s h.loan.publisher → ⊥) → Carries environment defaults old old table (SendLoan of) Skipped table Nothing
+  send_held_up h at waits = λ m s handles events shown w default_value default_header is_value is_header.
+      send_waiting environment defaults (Shows old) m s handles events (map entry_for table) w default_value default_header is_value is_header of h.service_id h.loan.publisher h.loan.number
+      (entry-stands table of (Written h) at (λ e. let clash : Written h ≡ Nothing = e in cc)) (waits m s shown) shown
 
 -- ---- what comes of a send
 

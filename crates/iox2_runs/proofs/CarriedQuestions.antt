@@ -29,12 +29,12 @@ use Rattle.iox2_runs.proofs.TableSteps.{Nobody}
 
 module _ {T U F G : Type 0} (environment : Environment) (defaults : Defaults T U) (old new : Domain T U F G) (table : List Made) (of : ℕ) where
   -- there is no such subscriber
-  pub question_passed : is_subscriber_entry (entry_for (slice_index_or table of Nothing)) ≡ false → old ≡ new
-      → Carries environment defaults old new table (AskForSamples of) Skipped table Nothing
-  question_passed other same = λ m s handles events shown w default_value default_header is_value is_header.
-      skip_comes environment defaults (Shows new) m s handles events (map entry_for table) w default_value default_header is_value is_header (AskForSamples of)
+  pub question_passed : is_subscriber_entry (entry_for (slice_index_or table of Nothing)) ≡ false
+      → Carries environment defaults old old table (AskForSamples of) Skipped table Nothing
+  question_passed other = λ m s handles events shown w default_value default_header is_value is_header.
+      skip_comes environment defaults (Shows old) m s handles events (map entry_for table) w default_value default_header is_value is_header (AskForSamples of)
       (at_none _ _ _ (lacks_subscriber s handles events (map entry_for table) w of (lacks is_subscriber_entry refl table of other)) refl)
-      (subst (λ (d : Domain T U F G). Shows d m s) same shown)
+      shown
 
   -- a subscriber is asked, and this is replied
   pub question_carried : (h : SubscriberHandle) (failure : Option ConnectionFailure) (reply : Reply T U) → slice_index_or table of Nothing ≡ MadeSubscriber h

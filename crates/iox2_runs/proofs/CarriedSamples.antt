@@ -38,12 +38,10 @@ use Rattle.iox2_runs.proofs.TableEntries.{entries-set, entry-stands, lacks}
 module _ {T U F G : Type 0} (environment : Environment) (defaults : Defaults T U) (old new : Domain T U F G) (table table' : List Made) (of : ℕ) where
   -- ---- release
 
-  pub release_passed : is_sample_entry (entry_for (slice_index_or table of Nothing)) ≡ false → old ≡ new → table' ≡ table
-      → Carries environment defaults old new table (ReleaseCommand of) Skipped table' Nothing
-  release_passed other same is = λ m s handles events shown w default_value default_header is_value is_header.
-      subst (λ (t : List Made). Comes environment defaults (Shows new) m s handles events (ReleaseCommand of) Skipped (map entry_for t ++ No_entry ∷ [])) (sym is)
-      (release_skipped environment defaults (Shows new) m s handles events (map entry_for table) w default_value default_header is_value is_header of
-      (lacks is_sample_entry refl table of other) (subst (λ (d : Domain T U F G). Shows d m s) same shown))
+  pub release_passed : is_sample_entry (entry_for (slice_index_or table of Nothing)) ≡ false → Carries environment defaults old old table (ReleaseCommand of) Skipped table Nothing
+  release_passed other = λ m s handles events shown w default_value default_header is_value is_header.
+      release_skipped environment defaults (Shows old) m s handles events (map entry_for table) w default_value default_header is_value is_header of
+      (lacks is_sample_entry refl table of other) shown
 
   pub release_carried : (h : SampleHandle) → slice_index_or table of Nothing ≡ MadeSample h
       → is_borrowed h.sample.number ((state_of old).mailboxes h.origin h.sample.subscriber) ≡ true
@@ -62,55 +60,51 @@ module _ {T U F G : Type 0} (environment : Environment) (defaults : Defaults T U
 
   -- ---- receive
 
-  pub receive_passed : table' ≡ table → is_subscriber_entry (entry_for (slice_index_or table of Nothing)) ≡ false → old ≡ new → Carries environment defaults old new table (ReceiveCommand of) Skipped table' Nothing
-  receive_passed is other same = λ m s handles events shown w default_value default_header is_value is_header.
-      subst (λ (t : List Made). Comes environment defaults (Shows new) m s handles events (ReceiveCommand of) Skipped (map entry_for t ++ No_entry ∷ [])) (sym is)
-      (receive_skipped environment defaults (Shows new) m s handles events (map entry_for table) w default_value default_header is_value is_header of
-      (lacks is_subscriber_entry refl table of other) (subst (λ (d : Domain T U F G). Shows d m s) same shown))
+  pub receive_passed : is_subscriber_entry (entry_for (slice_index_or table of Nothing)) ≡ false → Carries environment defaults old old table (ReceiveCommand of) Skipped table Nothing
+  receive_passed other = λ m s handles events shown w default_value default_header is_value is_header.
+      receive_skipped environment defaults (Shows old) m s handles events (map entry_for table) w default_value default_header is_value is_header of
+      (lacks is_subscriber_entry refl table of other) shown
 
-  pub receive_of_other : ((old.config).units_per_element ≡ 1 → ⊥) → old ≡ new → Carries environment defaults old new table (ReceiveCommand of) Skipped table Nothing
-  receive_of_other other same = λ m s handles events shown w default_value default_header is_value is_header.
-      receive_elsewhere environment defaults (Shows new) m s handles events (map entry_for table) w default_value default_header is_value is_header of
-      (λ units. other (sym (ap (λ (t : State T U). (t.config).units_per_element) shown.state) ∙ units)) (subst (λ (d : Domain T U F G). Shows d m s) same shown)
+  pub receive_of_other : ((old.config).units_per_element ≡ 1 → ⊥) → Carries environment defaults old old table (ReceiveCommand of) Skipped table Nothing
+  receive_of_other other = λ m s handles events shown w default_value default_header is_value is_header.
+      receive_elsewhere environment defaults (Shows old) m s handles events (map entry_for table) w default_value default_header is_value is_header of
+      (λ units. other (sym (ap (λ (t : State T U). (t.config).units_per_element) shown.state) ∙ units)) shown
 
-  pub receive_carried : table' ≡ table → (h : SubscriberHandle) (h' : SampleHandle) (origin : ℕ) → slice_index_or table of Nothing ≡ MadeSubscriber h
+  pub receive_carried : (h : SubscriberHandle) (h' : SampleHandle) (origin : ℕ) → slice_index_or table of Nothing ≡ MadeSubscriber h
       → (old.config).units_per_element ≡ 1
       → ((m : Messages T U) (s : State T U) → Shows old m s → (s' : State T U) × Shows new m s' × Receive environment s h.id s' (Got_sample h'.origin h'.sample.number))
       → h'.service_id ≡ (new.config).service_id → h'.sample.subscriber ≡ h.id → origin ≡ h'.origin
-      → Carries environment defaults old new table (ReceiveCommand of) (SampleReply origin) table' (MadeSample h')
-  receive_carried is h h' origin at units receives service subscriber same = λ m s handles events shown w default_value default_header is_value is_header.
+      → Carries environment defaults old new table (ReceiveCommand of) (SampleReply origin) table (MadeSample h')
+  receive_carried h h' origin at units receives service subscriber same = λ m s handles events shown w default_value default_header is_value is_header.
       let got = receives m s shown in
       let made : Sample_entry h'.service_id h'.origin h.id h'.sample.number ≡ entry_for (MadeSample h') = λ i. Sample_entry h'.service_id h'.origin (sym subscriber i) h'.sample.number in
-      subst (λ (t : List Made). Comes environment defaults (Shows new) m s handles events (ReceiveCommand of) (SampleReply origin) (map entry_for t ++ entry_for (MadeSample h') ∷ [])) (sym is)
-      (subst (λ (p : ℕ). Comes environment defaults (Shows new) m s handles events (ReceiveCommand of) (SampleReply p) (map entry_for table ++ entry_for (MadeSample h') ∷ [])) (sym same)
+      subst (λ (p : ℕ). Comes environment defaults (Shows new) m s handles events (ReceiveCommand of) (SampleReply p) (map entry_for table ++ entry_for (MadeSample h') ∷ [])) (sym same)
       (subst (λ (k : TableEntry). Comes environment defaults (Shows new) m s handles events (ReceiveCommand of) (SampleReply h'.origin) (map entry_for table ++ k ∷ [])) made
       (receive_comes environment defaults (Shows new) m s handles events (map entry_for table) w default_value default_header is_value is_header of h.service_id h.id
       (entry-stands table of (MadeSubscriber h) at (λ e. let clash : MadeSubscriber h ≡ Nothing = e in cc))
       (ap (λ (t : State T U). (t.config).units_per_element) shown.state ∙ units)
       got.0 h'.origin h'.sample.number got.2 (receive_advances environment s h.id got.0 (Got_sample h'.origin h'.sample.number) got.2).next_message got.1
-      h'.service_id (service ∙ sym (ap (λ (t : State T U). (t.config).service_id) (got.1).state)))))
+      h'.service_id (service ∙ sym (ap (λ (t : State T U). (t.config).service_id) (got.1).state))))
 
-  pub receive_none : table' ≡ table → (h : SubscriberHandle) → slice_index_or table of Nothing ≡ MadeSubscriber h → (old.config).units_per_element ≡ 1
+  pub receive_none : (h : SubscriberHandle) → slice_index_or table of Nothing ≡ MadeSubscriber h → (old.config).units_per_element ≡ 1
       → ((m : Messages T U) (s : State T U) → Shows old m s → (s' : State T U) × Shows new m s' × Receive environment s h.id s' No_sample)
-      → Carries environment defaults old new table (ReceiveCommand of) NoSample table' Nothing
-  receive_none is h at units receives = λ m s handles events shown w default_value default_header is_value is_header.
+      → Carries environment defaults old new table (ReceiveCommand of) NoSample table Nothing
+  receive_none h at units receives = λ m s handles events shown w default_value default_header is_value is_header.
       let got = receives m s shown in
-      subst (λ (t : List Made). Comes environment defaults (Shows new) m s handles events (ReceiveCommand of) NoSample (map entry_for t ++ No_entry ∷ [])) (sym is)
-      (receive_quiet_comes environment defaults (Shows new) m s handles events (map entry_for table) w default_value default_header is_value is_header of h.service_id h.id
+      receive_quiet_comes environment defaults (Shows new) m s handles events (map entry_for table) w default_value default_header is_value is_header of h.service_id h.id
       (entry-stands table of (MadeSubscriber h) at (λ e. let clash : MadeSubscriber h ≡ Nothing = e in cc)) (ap (λ (t : State T U). (t.config).units_per_element) shown.state ∙ units)
       got.0 No_sample NoSample (λ p n e. let clash : No_sample ≡ Got_sample p n = e in absurd cc) refl got.2
-      (receive_advances environment s h.id got.0 No_sample got.2).next_message got.1)
+      (receive_advances environment s h.id got.0 No_sample got.2).next_message got.1
 
-  pub receive_denied : table' ≡ table → (h : SubscriberHandle) (e : ReceiveError) → slice_index_or table of Nothing ≡ MadeSubscriber h → (old.config).units_per_element ≡ 1
+  pub receive_denied : (h : SubscriberHandle) (e : ReceiveError) → slice_index_or table of Nothing ≡ MadeSubscriber h → (old.config).units_per_element ≡ 1
       → ((m : Messages T U) (s : State T U) → Shows old m s → (s' : State T U) × Shows new m s' × Receive environment s h.id s' (Receive_error e))
-      → Carries environment defaults old new table (ReceiveCommand of) (ReceiveRefused e) table' Nothing
-  receive_denied is h e at units receives = λ m s handles events shown w default_value default_header is_value is_header.
+      → Carries environment defaults old new table (ReceiveCommand of) (ReceiveRefused e) table Nothing
+  receive_denied h e at units receives = λ m s handles events shown w default_value default_header is_value is_header.
       let got = receives m s shown in
-      subst (λ (t : List Made). Comes environment defaults (Shows new) m s handles events (ReceiveCommand of) (ReceiveRefused e) (map entry_for t ++ No_entry ∷ [])) (sym is)
-      (receive_quiet_comes environment defaults (Shows new) m s handles events (map entry_for table) w default_value default_header is_value is_header of h.service_id h.id
+      receive_quiet_comes environment defaults (Shows new) m s handles events (map entry_for table) w default_value default_header is_value is_header of h.service_id h.id
       (entry-stands table of (MadeSubscriber h) at (λ e. let clash : MadeSubscriber h ≡ Nothing = e in cc)) (ap (λ (t : State T U). (t.config).units_per_element) shown.state ∙ units)
       got.0 (Receive_error e) (ReceiveRefused e) (λ p n e2. let clash : Receive_error e ≡ Got_sample p n = e2 in absurd cc) refl got.2
-      (receive_advances environment s h.id got.0 (Receive_error e) got.2).next_message got.1)
+      (receive_advances environment s h.id got.0 (Receive_error e) got.2).next_message got.1
 
   -- ---- read
 
@@ -133,20 +127,19 @@ module _ {T U F G : Type 0} (environment : Environment) (defaults : Defaults T U
     read_sample p q n entry (Some value) there sent is = at_some _ _ _ (p, q, n) there (at_some _ _ _ entry sent (at_some _ _ _ value is refl))
 
   -- a read at which this step replies so, with the table as it was
-  reads : table' ≡ table → (at : ℕ) (reply : Reply T U)
+  reads : (at : ℕ) (reply : Reply T U)
       → ((m : Messages T U) (s : State T U) (handles : List Handle) (events : List (Event T U)) → Shows old m s → IsTable s handles events (map entry_for table)
       → (default_value : T) (default_header : U) → Step environment default_value default_header m s handles (ReadCommand of at) (replied reply s))
-      → Carries environment defaults old old table (ReadCommand of at) reply table' Nothing
-  reads is at reply step = λ m s handles events shown w default_value default_header is_value is_header.
-      subst (λ (t : List Made). Comes environment defaults (Shows old) m s handles events (ReadCommand of at) reply (map entry_for t ++ No_entry ∷ [])) (sym is)
-      (read_comes environment defaults (Shows old) m s handles events (map entry_for table) w default_value default_header is_value is_header of at reply
-      (step m s handles events shown w default_value default_header) shown)
+      → Carries environment defaults old old table (ReadCommand of at) reply table Nothing
+  reads at reply step = λ m s handles events shown w default_value default_header is_value is_header.
+      read_comes environment defaults (Shows old) m s handles events (map entry_for table) w default_value default_header is_value is_header of at reply
+      (step m s handles events shown w default_value default_header) shown
 
-  pub read_unwritten : table' ≡ table → (at : ℕ) (h : SampleMutUninit) (cell : Option (Option T)) (reply : Reply T U) → slice_index_or table of Nothing ≡ Unwritten h
+  pub read_unwritten : (at : ℕ) (h : SampleMutUninit) (cell : Option (Option T)) (reply : Reply T U) → slice_index_or table of Nothing ≡ Unwritten h
       → LoanHasAt old h.loan.number at cell → reply ≡ option_map_or (λ it. Cell it) cell Skipped
-      → Carries environment defaults old old table (ReadCommand of at) reply table' Nothing
-  read_unwritten is at h cell reply stood has so = subst (λ (r : Reply T U). Carries environment defaults old old table (ReadCommand of at) r table' Nothing) (sym so)
-      (reads is at (option_map_or (λ it. Cell it) cell Skipped) (λ m s handles events shown w default_value default_header.
+      → Carries environment defaults old old table (ReadCommand of at) reply table Nothing
+  read_unwritten at h cell reply stood has so = subst (λ (r : Reply T U). Carries environment defaults old old table (ReadCommand of at) r table Nothing) (sym so)
+      (reads at (option_map_or (λ it. Cell it) cell Skipped) (λ m s handles events shown w default_value default_header.
       let stand = entry-stands table of (Unwritten h) stood (λ e. let clash : Unwritten h ≡ Nothing = e in cc) in
       let named = has_unwritten s handles events (map entry_for table) w of h.service_id h.loan.publisher h.loan.number stand in
       let read = has m s shown in
@@ -159,11 +152,11 @@ module _ {T U F G : Type 0} (environment : Environment) (defaults : Defaults T U
   value_cell None = refl
   value_cell (Some value) = refl
 
-  pub read_written : table' ≡ table → (at : ℕ) (h : SampleMut) (value : Option T) (reply : Reply T U) → slice_index_or table of Nothing ≡ Written h
+  pub read_written : (at : ℕ) (h : SampleMut) (value : Option T) (reply : Reply T U) → slice_index_or table of Nothing ≡ Written h
       → LoanHasAt old h.loan.number at (option_map Some value) → reply ≡ option_map_or (λ it. Cell (Some it)) value Skipped
-      → Carries environment defaults old old table (ReadCommand of at) reply table' Nothing
-  read_written is at h value reply stood has so = subst (λ (r : Reply T U). Carries environment defaults old old table (ReadCommand of at) r table' Nothing) (sym (so ∙ value_cell value))
-      (reads is at (option_map_or (λ it. Cell it) (option_map Some value) Skipped) (λ m s handles events shown w default_value default_header.
+      → Carries environment defaults old old table (ReadCommand of at) reply table Nothing
+  read_written at h value reply stood has so = subst (λ (r : Reply T U). Carries environment defaults old old table (ReadCommand of at) r table Nothing) (sym (so ∙ value_cell value))
+      (reads at (option_map_or (λ it. Cell it) (option_map Some value) Skipped) (λ m s handles events shown w default_value default_header.
       let stand = entry-stands table of (Written h) stood (λ e. let clash : Written h ≡ Nothing = e in cc) in
       let named = has_written s handles events (map entry_for table) w of h.service_id h.loan.publisher h.loan.number stand in
       let read = has m s shown in
@@ -171,19 +164,19 @@ module _ {T U F G : Type 0} (environment : Environment) (defaults : Defaults T U
       (lacks_sample s handles events (map entry_for table) w of (lacks is_sample_entry refl table of (ap (λ (v : Made). is_sample_entry (entry_for v)) stood))) named.2
       (ap (λ (l : Loan T U). slice_get l.cells at) (same_Some named.0 read.0 (sym named.3 ∙ read.1)) ∙ read.2)))
 
-  pub read_sampled : table' ≡ table → (at : ℕ) (h : SampleHandle) (value : Option T) (reply : Reply T U) → slice_index_or table of Nothing ≡ MadeSample h
+  pub read_sampled : (at : ℕ) (h : SampleHandle) (value : Option T) (reply : Reply T U) → slice_index_or table of Nothing ≡ MadeSample h
       → MessageHasAt old h.sample.number at value → reply ≡ option_map_or (λ it. Cell (Some it)) value Skipped
-      → Carries environment defaults old old table (ReadCommand of at) reply table' Nothing
-  read_sampled is at h value reply stood has so = subst (λ (r : Reply T U). Carries environment defaults old old table (ReadCommand of at) r table' Nothing) (sym so)
-      (reads is at (option_map_or (λ it. Cell (Some it)) value Skipped) (λ m s handles events shown w default_value default_header.
+      → Carries environment defaults old old table (ReadCommand of at) reply table Nothing
+  read_sampled at h value reply stood has so = subst (λ (r : Reply T U). Carries environment defaults old old table (ReadCommand of at) r table Nothing) (sym so)
+      (reads at (option_map_or (λ it. Cell (Some it)) value Skipped) (λ m s handles events shown w default_value default_header.
       let stand = entry-stands table of (MadeSample h) stood (λ e. let clash : MadeSample h ≡ Nothing = e in cc) in
       let read = has m s shown in
       read_sample m s handles default_value default_header at h.origin h.sample.subscriber h.sample.number read.0 value
       (has_sample s handles events (map entry_for table) w of h.service_id h.origin h.sample.subscriber h.sample.number stand) read.1 read.2))
 
-  pub read_passed : table' ≡ table → (at : ℕ) → is_sample_entry (entry_for (slice_index_or table of Nothing)) ≡ false → is_loan_entry (entry_for (slice_index_or table of Nothing)) ≡ false
-      → Carries environment defaults old old table (ReadCommand of at) Skipped table' Nothing
-  read_passed is at no_sample no_loan =
-      reads is at Skipped (λ m s handles events shown w default_value default_header.
+  pub read_passed : (at : ℕ) → is_sample_entry (entry_for (slice_index_or table of Nothing)) ≡ false → is_loan_entry (entry_for (slice_index_or table of Nothing)) ≡ false
+      → Carries environment defaults old old table (ReadCommand of at) Skipped table Nothing
+  read_passed at no_sample no_loan =
+      reads at Skipped (λ m s handles events shown w default_value default_header.
       at_none _ _ _ (lacks_sample s handles events (map entry_for table) w of (lacks is_sample_entry refl table of no_sample))
       (at_none _ _ _ (ap (with_cell_at at) (lacks_loan s handles events (map entry_for table) w of (lacks is_loan_entry refl table of no_loan))) refl))

@@ -44,12 +44,12 @@ module _ {T U : Type 0} where
 module _ {T U F G : Type 0} (environment : Environment) (defaults : Defaults T U) (old new : Domain T U F G) (table : List Made) (of : ℕ) where
   -- there is no such port
   pub update_passed : is_publisher_entry (entry_for (slice_index_or table of Nothing)) ≡ false → is_subscriber_entry (entry_for (slice_index_or table of Nothing)) ≡ false
-      → old ≡ new → Carries environment defaults old new table (Update of) Skipped table Nothing
-  update_passed no_publisher no_subscriber same = λ m s handles events shown w default_value default_header is_value is_header.
-      skip_comes environment defaults (Shows new) m s handles events (map entry_for table) w default_value default_header is_value is_header (Update of)
+      → Carries environment defaults old old table (Update of) Skipped table Nothing
+  update_passed no_publisher no_subscriber = λ m s handles events shown w default_value default_header is_value is_header.
+      skip_comes environment defaults (Shows old) m s handles events (map entry_for table) w default_value default_header is_value is_header (Update of)
       (at_none _ _ _ (lacks_publisher s handles events (map entry_for table) w of (lacks is_publisher_entry refl table of no_publisher))
       (at_none _ _ _ (lacks_subscriber s handles events (map entry_for table) w of (lacks is_subscriber_entry refl table of no_subscriber)) refl))
-      (subst (λ (d : Domain T U F G). Shows d m s) same shown)
+      shown
 
   -- a publisher is updated, and this is replied
   pub update_of_publisher : (h : PublisherHandle) (failure : Option ConnectionFailure) (reply : Reply T U) → slice_index_or table of Nothing ≡ MadePublisher h → ((m : Messages T U) (s : State T U) → Shows old m s → IsUnblocked s h.id)
@@ -66,13 +66,13 @@ module _ {T U F G : Type 0} (environment : Environment) (defaults : Defaults T U
       (update_publisher_advances environment s h.id s' failure updated.2).next_message
 
   -- one that waits for a receiver isn't
-  pub update_held_up : (h : PublisherHandle) → slice_index_or table of Nothing ≡ MadePublisher h → ((m : Messages T U) (s : State T U) → Shows old m s → IsUnblocked s h.id → ⊥) → old ≡ new → Carries environment defaults old new table (Update of) Skipped table Nothing
-  update_held_up h at waits same = λ m s handles events shown w default_value default_header is_value is_header.
+  pub update_held_up : (h : PublisherHandle) → slice_index_or table of Nothing ≡ MadePublisher h → ((m : Messages T U) (s : State T U) → Shows old m s → IsUnblocked s h.id → ⊥) → Carries environment defaults old old table (Update of) Skipped table Nothing
+  update_held_up h at waits = λ m s handles events shown w default_value default_header is_value is_header.
       let stand = entry-stands table of (MadePublisher h) at (λ e. let clash : MadePublisher h ≡ Nothing = e in cc) in
-      skip_comes environment defaults (Shows new) m s handles events (map entry_for table) w default_value default_header is_value is_header (Update of)
+      skip_comes environment defaults (Shows old) m s handles events (map entry_for table) w default_value default_header is_value is_header (Update of)
       (at_none _ _ _ (waiting_publisher s handles events (map entry_for table) w of h.service_id h.id stand (waits m s shown))
       (at_none _ _ _ (lacks_subscriber s handles events (map entry_for table) w of (lacks is_subscriber_entry refl table of (ap (λ (v : Made). is_subscriber_entry (entry_for v)) at))) refl))
-      (subst (λ (d : Domain T U F G). Shows d m s) same shown)
+      shown
 
   -- a subscriber is updated, and this is replied
   pub update_of_subscriber : (h : SubscriberHandle) (failure : Option ConnectionFailure) (reply : Reply T U) → slice_index_or table of Nothing ≡ MadeSubscriber h

@@ -33,4 +33,4 @@ returns-in-Err g c =
 pub returns-in_default : goal.returns-in_default
 returns-in_default g c =
     looks {T = g.row.T.Denot} {U = g.row.U.Denot} _ _ c.args.domain.now c.args.held _ _ (λ table of at.
-    taken_passed {T = g.row.T.Denot} {U = g.row.U.Denot} _ c.args.domain.now c.args.domain.now table table of (ap (λ (h : Made). is_unwritten_entry (entry_for h)) at ∙ not_unwritten c.args.held c.in_default.not-Unwritten) refl)
+    taken_passed {T = g.row.T.Denot} {U = g.row.U.Denot} _ c.args.domain.now c.args.domain.now table table of (ap (λ (h : Made). is_unwritten_entry (entry_for h)) at ∙ not_unwritten c.args.held c.in_default.not-Unwritten))

@@ -27,4 +27,4 @@ returns-in-Unwritten g c =
 pub returns-in_default : goal.returns-in_default
 returns-in_default g c =
     looks {T = g.row.T.Denot} {U = g.row.U.Denot} _ _ c.args.domain.now c.args.held _ _ (λ table of at.
-    write_passed {T = g.row.T.Denot} {U = g.row.U.Denot} fixed_handlers _ c.args.domain.now c.args.domain.now table table of c.args.value (ap (λ (h : Made). is_unwritten_entry (entry_for h)) at ∙ not_unwritten c.args.held c.in_default.not-Unwritten) refl refl)
+    write_passed {T = g.row.T.Denot} {U = g.row.U.Denot} fixed_handlers _ c.args.domain.now c.args.domain.now table table of c.args.value (ap (λ (h : Made). is_unwritten_entry (entry_for h)) at ∙ not_unwritten c.args.held c.in_default.not-Unwritten))

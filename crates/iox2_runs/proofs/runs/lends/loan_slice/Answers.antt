@@ -12,7 +12,7 @@ use Rattle.iox2_runs.proofs.runs.lends.loan_slice.Goals as goal
 
 pub returns-then-not-has_slices : goal.returns-then-not-has_slices
 returns-then-not-has_slices g c =
-    looks {T = g.row.T.Denot} {U = g.row.U.Denot} _ _ c.args.domain.now c.args.held _ _ (λ table of at. slice_of_other {T = g.row.T.Denot} {U = g.row.U.Denot} _ c.args.domain.now c.args.domain.now table table refl of c.args.len (sym c.has_slices.ensures ∙ c.if-not-has_slices.true))
+    looks {T = g.row.T.Denot} {U = g.row.U.Denot} _ _ c.args.domain.now c.args.held _ _ (λ table of at. slice_of_other {T = g.row.T.Denot} {U = g.row.U.Denot} _ c.args.domain.now c.args.domain.now table of c.args.len (sym c.has_slices.ensures ∙ c.if-not-has_slices.true))
 
 pub loan_slice_uninit-requires-clause-ready : goal.loan_slice_uninit-requires-clause-ready
 loan_slice_uninit-requires-clause-ready g c = subst (IsReadyPublisher {T = g.row.T.Denot} {U = g.row.U.Denot} c.args.domain.now) (sym c.new-publisher.ensures) c.in-Ok.ensures.1
@@ -26,7 +26,7 @@ loan_slice_uninit-requires-clause-one_unit g c = (slices-parts c.args.domain.now
 pub returns-in-Ok-loan_slice_uninit : goal.returns-in-Ok-loan_slice_uninit
 returns-in-Ok-loan_slice_uninit g c =
     rw (c.in-Ok.ensures.0, c.into_inner.ensures, c.into_inner-in-Ok-loan_slice_uninit.ensures, c.new-publisher.ensures) (keeps {T = g.row.T.Denot} {U = g.row.U.Denot} _ _ c.args.domain.now c.loan_slice_uninit.new.domain _ _ _ (Unwritten c.in-Ok-loan_slice_uninit.loan.sample) (λ table of at.
-    slice_carried {T = g.row.T.Denot} {U = g.row.U.Denot} _ c.args.domain.now c.loan_slice_uninit.new.domain table table refl of c.args.len c.in-Ok.publisher at (shown_free {T = g.row.T.Denot} {U = g.row.U.Denot} c.args.domain.now (publisher_key c.in-Ok.publisher) (c.in-Ok.ensures.1).unblocked) (sym c.has_slices.ensures ∙ c.if-not-has_slices.false)
+    slice_carried {T = g.row.T.Denot} {U = g.row.U.Denot} _ c.args.domain.now c.loan_slice_uninit.new.domain table of c.args.len c.in-Ok.publisher at (shown_free {T = g.row.T.Denot} {U = g.row.U.Denot} c.args.domain.now (publisher_key c.in-Ok.publisher) (c.in-Ok.ensures.1).unblocked) (sym c.has_slices.ensures ∙ c.if-not-has_slices.false)
     c.in-Ok-loan_slice_uninit.loan.sample (rw c.new-publisher.ensures at c.in-Ok-loan_slice_uninit.ensures.lends) (unwritten-parts {T = g.row.T.Denot} {U = g.row.U.Denot} c.loan_slice_uninit.new.domain c.in-Ok-loan_slice_uninit.loan.sample c.in-Ok-loan_slice_uninit.ensures.out).0 (rw c.new-publisher.ensures at c.in-Ok-loan_slice_uninit.ensures.publisher) c.in-Ok-loan_slice_uninit.ensures.number)
     (λ table of at. leaves-lending {T = g.row.T.Denot} {U = g.row.U.Denot} c.args.domain.now c.loan_slice_uninit.new.domain table table refl of c.in-Ok.publisher (Unwritten c.in-Ok-loan_slice_uninit.loan.sample) (unwritten_loan c.in-Ok-loan_slice_uninit.loan.sample) at
     c.loan_slice_uninit.ensures.stays c.in-Ok-loan_slice_uninit.ensures.new (ap (λ (p : ℕ). Both (unwritten_loan c.in-Ok-loan_slice_uninit.loan.sample) (A_blocked_send p)) (rw c.new-publisher.ensures at c.in-Ok-loan_slice_uninit.ensures.publisher)) tt))
@@ -34,7 +34,7 @@ returns-in-Ok-loan_slice_uninit g c =
 pub returns-in-Err-loan_slice_uninit : goal.returns-in-Err-loan_slice_uninit
 returns-in-Err-loan_slice_uninit g c =
     rw (c.in-Ok.ensures.0, c.into_inner-in-Err-loan_slice_uninit.ensures, sym c.new-publisher.ensures) (makes {T = g.row.T.Denot} {U = g.row.U.Denot} _ _ c.args.domain.now c.loan_slice_uninit.new.domain _ _ _ Nothing (λ table of at.
-    slice_denied {T = g.row.T.Denot} {U = g.row.U.Denot} _ c.args.domain.now c.loan_slice_uninit.new.domain table table refl of c.args.len c.new-publisher.result.publisher at
+    slice_denied {T = g.row.T.Denot} {U = g.row.U.Denot} _ c.args.domain.now c.loan_slice_uninit.new.domain table of c.args.len c.new-publisher.result.publisher at
     (shown_free {T = g.row.T.Denot} {U = g.row.U.Denot} c.args.domain.now (publisher_key c.new-publisher.result.publisher) (subst (IsReadyPublisher {T = g.row.T.Denot} {U = g.row.U.Denot} c.args.domain.now) (sym c.new-publisher.ensures) c.in-Ok.ensures.1).unblocked)
     (sym c.has_slices.ensures ∙ c.if-not-has_slices.false) c.in-Err-loan_slice_uninit.error c.in-Err-loan_slice_uninit.ensures.lends)
     c.loan_slice_uninit.ensures.stays (nothing-is-new {T = g.row.T.Denot} {U = g.row.U.Denot} c.args.domain.now) tt)
@@ -42,5 +42,5 @@ returns-in-Err-loan_slice_uninit g c =
 pub returns-in-Err : goal.returns-in-Err
 returns-in-Err g c =
     rw c.in-Err.ensures.0 (unready {T = g.row.T.Denot} {U = g.row.U.Denot} _ _ c.args.domain.now c.args.held _ c.in-Err.ensures.1
-    (λ table of other at. slice_passed {T = g.row.T.Denot} {U = g.row.U.Denot} _ c.args.domain.now c.args.domain.now table table refl of c.args.len other)
-    (λ table of h at waits. slice_held_up {T = g.row.T.Denot} {U = g.row.U.Denot} _ c.args.domain.now c.args.domain.now table table refl of c.args.len h at waits))
+    (λ table of other at. slice_passed {T = g.row.T.Denot} {U = g.row.U.Denot} _ c.args.domain.now c.args.domain.now table of c.args.len other)
+    (λ table of h at waits. slice_held_up {T = g.row.T.Denot} {U = g.row.U.Denot} _ c.args.domain.now c.args.domain.now table of c.args.len h at waits))

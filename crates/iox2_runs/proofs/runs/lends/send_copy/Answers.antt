@@ -12,7 +12,7 @@ use Rattle.iox2_runs.proofs.runs.lends.send_copy.Goals as goal
 
 pub returns-then-not-is_single_valued : goal.returns-then-not-is_single_valued
 returns-then-not-is_single_valued g c =
-    looks {T = g.row.T.Denot} {U = g.row.U.Denot} _ _ c.args.domain.now c.args.held _ _ (λ table of at. copy_of_other {T = g.row.T.Denot} {U = g.row.U.Denot} _ c.args.domain.now c.args.domain.now table of c.args.value (sym c.is_single_valued.ensures ∙ c.if-not-is_single_valued.true) refl)
+    looks {T = g.row.T.Denot} {U = g.row.U.Denot} _ _ c.args.domain.now c.args.held _ _ (λ table of at. copy_of_other {T = g.row.T.Denot} {U = g.row.U.Denot} _ c.args.domain.now c.args.domain.now table of c.args.value (sym c.is_single_valued.ensures ∙ c.if-not-is_single_valued.true))
 
 pub send_copy-requires : goal.send_copy-requires
 send_copy-requires g c = record { ready = c.in-Ok.ensures.1; single_valued = single-here {T = g.row.T.Denot} {U = g.row.U.Denot} c.args.domain.now (sym c.is_single_valued.ensures ∙ c.if-not-is_single_valued.false) }
@@ -27,5 +27,5 @@ returns-in-Ok g c =
 pub returns-in-Err : goal.returns-in-Err
 returns-in-Err g c =
     rw c.in-Err.ensures.0 (unready {T = g.row.T.Denot} {U = g.row.U.Denot} _ _ c.args.domain.now c.args.held _ c.in-Err.ensures.1
-    (λ table of other at. copy_passed {T = g.row.T.Denot} {U = g.row.U.Denot} _ c.args.domain.now c.args.domain.now table of c.args.value other refl)
-    (λ table of h at waits. copy_held_up {T = g.row.T.Denot} {U = g.row.U.Denot} _ c.args.domain.now c.args.domain.now table of c.args.value h at waits refl))
+    (λ table of other at. copy_passed {T = g.row.T.Denot} {U = g.row.U.Denot} _ c.args.domain.now c.args.domain.now table of c.args.value other)
+    (λ table of h at waits. copy_held_up {T = g.row.T.Denot} {U = g.row.U.Denot} _ c.args.domain.now c.args.domain.now table of c.args.value h at waits))

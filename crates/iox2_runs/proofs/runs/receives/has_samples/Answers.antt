@@ -35,4 +35,4 @@ returns-in-Err g c =
 pub returns-in_default : goal.returns-in_default
 returns-in_default g c =
     looks {T = g.row.T.Denot} {U = g.row.U.Denot} _ _ c.args.domain.now c.args.held _ _ (λ table of at.
-    question_passed {T = g.row.T.Denot} {U = g.row.U.Denot} fixed_handlers _ c.args.domain.now c.args.domain.now table of (ap (λ (h : Made). is_subscriber_entry (entry_for h)) at ∙ not_subscriber c.args.held c.in_default.not-Subscriber) refl)
+    question_passed {T = g.row.T.Denot} {U = g.row.U.Denot} fixed_handlers _ c.args.domain.now c.args.domain.now table of (ap (λ (h : Made). is_subscriber_entry (entry_for h)) at ∙ not_subscriber c.args.held c.in_default.not-Subscriber))

@@ -32,4 +32,4 @@ returns-in-Written g c =
 pub returns-in_default : goal.returns-in_default
 returns-in_default g c =
     looks {T = g.row.T.Denot} {U = g.row.U.Denot} _ _ c.args.domain.now c.args.held _ _ (λ table of at.
-    discard_passed {T = g.row.T.Denot} {U = g.row.U.Denot} fixed_handlers _ c.args.domain.now c.args.domain.now table table of (ap (λ (h : Made). is_loan_entry (entry_for h)) at ∙ not_loan c.args.held c.in_default.not-Unwritten c.in_default.not-Written) refl refl)
+    discard_passed {T = g.row.T.Denot} {U = g.row.U.Denot} fixed_handlers _ c.args.domain.now c.args.domain.now table table of (ap (λ (h : Made). is_loan_entry (entry_for h)) at ∙ not_loan c.args.held c.in_default.not-Unwritten c.in_default.not-Written))

@@ -28,4 +28,4 @@ returns-in-Blocked g c = rw (c.in-Blocked.is, c.send_reply-reply.ensures.reply, 
 pub returns-in_default : goal.returns-in_default
 returns-in_default g c =
     looks {T = g.row.T.Denot} {U = g.row.U.Denot} _ _ c.args.domain.now c.args.held _ _ (λ table of at.
-    goes_on_passed {T = g.row.T.Denot} {U = g.row.U.Denot} _ c.args.domain.now c.args.domain.now table table of _ (give_up_goes fixed_handlers of) (ap (λ (h : Made). is_blocked_entry (entry_for h)) at ∙ not_blocked c.args.held c.in_default.not-Blocked) refl refl)
+    goes_on_passed {T = g.row.T.Denot} {U = g.row.U.Denot} _ c.args.domain.now c.args.domain.now table table of _ (give_up_goes fixed_handlers of) (ap (λ (h : Made). is_blocked_entry (entry_for h)) at ∙ not_blocked c.args.held c.in_default.not-Blocked))

@@ -24,4 +24,4 @@ returns-in-Sample g c =
 pub returns-in_default : goal.returns-in_default
 returns-in_default g c =
     looks {T = g.row.T.Denot} {U = g.row.U.Denot} _ _ c.args.domain.now c.args.held _ _ (λ table of at.
-    release_passed {T = g.row.T.Denot} {U = g.row.U.Denot} fixed_handlers _ c.args.domain.now c.args.domain.now table table of (ap (λ (h : Made). is_sample_entry (entry_for h)) at ∙ not_sample c.args.held c.in_default.not-Sample) refl refl)
+    release_passed {T = g.row.T.Denot} {U = g.row.U.Denot} fixed_handlers _ c.args.domain.now c.args.domain.now table table of (ap (λ (h : Made). is_sample_entry (entry_for h)) at ∙ not_sample c.args.held c.in_default.not-Sample))

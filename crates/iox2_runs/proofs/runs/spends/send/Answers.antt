@@ -27,7 +27,7 @@ pub returns-then-is_blocked : goal.returns-then-is_blocked
 returns-then-is_blocked g c =
     rw c.in-Written.is (looks {T = g.row.T.Denot} {U = g.row.U.Denot} _ _ c.args.domain.now _ _ _ (λ table of at.
     send_held_up {T = g.row.T.Denot} {U = g.row.U.Denot} fixed_handlers _ c.args.domain.now c.args.domain.now table table of c.in-Written.loan at
-    (shown_waits {T = g.row.T.Denot} {U = g.row.U.Denot} c.args.domain.now (written_key c.in-Written.loan) (known_lender {T = g.row.T.Denot} {U = g.row.U.Denot} c.args.domain.now c.args.held c.requires c.in-Written.loan c.in-Written.is) c.is_blocked.result c.is_blocked.ensures c.if-is_blocked.true) refl refl))
+    (shown_waits {T = g.row.T.Denot} {U = g.row.U.Denot} c.args.domain.now (written_key c.in-Written.loan) (known_lender {T = g.row.T.Denot} {U = g.row.U.Denot} c.args.domain.now c.args.held c.requires c.in-Written.loan c.in-Written.is) c.is_blocked.result c.is_blocked.ensures c.if-is_blocked.true)))
 
 pub returns-else-is_blocked : goal.returns-else-is_blocked
 returns-else-is_blocked g c = rw (c.in-Written.is, c.send_reply-reply.ensures.reply, c.send_reply-reply.ensures.made) (record {
@@ -43,4 +43,4 @@ returns-else-is_blocked g c = rw (c.in-Written.is, c.send_reply-reply.ensures.re
 pub returns-in_default : goal.returns-in_default
 returns-in_default g c =
     looks {T = g.row.T.Denot} {U = g.row.U.Denot} _ _ c.args.domain.now c.args.held _ _ (λ table of at.
-    send_passed {T = g.row.T.Denot} {U = g.row.U.Denot} fixed_handlers _ c.args.domain.now c.args.domain.now table table of (ap (λ (h : Made). is_written_entry (entry_for h)) at ∙ not_written c.args.held c.in_default.not-Written) refl refl)
+    send_passed {T = g.row.T.Denot} {U = g.row.U.Denot} fixed_handlers _ c.args.domain.now c.args.domain.now table table of (ap (λ (h : Made). is_written_entry (entry_for h)) at ∙ not_written c.args.held c.in_default.not-Written))

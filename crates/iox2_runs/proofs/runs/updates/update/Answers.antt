@@ -41,5 +41,5 @@ pub returns-in-Err : goal.returns-in-Err
 returns-in-Err g c =
     rw c.in-Err.ensures.0 (unready {T = g.row.T.Denot} {U = g.row.U.Denot} _ _ c.args.domain.now c.args.held _ c.in-Err.ensures.1
     (λ table of other at. update_passed {T = g.row.T.Denot} {U = g.row.U.Denot} fixed_handlers _ c.args.domain.now c.args.domain.now table of other
-    (ap (λ (h : Made). is_subscriber_entry (entry_for h)) at ∙ not_subscriber c.args.held c.in_default.not-Subscriber) refl)
-    (λ table of h at waits. update_held_up {T = g.row.T.Denot} {U = g.row.U.Denot} fixed_handlers _ c.args.domain.now c.args.domain.now table of h at waits refl))
+    (ap (λ (h : Made). is_subscriber_entry (entry_for h)) at ∙ not_subscriber c.args.held c.in_default.not-Subscriber))
+    (λ table of h at waits. update_held_up {T = g.row.T.Denot} {U = g.row.U.Denot} fixed_handlers _ c.args.domain.now c.args.domain.now table of h at waits))
