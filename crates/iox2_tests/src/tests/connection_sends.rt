@@ -1,5 +1,5 @@
 //! Messages that are sent into one channel of one connection.
-ghost use Rattle.std.specs.Prelude.{◌<◌, IfOk};
+ghost use Rattle.std.specs.Prelude.{◌<◌};
 ghost use Rattle.iox2_pubsub.specs.Live.{IsWritten};
 
 use crate::tests::fixtures::{copied, next_reading, publisher_of, subscriber_of, update, waits};
@@ -11,7 +11,7 @@ use iox2_pubsub::{
     BackpressureAction, BackpressureHandler, Domain, Publisher, SampleMut, SendError, SendOutcome,
     Subscriber, UpdateConnections,
 };
-use iox2_store::{LoanError, ServiceConfig};
+use iox2_store::ServiceConfig;
 use std::alloc::Global;
 use std::process::Abort;
 
@@ -38,13 +38,13 @@ fn message_of(
     domain: &mut Weather,
     publisher: &Publisher,
     celsius: u64,
-) -> Result<SampleMut, LoanError>
-    ensures { IfOk result (IsWritten domain.new) }
+) -> SampleMut
+    ensures { IsWritten domain.new result }
 {
     assert!(rt; is_single_valued(domain));
     assert!(rt; is_ready(domain, publisher));
-    let loan = publisher.loan_uninit(domain)?;
-    Ok(loan.write_payload(domain, Reading { celsius }))
+    let loan = publisher.loan_uninit(domain).expect(rt, "a loan");
+    loan.write_payload(domain, Reading { celsius })
 }
 
 // Sends a loan into a channel of a connection.
@@ -71,7 +71,7 @@ fn sent_to(
     channel: usize,
     connection: usize,
 ) -> usize {
-    let message = message_of(rt, domain, publisher, celsius).expect(rt, "a loan");
+    let message = message_of(rt, domain, publisher, celsius);
     let outcome = send_there(rt, domain, message, channel, connection).expect(rt, "an outcome");
     receiver_count(outcome).expect(rt, "a send that isn't blocked")
 }
@@ -83,59 +83,43 @@ fn close_channel(rt: &impl Abort, domain: &mut Weather, subscriber: &Subscriber,
     subscriber.close_channel(domain, channel, 0);
 }
 
-// Of one connection with two channels, for one message each, the second takes one message, and a
+// Of two connections with two channels each, for one message each, a channel takes one message. A
 // connection that isn't there takes none.
 #[test]
 fn a_message_goes_into_one_channel_of_one_connection(rt: HostRuntime) {
-    let mut domain = domain_of(&rt, rt.alloc(), channels(2, 1));
-    let subscriber = subscriber_of(&rt, &mut domain);
-    let publisher = publisher_of(&rt, &mut domain);
-    let first = copied(&rt, &mut domain, &publisher, 2);
-    let read = next_reading(&rt, &mut domain, &subscriber);
-    let taken = [
-        sent_to(&rt, &mut domain, &publisher, 3, 1, 0),
-        sent_to(&rt, &mut domain, &publisher, 4, 1, 0),
-        sent_to(&rt, &mut domain, &publisher, 5, 1, 5),
-    ];
-    let more = waits(&rt, &mut domain, &subscriber);
-    let nothing = next_reading(&rt, &mut domain, &subscriber);
-    publisher.disown();
-    subscriber.disown();
-    drop(domain);
-    assert!(rt; first == 1 && read == Some(2));
-    assert!(rt; taken == [1, 0, 0]);
-    assert!(rt; !more && nothing.is_none());
-}
-
-// In channel 0 it can be received, by the subscriber of that connection alone.
-#[test]
-fn a_message_in_channel_0_is_received(rt: HostRuntime) {
     let config = ServiceConfig {
         max_subscribers: 2,
-        ..channels(1, 1)
+        ..channels(2, 1)
     };
     let mut domain = domain_of(&rt, rt.alloc(), config);
     let first = subscriber_of(&rt, &mut domain);
     let second = subscriber_of(&rt, &mut domain);
     let publisher = publisher_of(&rt, &mut domain);
-    let place = publisher.get_connection_id_of(&domain, second.id().value());
+    let places = [
+        publisher.get_connection_id_of(&domain, first.id().value()),
+        publisher.get_connection_id_of(&domain, second.id().value()),
+        publisher.get_connection_id_of(&domain, publisher.id().value()),
+    ];
+    let past = publisher.has_channel_state(&domain, 0, 2, 0);
     let taken = [
-        sent_to(&rt, &mut domain, &publisher, 1, 0, 1),
-        sent_to(&rt, &mut domain, &publisher, 2, 0, 1),
-        sent_to(&rt, &mut domain, &publisher, 3, 0, 2),
+        sent_to(&rt, &mut domain, &publisher, 1, 1, 0),
+        sent_to(&rt, &mut domain, &publisher, 2, 1, 0),
+        sent_to(&rt, &mut domain, &publisher, 3, 1, 5),
+        sent_to(&rt, &mut domain, &publisher, 4, 0, 1),
     ];
-    let read = [
-        next_reading(&rt, &mut domain, &first),
-        next_reading(&rt, &mut domain, &second),
-        next_reading(&rt, &mut domain, &second),
+    let more = [
+        waits(&rt, &mut domain, &first),
+        waits(&rt, &mut domain, &second),
     ];
+    let read = next_reading(&rt, &mut domain, &second);
     publisher.disown();
     first.disown();
     second.disown();
     drop(domain);
-    assert!(rt; place == Some(1));
-    assert!(rt; taken == [1, 0, 0]);
-    assert!(rt; read == [None, Some(1), None]);
+    assert!(rt; places == [Some(0), Some(1), None] && !past);
+    assert!(rt; taken == [1, 0, 0, 1]);
+    assert!(rt; more == [false, true]);
+    assert!(rt; read == Some(4));
 }
 
 // A subscriber that came after the publisher's update has no connection with it yet, and gets no
@@ -161,99 +145,37 @@ fn no_connection_is_made_and_no_history_kept(rt: HostRuntime) {
     assert!(rt; nothing.is_none() && read == Some(2));
 }
 
-// Fills so many channels of the one connection, borrows a message, and lends as many as there may be.
-// Returns how many messages there are, and whether one more was refused for the bound on loans.
-fn filled(rt: &impl Abort, alloc: Global, number: usize) -> (usize, bool) {
-    let mut domain = domain_of(rt, alloc, channels(number, 2));
-    let subscriber = subscriber_of(rt, &mut domain);
-    let publisher = publisher_of(rt, &mut domain);
-    let mut count = copied(rt, &mut domain, &publisher, 1);
-    assert!(rt; subscriber.is_in(&domain));
-    let borrowed = subscriber.receive(&mut domain).expect(rt, "an answer");
-    for channel in 0..number.min(3) {
-        for _ in 0..3 {
-            let took = sent_to(rt, &mut domain, &publisher, 2, channel, 0);
-            count = count.saturating_add(took);
-        }
-    }
-    for _ in 0..2 {
-        let message = message_of(rt, &mut domain, &publisher, 3).expect(rt, "a loan");
-        message.disown();
-        count = count.saturating_add(1);
-    }
-    let refused = match message_of(rt, &mut domain, &publisher, 4) {
-        Ok(message) => {
-            message.disown();
-            false
-        }
-        Err(error) => error == LoanError::ExceedsMaxLoans,
+// A channel that its subscriber closed before the publisher came to it takes nothing, and no history, and
+// another does take a message until it is closed too.
+#[test]
+fn a_closed_channel_is_passed_alone(rt: HostRuntime) {
+    let config = ServiceConfig {
+        history_size: 1,
+        ..channels(2, 2)
     };
-    if let Some(sample) = borrowed {
-        sample.disown();
-    }
-    publisher.disown();
-    subscriber.disown();
-    drop(domain);
-    (count, refused)
-}
-
-// A publisher of one subscriber, with room for two messages in each channel, one that is borrowed and
-// two loans, needs as many slots as its worst case says, and never one more.
-#[test]
-fn channels_are_filled_to_their_worst_case(rt: HostRuntime) {
-    let one = filled(&rt, rt.alloc(), 1);
-    let two = filled(&rt, rt.alloc(), 2);
-    let three = filled(&rt, rt.alloc(), 3);
-    assert!(rt; one == (5, true));
-    assert!(rt; two == (7, true));
-    assert!(rt; three == (9, true));
-}
-
-// A channel that its subscriber closed before the publisher came to it takes nothing, and another does.
-#[test]
-fn a_closed_channel_is_passed_and_another_takes(rt: HostRuntime) {
-    let mut domain = domain_of(&rt, rt.alloc(), channels(2, 1));
+    let mut domain = domain_of(&rt, rt.alloc(), config);
     let publisher = publisher_of(&rt, &mut domain);
+    let before = copied(&rt, &mut domain, &publisher, 1);
     let subscriber = subscriber_of(&rt, &mut domain);
     close_channel(&rt, &mut domain, &subscriber, 0);
     update(&rt, &mut domain, &publisher);
     let taken = [
-        sent_to(&rt, &mut domain, &publisher, 1, 0, 0),
-        sent_to(&rt, &mut domain, &publisher, 2, 1, 0),
-        copied(&rt, &mut domain, &publisher, 3),
+        sent_to(&rt, &mut domain, &publisher, 2, 0, 0),
+        sent_to(&rt, &mut domain, &publisher, 3, 1, 0),
+        copied(&rt, &mut domain, &publisher, 4),
     ];
+    close_channel(&rt, &mut domain, &subscriber, 1);
+    let passed = sent_to(&rt, &mut domain, &publisher, 5, 1, 0);
     let nothing = next_reading(&rt, &mut domain, &subscriber);
     publisher.disown();
     subscriber.disown();
     drop(domain);
-    assert!(rt; taken == [0, 1, 0]);
+    assert!(rt; before == 0 && taken == [0, 1, 0] && passed == 0);
     assert!(rt; nothing.is_none());
 }
 
-// Channel 1 closes, and channel 0 takes messages still.
-#[test]
-fn a_closed_further_channel_is_passed_alone(rt: HostRuntime) {
-    let mut domain = domain_of(&rt, rt.alloc(), channels(2, 1));
-    let subscriber = subscriber_of(&rt, &mut domain);
-    let publisher = publisher_of(&rt, &mut domain);
-    assert!(rt; subscriber.is_in(&domain));
-    let updated = subscriber.update_connections(&mut domain).is_ok();
-    close_channel(&rt, &mut domain, &subscriber, 1);
-    let taken = [
-        sent_to(&rt, &mut domain, &publisher, 1, 1, 0),
-        sent_to(&rt, &mut domain, &publisher, 2, 0, 0),
-    ];
-    let read = next_reading(&rt, &mut domain, &subscriber);
-    publisher.disown();
-    subscriber.disown();
-    drop(domain);
-    assert!(rt; updated);
-    assert!(rt; taken == [0, 1]);
-    assert!(rt; read == Some(2));
-}
-
-// Of a departed publisher the message in another channel keeps the connection, until the subscriber
-// closes.
+// Of a departed publisher the message in another channel keeps the connection and its channels, until the
+// subscriber closes.
 #[test]
 fn a_departed_publisher_leaves_what_waits_in_another_channel(rt: HostRuntime) {
     let mut domain = domain_of(&rt, rt.alloc(), channels(2, 1));
@@ -268,12 +190,16 @@ fn a_departed_publisher_leaves_what_waits_in_another_channel(rt: HostRuntime) {
     assert!(rt; subscriber.is_in(&domain));
     let updated_again = subscriber.update_connections(&mut domain).is_ok();
     let still = domain.connection_count();
+    close_channel(&rt, &mut domain, &subscriber, 0);
+    assert!(rt; subscriber.is_in(&domain));
+    let is_closed = subscriber.at_least_one_channel_has_state(&domain, 0, u64::MAX);
     assert!(rt; close_subscriber(&mut domain, subscriber));
     let gone = domain.connection_count();
     drop(domain);
     assert!(rt; updated && taken == 1);
     assert!(rt; nothing.is_none() && updated_again);
     assert!(rt; [kept, still, gone] == [1, 1, 0]);
+    assert!(rt; is_closed);
 }
 
 // A loan of a closed publisher is lost, as by any other send.
@@ -281,7 +207,7 @@ fn a_departed_publisher_leaves_what_waits_in_another_channel(rt: HostRuntime) {
 fn a_closed_publisher_sends_nothing(rt: HostRuntime) {
     let mut domain = domain_of(&rt, rt.alloc(), channels(2, 1));
     let publisher = publisher_of(&rt, &mut domain);
-    let message = message_of(&rt, &mut domain, &publisher, 1).expect(&rt, "a loan");
+    let message = message_of(&rt, &mut domain, &publisher, 1);
     let key = message.key();
     let parts = message.into_parts();
     assert!(rt; close_publisher(&mut domain, publisher));
@@ -308,7 +234,7 @@ fn a_handler_fails_a_send_to_one_connection(rt: HostRuntime) {
     let factory = domain.publisher_builder().set_backpressure_handler(handler);
     let publisher = factory.create(&mut domain).expect(&rt, "a publisher");
     let taken = sent_to(&rt, &mut domain, &publisher, 1, 1, 0);
-    let message = message_of(&rt, &mut domain, &publisher, 2).expect(&rt, "a loan");
+    let message = message_of(&rt, &mut domain, &publisher, 2);
     let failed = send_there(&rt, &mut domain, message, 1, 0);
     let is_failed = matches!(failed, Err(SendError::UnableToDeliver));
     if let Ok(outcome) = failed {

@@ -1,6 +1,6 @@
 //! Ports whose handlers of refused connections are boxes: where no memory is refused, and where no memory holds a buffer.
 use crate::tests::fixtures::domain;
-use iox2_fixtures::{Reading, Station, Weather, next_reading, receiver_count, settings, slices};
+use iox2_fixtures::{Reading, Weather, next_reading, receiver_count, settings};
 use iox2_handler_fixtures::{Patience, SameAnswer};
 use iox2_pubsub::{
     BackpressureAction, BackpressureFn, BackpressureHandler, DegradationAction, DegradationCause,
@@ -67,28 +67,6 @@ fn messages_arrive_between_ports_with_boxes(rt: HostRuntime) {
     assert!(rt; count == Some(1));
     assert!(rt; read == Some(21));
     assert!(rt; refused == 0);
-}
-
-#[test]
-fn factories_of_slices_take_boxes(rt: HostRuntime) {
-    let mut domain: Domain<u64, Station> = Domain::new(rt.alloc(), slices()).expect(
-        &rt, "a domain",
-    );
-    let factory = domain
-        .slice_publisher_builder()
-        .set_degradation_handler(DegradationHandler::Custom(strict_box(&rt, rt.alloc())));
-    let copied = factory.internal_partial_clone();
-    drop(factory);
-    let publisher = copied.create(&mut domain).expect(&rt, "a publisher");
-    let factory = domain
-        .slice_subscriber_builder()
-        .set_degradation_handler(DegradationHandler::Custom(strict_box(&rt, rt.alloc())));
-    let subscriber = factory.create(&mut domain).expect(&rt, "a subscriber");
-    let waits = subscriber.has_samples(&mut domain);
-    publisher.close(&mut domain);
-    subscriber.close(&mut domain);
-    drop(domain);
-    assert!(rt; waits == Ok(false));
 }
 
 // No memory holds a buffer of 2^60 messages, so the subscriber's connection is refused. The publisher was

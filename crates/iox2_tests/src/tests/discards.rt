@@ -1,32 +1,8 @@
 ghost use Rattle.iox2_pubsub.specs.Live.{IsLivePublisher, IsSingleValued, Stays};
 
-use crate::tests::fixtures::{domain, lend, subscriber_of, written};
+use crate::tests::fixtures::{domain, subscriber_of};
 use iox2_fixtures::{Weather, factory_for, publish};
 use iox2_pubsub::Publisher;
-
-#[test]
-fn an_unwritten_loan_is_given_back(rt: HostRuntime) {
-    let mut domain = domain(&rt, rt.alloc());
-    let loan = lend(&rt, &mut domain);
-    let key = loan.key();
-    let before = domain.holds_loan(key);
-    loan.discard(&mut domain);
-    let after = domain.holds_loan(key);
-    drop(domain);
-    assert!(rt; [before, after] == [true, false]);
-}
-
-#[test]
-fn a_written_loan_is_given_back(rt: HostRuntime) {
-    let mut domain = domain(&rt, rt.alloc());
-    let message = written(&rt, &mut domain, 20);
-    let key = message.key();
-    let before = domain.holds_loan(key);
-    message.discard(&mut domain);
-    let after = domain.holds_loan(key);
-    drop(domain);
-    assert!(rt; [before, after] == [true, false]);
-}
 
 // Lends and gives back as often as this; says how often a loan was granted.
 fn lend_and_discard(domain: &mut Weather, publisher: &Publisher, rounds: u8) -> usize

@@ -3,14 +3,12 @@
 //! Those below the line test at run time what they ask of their handles, so that a test of many calls
 //! has nothing to carry from one to the next.
 
-ghost use Rattle.iox2_pubsub.specs.Live.{IsLivePublisher, IsLiveSample, IsLiveSubscriber, IsSingleValued, IsUnwrittenLoan, IsWritten, IsWrittenLoan, Stays};
+ghost use Rattle.iox2_pubsub.specs.Live.{IsLivePublisher, IsLiveSample, IsLiveSubscriber, IsSingleValued, IsWritten, Stays};
 
 use iox2_fixtures::{
     Reading, Weather, factory_for, is_ready, is_single_valued, receiver_count, settings,
 };
-use iox2_pubsub::{
-    Domain, Publisher, Sample, SampleMut, SampleMutUninit, Subscriber, UpdateConnections,
-};
+use iox2_pubsub::{Domain, Publisher, Sample, SampleMut, Subscriber, UpdateConnections};
 use std::alloc::Global;
 use std::process::Abort;
 
@@ -43,28 +41,6 @@ pub(crate) fn subscriber_of<T: Drop, U: Default + Drop>(
 {
     let factory = domain.subscriber_builder();
     factory.create(domain).expect(rt, "a subscriber")
-}
-
-/// A loan of the domain's first publisher, which is made for it.
-pub(crate) fn lend(rt: &impl Abort, domain: &mut Weather) -> SampleMutUninit
-    requires { IsSingleValued domain.old }
-    ensures loan { IsUnwrittenLoan domain.new result }
-    ensures stays { Stays domain.old domain.new }
-{
-    let factory = factory_for(domain);
-    let publisher = factory.create(domain).expect(rt, "a publisher");
-    let loan = publisher.loan_uninit(domain).expect(rt, "a loan");
-    publisher.disown();
-    loan
-}
-
-/// A written loan of the domain's first publisher, which is made for it.
-pub(crate) fn written(rt: &impl Abort, domain: &mut Weather, celsius: u64) -> SampleMut
-    requires { IsSingleValued domain.old }
-    ensures message { IsWrittenLoan domain.new result }
-{
-    let loan = lend(rt, domain);
-    loan.write_payload(domain, Reading { celsius })
 }
 
 // ---- what a call asks for is tested
@@ -102,20 +78,6 @@ pub(crate) fn receive<T: Drop, U: Default + Drop>(
     assert!(rt; subscriber.is_in(domain));
     let received = subscriber.receive(domain).expect(rt, "an answer");
     received.expect(rt, "a sample")
-}
-
-/// Lends, writes and sends a message. Returns how many subscribers took it.
-pub(crate) fn sent(
-    rt: &impl Abort,
-    domain: &mut Weather,
-    publisher: &Publisher,
-    celsius: u64,
-) -> usize {
-    assert!(rt; is_single_valued(domain));
-    assert!(rt; is_ready(domain, publisher));
-    let loan = publisher.loan_uninit(domain).expect(rt, "a loan");
-    let message = loan.write_payload(domain, Reading { celsius });
-    send(rt, domain, message)
 }
 
 /// What the subscriber receives next, which it borrows.

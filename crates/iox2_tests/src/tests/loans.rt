@@ -1,6 +1,6 @@
 ghost use Rattle.iox2_pubsub.specs.Live.{IsLivePublisher, IsSingleValued, Stays};
 
-use crate::tests::fixtures::{domain, lend};
+use crate::tests::fixtures::domain;
 use iox2_fixtures::{Weather, elsewhere, factory_for};
 use iox2_pubsub::Publisher;
 use iox2_store::{Key, LoanError};
@@ -24,11 +24,13 @@ fn lent(domain: &mut Weather, publisher: &Publisher) -> Result<Key, LoanError>
 }
 
 #[test]
-fn a_domain_holds_its_loan_alone(rt: HostRuntime) {
+fn a_publisher_lends_as_much_as_it_may(rt: HostRuntime) {
     let mut domain = domain(&rt, rt.alloc());
-    let loan = lend(&rt, &mut domain);
-    let key = loan.key();
-    loan.disown();
+    let factory = factory_for(&domain).max_loaned_samples(1);
+    let publisher = factory.create(&mut domain).expect(&rt, "a publisher");
+    let first = lent(&mut domain, &publisher);
+    let second = lent(&mut domain, &publisher);
+    publisher.disown();
     let live = [
         domain.holds_loan(FIRST),
         domain.holds_loan(elsewhere(FIRST)),
@@ -39,21 +41,7 @@ fn a_domain_holds_its_loan_alone(rt: HostRuntime) {
         }),
     ];
     drop(domain);
-    assert!(rt; key == FIRST);
-    assert!(rt; live == [true, false, false, false]);
-}
-
-#[test]
-fn a_publisher_lends_as_much_as_it_may(rt: HostRuntime) {
-    let mut domain = domain(&rt, rt.alloc());
-    let factory = factory_for(&domain).max_loaned_samples(1);
-    let publisher = factory.create(&mut domain).expect(&rt, "a publisher");
-    let first = lent(&mut domain, &publisher);
-    let second = lent(&mut domain, &publisher);
-    publisher.disown();
-    let is_live = domain.holds_loan(FIRST);
-    drop(domain);
     assert!(rt; first == Ok(FIRST));
     assert!(rt; second == Err(LoanError::ExceedsMaxLoans));
-    assert!(rt; is_live);
+    assert!(rt; live == [true, false, false, false]);
 }

@@ -2,22 +2,11 @@
 ghost use Rattle.std.specs.Prelude.{◌≡◌};
 
 use crate::tests::fixtures::{
-    celsius_of, domain, publisher_of, received, release, sent, subscriber_of,
+    celsius_of, copied, domain, publisher_of, received, release, subscriber_of, waits,
 };
-use iox2_fixtures::{Reading, Weather, factory_for, is_single_valued, settings};
-use iox2_pubsub::{Domain, LoanParts, PublisherParts, SampleParts, SubscriberParts};
-use iox2_store::ServiceConfig;
-use std::alloc::Global;
+use iox2_fixtures::{Reading, Weather, factory_for, is_single_valued};
+use iox2_pubsub::{LoanParts, PublisherParts, SampleParts, SubscriberParts};
 use std::process::Abort;
-
-// A domain with other keys.
-fn elsewhere(rt: &impl Abort, alloc: Global) -> Weather {
-    let config = ServiceConfig {
-        service_id: 8,
-        ..settings()
-    };
-    Domain::new(alloc, config).expect(rt, "a domain")
-}
 
 // Whether a publisher with the numbers stands in the domain.
 fn has_publisher(domain: &Weather, parts: &PublisherParts) -> bool {
@@ -31,6 +20,7 @@ fn close_publisher(rt: &impl Abort, domain: &mut Weather, parts: &PublisherParts
     publisher.close(domain);
 }
 
+// The numbers say whether it lends at once, too.
 #[test]
 fn a_publisher_is_had_again_until_it_is_closed(rt: HostRuntime) {
     let mut domain = domain(&rt, rt.alloc());
@@ -40,18 +30,22 @@ fn a_publisher_is_had_again_until_it_is_closed(rt: HostRuntime) {
         ..parts
     };
     let unknown = PublisherParts { id: 9, ..parts };
-    let other = elsewhere(&rt, rt.alloc());
     let before = [
         has_publisher(&domain, &parts),
         has_publisher(&domain, &astray),
         has_publisher(&domain, &unknown),
-        has_publisher(&other, &parts),
+    ];
+    let lends = [
+        domain.lends_at_once(&parts, 1),
+        domain.lends_at_once(&parts, 2),
+        domain.lends_at_once(&astray, 1),
+        domain.lends_at_once(&unknown, 1),
     ];
     close_publisher(&rt, &mut domain, &astray);
     let after = has_publisher(&domain, &parts);
-    drop(other);
     drop(domain);
-    assert!(rt; before == [true, true, false, false]);
+    assert!(rt; before == [true, true, false]);
+    assert!(rt; lends == [true, false, false, false]);
     assert!(rt; !after);
 }
 
@@ -60,6 +54,7 @@ fn has_subscriber(domain: &Weather, parts: &SubscriberParts) -> bool {
     domain.subscriber_of(parts).map(|it| it.disown()).is_some()
 }
 
+// The numbers say whether it receives at once, too: not before it was updated for a publisher that came.
 #[test]
 fn a_subscriber_is_had_again_until_it_is_closed(rt: HostRuntime) {
     let mut domain = domain(&rt, rt.alloc());
@@ -68,19 +63,29 @@ fn a_subscriber_is_had_again_until_it_is_closed(rt: HostRuntime) {
         place: usize::MAX,
         ..parts
     };
+    let unknown = SubscriberParts { id: 9, ..parts };
     let before = [
         has_subscriber(&domain, &parts),
         has_subscriber(&domain, &astray),
-        has_subscriber(&domain, &SubscriberParts { id: 9, ..parts }),
+        has_subscriber(&domain, &unknown),
     ];
+    publisher_of(&rt, &mut domain).disown();
+    let is_due = !domain.receives_at_once(&parts);
     let found = domain.subscriber_of(&astray).expect(&rt, "a subscriber");
+    let waits = waits(&rt, &mut domain, &found);
     let again = found.into_parts();
+    let receives = [
+        domain.receives_at_once(&parts),
+        domain.receives_at_once(&astray),
+        domain.receives_at_once(&unknown),
+    ];
     let subscriber = domain.subscriber_of(&again).expect(&rt, "a subscriber");
     subscriber.close(&mut domain);
     let after = has_subscriber(&domain, &parts);
     drop(domain);
     assert!(rt; before == [true, true, false]);
-    assert!(rt; again == parts);
+    assert!(rt; again == parts && is_due && !waits);
+    assert!(rt; receives == [true, false, false]);
     assert!(rt; !after);
 }
 
@@ -109,6 +114,12 @@ fn write(rt: &impl Abort, domain: &mut Weather, parts: &LoanParts) -> LoanParts 
     written.into_parts()
 }
 
+// Whether the loan with the numbers is sent at once.
+fn is_sent_at_once(domain: &Weather, parts: &LoanParts) -> bool {
+    domain.sends_at_once(parts).is_some()
+}
+
+// The numbers say whether it is sent at once, too, which asks for the right ones except of its book.
 #[test]
 fn a_loan_is_had_again_by_its_mark_until_it_is_given_back(rt: HostRuntime) {
     let mut domain = domain(&rt, rt.alloc());
@@ -119,17 +130,31 @@ fn a_loan_is_had_again_by_its_mark_until_it_is_given_back(rt: HostRuntime) {
         slot: 3,
         ..parts
     };
-    let unwritten = [marks_of(&domain, &parts), marks_of(&domain, &astray)];
-    let unknown = marks_of(&domain, &LoanParts { number: 9, ..parts });
+    let unknown = LoanParts { number: 9, ..parts };
+    let unwritten = [
+        marks_of(&domain, &parts),
+        marks_of(&domain, &astray),
+        marks_of(&domain, &unknown),
+    ];
+    let too_early = is_sent_at_once(&domain, &parts);
     let again = write(&rt, &mut domain, &astray);
     let written = [marks_of(&domain, &parts), marks_of(&domain, &astray)];
+    let sends = [
+        is_sent_at_once(&domain, &LoanParts { book: 9, ..parts }),
+        is_sent_at_once(&domain, &LoanParts { place: 1, ..parts }),
+        is_sent_at_once(&domain, &LoanParts { slot: 1, ..parts }),
+        is_sent_at_once(&domain, &unknown),
+    ];
+    subscriber_of(&rt, &mut domain).disown();
+    let before_an_update = is_sent_at_once(&domain, &parts);
     let loan = domain.written_of(&again).expect(&rt, "a loan");
     loan.discard(&mut domain);
     let after = marks_of(&domain, &parts);
     drop(domain);
-    assert!(rt; unwritten == [[true, false], [true, false]]);
+    assert!(rt; unwritten == [[true, false], [true, false], [false, false]]);
     assert!(rt; written == [[false, true], [false, true]]);
-    assert!(rt; unknown == [false, false]);
+    assert!(rt; sends == [true, false, false, false]);
+    assert!(rt; !too_early && !before_an_update);
     assert!(rt; after == [false, false]);
 }
 
@@ -156,8 +181,8 @@ fn a_sample_is_had_again_until_it_is_released(rt: HostRuntime) {
     let mut domain = domain(&rt, rt.alloc());
     let subscriber = subscriber_of(&rt, &mut domain);
     let publisher = publisher_of(&rt, &mut domain);
-    sent(&rt, &mut domain, &publisher, 20);
-    sent(&rt, &mut domain, &publisher, 21);
+    copied(&rt, &mut domain, &publisher, 20);
+    copied(&rt, &mut domain, &publisher, 21);
     publisher.disown();
     let first = received(&rt, &mut domain, &subscriber).expect(&rt, "a sample");
     let second = received(&rt, &mut domain, &subscriber).expect(&rt, "a sample");
@@ -189,73 +214,4 @@ fn a_sample_is_had_again_until_it_is_released(rt: HostRuntime) {
     assert!(rt; had == [false, true, false]);
     assert!(rt; celsius == 21);
     assert!(rt; after == [true, false]);
-}
-
-#[test]
-fn numbers_say_whether_a_publisher_lends_at_once(rt: HostRuntime) {
-    let mut domain = domain(&rt, rt.alloc());
-    let publisher = publisher_of(&rt, &mut domain).into_parts();
-    let elsewhere = PublisherParts {
-        place: 1,
-        ..publisher
-    };
-    let unknown = PublisherParts { id: 9, ..publisher };
-    let lends = [
-        domain.lends_at_once(&publisher, 1),
-        domain.lends_at_once(&publisher, 2),
-        domain.lends_at_once(&elsewhere, 1),
-        domain.lends_at_once(&unknown, 1),
-    ];
-    drop(domain);
-    assert!(rt; lends == [true, false, false, false]);
-}
-
-#[test]
-fn numbers_say_whether_a_loan_is_sent_at_once(rt: HostRuntime) {
-    let mut domain = domain(&rt, rt.alloc());
-    let unwritten = lent(&rt, &mut domain);
-    let is_unwritten = domain.sends_at_once(&unwritten).is_none();
-    let loan = write(&rt, &mut domain, &unwritten);
-    let sends = [
-        domain
-            .sends_at_once(&LoanParts { book: 9, ..loan })
-            .is_some(),
-        domain
-            .sends_at_once(&LoanParts { place: 1, ..loan })
-            .is_some(),
-        domain
-            .sends_at_once(&LoanParts { slot: 1, ..loan })
-            .is_some(),
-        domain
-            .sends_at_once(&LoanParts { number: 9, ..loan })
-            .is_some(),
-    ];
-    subscriber_of(&rt, &mut domain).disown();
-    let is_due = domain.sends_at_once(&loan).is_none();
-    drop(domain);
-    assert!(rt; is_unwritten);
-    assert!(rt; sends == [true, false, false, false]);
-    assert!(rt; is_due);
-}
-
-#[test]
-fn numbers_say_whether_a_subscriber_receives_at_once(rt: HostRuntime) {
-    let mut domain = domain(&rt, rt.alloc());
-    let parts = subscriber_of(&rt, &mut domain).into_parts();
-    let publisher = publisher_of(&rt, &mut domain);
-    sent(&rt, &mut domain, &publisher, 20);
-    publisher.disown();
-    let is_due = !domain.receives_at_once(&parts);
-    let subscriber = domain.subscriber_of(&parts).expect(&rt, "a subscriber");
-    let sample = received(&rt, &mut domain, &subscriber).expect(&rt, "a sample");
-    sample.disown();
-    subscriber.disown();
-    let receives = [
-        domain.receives_at_once(&parts),
-        domain.receives_at_once(&SubscriberParts { place: 1, ..parts }),
-        domain.receives_at_once(&SubscriberParts { id: 9, ..parts }),
-    ];
-    drop(domain);
-    assert!(rt; is_due);
-    assert!(rt; receives == [true, false, false]);
 }

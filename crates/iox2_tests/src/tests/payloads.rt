@@ -1,22 +1,40 @@
 ghost use Rattle.std.specs.Prelude.{◌≡◌, ℕ, [], ◌∷◌};
 ghost use Rattle.iox2_pubsub.specs.Live.{IsLiveSample, IsLiveSubscriber, IsSingleValued, IsUnwrittenLoan, StaysBut, Stays, unwritten_loan};
 
-use crate::tests::fixtures::{domain, lend, publisher_of, subscriber_of};
-use iox2_fixtures::{Reading, Weather, publish};
+use crate::tests::fixtures::{domain, publisher_of, subscriber_of};
+use iox2_fixtures::{Reading, Weather, factory_for, publish};
 use iox2_pubsub::{Sample, SampleMutUninit, Subscriber};
+use iox2_store::Key;
+use std::process::Abort;
 
-// Writes into the loan, and returns what is read of it then: what was written.
-fn written_back(domain: &mut Weather, loan: SampleMutUninit, celsius: u64) -> u64
+// A loan of the domain's first publisher, which is made for it.
+fn lend(rt: &impl Abort, domain: &mut Weather) -> SampleMutUninit
+    requires { IsSingleValued domain.old }
+    ensures loan { IsUnwrittenLoan domain.new result }
+    ensures stays { Stays domain.old domain.new }
+{
+    let factory = factory_for(domain);
+    let publisher = factory.create(domain).expect(rt, "a publisher");
+    let loan = publisher.loan_uninit(domain).expect(rt, "a loan");
+    publisher.disown();
+    loan
+}
+
+// Writes into the loan, and returns what is read of it then, which is what was written; its key; and
+// which publisher it is of.
+fn written_back(domain: &mut Weather, loan: SampleMutUninit, celsius: u64) -> (u64, Key, u128)
     requires single_valued { IsSingleValued domain.old }
     requires loan { IsUnwrittenLoan domain.old loan }
-    ensures written { result ≡ celsius }
+    ensures written { result.0 ≡ celsius }
     ensures stays { StaysBut (unwritten_loan loan) domain.old domain.new }
 {
     let message = loan.write_payload(domain, Reading { celsius });
     let Reading { celsius } = message.payload(domain);
     let read = *celsius;
+    let origin = message.header(domain).publisher_id.value();
+    let key = message.key();
     message.disown();
-    read
+    (read, key, origin)
 }
 
 // What is read of the sample before and after another receive: the same.
@@ -38,40 +56,15 @@ fn read_around_a_receive(domain: &mut Weather, subscriber: &Subscriber, sample: 
 fn a_loan_has_no_payload_until_it_is_written(rt: HostRuntime) {
     let mut domain = domain(&rt, rt.alloc());
     let loan = lend(&rt, &mut domain);
+    let key = loan.key();
     let is_empty = loan.payload(&domain).is_none();
     let header = *loan.header(&domain);
-    loan.disown();
-    drop(domain);
-    assert!(rt; is_empty);
-    assert!(rt; header.publisher_id.value() == 1);
-    assert!(rt; header.number_of_elements == 1);
-}
-
-#[test]
-fn a_written_loan_has_its_payload(rt: HostRuntime) {
-    let mut domain = domain(&rt, rt.alloc());
-    let loan = lend(&rt, &mut domain);
-    let key = loan.key();
-    let message = loan.write_payload(&mut domain, Reading { celsius: 21 });
-    let celsius = message.payload(&domain).celsius;
-    let origin = message.header(&domain).publisher_id.value();
-    let written = message.key();
-    message.disown();
+    let (celsius, written, origin) = written_back(&mut domain, loan, 23);
     let is_live = domain.holds_loan(key);
     drop(domain);
-    assert!(rt; celsius == 21);
-    assert!(rt; origin == 1);
-    assert!(rt; written == key);
-    assert!(rt; is_live);
-}
-
-#[test]
-fn what_is_written_is_read(rt: HostRuntime) {
-    let mut domain = domain(&rt, rt.alloc());
-    let loan = lend(&rt, &mut domain);
-    let celsius = written_back(&mut domain, loan, 23);
-    drop(domain);
-    assert!(rt; celsius == 23);
+    assert!(rt; is_empty && is_live);
+    assert!(rt; header.publisher_id.value() == 1 && header.number_of_elements == 1);
+    assert!(rt; celsius == 23 && written == key && origin == 1);
 }
 
 #[test]

@@ -1,15 +1,9 @@
 use crate::tests::fixtures::{domain, publisher_of, subscriber_of};
-use iox2_fixtures::{Weather, close_publisher, factory_for, settings};
+use iox2_fixtures::{Weather, factory_for, settings};
 use iox2_pubsub::Domain;
 use iox2_store::{Key, PublisherCreateError, ServiceConfig};
 use std::alloc::Global;
 use std::process::Abort;
-
-// Why a publisher with so many loans isn't made.
-fn refusal(domain: &mut Weather, loans: usize) -> Option<PublisherCreateError> {
-    let factory = factory_for(domain).max_loaned_samples(loans);
-    factory.create(domain).map(|made| made.disown()).err()
-}
 
 #[test]
 fn a_publisher_is_made_and_a_second_is_refused(rt: HostRuntime) {
@@ -19,7 +13,8 @@ fn a_publisher_is_made_and_a_second_is_refused(rt: HostRuntime) {
     let id = publisher.id().value();
     let key = publisher.key();
     publisher.disown();
-    let refusal = refusal(&mut domain, 1);
+    let second = factory_for(&domain).create(&mut domain);
+    let refusal = second.map(|made| made.disown()).err();
     let is_live = domain.holds_publisher(key);
     drop(domain);
     let expected = Key {
@@ -48,7 +43,7 @@ fn a_publisher_is_in_the_domain_where_it_stands(rt: HostRuntime) {
     let first = publisher_of(&rt, &mut domain);
     let second = publisher_of(&rt, &mut domain);
     let mut twin = domain_of_two(&rt, rt.alloc());
-    let subscriber = subscriber_of(&rt, &mut twin);
+    subscriber_of(&rt, &mut twin).disown();
     // It has the id of `second`, and the place of `first`.
     let alike = publisher_of(&rt, &mut twin);
     let at_home = [
@@ -61,44 +56,9 @@ fn a_publisher_is_in_the_domain_where_it_stands(rt: HostRuntime) {
     first.disown();
     second.disown();
     alike.disown();
-    subscriber.disown();
     drop(twin);
     drop(domain);
     assert!(rt; at_home == [true, true, true]);
     assert!(rt; away == [false, false]);
     assert!(rt; has_its_id);
-}
-
-#[test]
-fn slots_that_cannot_be_had_are_refused_and_use_up_no_id(rt: HostRuntime) {
-    let mut domain = domain(&rt, rt.alloc());
-    // The first number of slots doesn't fit, and there is no memory for the second.
-    let refusals = [
-        refusal(&mut domain, usize::MAX),
-        refusal(&mut domain, usize::MAX / 2),
-    ];
-    let publisher = publisher_of(&rt, &mut domain);
-    let id = publisher.id().value();
-    publisher.disown();
-    drop(domain);
-    assert!(rt; refusals == [Some(PublisherCreateError::UnableToCreateDataSegment); 2]);
-    assert!(rt; id == 1);
-}
-
-// The number of publishers counts before the size of one.
-#[test]
-fn a_publisher_with_defaults_is_made_after_larger_ones_were_refused(rt: HostRuntime) {
-    let mut domain = domain(&rt, rt.alloc());
-    let first = publisher_of(&rt, &mut domain);
-    let beside_another = refusal(&mut domain, usize::MAX);
-    assert!(rt; close_publisher(&mut domain, first));
-    let alone = refusal(&mut domain, usize::MAX);
-    let factory = domain.publisher_builder();
-    let publisher = factory.create(&mut domain).expect(&rt, "a publisher");
-    let id = publisher.id().value();
-    publisher.disown();
-    drop(domain);
-    assert!(rt; beside_another == Some(PublisherCreateError::ExceedsMaxSupportedPublishers));
-    assert!(rt; alone == Some(PublisherCreateError::UnableToCreateDataSegment));
-    assert!(rt; id == 2);
 }

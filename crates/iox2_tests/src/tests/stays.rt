@@ -3,7 +3,7 @@ ghost use Rattle.std.specs.Prelude.{◌≡◌, true};
 ghost use Rattle.iox2_pubsub.specs.Live.{HasLender, IsLivePublisher, IsLiveSample, IsLiveSubscriber, IsSingleValued, IsUnwrittenLoan, Stays, StaysBut, unwritten_key, unwritten_loan};
 
 use crate::tests::fixtures::{domain, publisher_of, subscriber_of};
-use iox2_fixtures::{Reading, Weather, factory_for, publish};
+use iox2_fixtures::{Reading, Weather, factory_for, publish, settings};
 use iox2_pubsub::{
     ConnectionFailure, Domain, Publisher, Sample, SampleMutUninit, ServiceConfig, Subscriber,
     UpdateConnections,
@@ -67,9 +67,8 @@ fn send_overflowing(domain: &mut Weather, celsius: u64) -> Option<usize>
 #[test]
 fn no_send_is_blocked_in_a_service_that_overflows(rt: HostRuntime) {
     let config = ServiceConfig {
-        max_publishers: 1,
-        max_subscribers: 1,
-        ..ServiceConfig::new(7)
+        enable_safe_overflow: true,
+        ..settings()
     };
     let mut domain = Domain::new(rt.alloc(), config).expect(&rt, "a domain");
     let factory = domain.subscriber_builder().buffer_size(1);

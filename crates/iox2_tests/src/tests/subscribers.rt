@@ -1,6 +1,6 @@
 use crate::tests::fixtures::{domain, publisher_of, subscriber_of};
-use iox2_fixtures::{Weather, elsewhere};
-use iox2_store::{Key, SubscriberCreateError};
+use iox2_fixtures::elsewhere;
+use iox2_store::Key;
 
 const FIRST: Key = Key {
     service_id: 7,
@@ -8,47 +8,39 @@ const FIRST: Key = Key {
     message: 0,
 };
 
-// Why a subscriber with that buffer isn't made.
-fn refusal(domain: &mut Weather, buffer_size: usize) -> Option<SubscriberCreateError> {
-    let factory = domain.subscriber_builder().buffer_size(buffer_size);
-    factory.create(domain).map(|made| made.disown()).err()
-}
-
+// Ports of both sides share their ids.
 #[test]
-fn a_subscriber_has_the_first_id_and_the_largest_buffer(rt: HostRuntime) {
-    let mut domain = domain(&rt, rt.alloc());
-    let subscriber = subscriber_of(&rt, &mut domain);
-    let id = subscriber.id().value();
-    let buffer_size = subscriber.buffer_size();
-    let key = subscriber.key();
-    subscriber.disown();
-    drop(domain);
-    assert!(rt; id == 1);
-    assert!(rt; buffer_size == 2);
-    assert!(rt; key == FIRST);
-}
-
-#[test]
-fn a_domain_holds_its_subscriber_alone(rt: HostRuntime) {
+fn a_domain_holds_its_ports_alone(rt: HostRuntime) {
     let mut domain = domain(&rt, rt.alloc());
     let before = domain.holds_subscriber(FIRST);
     let subscriber = subscriber_of(&rt, &mut domain);
+    let key = subscriber.key();
+    let numbers = (subscriber.id().value(), subscriber.buffer_size());
     let is_in = subscriber.is_in(&domain);
     subscriber.disown();
+    let publisher = publisher_of(&rt, &mut domain);
+    let published = publisher.key();
+    publisher.disown();
     let message = Key {
         message: 1,
         ..FIRST
     };
-    let live = [
+    let subscribers = [
         domain.holds_subscriber(FIRST),
         domain.holds_subscriber(elsewhere(FIRST)),
-        domain.holds_subscriber(Key { port: 2, ..FIRST }),
+        domain.holds_subscriber(published),
         domain.holds_subscriber(message),
     ];
+    let publishers = [
+        domain.holds_publisher(published),
+        domain.holds_publisher(FIRST),
+    ];
     drop(domain);
-    assert!(rt; !before);
-    assert!(rt; is_in);
-    assert!(rt; live == [true, false, false, false]);
+    assert!(rt; !before && is_in);
+    assert!(rt; key == FIRST && published == Key { port: 2, ..FIRST });
+    assert!(rt; numbers == (1, 2));
+    assert!(rt; subscribers == [true, false, false, false]);
+    assert!(rt; publishers == [true, false]);
 }
 
 // The factory's copy has the buffer that was set.
@@ -62,43 +54,4 @@ fn a_buffer_of_none_is_one_of_one(rt: HostRuntime) {
     subscriber.disown();
     drop(domain);
     assert!(rt; buffer_size == 1);
-}
-
-#[test]
-fn a_refused_subscriber_uses_up_no_id(rt: HostRuntime) {
-    let mut domain = domain(&rt, rt.alloc());
-    let first = refusal(&mut domain, 3);
-    let subscriber = subscriber_of(&rt, &mut domain);
-    let id = subscriber.id().value();
-    subscriber.disown();
-    let second = refusal(&mut domain, 2);
-    let third = refusal(&mut domain, 3);
-    drop(domain);
-    let too_large = SubscriberCreateError::BufferSizeExceedsMaxSupportedBufferSizeOfService;
-    let too_many = SubscriberCreateError::ExceedsMaxSupportedSubscribers;
-    assert!(rt; id == 1);
-    assert!(rt; [first, second, third] == [Some(too_large), Some(too_many), Some(too_large)]);
-}
-
-#[test]
-fn ports_of_both_sides_share_their_ids(rt: HostRuntime) {
-    let mut domain = domain(&rt, rt.alloc());
-    let publisher = publisher_of(&rt, &mut domain);
-    let published = publisher.key();
-    publisher.disown();
-    let subscriber = subscriber_of(&rt, &mut domain);
-    let subscribed = subscriber.key();
-    subscriber.disown();
-    let publishers = [
-        domain.holds_publisher(published),
-        domain.holds_publisher(subscribed),
-    ];
-    let subscribers = [
-        domain.holds_subscriber(published),
-        domain.holds_subscriber(subscribed),
-    ];
-    drop(domain);
-    assert!(rt; [published.port, subscribed.port] == [1, 2]);
-    assert!(rt; publishers == [true, false]);
-    assert!(rt; subscribers == [false, true]);
 }
