@@ -17,4 +17,4 @@ pub use channels::{
 };
 pub use questions::has_samples_at;
 pub use receipts::{give_back, receive_at};
-pub use sends::{is_ready, send_unready};
+pub use sends::send;

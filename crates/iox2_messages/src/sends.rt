@@ -10,17 +10,18 @@ ghost use Rattle.iox2_domain.specs.LoanCalls.{HoldsWritten};
 ghost use Rattle.iox2_domain.specs.SentLoans.{IsLeftLoan, IsNotUpdated, IsReadyToSend, SendsLoan};
 ghost use Rattle.iox2_store.specs.machine.State.{is_blocked};
 ghost use Rattle.iox2_deliveries.specs.SendEnds.{IsNotLost, end_result};
+ghost use Rattle.iox2_deliveries.specs.declared.send_end.SendEnd.{SendEnd};
 
-use iox2_deliveries::{SendEnd, discard_loan, send_ready};
+use iox2_deliveries::{SendEnd, discard_loan, has_handler_at, send_ready, send_unasked};
 use iox2_domain::{Boxes, DomainState, LoanAt};
 use iox2_store::{BackpressureFn, ConnectionFailure, DegradationFn, UniquePublisherId};
 use iox2_updates::update_publisher;
 
-/// Whether a publisher's written loan lies where its handle says, and its publisher is due for no update:
-/// so it may be sent at once, where its publisher has no handler. It returns at each test that fails
-/// (docs/decisions/cost.md, "A call goes on where its look-up ended").
+// Whether a publisher's written loan lies where its handle says, and its publisher is due for no update:
+// so it may be sent at once, where its publisher has no handler. It returns at each test that fails
+// (docs/decisions/cost.md, "A call goes on where its look-up ended").
 #[inline(always)]
-pub fn is_ready<T: Drop, U: Default + Drop>(state: &DomainState<T, U>, loan: &LoanAt) -> bool
+fn is_ready<T: Drop, U: Default + Drop>(state: &DomainState<T, U>, loan: &LoanAt) -> bool
     requires agrees { IsDomain state.now }
     requires live { HoldsWritten (state_of (kept_of state.now)) loan.now.publisher loan.now.number }
     ensures { IsTrue result → IsReadyToSend fixed_handlers state.now state.now loan.now.publisher loan.now.number loan.now.place loan.now.slot }
@@ -120,14 +121,10 @@ fn loan_sought(publisher: UniquePublisherId, number: u128) -> LoanAt
     }
 }
 
-/// Sends a publisher's written loan, ready or not, and returns how that ended. The publisher's
-/// connections are updated first; where that fails, the loan is given back, and no message was sent.
-/// Of a publisher that is gone the loan is lost. The loan is out no more afterwards, unless the send
-/// is blocked. A publisher that has a box for a handler asks the one that it has among these boxes.
-///
-/// The end has a place of its own here: one in the caller would be cleared at each message.
+// Sends a loan that isn't ready, or whose publisher has a handler. The end has a place of its own here: one
+// in the caller would be cleared at each message.
 #[inline(always)]
-pub fn send_unready<T: Drop, U: Default + Drop, F: BackpressureFn, G: DegradationFn>(
+fn send_unready<T: Drop, U: Default + Drop, F: BackpressureFn, G: DegradationFn>(
     state: &mut DomainState<T, U>,
     boxes: &Boxes<F, G>,
     publisher: UniquePublisherId,
@@ -140,4 +137,37 @@ pub fn send_unready<T: Drop, U: Default + Drop, F: BackpressureFn, G: Degradatio
     ensures kept { HoldsPublisher (state_of (kept_of state.old)) publisher → IsNotLost result }
 {
     update_and_send(state, boxes, publisher, number)
+}
+
+/// Sends a publisher's written loan, and returns what `outcome` makes of how that ended. Where the
+/// publisher is due, its connections are updated first; where that fails, the loan is given back, and
+/// no message was sent. Of a publisher that is gone the loan is lost. The loan is out no more
+/// afterwards, unless the send is blocked. A publisher that has a box for a handler asks the one that
+/// it has among these boxes.
+///
+/// The outcome is made in each branch: behind both, the compiler would ask anew how the send ended. The
+/// boxes are handed on in one call alone, so that where they lie isn't on the path of a message of a
+/// publisher without a handler (docs/decisions/cost.md, "One call takes the boxes").
+///
+/// iceoryx2's `PublisherSharedState::send_sample` (`src/port/publisher.rs`).
+#[inline(always)]
+pub fn send<
+    T: Drop,
+    U: Default + Drop,
+    F: BackpressureFn,
+    G: DegradationFn,
+    R,
+    C: FnOnce(SendEnd) -> R,
+>(state: &mut DomainState<T, U>, boxes: &Boxes<F, G>, loan: LoanAt, outcome: C) -> R
+    requires agrees { IsDomain state.old }
+    requires live { HoldsWritten (state_of (kept_of state.old)) loan.publisher loan.number }
+    requires unblocked { is_blocked (state_of (kept_of state.old)) loan.publisher ≡ false }
+    requires callable { C.IsAlwaysCallable outcome }
+    ensures { (end : SendEnd) × SendsLoan (answers_of F.allows G.allows (boxes.now).boxes) state.old state.new loan.number (end_result end)
+        × (HoldsPublisher (state_of (kept_of state.old)) loan.publisher → IsNotLost end) × C.post outcome end result }
+{
+    if is_ready(state, &loan) && !has_handler_at(state, loan.place) {
+        return outcome(send_unasked(state, loan.place, loan.slot));
+    }
+    outcome(send_unready(state, boxes, loan.publisher, loan.number))
 }

@@ -16,9 +16,9 @@ use crate::blocked_send::BlockedSend;
 use crate::domain::Domain;
 use crate::sample_mut::SampleMut;
 use crate::send_outcome::SendOutcome;
-use iox2_deliveries::{SendEnd, has_handler_at, send_unasked};
+use iox2_deliveries::SendEnd;
 use iox2_domain::{Boxes, DomainState, LoanAt};
-use iox2_messages::{is_ready, send_unready};
+use iox2_messages::send;
 use iox2_store::{BackpressureFn, DegradationFn, SendError};
 
 impl SampleMut {
@@ -98,14 +98,8 @@ impl SampleMut {
 }
 
 // Sends a publisher's written loan to its receivers, once the publisher's connections are updated. Where the
-// send is blocked, what came of it has this handle.
-//
-// The outcome is made in each branch: behind both, the compiler would ask anew how the send ended. The boxes
-// are handed on in one call alone, so that where they lie isn't on the path of a message of a publisher
-// without a handler (docs/decisions/cost.md, "One call takes the boxes"). The blocked send is made
-// before, of the numbers of the loan that the send spends, and disowned where there is none.
-//
-// iceoryx2's `PublisherSharedState::send_sample` (`src/port/publisher.rs`).
+// send is blocked, what came of it has this handle, which is made before, of the numbers of the loan that
+// the send spends, and disowned where the send isn't blocked.
 #[inline(always)]
 fn send_loan<T: Drop, U: Default + Drop, F: BackpressureFn, G: DegradationFn>(
     state: &mut DomainState<T, U>,
@@ -120,13 +114,19 @@ fn send_loan<T: Drop, U: Default + Drop, F: BackpressureFn, G: DegradationFn>(
         × (HoldsPublisher (state_of (kept_of state.old)) loan.publisher → IsNotLost end) × (result_of_send result ≡ end_result end) }
     ensures blocked { IfOk result (λ came. IfBlocked came (λ it. it ≡ blocked)) }
 {
-    if is_ready(state, &loan) && !has_handler_at(state, loan.place) {
-        return outcome_of(blocked, send_unasked(state, loan.place, loan.slot));
-    }
-    outcome_of(
-        blocked,
-        send_unready(state, boxes, loan.publisher, loan.number),
-    )
+    let BlockedSend {
+        service_id,
+        loan: kept,
+    } = blocked;
+    send(state, boxes, loan, move |end| {
+        outcome_of(
+            BlockedSend {
+                service_id,
+                loan: kept,
+            },
+            end,
+        )
+    })
 }
 
 /// What came of a send that ended so. Where it is blocked it has this handle.
