@@ -1,5 +1,7 @@
 -- Commands that make ports, with what a run holds.
 use Rattle.std.proofs.Common.{◌≡◌, ℕ, List, [], ◌∷◌, ◌++◌, map, sym, ap, subst, ◌∙◌, Option, None, Some}
+use Rattle.std.specs.Prelude.{MatchResult}
+use Rattle.std.specs.declared.result.Result.{Result}
 use Rattle.iox2_store.specs.machine.Limits.{buffer_limit}
 use Rattle.iox2_store.specs.machine.Records.{PublisherSettings, SubscriberSettings, Fixed, Environment}
 use Rattle.iox2_store.specs.machine.State.{State, Messages}
@@ -39,6 +41,14 @@ given_for limit buffer degradation = record { buffer_size = elim buffer [ None �
 -- what the command says of a publisher
 abbrev pub settings_of : {T U : Type 0} → (loans : ℕ) → BackpressureStrategy → AllocationStrategy → (len : ℕ) (asked : Option ℕ) → DegradationAction → Option BackpressureAction → State T U → PublisherSettings
 settings_of loans strategy allocation len asked degradation backpressure s = publisher_settings (s.config).variant loans strategy allocation len asked degradation backpressure
+
+-- so many slots are asked for, by another name
+pub created-with : {T U P : Type 0} (environment : Environment) (s s' : State T U) (settings : PublisherSettings) (id : P → ℕ) (result : Result P PublisherCreateError) (asked asked' : Option ℕ) → asked ≡ asked'
+    → MatchResult result (λ made. (id made ≡ s.next_port) × CreatePublisher environment s (with_slots settings asked) s' None) (λ e. CreatePublisher environment s (with_slots settings asked) s' (Some e))
+    → MatchResult result (λ made. (id made ≡ s.next_port) × CreatePublisher environment s (with_slots settings asked') s' None) (λ e. CreatePublisher environment s (with_slots settings asked') s' (Some e))
+created-with environment s s' settings id result asked asked' same made =
+    subst (λ (slots : Option ℕ). MatchResult result (λ made. (id made ≡ s.next_port) × CreatePublisher environment s (with_slots settings slots) s' None)
+    (λ e. CreatePublisher environment s (with_slots settings slots) s' (Some e))) same made
 
 module _ {T U F G : Type 0} (old : Domain T U F G) where
   -- what a factory was told is what the command says, where messages are single values

@@ -1,5 +1,5 @@
 -- A subscriber is asked whether samples wait, with what a run keeps.
-use Rattle.std.proofs.Common.{◌≡◌, ℕ, Bool, false, List, map, Option, refl, sym, ap, subst}
+use Rattle.std.proofs.Common.{◌≡◌, ℕ, Bool, false, List, map, Option, refl, sym, ap}
 use Rattle.std.specs.Prelude.{slice_index_or}
 use Rattle.iox2_store.specs.machine.Receives.{HasSamples}
 use Rattle.iox2_store.specs.machine.Records.{Loan, Environment}

@@ -16,7 +16,7 @@ use Rattle.iox2_commands.specs.declared.reply.Reply.TheVariants.{Skipped, Loaned
 use Rattle.iox2_runs.specs.Carries.{entry_for, Carries}
 use Rattle.iox2_runs.specs.RunSteps.{Comes}
 use Rattle.iox2_runs.specs.Services.{has_slices}
-use Rattle.iox2_runs.specs.Tables.{TableEntry, No_entry, Unwritten_entry, IsUnblocked}
+use Rattle.iox2_runs.specs.Tables.{TableEntry, Unwritten_entry, IsUnblocked}
 use Rattle.iox2_runs.specs.declared.runs.made.Made.{Made}
 use Rattle.iox2_runs.specs.declared.runs.made.Made.TheVariants.{Nothing, Publisher as MadePublisher, Unwritten}
 use Rattle.iox2_runs.proofs.TableEntries.{entry-stands, lacks}

@@ -1,5 +1,5 @@
 -- A port is updated, with what a run keeps.
-use Rattle.std.proofs.Common.{◌≡◌, ℕ, false, List, map, Option, refl, ap, subst, None, Some}
+use Rattle.std.proofs.Common.{◌≡◌, ℕ, false, List, map, Option, refl, ap, None, Some}
 use Rattle.std.specs.Option.{option_map_or}
 use Rattle.std.specs.Prelude.{slice_index_or}
 use Rattle.iox2_store.specs.machine.PublisherUpdate.{UpdatePublisher}

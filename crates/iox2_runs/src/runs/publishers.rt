@@ -10,11 +10,13 @@ ghost use Rattle.iox2_domain.specs.NewPublisher.{static_publisher};
 ghost use Rattle.iox2_domain.specs.declared.handlers.HandlerMark.TheVariants.{Fixed};
 ghost use Rattle.iox2_domain.specs.Shows.{Shows};
 ghost use Rattle.iox2_pubsub.specs.Factories.{with_slots};
-ghost use Rattle.iox2_pubsub.specs.Handles.{as_publisher, publisher_id};
+ghost use Rattle.iox2_pubsub.specs.Handles.{publisher_id};
 ghost use Rattle.iox2_pubsub.specs.Live.{IsNewIn, IsReadyPublisher, Stays, publisher_port};
 ghost use Rattle.iox2_commands.specs.Step.{publisher_settings};
 
-use iox2_pubsub::{DegradationHandler, Domain, PortFactoryPublisher, Publisher, slice};
+use iox2_pubsub::{
+    DegradationHandler, Domain, NoOverride, PortFactoryPublisher, PortHandle, Publisher, slice,
+};
 use iox2_store::{
     AllocationStrategy, BackpressureAction, BackpressureFn, BackpressureHandler,
     BackpressureStrategy, DegradationAction, DegradationFn, PublisherCreateError, TypeVariant,
@@ -71,26 +73,27 @@ fn slice_factory<T: Drop, U: Default + Drop, F: BackpressureFn, G: DegradationFn
 }
 
 // Makes a publisher by the factory, with an override that always asks for so many slots.
-fn create_asked_values<
+fn create_asked<
     T: Drop,
     U: Default + Drop,
     F: BackpressureFn,
     G: DegradationFn,
+    H: PortHandle<Publisher>,
     P: Fn(usize) -> usize + Drop,
 >(
     domain: &mut Domain<T, U, F, G>,
-    factory: PortFactoryPublisher<F, G>,
+    factory: PortFactoryPublisher<F, G, NoOverride, H>,
     slots: usize,
     callback: P,
-) -> Result<Publisher, PublisherCreateError>
+) -> Result<H, PublisherCreateError>
     requires can_ask { P.IsAlwaysCallable callback }
     requires asks { (worst n : ℕ) → P.post callback worst n → n ≡ slots }
     ensures creates { (m : Messages T U) (s : State T U) → Shows domain.old m s → (s' : State T U) × Shows domain.new m s'
         × MatchResult result
-        (λ publisher. (publisher_id publisher ≡ s.next_port) × CreatePublisher (answers_of F.allows G.allows (domain.new.boxes).publishers) s (with_slots factory.settings (Some slots)) s' None)
+        (λ publisher. (publisher_id (H.as_port publisher) ≡ s.next_port) × CreatePublisher (answers_of F.allows G.allows (domain.new.boxes).publishers) s (with_slots factory.settings (Some slots)) s' None)
         (λ e. CreatePublisher (answers_of F.allows G.allows (domain.new.boxes).publishers) s (with_slots factory.settings (Some slots)) s' (Some e)) }
-    ensures ready { IfOk result (λ publisher. IsReadyPublisher domain.new publisher) }
-    ensures new { IfOk result (λ publisher. IsNewIn domain.old (publisher_port publisher)) }
+    ensures ready { IfOk result (λ publisher. IsReadyPublisher domain.new (H.as_port publisher)) }
+    ensures new { IfOk result (λ publisher. IsNewIn domain.old (publisher_port (H.as_port publisher))) }
     ensures stays { Stays domain.old domain.new }
 {
     let factory = factory.override_sample_preallocation(callback);
@@ -98,71 +101,28 @@ fn create_asked_values<
 }
 
 // Makes a publisher by the factory, with an override that asks for so many slots where there is one.
-fn create_values<T: Drop, U: Default + Drop, F: BackpressureFn, G: DegradationFn>(
-    domain: &mut Domain<T, U, F, G>,
-    factory: PortFactoryPublisher<F, G>,
-    asked_slots: Option<usize>,
-) -> Result<Publisher, PublisherCreateError>
-    requires { factory.settings.asked_slots ≡ None }
-    ensures creates { (m : Messages T U) (s : State T U) → Shows domain.old m s → (s' : State T U) × Shows domain.new m s'
-        × MatchResult result
-        (λ publisher. (publisher_id publisher ≡ s.next_port) × CreatePublisher (answers_of F.allows G.allows (domain.new.boxes).publishers) s (with_slots factory.settings asked_slots) s' None)
-        (λ e. CreatePublisher (answers_of F.allows G.allows (domain.new.boxes).publishers) s (with_slots factory.settings asked_slots) s' (Some e)) }
-    ensures ready { IfOk result (λ publisher. IsReadyPublisher domain.new publisher) }
-    ensures new { IfOk result (λ publisher. IsNewIn domain.old (publisher_port publisher)) }
-    ensures stays { Stays domain.old domain.new }
-{
-    match asked_slots {
-        Some(slots) => create_asked_values(domain, factory, slots, move |_| slots),
-        None => factory.create(domain),
-    }
-}
-
-// Makes a publisher of slices by the factory, with an override that always asks for so many slots.
-fn create_asked_slices<
+fn create<
     T: Drop,
     U: Default + Drop,
     F: BackpressureFn,
     G: DegradationFn,
-    P: Fn(usize) -> usize + Drop,
+    H: PortHandle<Publisher>,
 >(
     domain: &mut Domain<T, U, F, G>,
-    factory: slice::PortFactoryPublisher<F, G>,
-    slots: usize,
-    callback: P,
-) -> Result<slice::Publisher, PublisherCreateError>
-    requires can_ask { P.IsAlwaysCallable callback }
-    requires asks { (worst n : ℕ) → P.post callback worst n → n ≡ slots }
-    ensures creates { (m : Messages T U) (s : State T U) → Shows domain.old m s → (s' : State T U) × Shows domain.new m s'
-        × MatchResult result
-        (λ publisher. (publisher_id (as_publisher publisher) ≡ s.next_port) × CreatePublisher (answers_of F.allows G.allows (domain.new.boxes).publishers) s (with_slots factory.settings (Some slots)) s' None)
-        (λ e. CreatePublisher (answers_of F.allows G.allows (domain.new.boxes).publishers) s (with_slots factory.settings (Some slots)) s' (Some e)) }
-    ensures ready { IfOk result (λ publisher. IsReadyPublisher domain.new (as_publisher publisher)) }
-    ensures new { IfOk result (λ publisher. IsNewIn domain.old (publisher_port (as_publisher publisher))) }
-    ensures stays { Stays domain.old domain.new }
-{
-    let factory = factory.override_sample_preallocation(callback);
-    factory.create(domain)
-}
-
-// Makes a publisher of slices by the factory, with an override that asks for so many slots where
-// there is one.
-fn create_slices<T: Drop, U: Default + Drop, F: BackpressureFn, G: DegradationFn>(
-    domain: &mut Domain<T, U, F, G>,
-    factory: slice::PortFactoryPublisher<F, G>,
+    factory: PortFactoryPublisher<F, G, NoOverride, H>,
     asked_slots: Option<usize>,
-) -> Result<slice::Publisher, PublisherCreateError>
+) -> Result<H, PublisherCreateError>
     requires { factory.settings.asked_slots ≡ None }
     ensures creates { (m : Messages T U) (s : State T U) → Shows domain.old m s → (s' : State T U) × Shows domain.new m s'
         × MatchResult result
-        (λ publisher. (publisher_id (as_publisher publisher) ≡ s.next_port) × CreatePublisher (answers_of F.allows G.allows (domain.new.boxes).publishers) s (with_slots factory.settings asked_slots) s' None)
+        (λ publisher. (publisher_id (H.as_port publisher) ≡ s.next_port) × CreatePublisher (answers_of F.allows G.allows (domain.new.boxes).publishers) s (with_slots factory.settings asked_slots) s' None)
         (λ e. CreatePublisher (answers_of F.allows G.allows (domain.new.boxes).publishers) s (with_slots factory.settings asked_slots) s' (Some e)) }
-    ensures ready { IfOk result (λ publisher. IsReadyPublisher domain.new (as_publisher publisher)) }
-    ensures new { IfOk result (λ publisher. IsNewIn domain.old (publisher_port (as_publisher publisher))) }
+    ensures ready { IfOk result (λ publisher. IsReadyPublisher domain.new (H.as_port publisher)) }
+    ensures new { IfOk result (λ publisher. IsNewIn domain.old (publisher_port (H.as_port publisher))) }
     ensures stays { Stays domain.old domain.new }
 {
     match asked_slots {
-        Some(slots) => create_asked_slices(domain, factory, slots, move |_| slots),
+        Some(slots) => create_asked(domain, factory, slots, move |_| slots),
         None => factory.create(domain),
     }
 }
@@ -200,7 +160,7 @@ pub(crate) fn make_publisher<T: Drop, U: Default + Drop, F: BackpressureFn, G: D
                 degradation,
                 backpressure,
             );
-            create_values(domain, factory, asked_slots)
+            create(domain, factory, asked_slots)
         }
         TypeVariant::Dynamic => {
             let factory = slice_factory(
@@ -212,7 +172,7 @@ pub(crate) fn make_publisher<T: Drop, U: Default + Drop, F: BackpressureFn, G: D
                 degradation,
                 backpressure,
             );
-            let publisher = create_slices(domain, factory, asked_slots)?;
+            let publisher = create(domain, factory, asked_slots)?;
             Ok(publisher.into_inner())
         }
     }

@@ -7,7 +7,7 @@ use Rattle.iox2_runs.proofs.LiveEntries.{shown_free}
 use Rattle.iox2_runs.proofs.Services.{single-here}
 use Rattle.iox2_runs.proofs.Turned.{keeps, looks, unready}
 use Rattle.iox2_store.specs.declared.key.Key.{Key}
-use Rattle.std.proofs.Common.{refl, sym, ap, ◌∙◌}
+use Rattle.std.proofs.Common.{sym, ap, ◌∙◌}
 use Rattle.iox2_runs.proofs.runs.lends.send_copy.Goals as goal
 
 pub returns-then-not-is_single_valued : goal.returns-then-not-is_single_valued

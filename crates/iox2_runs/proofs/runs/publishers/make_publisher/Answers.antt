@@ -12,13 +12,13 @@ use Rattle.iox2_runs.proofs.runs.publishers.make_publisher.Goals as goal
 
 pub returns-in-FixedSize-clause-creates : goal.returns-in-FixedSize-clause-creates
 returns-in-FixedSize-clause-creates g c = λ m s shown.
-    let made = c.create_values.ensures.creates m s shown in (
+    let made = c.create.ensures.creates m s shown in (
       made.0,
       made.1,
-      creation_told (answers_of g.F.BackpressureFn.allows g.G.DegradationFn.allows c.create_values.new.domain.boxes.publishers) s (settings_of c.args.loans c.args.strategy c.args.allocation c.args.len c.args.asked_slots c.args.degradation c.args.backpressure s) (always_unboxed c.args.degradation)
-          (λ (publisher : Publisher). publisher.id ≡ s.next_port) made.0 c.create_values.result
-          (subst (λ (given : PublisherSettings). MatchResult c.create_values.result
-          (λ publisher. (publisher.id ≡ s.next_port) × CreatePublisher (answers_of g.F.BackpressureFn.allows g.G.DegradationFn.allows c.create_values.new.domain.boxes.publishers) s given made.0 None) (λ e. CreatePublisher (answers_of g.F.BackpressureFn.allows g.G.DegradationFn.allows c.create_values.new.domain.boxes.publishers) s given made.0 (Some e)))
+      creation_told (answers_of g.F.BackpressureFn.allows g.G.DegradationFn.allows c.create.new.domain.boxes.publishers) s (settings_of c.args.loans c.args.strategy c.args.allocation c.args.len c.args.asked_slots c.args.degradation c.args.backpressure s) (always_unboxed c.args.degradation)
+          (λ (publisher : Publisher). publisher.id ≡ s.next_port) made.0 c.create.result
+          (subst (λ (given : PublisherSettings). MatchResult c.create.result
+          (λ publisher. (publisher.id ≡ s.next_port) × CreatePublisher (answers_of g.F.BackpressureFn.allows g.G.DegradationFn.allows c.create.new.domain.boxes.publishers) s given made.0 None) (λ e. CreatePublisher (answers_of g.F.BackpressureFn.allows g.G.DegradationFn.allows c.create.new.domain.boxes.publishers) s given made.0 (Some e)))
           (fixed-settings {T = g.row.T.Denot} {U = g.row.U.Denot} c.args.domain.now c.args.loans c.args.strategy c.args.allocation c.args.len c.args.asked_slots c.args.degradation c.args.backpressure _ c.value_factory-factory.ensures
           (sym c.variant.ensures ∙ c.in-FixedSize.is) m s shown) made.2),
     )
@@ -32,8 +32,8 @@ returns-in_ok-publisher-in-Dynamic-clause-creates g c = λ m s shown.
       made.1,
       (
         ap (λ (publisher : Publisher). publisher.id) c.into_inner.ensures ∙ (made.2).0,
-        publisher_created (answers_of g.F.BackpressureFn.allows g.G.DegradationFn.allows c.create_slices.new.domain.boxes.publishers) s (settings_of c.args.loans c.args.strategy c.args.allocation c.args.len c.args.asked_slots c.args.degradation c.args.backpressure s) (always_unboxed c.args.degradation) made.0 None
-            (subst (λ (given : PublisherSettings). CreatePublisher (answers_of g.F.BackpressureFn.allows g.G.DegradationFn.allows c.create_slices.new.domain.boxes.publishers) s given made.0 None) is (made.2).1),
+        publisher_created (answers_of g.F.BackpressureFn.allows g.G.DegradationFn.allows c.create-in-Dynamic.new.domain.boxes.publishers) s (settings_of c.args.loans c.args.strategy c.args.allocation c.args.len c.args.asked_slots c.args.degradation c.args.backpressure s) (always_unboxed c.args.degradation) made.0 None
+            (subst (λ (given : PublisherSettings). CreatePublisher (answers_of g.F.BackpressureFn.allows g.G.DegradationFn.allows c.create-in-Dynamic.new.domain.boxes.publishers) s given made.0 None) is (made.2).1),
       ),
     )
 
@@ -46,6 +46,6 @@ returns-in_err-publisher-in-Dynamic-clause-creates g c = λ m s shown.
     rw (refused.1, refused.2) (
       made.0,
       made.1,
-      publisher_created (answers_of g.F.BackpressureFn.allows g.G.DegradationFn.allows c.create_slices.new.domain.boxes.publishers) s (settings_of c.args.loans c.args.strategy c.args.allocation c.args.len c.args.asked_slots c.args.degradation c.args.backpressure s) (always_unboxed c.args.degradation) made.0 (Some c.in_err-publisher-in-Dynamic.field-0.0)
-          (subst (λ (given : PublisherSettings). CreatePublisher (answers_of g.F.BackpressureFn.allows g.G.DegradationFn.allows c.create_slices.new.domain.boxes.publishers) s given made.0 (Some c.in_err-publisher-in-Dynamic.field-0.0)) is made.2),
+      publisher_created (answers_of g.F.BackpressureFn.allows g.G.DegradationFn.allows c.create-in-Dynamic.new.domain.boxes.publishers) s (settings_of c.args.loans c.args.strategy c.args.allocation c.args.len c.args.asked_slots c.args.degradation c.args.backpressure s) (always_unboxed c.args.degradation) made.0 (Some c.in_err-publisher-in-Dynamic.field-0.0)
+          (subst (λ (given : PublisherSettings). CreatePublisher (answers_of g.F.BackpressureFn.allows g.G.DegradationFn.allows c.create-in-Dynamic.new.domain.boxes.publishers) s given made.0 (Some c.in_err-publisher-in-Dynamic.field-0.0)) is made.2),
     )

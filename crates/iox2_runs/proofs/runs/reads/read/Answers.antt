@@ -6,7 +6,7 @@ use Rattle.iox2_runs.proofs.Turned.{looks}
 use Rattle.iox2_runs.specs.Carries.{entry_for}
 use Rattle.iox2_runs.specs.declared.runs.made.Made.{Made}
 use Rattle.iox2_store.specs.machine.Environments.{fixed_handlers}
-use Rattle.std.proofs.Common.{refl, ap, ◌∙◌}
+use Rattle.std.proofs.Common.{ap, ◌∙◌}
 use Rattle.iox2_runs.proofs.runs.reads.read.Goals as goal
 
 pub unwritten_cell-cell-requires-clause-live : goal.unwritten_cell-cell-requires-clause-live

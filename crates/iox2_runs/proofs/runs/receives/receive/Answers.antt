@@ -17,7 +17,7 @@ use Rattle.iox2_store.specs.declared.errors.ReceiveError.{ReceiveError}
 use Rattle.iox2_store.specs.declared.service_config.ServiceConfig.{ServiceConfig}
 use Rattle.iox2_store.specs.machine.Environments.{fixed_handlers}
 use Rattle.iox2_store.specs.machine.Receives.{Receive}
-use Rattle.std.proofs.Common.{◌≡◌, refl, sym, ap, subst, ◌∙◌, Option, None, Some}
+use Rattle.std.proofs.Common.{◌≡◌, sym, ap, subst, ◌∙◌, Option, None, Some}
 use Rattle.std.specs.Prelude.{Result, IfOk, IfSome}
 use Rattle.std.specs.declared.result.Result.TheVariants.{Ok, Err}
 use Rattle.iox2_runs.proofs.runs.receives.receive.Goals as goal

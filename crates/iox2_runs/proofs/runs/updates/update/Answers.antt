@@ -12,7 +12,7 @@ use Rattle.iox2_runs.specs.Carries.{entry_for}
 use Rattle.iox2_runs.specs.declared.runs.made.Made.TheVariants.{Nothing}
 use Rattle.iox2_runs.specs.declared.runs.made.Made.{Made}
 use Rattle.iox2_store.specs.machine.Environments.{fixed_handlers}
-use Rattle.std.proofs.Common.{refl, ap, ◌∙◌}
+use Rattle.std.proofs.Common.{ap, ◌∙◌}
 use Rattle.iox2_runs.proofs.runs.updates.update.Goals as goal
 
 pub update_connections-requires : goal.update_connections-requires
