@@ -9,7 +9,7 @@ use Rattle.iox2_slots.specs.SlotBook.{Book}
 use Rattle.iox2_store.specs.machine.Limits.{warning_limit, expired_limit}
 use Rattle.iox2_store.specs.machine.Numbers.{without}
 use Rattle.iox2_store.specs.machine.Places.{occupant, set_place}
-use Rattle.iox2_store.specs.machine.Records.{Entry, Subscriber, Environment}
+use Rattle.iox2_store.specs.machine.Records.{Entry, Subscriber, Environment, Handler}
 use Rattle.iox2_store.specs.machine.State.{State, warned, has_sender_end}
 use Rattle.iox2_store.specs.machine.SubscriberUpdate.{ReceiverSide, Retirement, Refuse, retirement_of, after_retirement, is_refused, with_end, with_receiver_side, ConnectReceiver, ConnectAtPlace, DisconnectAtPlace, UpdateSubscriber}
 use Rattle.iox2_store.specs.declared.errors.ConnectionFailure.{ConnectionFailure}
@@ -24,6 +24,7 @@ use Rattle.iox2_domain.specs.Invariant.{IsDomain}
 use Rattle.iox2_domain.specs.KeptLinks.{ChannelsFollow}
 use Rattle.iox2_domain.specs.Midway.{with_channels_of}
 use Rattle.iox2_domain.specs.Updates.{publisher_but_room}
+use Rattle.iox2_store.specs.declared.degradation.DegradationAction.{DegradationAction}
 
 -- The subscriber, with the key from a publisher's place among the expired ones.
 abbrev pub with_expired : (place key : ℕ) → SubscriberFields → SubscriberFields
@@ -130,21 +131,22 @@ module _ {T U : Type 0} (environment : Environment) where
       × ConnectReceiver environment (f.config).service_id y.id (subscriber_of f.books f.connections y).port.degradation_handler (expired_limit f.config)
       (λ r. has_sender_end (state_of (kept_of f)) r y.id) (current_side (state_of (kept_of f)) y.id (subscriber_of f.books f.connections y).port) i p side failure
 
-  -- The subscriber y at the place j has done the step of the first walk at the publishers' place i.
-  abbrev pub ConnectsAt : (f : Fields T U) (j i : ℕ) → SubscriberFields → (f' : Fields T U) → Option ConnectionFailure → Type 0
-  ConnectsAt f j i y f' failure =
+  -- The subscriber y at the place j has done this step of its update at the publishers' place i.
+  abbrev StepsAt : (Step : (service_id q : ℕ) → Handler DegradationAction → (limit : ℕ) → (ℕ → Bool) → (place : ℕ) → Option ℕ → ReceiverSide → ReceiverSide → Option ConnectionFailure → Type 0)
+      → (f : Fields T U) (j i : ℕ) → SubscriberFields → (f' : Fields T U) → Option ConnectionFailure → Type 0
+  StepsAt Step f j i y f' failure =
       (side : ReceiverSide) × ChangesReceiver f j y side f'
-      × ConnectAtPlace environment (f.config).service_id y.id (subscriber_of f.books f.connections y).port.degradation_handler (expired_limit f.config)
+      × Step (f.config).service_id y.id (subscriber_of f.books f.connections y).port.degradation_handler (expired_limit f.config)
       (λ r. has_sender_end (state_of (kept_of f)) r y.id) i (occupant (state_of (kept_of f)).publisher_places i)
       (current_side (state_of (kept_of f)) y.id (subscriber_of f.books f.connections y).port) side failure
 
+  -- The subscriber y at the place j has done the step of the first walk at the publishers' place i.
+  abbrev pub ConnectsAt : (f : Fields T U) (j i : ℕ) → SubscriberFields → (f' : Fields T U) → Option ConnectionFailure → Type 0
+  ConnectsAt = StepsAt (ConnectAtPlace environment)
+
   -- The subscriber y at the place j has done the step of the second walk at the publishers' place i.
   abbrev pub DisconnectsAt : (f : Fields T U) (j i : ℕ) → SubscriberFields → (f' : Fields T U) → Option ConnectionFailure → Type 0
-  DisconnectsAt f j i y f' failure =
-      (side : ReceiverSide) × ChangesReceiver f j y side f'
-      × DisconnectAtPlace environment (f.config).service_id y.id (subscriber_of f.books f.connections y).port.degradation_handler (expired_limit f.config)
-      (λ r. has_sender_end (state_of (kept_of f)) r y.id) i (occupant (state_of (kept_of f)).publisher_places i)
-      (current_side (state_of (kept_of f)) y.id (subscriber_of f.books f.connections y).port) side failure
+  DisconnectsAt = StepsAt (DisconnectAtPlace environment)
 
   -- The subscriber y at the place j is updated, with this failure if any.
   pub record UpdatesReceiver (f : Fields T U) (j : ℕ) (y : SubscriberFields) (f' : Fields T U) (failure : Option ConnectionFailure) : Type 0 where

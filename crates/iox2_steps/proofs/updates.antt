@@ -7,6 +7,7 @@ pub mod AnySubscriberBoxes
 pub mod MadeRoom
 pub mod Grown
 pub mod GrownPorts
+pub mod ChangedPorts
 pub mod SenderChanges
 pub mod SenderAgrees
 pub mod SenderLeft

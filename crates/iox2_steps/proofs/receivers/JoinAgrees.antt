@@ -2,7 +2,7 @@
 use Rattle.std.proofs.Common.{◌≡◌, ◌<◌, ℕ, ◌+◌, arith, List, Bool, get_or, slice_set, refl, ap, sym, ◌∙◌, inl, inr, ◌⊎◌}
 use Rattle.std.specs.declared.option.Option.{Option}
 use Rattle.std.specs.declared.option.Option.TheVariants.{None, Some}
-use Rattle.std.specs.Option.{option_map, IsSomeAnd}
+use Rattle.std.specs.Option.{option_map}
 use Rattle.slab.specs.Slab.{Slab, get}
 use Rattle.iox2_store.specs.machine.Limits.{warning_limit}
 use Rattle.iox2_slots.specs.Link.{Link}
@@ -18,7 +18,7 @@ use Rattle.iox2_domain.specs.Fields.{Fields, kept_of}
 use Rattle.iox2_domain.specs.Invariant.{IsDomain, IsLinked, IsCounted, ReceiverHas, is_subscriber, own_holders, details_of}
 use Rattle.iox2_domain.proofs.lemmas.containers.LookUps.{map-at, viewed}
 use Rattle.iox2_domain.proofs.lemmas.fields.Views.{held-before}
-use Rattle.iox2_domain.proofs.lemmas.containers.ChangedRecords.{changed-here, changed-stood, changed-still, changed-only}
+use Rattle.iox2_domain.proofs.lemmas.containers.ChangedRecords.{changed-here, changed-stood, changed-only}
 use Rattle.iox2_domain.proofs.lemmas.containers.Extensions.{sender_linked, receiver_linked}
 use Rattle.iox2_steps.proofs.receivers.MoreConnections.{mailboxes-same}
 use Rattle.iox2_steps.proofs.updates.ReceiverChanges.{FitsReceiver, IsNewOfReceiver, with_keys, with_receiver}
@@ -27,6 +27,7 @@ use Rattle.std.proofs.lemmas.Bool.{true≢false}
 use Rattle.iox2_domain.proofs.lemmas.fields.OpenReceivers.{open-changed}
 use Rattle.iox2_domain.proofs.lemmas.fields.Standing.{one-publisher, one-subscriber}
 use Rattle.iox2_domain.proofs.lemmas.fields.Parts.{other_parts}
+use Rattle.iox2_steps.proofs.updates.ChangedPorts.{stood-before, stands-after, one-record, known-before}
 
 module _ {T U : Type 0} (f : Fields T U) (sound : IsDomain f) (j : ℕ) (y : SubscriberFields) (at : get_or f.subscribers j None ≡ Some y)
     (keys : List (Option ℕ)) (key_room expired_room : ℕ) (is_due : Bool) (connections : Slab Link) (warnings : WarningRing) (fits : FitsReceiver f j y keys key_room expired_room connections) where
@@ -47,24 +48,14 @@ module _ {T U : Type 0} (f : Fields T U) (sound : IsDomain f) (j : ℕ) (y : Sub
 
   -- who stands somewhere stood there before, with the same details
   was : (k : ℕ) (z : SubscriberFields) → get_or subscribers k None ≡ Some z → (w : SubscriberFields) × (get_or f.subscribers k None ≡ Some w) × (details_of w ≡ details_of z)
-  was k z at_z = elim (stood k z at_z) [
-    | inl here ↦ (y, ap (λ (n : ℕ). get_or f.subscribers n None) here.0 ∙ at, sym (ap details_of here.1))
-    | inr old ↦ (z, old, refl)
-  ]
+  was = stood-before f.subscribers j y changed at (λ w z. details_of w ≡ details_of z) (λ z. refl) refl
 
-  -- who stood somewhere stands there, but for its keys
-  still : (k : ℕ) (z : SubscriberFields) → get_or f.subscribers k None ≡ Some z → (w : SubscriberFields) × (get_or subscribers k None ≡ Some w) × (w.id ≡ z.id) × (w.expired ≡ z.expired)
-      × ((place key : ℕ) → get_or z.keys place None ≡ Some key → get_or w.keys place None ≡ Some key)
-  still k z at_z = elim (changed-still f.subscribers j y changed at k z at_z) [
-    | inl here ↦ (
-      changed,
-      ap (λ (n : ℕ). get_or subscribers n None) here.0 ∙ changed-here f.subscribers j y changed at,
-      sym (ap (λ (w : SubscriberFields). w.id) here.1),
-      sym (ap (λ (w : SubscriberFields). w.expired) here.1),
-      λ place key has. fits.keeps place key (sym (ap (λ (w : SubscriberFields). get_or w.keys place None) here.1) ∙ has),
-    )
-    | inr there ↦ (z, there, refl, refl, λ place key has. has)
-  ]
+  -- who stood somewhere stands there, but for its keys, of which it has what it had
+  abbrev Keeps : (z w : SubscriberFields) → Type 0
+  Keeps z w = (w.id ≡ z.id) × (w.expired ≡ z.expired) × ((place key : ℕ) → get_or z.keys place None ≡ Some key → get_or w.keys place None ≡ Some key)
+
+  still : (k : ℕ) (z : SubscriberFields) → get_or f.subscribers k None ≡ Some z → (w : SubscriberFields) × (get_or subscribers k None ≡ Some w) × Keeps z w
+  still = stands-after f.subscribers j y changed at Keeps (λ z. (refl, refl, λ place key has. has)) (refl, refl, fits.keeps)
 
   -- a subscriber that had a connection has it
   has-still : (key : ℕ) (c : Link) → ReceiverHas f.subscribers key c → ReceiverHas subscribers key c
@@ -73,10 +64,10 @@ module _ {T U : Type 0} (f : Fields T U) (sound : IsDomain f) (j : ℕ) (y : Sub
       record {
         subscriber = w.0;
         stands = w.1;
-        is_its = w.2 ∙ has.is_its;
+        is_its = (w.2).0 ∙ has.is_its;
         has = elim has.has [
-          | inl here ↦ inl (w.4 c.home.publisher_place key here)
-          | inr among ↦ inr (rw w.3 among)
+          | inl here ↦ inl ((w.2).2 c.home.publisher_place key here)
+          | inr among ↦ inr (rw (w.2).1 among)
         ];
       }
 
@@ -89,15 +80,11 @@ module _ {T U : Type 0} (f : Fields T U) (sound : IsDomain f) (j : ℕ) (y : Sub
     has = inl new.has;
   }
 
-  known : (key q : ℕ) (c : Link) → get connections key ≡ Some c → (o : Option Link) → get f.connections key ≡ o → IsSomeAnd o (IsReceivers q (f.config).subscriber_max_borrowed_samples) → get f.connections key ≡ Some c
-  known key q c at_c None e h = absurd h
-  known key q c at_c (Some d) e h = e ∙ sym (fits.extends.grows key d e) ∙ at_c
-
   places : (k place key : ℕ) (z : SubscriberFields) (c : Link) → ((k ≡ j) × (z ≡ changed)) ⊎ (get_or f.subscribers k None ≡ Some z) → get_or z.keys place None ≡ Some key
       → get connections key ≡ Some c → c.home.publisher_place ≡ place
   places k place key z c (inl here) at_key at_c = fits.places place key c (sym (ap (λ (w : SubscriberFields). get_or w.keys place None) here.1) ∙ at_key) at_c
   places k place key z c (inr old) at_key at_c =
-      sound.parts.linked.receiver_places k place key z c old at_key (known key z.id c at_c (get f.connections key) refl ((sound.parts.linked.receivers k z old).at place key at_key))
+      sound.parts.linked.receiver_places k place key z c old at_key (known-before f.connections connections fits.extends (IsReceivers z.id (f.config).subscriber_max_borrowed_samples) key c at_c ((sound.parts.linked.receivers k z old).at place key at_key))
 
   knows : (key k : ℕ) (c : Link) (d : ReceiverDetails) → get connections key ≡ Some c → (z : SubscriberFields) × (get_or subscribers k None ≡ Some z) × (d ≡ details_of z)
       → d.port_id ≡ c.home.subscriber → (k ≡ c.home.subscriber_place) × (c.buffer ≡ d.buffer_size)
@@ -109,8 +96,7 @@ module _ {T U : Type 0} (f : Fields T U) (sound : IsDomain f) (j : ℕ) (y : Sub
         | inr new ↦
             let id : w.0.id ≡ y.id = ap (λ (r : ReceiverDetails). r.port_id) details ∙ same ∙ new.subscriber in
             let place : k ≡ j = one-subscriber f sound.parts k j w.0 y w.1 at id in
-            let one : Some w.0 ≡ Some y = sym w.1 ∙ ap (λ (n : ℕ). get_or f.subscribers n None) place ∙ at in
-            let is : w.0 ≡ y = cc in
+            let is : w.0 ≡ y = one-record f.subscribers k j w.0 y w.1 at place in
             (place ∙ sym new.subscriber_place, new.buffer ∙ sym (ap (λ (z : SubscriberFields). z.buffer) is) ∙ ap (λ (r : ReceiverDetails). r.buffer_size) details)
       ]
 
@@ -126,9 +112,7 @@ module _ {T U : Type 0} (f : Fields T U) (sound : IsDomain f) (j : ℕ) (y : Sub
       let w = was k z at_z in
       let id : w.0.id ≡ y.id = ap (λ (r : ReceiverDetails). r.port_id) w.2 ∙ same ∙ new.subscriber in
       let place : k ≡ j = one-subscriber f sound.parts k j w.0 y w.1 at id in
-      let one : Some z ≡ Some changed = sym at_z ∙ ap (λ (n : ℕ). get_or subscribers n None) place ∙ changed-here f.subscribers j y changed at in
-      let is : z ≡ changed = cc in
-      rw is new.room
+      rw (one-record subscribers k j z changed at_z (changed-here f.subscribers j y changed at) place) new.room
 
   linked : IsLinked after
   linked = record {
@@ -155,9 +139,7 @@ module _ {T U : Type 0} (f : Fields T U) (sound : IsDomain f) (j : ℕ) (y : Sub
       | inl old ↦ sound.parts.linked.sender_rooms key k c z old at_z same
       | inr new ↦
           let place : k ≡ c.home.publisher_place = one-publisher f sound.parts k c.home.publisher_place z new.publisher at_z new.stands (same ∙ sym new.is_its) in
-          let one : Some z ≡ Some new.publisher = sym at_z ∙ ap (λ (n : ℕ). get_or f.publishers n None) place ∙ new.stands in
-          let is : z ≡ new.publisher = cc in
-          rw is new.publisher_room
+          rw (one-record f.publishers k c.home.publisher_place z new.publisher at_z new.stands place) new.publisher_room
     ];
     receiver_rooms = λ key k c z at_c at_z same. receiver_room key k c z at_z same (fits.news key c at_c) (stood k z at_z);
     limits = λ key c at_c. elim (fits.news key c at_c) [ inl old ↦ sound.parts.linked.limits key c old | inr new ↦ new.limit ];

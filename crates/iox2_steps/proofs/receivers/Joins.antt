@@ -35,8 +35,8 @@ use Rattle.iox2_domain.specs.Updates.{MakesConnection, home_of}
 use Rattle.iox2_domain.specs.ReceiverSteps.{current_side, ConnectsEnd}
 use Rattle.iox2_domain.proofs.lemmas.containers.ConnectionKeys.{map-set_place, set_place-here, set_place-keeps, set_place-stood}
 use Rattle.iox2_domain.proofs.lemmas.fields.ConnectionEnds.{occupant-sender_ends, publisher-stands, subscriber-stands}
-use Rattle.iox2_domain.proofs.lemmas.fields.ExpiredRoom.{room-made}
-use Rattle.iox2_domain.proofs.lemmas.fields.Standing.{no-connection, occupant-receiver_ends, one-subscriber, publisher-listed, sender-joins, some_is, subscriber-place}
+use Rattle.iox2_domain.proofs.lemmas.fields.ExpiredRoom.{room-made, room-here}
+use Rattle.iox2_domain.proofs.lemmas.fields.Standing.{no-connection, occupant-receiver_ends, publisher-listed, sender-joins, some_is, subscriber-place}
 use Rattle.iox2_domain.proofs.lemmas.containers.Extensions.{Extends, receiver_linked, receiver_ends-same}
 use Rattle.iox2_domain.proofs.lemmas.containers.MadeConnections.{made-extends, made-news}
 use Rattle.iox2_steps.proofs.updates.ReceiverActions.{connect-makes}
@@ -178,14 +178,6 @@ module _ {T U : Type 0} (environment : Environment) (f : Fields T U) (sound : Is
     extends-made : (key : ℕ) (new : Slab Link) → MakesConnection f.connections (home_of i j x y) y.buffer most channels key new → Extends f.connections new
     extends-made key new made = made-extends f.connections new (home_of i j x y) y.buffer most channels key sound.parts.apart nobody made
 
-    -- no other subscriber has the id
-    room-here : connection_count f.connections y.id < y.expired_room → (k : ℕ) (z : SubscriberFields) → get_or f.subscribers k None ≡ Some z → z.id ≡ y.id → connection_count f.connections z.id < z.expired_room
-    room-here more k z at_z same =
-        let place : k ≡ j = one-subscriber f sound.parts k j z y at_z at_y same in
-        let one : Some z ≡ Some y = sym at_z ∙ ap (λ (n : ℕ). get_or f.subscribers n None) place ∙ at_y in
-        let is : z ≡ y = cc in
-        rw is more
-
     -- a connection is made
     pub makes-connection : j < x.key_room → i < y.key_room → connection_count f.connections y.id < y.expired_room → (key : ℕ) (new : Slab Link)
         → MakesConnection f.connections (home_of i j x y) y.buffer (f.config).subscriber_max_borrowed_samples (channel_count f.config) key new
@@ -195,7 +187,7 @@ module _ {T U : Type 0} (environment : Environment) (f : Fields T U) (sound : Is
           extends = extends-made key new made;
           grows = le_refl y.key_room;
           expired_grows = le_refl y.expired_room;
-          rooms = room-made f.subscribers f.connections new key link made.was_free made.made (room-here room_expired) sound.parts.expired_room;
+          rooms = room-made f.subscribers f.connections new key link made.was_free made.made (room-here f sound j y at_y room_expired) sound.parts.expired_room;
           linked = linked-with new key link (receiver_linked f.connections new (extends-made key new made) y.id most y.keys (sound.parts.linked.receivers j y at_y)) made.made.changed refl refl;
           places = places-with new key link (extends-made key new made) made.made.changed refl;
           keeps = set_place-keeps y.keys i key none;

@@ -2,7 +2,7 @@
 use Rattle.std.proofs.Common.{◌≡◌, ◌<◌, ℕ, ◌+◌, arith, true, false, List, Bool, get_or, slice_set, refl, ap, sym, ◌∙◌, inl, inr, ◌⊎◌, cond, eqb}
 use Rattle.std.specs.declared.option.Option.{Option}
 use Rattle.std.specs.declared.option.Option.TheVariants.{None, Some}
-use Rattle.std.specs.Option.{option_map_or, IsSomeAnd}
+use Rattle.std.specs.Option.{option_map_or}
 use Rattle.slab.specs.Slab.{Slab, get}
 use Rattle.iox2_store.specs.machine.Limits.{warning_limit}
 use Rattle.iox2_slots.specs.Link.{Link}
@@ -24,7 +24,7 @@ use Rattle.iox2_domain.specs.Invariant.{IsDomain, IsLinked, HasBooks, HasBook, I
 use Rattle.iox2_domain.proofs.lemmas.containers.LookUps.{viewed}
 use Rattle.iox2_domain.proofs.lemmas.fields.Views.{KeepsHeld, held-before}
 use Rattle.iox2_domain.proofs.lemmas.fields.ConnectionEnds.{publisher-stands}
-use Rattle.iox2_domain.proofs.lemmas.containers.ChangedRecords.{changed-here, changed-others, changed-stood, changed-still, changed-only}
+use Rattle.iox2_domain.proofs.lemmas.containers.ChangedRecords.{changed-here, changed-others, changed-stood, changed-only}
 use Rattle.iox2_domain.proofs.lemmas.containers.Extensions.{sender_linked, receiver_linked}
 use Rattle.iox2_domain.proofs.lemmas.fields.Standing.{one-publisher, one-subscriber}
 use Rattle.iox2_domain.proofs.lemmas.loans.PublisherChanges.{changed-kept_books}
@@ -32,6 +32,7 @@ use Rattle.iox2_domain.proofs.lemmas.slots.OpenLoans.{open-published}
 use Rattle.iox2_steps.proofs.updates.SenderChanges.{FitsSender, IsNewOfSender, with_keys, with_sender, port_after, sender-is}
 use Rattle.std.proofs.lemmas.Bool.{true≢false}
 use Rattle.iox2_steps.proofs.receivers.MoreConnections.{mailboxes-same}
+use Rattle.iox2_steps.proofs.updates.ChangedPorts.{stood-before, stands-after, one-record, known-before}
 
 module _ {T U : Type 0} (f : Fields T U) (sound : IsDomain f) (i : ℕ) (x : PublisherFields) (at : get_or f.publishers i None ≡ Some x)
     (keys : List (Option ℕ)) (key_room : ℕ) (is_due : Bool) (connections : Slab Link) (warnings : WarningRing) (fits : FitsSender f i x keys key_room connections) where
@@ -52,30 +53,19 @@ module _ {T U : Type 0} (f : Fields T U) (sound : IsDomain f) (i : ℕ) (x : Pub
 
   -- who stands somewhere stood there before, but for its keys
   was : (k : ℕ) (z : PublisherFields) → get_or publishers k None ≡ Some z → (y : PublisherFields) × (get_or f.publishers k None ≡ Some y) × (y.id ≡ z.id)
-  was k z at_z = elim (stood k z at_z) [
-    | inl here ↦ (x, ap (λ (n : ℕ). get_or f.publishers n None) here.0 ∙ at, sym (ap (λ (y : PublisherFields). y.id) here.1))
-    | inr old ↦ (z, old, refl)
-  ]
+  was = stood-before f.publishers i x changed at (λ y z. y.id ≡ z.id) (λ z. refl) refl
 
-  -- who stood somewhere stands there, but for its keys
-  still : (k : ℕ) (z : PublisherFields) → get_or f.publishers k None ≡ Some z → (y : PublisherFields) × (get_or publishers k None ≡ Some y) × (y.id ≡ z.id) × (y.book ≡ z.book)
-      × ((place key : ℕ) → get_or z.keys place None ≡ Some key → get_or y.keys place None ≡ Some key)
-  still k z at_z = elim (changed-still f.publishers i x changed at k z at_z) [
-    | inl here ↦ (
-      changed,
-      ap (λ (n : ℕ). get_or publishers n None) here.0 ∙ changed-here f.publishers i x changed at,
-      sym (ap (λ (y : PublisherFields). y.id) here.1),
-      sym (ap (λ (y : PublisherFields). y.book) here.1),
-      λ place key has. fits.keeps place key (sym (ap (λ (y : PublisherFields). get_or y.keys place None) here.1) ∙ has),
-    )
-    | inr there ↦ (z, there, refl, refl, λ place key has. has)
-  ]
+  -- who stood somewhere stands there, but for its keys, of which it has what it had
+  still : (k : ℕ) (z : PublisherFields) → get_or f.publishers k None ≡ Some z
+      → (y : PublisherFields) × (get_or publishers k None ≡ Some y) × ((y.id ≡ z.id) × ((place key : ℕ) → get_or z.keys place None ≡ Some key → get_or y.keys place None ≡ Some key))
+  still = stands-after f.publishers i x changed at (λ z y. (y.id ≡ z.id) × ((place key : ℕ) → get_or z.keys place None ≡ Some key → get_or y.keys place None ≡ Some key))
+      (λ z. (refl, λ place key has. has)) (refl, fits.keeps)
 
   -- a publisher that had a connection has it
   has-still : (key : ℕ) (c : Link) → SenderHas f.publishers key c → SenderHas publishers key c
   has-still key c has =
       let y = still c.home.publisher_place has.publisher has.stands in
-      record { publisher = y.0; stands = y.1; is_its = y.2 ∙ has.is_its; has = y.4 c.home.subscriber_place key has.has }
+      record { publisher = y.0; stands = y.1; is_its = (y.2).0 ∙ has.is_its; has = (y.2).1 c.home.subscriber_place key has.has }
 
   -- the publisher has its new connection
   has-new : (key : ℕ) (c : Link) → New key c → SenderHas publishers key c
@@ -99,7 +89,7 @@ module _ {T U : Type 0} (f : Fields T U) (sound : IsDomain f) (i : ℕ) (x : Pub
       | inr new ↦ inl (has-new key c new)
     ];
     receiver_places = λ k place key y c at_y at_key at_c. sound.parts.linked.receiver_places k place key y c at_y at_key
-        (known key y.id c at_c (get f.connections key) refl ((sound.parts.linked.receivers k y at_y).at place key at_key));
+        (known-before f.connections connections fits.extends (IsReceivers y.id (f.config).subscriber_max_borrowed_samples) key c at_c ((sound.parts.linked.receivers k y at_y).at place key at_key));
     knows = record {
       at = λ key k c d at_c at_d same. elim (fits.news key c at_c) [
         | inl old ↦ sound.parts.linked.knows.at key k c d old at_d same
@@ -117,9 +107,7 @@ module _ {T U : Type 0} (f : Fields T U) (sound : IsDomain f) (i : ℕ) (x : Pub
       | inl old ↦ sound.parts.linked.receiver_rooms key k c y old at_y same
       | inr new ↦
           let place : k ≡ c.home.subscriber_place = one-subscriber f sound.parts k c.home.subscriber_place y new.subscriber at_y new.stands (same ∙ sym new.is_its) in
-          let one : Some y ≡ Some new.subscriber = sym at_y ∙ ap (λ (n : ℕ). get_or f.subscribers n None) place ∙ new.stands in
-          let is : y ≡ new.subscriber = cc in
-          rw is new.subscriber_room
+          rw (one-record f.subscribers k c.home.subscriber_place y new.subscriber at_y new.stands place) new.subscriber_room
     ];
     limits = λ key c at_c. elim (fits.news key c at_c) [ inl old ↦ sound.parts.linked.limits key c old | inr new ↦ new.limit ];
     channel_counts = λ key c at_c. elim (fits.news key c at_c) [ inl old ↦ sound.parts.linked.channel_counts key c old | inr new ↦ new.channels ];
@@ -143,21 +131,14 @@ module _ {T U : Type 0} (f : Fields T U) (sound : IsDomain f) (i : ℕ) (x : Pub
     sender_room key k c z at_z same (inr new) _ =
         let old_z = was k z at_z in
         let place : k ≡ i = one-publisher f sound.parts k i old_z.0 x old_z.1 at (old_z.2 ∙ same ∙ new.publisher) in
-        let one : Some z ≡ Some changed = sym at_z ∙ ap (λ (n : ℕ). get_or publishers n None) place ∙ changed-here f.publishers i x changed at in
-        let is : z ≡ changed = cc in
-        rw is new.room
-
-    known : (key q : ℕ) (c : Link) → get connections key ≡ Some c → (o : Option Link) → get f.connections key ≡ o → IsSomeAnd o (IsReceivers q (f.config).subscriber_max_borrowed_samples) → get f.connections key ≡ Some c
-    known key q c at_c None e h = absurd h
-    known key q c at_c (Some d) e h = e ∙ sym (fits.extends.grows key d e) ∙ at_c
+        rw (one-record publishers k i z changed at_z (changed-here f.publishers i x changed at) place) new.room
 
     knows : (key k : ℕ) (c : Link) (d : ReceiverDetails) → New key c → (y : SubscriberFields) × (get_or f.subscribers k None ≡ Some y) × (d ≡ details_of y)
         → d.port_id ≡ c.home.subscriber → (k ≡ c.home.subscriber_place) × (c.buffer ≡ d.buffer_size)
     knows key k c d new there same =
         let id : there.0.id ≡ new.subscriber.id = sym (ap (λ (r : ReceiverDetails). r.port_id) there.2) ∙ same ∙ sym new.is_its in
         let place : k ≡ c.home.subscriber_place = one-subscriber f sound.parts k c.home.subscriber_place there.0 new.subscriber there.1 new.stands id in
-        let one : Some there.0 ≡ Some new.subscriber = sym there.1 ∙ ap (λ (n : ℕ). get_or f.subscribers n None) place ∙ new.stands in
-        let is : there.0 ≡ new.subscriber = cc in
+        let is : there.0 ≡ new.subscriber = one-record f.subscribers k c.home.subscriber_place there.0 new.subscriber there.1 new.stands place in
         (place, new.buffer ∙ sym (ap (λ (y : SubscriberFields). y.buffer) is) ∙ sym (ap (λ (r : ReceiverDetails). r.buffer_size) there.2))
 
   books : HasBooks after

@@ -39,6 +39,16 @@ module _ {A B : Type 0} (f : A → B) where
         (sym (same from_x.0) ∙ sym (ap test' from_x.2) ∙ is_x) (sym (same from_y.0) ∙ sym (ap test' from_y.2) ∙ is_y);
   }
 
+-- a test that holds of one record at most does so where each record was there before, with the same answer
+pub only-before : {A : Type 0} (test : A → Bool) (xs ys : List (Option A)) → IsOnly test xs
+    → ((i : ℕ) (y : A) → get_or ys i None ≡ Some y → (x : A) × (get_or xs i None ≡ Some x) × (test x ≡ test y)) → IsOnly test ys
+only-before test xs ys only before = record {
+  one = λ i j x y at_i at_j is_x is_y.
+      let a = before i x at_i in
+      let b = before j y at_j in
+      only.one i j a.0 b.0 a.1 b.1 (a.2 ∙ is_x) (b.2 ∙ is_y);
+}
+
 module _ {A : Type 0} (test : A → Bool) where
   -- made, or changed with the same answer to the test
   pub look_up-written : (xs ys : List (Option A)) (key : ℕ) (y : A) → IsOnly test ys → ((x : A) → get_or xs key None ≡ Some x → test x ≡ test y) → get_or ys key None ≡ Some y

@@ -15,7 +15,7 @@ use Rattle.iox2_ends.proofs.LookUps.{look_up-there, look_up-none, look_up-found,
 use Rattle.iox2_domain.specs.Ports.{PublisherFields, SubscriberFields}
 use Rattle.iox2_domain.specs.Fields.{Fields, is_book_of}
 use Rattle.iox2_domain.specs.Invariant.{HasParts, IsLinked, IsOwned, IsGone, HasBook, HasBooks, IsCounted, HasPublisherRoom, IsPlain, HasExpiredRoom, SenderHas, ReceiverHas, is_publisher, is_subscriber, own_holders, is_loan_in, details_of, connection_count, IsBetweenOpen}
-use Rattle.iox2_domain.proofs.lemmas.containers.LookUps.{map-at, viewed}
+use Rattle.iox2_domain.proofs.lemmas.containers.LookUps.{map-at, viewed, only-before}
 use Rattle.iox2_domain.proofs.lemmas.fields.LostConnections.{IsEmptyLink, LosesEmpty, lost-apart, lost-sums, lost-counts}
 use Rattle.iox2_domain.proofs.lemmas.fields.OwnKeys.{listed-at, listed-has}
 use Rattle.iox2_domain.proofs.lemmas.fields.Standing.{some_is}
@@ -141,22 +141,12 @@ module _ {T U : Type 0} (f : Fields T U) (parts : HasParts f) (publishers : List
   -- ---- the parts
 
   only_publishers : (p : ℕ) → IsOnly (is_publisher p) publishers
-  only_publishers p = record {
-    one = λ i j x z at_i at_j is_x is_z.
-        let a = g.senders i x at_i in
-        let b = g.senders j z at_j in
-        (parts.publisher_ids p).one i j a.0 b.0 a.1 b.1
-        (sym (ap (λ (w : PublisherFields). eqb w.id p) a.2.fields) ∙ is_x) (sym (ap (λ (w : PublisherFields). eqb w.id p) b.2.fields) ∙ is_z);
-  }
+  only_publishers p = only-before (is_publisher p) f.publishers publishers (parts.publisher_ids p)
+      (λ i x at. let a = g.senders i x at in (a.0, a.1, sym (ap (λ (w : PublisherFields). eqb w.id p) a.2.fields)))
 
   only_subscribers : (q : ℕ) → IsOnly (is_subscriber q) subscribers
-  only_subscribers q = record {
-    one = λ i j y z at_i at_j is_y is_z.
-        let a = g.receivers i y at_i in
-        let b = g.receivers j z at_j in
-        (parts.subscriber_ids q).one i j a.0 b.0 a.1 b.1
-        (sym (ap (λ (w : SubscriberFields). eqb w.id q) a.2.fields) ∙ is_y) (sym (ap (λ (w : SubscriberFields). eqb w.id q) b.2.fields) ∙ is_z);
-  }
+  only_subscribers q = only-before (is_subscriber q) f.subscribers subscribers (parts.subscriber_ids q)
+      (λ i y at. let a = g.receivers i y at in (a.0, a.1, sym (ap (λ (w : SubscriberFields). eqb w.id q) a.2.fields)))
 
   linked : IsLinked forgotten
   linked = record {

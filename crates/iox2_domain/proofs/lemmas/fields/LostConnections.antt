@@ -1,5 +1,5 @@
 -- Connections in which no slot stands go.
-use Rattle.std.proofs.Common.{◌≡◌, ◌≤◌, ℕ, Bool, true, false, List, [], ◌∷◌, length, Option, None, Some, refl, ap, sym, ◌∙◌, inl, inr, arith}
+use Rattle.std.proofs.Common.{◌≡◌, ◌≤◌, ℕ, Bool, true, false, [], Option, None, Some, refl, ap, sym, ◌∙◌, inl, inr, arith}
 use Rattle.std.proofs.lemmas.Bool.{cases_eq}
 use Rattle.std.specs.List.{sum_by}
 use Rattle.slab.specs.Slab.{Slab, Updates, get}
@@ -12,6 +12,7 @@ use Rattle.iox2_ends.proofs.LookUps.{look_up-found, look_up-none, look_up-nothin
 use Rattle.iox2_domain.specs.Invariant.{connection_count, one_if_receivers}
 use Rattle.iox2_domain.proofs.lemmas.containers.FewerSums.{sum-fewer}
 use Rattle.iox2_domain.proofs.lemmas.slots.Recounts.{sum-alike}
+pub use Rattle.iox2_contents.proofs.LeftLists.{no-items as no-length}
 
 -- No slot stands in the connection.
 pub record IsEmptyLink (c : Link) : Type 0 where
@@ -19,11 +20,6 @@ pub record IsEmptyLink (c : Link) : Type 0 where
   pub borrowed : c.borrowed ≡ []
   pub returned : c.returned ≡ []
   pub others : c.others ≡ []
-
--- a list of no length
-pub no-length : {A : Type 0} (xs : List A) → length xs ≡ 0 → xs ≡ []
-no-length [] e = refl
-no-length (x ∷ xs) e = absurd (omega arith)
 
 -- a connection without load
 pub unloaded : (c : Link) → load c ≡ 0 → IsEmptyLink c

@@ -13,6 +13,7 @@ use Rattle.iox2_ends.specs.Mailboxes.{subscriber_of_key, publisher_of_key}
 use Rattle.iox2_domain.specs.Fields.{Fields, publisher_of, subscriber_of, numbers_of, blocked_send}
 use Rattle.iox2_domain.specs.Invariant.{IsLinked, IsBetweenOpen, SenderHas, ReceiverHas, HasOpenReceiver}
 use mathlib.Core.Path.{fun_ext}
+use Rattle.iox2_domain.proofs.lemmas.fields.NamedPorts.{led_by}
 
 -- where a connection stands, how many slots may wait, and how many may be borrowed
 abbrev pub seat_of : Link → Home × ℕ × ℕ
@@ -30,19 +31,18 @@ module _ (old new : Slab Link) (same : SameSeats old new) where
     through None = refl
     through (Some c) = refl
 
-  -- each key leads to the same publisher
-  pub seated-publisher_of_key : publisher_of_key new ≡ publisher_of_key old
-  seated-publisher_of_key = fun_ext by where
-    by : (key : Option ℕ) → publisher_of_key new key ≡ publisher_of_key old key
+  -- each key leads to the same port
+  seated-led : (g : Home × ℕ × ℕ → ℕ) → led_by (λ (c : Link). g (seat_of c)) new ≡ led_by (λ (c : Link). g (seat_of c)) old
+  seated-led g = fun_ext by where
+    by : (key : Option ℕ) → led_by (λ (c : Link). g (seat_of c)) new key ≡ led_by (λ (c : Link). g (seat_of c)) old key
     by None = refl
-    by (Some key) = fixed-at (λ t. t.0.publisher) key
+    by (Some key) = fixed-at g key
 
-  -- each key leads to the same subscriber
+  pub seated-publisher_of_key : publisher_of_key new ≡ publisher_of_key old
+  seated-publisher_of_key = seated-led (λ t. t.0.publisher)
+
   pub seated-subscriber_of_key : subscriber_of_key new ≡ subscriber_of_key old
-  seated-subscriber_of_key = fun_ext by where
-    by : (key : Option ℕ) → subscriber_of_key new key ≡ subscriber_of_key old key
-    by None = refl
-    by (Some key) = fixed-at (λ t. t.0.subscriber) key
+  seated-subscriber_of_key = seated-led (λ t. t.0.subscriber)
 
   -- a connection that stands stood before, between the same ports
   pub seat-was : (key : ℕ) (d : Link) → get new key ≡ Some d → (c : Link) × (get old key ≡ Some c) × (seat_of c ≡ seat_of d)
