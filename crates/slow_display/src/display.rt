@@ -1,6 +1,7 @@
 //! The display shows what waits for it.
 ghost use Rattle.std.specs.Prelude.{◌≡◌, OnOk};
-ghost use Rattle.iox2_pubsub.specs.Live.{IsLiveSubscriber, IsSingleValued, Stays, waiting};
+ghost use Rattle.iox2_pubsub.specs.Live.{Stays, waiting};
+ghost use Rattle.slow_display.specs.Ports.{CanReceive};
 
 use crate::failure::Failure;
 use iox2_pubsub::{Domain, Subscriber};
@@ -11,8 +12,7 @@ pub fn show_all(
     domain: &mut Domain<u32, ()>,
     display: &Subscriber,
 ) -> Result<(), Failure>
-    requires single_valued { IsSingleValued domain.old }
-    requires display { IsLiveSubscriber domain.old display.now }
+    requires display { CanReceive domain.old display.now }
     ensures stays { Stays domain.old domain.new }
     ensures drained { OnOk result (waiting domain.new display.now ≡ 0) }
 {

@@ -5,7 +5,8 @@
 //! often a reading is tried again is said by a handler of its own.
 #![tactic(auto)]
 
-ghost use Rattle.iox2_pubsub.specs.Live.{IsLiveSubscriber, IsReadyPublisher, IsSingleValued, Stays};
+ghost use Rattle.iox2_pubsub.specs.Live.{Stays};
+ghost use Rattle.slow_display.specs.Ports.{CanReceive, CanSend};
 
 mod display;
 mod failure;
@@ -43,8 +44,7 @@ fn run(
     display: &Subscriber,
     patience: Box<dyn BackpressureFn>,
 ) -> Result<(), Failure>
-    requires single_valued { IsSingleValued domain.old }
-    requires display { IsLiveSubscriber domain.old display.now }
+    requires display { CanReceive domain.old display.now }
     ensures { Stays domain.old domain.new }
 {
     let publisher = domain
@@ -64,9 +64,8 @@ fn report(
     publisher: &Publisher,
     display: &Subscriber,
 ) -> Result<(), Failure>
-    requires single_valued { IsSingleValued domain.old }
-    requires publisher { IsReadyPublisher domain.old publisher.now }
-    requires display { IsLiveSubscriber domain.old display.now }
+    requires publisher { CanSend domain.old publisher.now }
+    requires display { CanReceive domain.old display.now }
     ensures { Stays domain.old domain.new }
 {
     send_all(rt, domain, publisher, display, &[17, 18, 19])?;
@@ -82,9 +81,8 @@ fn send_all(
     display: &Subscriber,
     readings: &[u32],
 ) -> Result<(), Failure>
-    requires single_valued { IsSingleValued domain.old }
-    requires publisher { IsReadyPublisher domain.old publisher.now }
-    requires display { IsLiveSubscriber domain.old display.now }
+    requires publisher { CanSend domain.old publisher.now }
+    requires display { CanReceive domain.old display.now }
     ensures { Stays domain.old domain.new }
 {
     let Some(waiting) = send_until_full(domain, publisher, readings)? else {
@@ -101,8 +99,7 @@ fn send_some(
     publisher: &Publisher,
     readings: &[u32],
 ) -> Result<(), Failure>
-    requires single_valued { IsSingleValued domain.old }
-    requires publisher { IsReadyPublisher domain.old publisher.now }
+    requires publisher { CanSend domain.old publisher.now }
     ensures { Stays domain.old domain.new }
 {
     if let Some(waiting) = send_until_full(domain, publisher, readings)? {
