@@ -1,9 +1,12 @@
 -- A blocked send, and what a call does to it, in a state that its domain shows.
-use Rattle.std.proofs.Common.{◌≡◌, ℕ, None, Some, ap, sym, subst, ◌∙◌}
-use Rattle.std.specs.Prelude.{slice_index_or}
+use Rattle.std.proofs.Common.{◌≡◌, ℕ, Result, None, Some, refl, ap, sym, subst, ◌∙◌}
+use Rattle.std.specs.Prelude.{IfOk, slice_index_or}
 use Rattle.iox2_store.specs.machine.Records.{BlockedSend, Publisher}
+use Rattle.iox2_store.specs.machine.Sends.{Blocked_send}
 use Rattle.iox2_store.specs.machine.SingleCalls.{HoldsBlocked}
 use Rattle.iox2_store.specs.machine.State.{State, Messages}
+use Rattle.iox2_store.specs.declared.errors.SendError.{SendError}
+use Rattle.iox2_store.specs.declared.service_config.ServiceConfig.{ServiceConfig}
 use Rattle.iox2_ends.specs.LookUp.{look_up}
 use Rattle.iox2_domain.specs.BlockedSends.{HasBlocked, waiting_send}
 use Rattle.iox2_domain.specs.Boxes.{DomainBoxes}
@@ -15,10 +18,13 @@ use Rattle.iox2_domain.specs.Shows.{Shows}
 use Rattle.iox2_domain.specs.declared.publisher_state.BlockedDelivery.{BlockedDelivery}
 use Rattle.iox2_domain.proofs.lemmas.slots.LeftConnections.{unknown, stands-nowhere}
 use Rattle.iox2_pubsub.specs.Live.{IsBlockedSend, blocked_key}
+use Rattle.iox2_pubsub.specs.SendCalls.{IfBlocked, result_of_send}
 use Rattle.iox2_pubsub.specs.declared.blocked_send.BlockedSend.{BlockedSend as Handle}
+use Rattle.iox2_pubsub.specs.declared.send_outcome.SendOutcome.{SendOutcome}
 use Rattle.iox2_pubsub.proofs.BlockedShown.{has-blocked, some-waits}
 use Rattle.iox2_pubsub.proofs.CallsStay.{always-shown}
-use Rattle.iox2_pubsub.proofs.LiveParts.{blocked-parts}
+use Rattle.iox2_pubsub.proofs.LiveParts.{blocked-live, blocked-parts}
+use Rattle.iox2_pubsub.proofs.SendShown.{is-blocked}
 
 -- A state that is shown, the send that waits in it, and the step that a call makes from there.
 pub record Waiting {T U F G : Type 0} (kept : Kept T U F G) (blocked : Handle) (Step : Messages T U → State T U → Publisher → BlockedSend → Type 0) : Type 0 where
@@ -48,7 +54,18 @@ module _ {T U F G : Type 0} {boxes : DomainBoxes F G} (f : Fields T U) (sound : 
       let no : None ≡ Some blocked-inside.0 = sym (unknown f blocked.loan.publisher (stands-nowhere f.publishers blocked.loan.publisher none)) ∙ blocked-inside.2 in
       absurd cc
 
-  -- and where that stands, it waits
+  -- where it is blocked again, it is the same send
+  pub blocked-again : (new : Kept T U F G) → new.config ≡ kept.config → (outcome : Result SendOutcome SendError) → IfOk outcome (λ came. IfBlocked came (λ it. it ≡ blocked))
+      → (held : HoldsBlocked (state_of kept) blocked.loan.publisher blocked.loan.number) (s' : State T U) → s' ≡ state_of new
+      → (result_of_send outcome ≡ Blocked_send → HoldsBlocked s' blocked.loan.publisher (held.1).message) → IfOk outcome (λ came. IfBlocked came (λ it. IsBlockedSend new it × (blocked_key it ≡ blocked_key blocked)))
+  blocked-again new same outcome its held s' is waits =
+      is-blocked new (blocked_key blocked) blocked refl outcome its (λ again.
+      blocked-live new (blocked_key blocked) (
+        (blocked-parts kept (blocked_key blocked) live).0 ∙ sym (ap (λ (c : ServiceConfig). c.service_id) same),
+        subst (HoldsBlocked (state_of new) blocked.loan.publisher) held.4 (subst (λ (t : State T U). HoldsBlocked t blocked.loan.publisher (held.1).message) is (waits again)),
+      ))
+
+  -- and where its publisher stands, it waits
   module _ (place : ℕ) (found : (x : PublisherFields) × (slice_index_or f.publishers place None ≡ Some x) × (x.id ≡ blocked.loan.publisher)) where
     pub waits-there : HasBlocked f place
     waits-there = has-blocked f sound place blocked.loan.publisher blocked.loan.number found blocked-inside

@@ -2,9 +2,7 @@ use Rattle.std.proofs.Common.{List, ◌≤◌, ap, refl, sym, subst, ◌∙◌}
 use Rattle.iox2_domain.specs.Boxes.{answers_of}
 use Rattle.iox2_domain.specs.declared.boxes.PortBox.{PortBox}
 use Rattle.iox2_store.specs.machine.Sends.{Retry}
-use Rattle.iox2_store.specs.machine.SingleCalls.{HoldsBlocked}
 use Rattle.iox2_store.specs.machine.State.{State}
-use Rattle.iox2_store.specs.declared.service_config.ServiceConfig.{ServiceConfig}
 use Rattle.iox2_laws.proofs.SendsRemain.{retry_waits_with}
 use Rattle.iox2_deliveries.specs.SendEnds.{end_result}
 use Rattle.iox2_domain.specs.Fields.{kept_of, keeping}
@@ -12,15 +10,15 @@ use Rattle.iox2_domain.specs.Kept.{Kept, state_of}
 use Rattle.iox2_pubsub.specs.Live.{blocked_key, lender_key, written_key}
 use Rattle.iox2_pubsub.specs.SendCalls.{result_of_send}
 use Rattle.iox2_pubsub.proofs.BlockedShown.{as-machine, retry-shown, retry-stays, retry-frees-key, only-undelivered}
-use Rattle.iox2_pubsub.proofs.LiveParts.{blocked-parts, blocked-live, unblocked-alike, unfailed-parts}
+use Rattle.iox2_pubsub.proofs.LiveParts.{unblocked-alike, unfailed-parts}
 use Rattle.iox2_pubsub.proofs.UnfailedSends.{IsMild, retry-unfailed}
 use Rattle.iox2_pubsub.proofs.LoansLeftShown.{retry-left, retry-gives, sent-free}
 use Rattle.iox2_pubsub.proofs.ReceiversAhead.{retry-no-more, since-again, where-blocked}
 use Rattle.iox2_pubsub.specs.BlockedSends.{StaysSince, receivers_ahead}
 use Rattle.iox2_pubsub.specs.declared.blocked_send.BlockedSend.{BlockedSend as Handle}
-use Rattle.iox2_pubsub.proofs.SendShown.{is-blocked, only-ok}
+use Rattle.iox2_pubsub.proofs.SendShown.{only-ok}
 use Rattle.iox2_pubsub.proofs.StaysBut.{stays-since-block}
-use Rattle.iox2_pubsub.proofs.WaitingSends.{blocked-inside, blocked-stands, delivery-there, from-blocked, waits-there}
+use Rattle.iox2_pubsub.proofs.WaitingSends.{blocked-again, blocked-inside, blocked-stands, delivery-there, from-blocked, waits-there}
 use Rattle.iox2_pubsub.proofs.UpToDateShown.{retry-leaves}
 use Rattle.iox2_pubsub.proofs.WaitingShown.{retry-adds}
 use Rattle.iox2_pubsub.proofs.blocked_send.BlockedSend.retry.Goals as goal
@@ -30,11 +28,6 @@ find_live_publisher-place-requires g c = blocked-stands {T = g.row.T.Denot} {U =
 
 pub retry_send-end-requires-clause-waits : goal.retry_send-end-requires-clause-waits
 retry_send-end-requires-clause-waits g c = waits-there {T = g.row.T.Denot} {U = g.row.U.Denot} c.domain.inside.state c.domain.invariant c.args.domain.now c.domain.view_is c.args.self c.requires.live c.find_live_publisher-place.result c.find_live_publisher-place.ensures
-
-pub invariant_of-domain : goal.invariant_of-domain
-invariant_of-domain g c =
-    let d = delivery-there {T = g.row.T.Denot} {U = g.row.U.Denot} c.domain.inside.state c.domain.invariant c.args.domain.now c.domain.view_is c.args.self c.requires.live c.find_live_publisher-place.result c.find_live_publisher-place.ensures in
-    (c.retry_send-end.ensures.goes c.find_live_publisher-place.ensures.0 (d).0 c.find_live_publisher-place.ensures.1 (d).1).agrees
 
 pub returns-clause-retries : goal.returns-clause-retries
 returns-clause-retries g c = λ m s x b shown at waits.
@@ -55,6 +48,11 @@ returns-clause-retries g c = λ m s x b shown at waits.
       subst (Retry (answers_of g.F.BackpressureFn.allows g.G.DegradationFn.allows c.args.domain.now.boxes.publishers) s c.args.self.loan.publisher b c.args.elapsed after) (sym c.outcome_of.ensures.same) machine,
     )
 
+pub invariant_of-domain : goal.invariant_of-domain
+invariant_of-domain g c =
+    let d = delivery-there {T = g.row.T.Denot} {U = g.row.U.Denot} c.domain.inside.state c.domain.invariant c.args.domain.now c.domain.view_is c.args.self c.requires.live c.find_live_publisher-place.result c.find_live_publisher-place.ensures in
+    (c.retry_send-end.ensures.goes c.find_live_publisher-place.ensures.0 (d).0 c.find_live_publisher-place.ensures.1 (d).1).agrees
+
 pub returns-clause-stays : goal.returns-clause-stays
 returns-clause-stays g c =
     let it = from-blocked {T = g.row.T.Denot} {U = g.row.U.Denot} c.domain.inside.state c.domain.invariant c.args.domain.now c.domain.view_is c.args.self c.requires.live (returns-clause-retries g c) in
@@ -66,13 +64,7 @@ returns-clause-stays g c =
 pub returns-clause-blocked : goal.returns-clause-blocked
 returns-clause-blocked g c =
     let it = from-blocked {T = g.row.T.Denot} {U = g.row.U.Denot} c.domain.inside.state c.domain.invariant c.args.domain.now c.domain.view_is c.args.self c.requires.live (returns-clause-retries g c) in
-    is-blocked {T = g.row.T.Denot} {U = g.row.U.Denot} (keeping _ c.retry_send-end.new.state) (blocked_key c.args.self) c.args.self refl c.outcome_of.result c.outcome_of.ensures.blocked (λ blocked.
-    blocked-live (keeping _ c.retry_send-end.new.state) (blocked_key c.args.self) (
-      (blocked-parts c.args.domain.now (blocked_key c.args.self) c.requires.live).0 ∙ sym (ap (λ (k : ServiceConfig). k.service_id) (returns-clause-stays g c).settings),
-      subst (HoldsBlocked (state_of (kept_of c.retry_send-end.new.state)) c.args.self.loan.publisher) it.held.4
-          (subst (λ (t : State g.row.T.Denot g.row.U.Denot). HoldsBlocked t c.args.self.loan.publisher it.held.1.message) (it.step.1).state
-          (retry_waits_with (answers_of g.F.BackpressureFn.allows g.G.DegradationFn.allows c.args.domain.now.boxes.publishers) it.s c.args.self.loan.publisher it.held.1 c.args.elapsed it.step.0 _ it.step.2 blocked)),
-    ))
+    blocked-again {T = g.row.T.Denot} {U = g.row.U.Denot} c.domain.inside.state c.domain.invariant c.args.domain.now c.domain.view_is c.args.self c.requires.live (keeping _ c.retry_send-end.new.state) (returns-clause-stays g c).settings c.outcome_of.result c.outcome_of.ensures.blocked it.held it.step.0 (it.step.1).state (retry_waits_with (answers_of g.F.BackpressureFn.allows g.G.DegradationFn.allows c.args.domain.now.boxes.publishers) it.s c.args.self.loan.publisher it.held.1 c.args.elapsed it.step.0 _ it.step.2)
 
 pub returns-clause-failed : goal.returns-clause-failed
 returns-clause-failed g c = only-undelivered c.retry_send-end.result c.retry_send-end.ensures.kept c.outcome_of.result c.outcome_of.ensures.same
@@ -125,10 +117,7 @@ returns-clause-ok g c = λ never.
     let it = from-blocked {T = g.row.T.Denot} {U = g.row.U.Denot} c.domain.inside.state c.domain.invariant c.args.domain.now c.domain.view_is c.args.self c.requires.live (returns-clause-retries g c) in
     let has = unfailed-parts c.args.domain.now c.args.self.loan.publisher never in
     let mild : IsMild it.s c.args.self.loan.publisher = subst (λ (t : State g.row.T.Denot g.row.U.Denot). IsMild t c.args.self.loan.publisher) (sym it.shown.state) has.1 in
-    only-ok c.retry_send-end.result c.retry_send-end.ensures.kept (λ failed.
-    (retry-unfailed {T = g.row.T.Denot} {U = g.row.U.Denot} (answers_of g.F.BackpressureFn.allows g.G.DegradationFn.allows c.args.domain.now.boxes.publishers) it.s c.args.self.loan.publisher it.held.1 c.args.elapsed it.step.0 (result_of_send c.outcome_of.result) mild (has.2 it.held.0 it.held.1 it.held.2 it.held.3) it.step.2).1
-    (c.outcome_of.ensures.same ∙ failed))
-    c.outcome_of.result c.outcome_of.ensures.same
+    only-ok c.retry_send-end.result c.retry_send-end.ensures.kept (λ failed. (retry-unfailed {T = g.row.T.Denot} {U = g.row.U.Denot} (answers_of g.F.BackpressureFn.allows g.G.DegradationFn.allows c.args.domain.now.boxes.publishers) it.s c.args.self.loan.publisher it.held.1 c.args.elapsed it.step.0 (result_of_send c.outcome_of.result) mild (has.2 it.held.0 it.held.1 it.held.2 it.held.3) it.step.2).1 (c.outcome_of.ensures.same ∙ failed)) c.outcome_of.result c.outcome_of.ensures.same
 
 pub returns-clause-since_again : goal.returns-clause-since_again
 returns-clause-since_again g c =
