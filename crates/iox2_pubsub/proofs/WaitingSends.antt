@@ -1,8 +1,8 @@
 -- A blocked send, and what a call does to it, in a state that its domain shows.
-use Rattle.std.proofs.Common.{◌≡◌, ℕ, Result, None, Some, refl, ap, sym, subst, ◌∙◌}
+use Rattle.std.proofs.Common.{◌≡◌, ℕ, List, Result, None, Some, refl, ap, sym, subst, ◌∙◌}
 use Rattle.std.specs.Prelude.{IfOk, slice_index_or}
 use Rattle.iox2_store.specs.machine.Records.{BlockedSend, Publisher}
-use Rattle.iox2_store.specs.machine.Sends.{Blocked_send}
+use Rattle.iox2_store.specs.machine.Sends.{Blocked_send, SendResult}
 use Rattle.iox2_store.specs.machine.SingleCalls.{HoldsBlocked}
 use Rattle.iox2_store.specs.machine.State.{State, Messages}
 use Rattle.iox2_store.specs.declared.errors.SendError.{SendError}
@@ -15,13 +15,14 @@ use Rattle.iox2_domain.specs.Invariant.{IsDomain, is_publisher}
 use Rattle.iox2_domain.specs.Kept.{Kept, state_of}
 use Rattle.iox2_domain.specs.Ports.{PublisherFields}
 use Rattle.iox2_domain.specs.Shows.{Shows}
+use Rattle.iox2_domain.specs.declared.boxes.PortBox.{PortBox}
 use Rattle.iox2_domain.specs.declared.publisher_state.BlockedDelivery.{BlockedDelivery}
 use Rattle.iox2_domain.proofs.lemmas.slots.LeftConnections.{unknown, stands-nowhere}
 use Rattle.iox2_pubsub.specs.Live.{IsBlockedSend, blocked_key}
 use Rattle.iox2_pubsub.specs.SendCalls.{IfBlocked, result_of_send}
 use Rattle.iox2_pubsub.specs.declared.blocked_send.BlockedSend.{BlockedSend as Handle}
 use Rattle.iox2_pubsub.specs.declared.send_outcome.SendOutcome.{SendOutcome}
-use Rattle.iox2_pubsub.proofs.BlockedShown.{has-blocked, some-waits}
+use Rattle.iox2_pubsub.proofs.BlockedShown.{as-machine, has-blocked, some-waits}
 use Rattle.iox2_pubsub.proofs.CallsStay.{always-shown}
 use Rattle.iox2_pubsub.proofs.LiveParts.{blocked-live, blocked-parts}
 use Rattle.iox2_pubsub.proofs.SendShown.{is-blocked}
@@ -72,3 +73,16 @@ module _ {T U F G : Type 0} {boxes : DomainBoxes F G} (f : Fields T U) (sound : 
 
     abbrev pub delivery-there : (d : BlockedDelivery) × ((found.0).blocked ≡ Some d) × (waiting_send f found.0 d ≡ blocked-inside.1)
     delivery-there = some-waits f sound place blocked.loan.publisher blocked.loan.number found blocked-inside
+
+    -- what a call says of each delivery that is blocked there it says of this one
+    pub goes-there : {Goes : PublisherFields → BlockedDelivery → Type 0} → ((x : PublisherFields) (d : BlockedDelivery) → slice_index_or f.publishers place None ≡ Some x → x.blocked ≡ Some d → Goes x d) → Goes found.0 delivery-there.0
+    goes-there goes = goes found.0 delivery-there.0 found.1 delivery-there.1
+
+    -- and what it does to it, it does to the send that waits in a state that is shown
+    pub does-there : (Does : List (PortBox F G) → State T U → ℕ → BlockedSend → SendResult → Type 0) (end : SendResult) → Does boxes.publishers (state_of (kept_of f)) (found.0).id (waiting_send f found.0 delivery-there.0) end
+        → (result : SendResult) → result ≡ end → (m : Messages T U) (s : State T U) (x : Publisher) (b : BlockedSend) → Shows kept m s → s.publishers blocked.loan.publisher ≡ Some x → x.blocked ≡ Some b
+        → Does (kept.boxes).publishers s blocked.loan.publisher b result
+    does-there Does end does result is m s x b shown at waits =
+        subst (Does (kept.boxes).publishers s blocked.loan.publisher b) (sym is)
+        (subst (λ (all : List (PortBox F G)). Does all s blocked.loan.publisher b end) (ap (λ (k : Kept T U F G). (k.boxes).publishers) view)
+        (as-machine f sound place blocked.loan.publisher blocked.loan.number found blocked-inside kept view m s shown x b at waits (λ t q w. Does boxes.publishers t q w end) does))

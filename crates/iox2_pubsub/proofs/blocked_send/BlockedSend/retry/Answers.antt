@@ -1,6 +1,5 @@
-use Rattle.std.proofs.Common.{List, ◌≤◌, ap, refl, sym, subst, ◌∙◌}
+use Rattle.std.proofs.Common.{◌≤◌, refl, sym, subst, ◌∙◌}
 use Rattle.iox2_domain.specs.Boxes.{answers_of}
-use Rattle.iox2_domain.specs.declared.boxes.PortBox.{PortBox}
 use Rattle.iox2_store.specs.machine.Sends.{Retry}
 use Rattle.iox2_store.specs.machine.State.{State}
 use Rattle.iox2_laws.proofs.SendsRemain.{retry_waits_with}
@@ -9,7 +8,7 @@ use Rattle.iox2_domain.specs.Fields.{kept_of, keeping}
 use Rattle.iox2_domain.specs.Kept.{Kept, state_of}
 use Rattle.iox2_pubsub.specs.Live.{blocked_key, lender_key, written_key}
 use Rattle.iox2_pubsub.specs.SendCalls.{result_of_send}
-use Rattle.iox2_pubsub.proofs.BlockedShown.{as-machine, retry-shown, retry-stays, retry-frees-key, only-undelivered}
+use Rattle.iox2_pubsub.proofs.BlockedShown.{retry-shown, retry-stays, retry-frees-key, only-undelivered}
 use Rattle.iox2_pubsub.proofs.LiveParts.{unblocked-alike, unfailed-parts}
 use Rattle.iox2_pubsub.proofs.UnfailedSends.{IsMild, retry-unfailed}
 use Rattle.iox2_pubsub.proofs.LoansLeftShown.{retry-left, retry-gives, sent-free}
@@ -18,48 +17,35 @@ use Rattle.iox2_pubsub.specs.BlockedSends.{StaysSince, receivers_ahead}
 use Rattle.iox2_pubsub.specs.declared.blocked_send.BlockedSend.{BlockedSend as Handle}
 use Rattle.iox2_pubsub.proofs.SendShown.{only-ok}
 use Rattle.iox2_pubsub.proofs.StaysBut.{stays-since-block}
-use Rattle.iox2_pubsub.proofs.WaitingSends.{blocked-again, blocked-inside, blocked-stands, delivery-there, from-blocked, waits-there}
+use Rattle.iox2_pubsub.proofs.WaitingSends.{blocked-again, blocked-stands, does-there, from-blocked, goes-there, waits-there}
 use Rattle.iox2_pubsub.proofs.UpToDateShown.{retry-leaves}
 use Rattle.iox2_pubsub.proofs.WaitingShown.{retry-adds}
 use Rattle.iox2_pubsub.proofs.blocked_send.BlockedSend.retry.Goals as goal
-
-pub find_live_publisher-place-requires : goal.find_live_publisher-place-requires
-find_live_publisher-place-requires g c = blocked-stands {T = g.row.T.Denot} {U = g.row.U.Denot} c.domain.inside.state c.domain.invariant c.args.domain.now c.domain.view_is c.args.self c.requires.live
 
 pub retry_send-end-requires-clause-waits : goal.retry_send-end-requires-clause-waits
 retry_send-end-requires-clause-waits g c = waits-there {T = g.row.T.Denot} {U = g.row.U.Denot} c.domain.inside.state c.domain.invariant c.args.domain.now c.domain.view_is c.args.self c.requires.live c.find_live_publisher-place.result c.find_live_publisher-place.ensures
 
 pub returns-clause-retries : goal.returns-clause-retries
 returns-clause-retries g c = λ m s x b shown at waits.
-    let d = delivery-there {T = g.row.T.Denot} {U = g.row.U.Denot} c.domain.inside.state c.domain.invariant c.args.domain.now c.domain.view_is c.args.self c.requires.live c.find_live_publisher-place.result c.find_live_publisher-place.ensures in
-    let step = c.retry_send-end.ensures.goes c.find_live_publisher-place.ensures.0 (d).0 c.find_live_publisher-place.ensures.1 (d).1 in
-    let after : State g.row.T.Denot g.row.U.Denot = state_of (kept_of c.retry_send-end.new.state) in
-    let inside : Retry (answers_of g.F.BackpressureFn.allows g.G.DegradationFn.allows c.domain.inside.boxes.boxes) s c.args.self.loan.publisher b c.args.elapsed after (end_result c.retry_send-end.result) =
-    as-machine c.domain.inside.state c.domain.invariant c.find_live_publisher-place.result c.args.self.loan.publisher c.args.self.loan.number c.find_live_publisher-place.ensures
-    (blocked-inside {T = g.row.T.Denot} {U = g.row.U.Denot} c.domain.inside.state c.domain.invariant c.args.domain.now c.domain.view_is c.args.self c.requires.live)
-    c.args.domain.now c.domain.view_is m s shown x b at waits
-    (λ t q w. Retry (answers_of g.F.BackpressureFn.allows g.G.DegradationFn.allows c.domain.inside.boxes.boxes) t q w c.args.elapsed after (end_result c.retry_send-end.result)) step.retries in
-    let machine : Retry (answers_of g.F.BackpressureFn.allows g.G.DegradationFn.allows c.args.domain.now.boxes.publishers) s c.args.self.loan.publisher b c.args.elapsed after (end_result c.retry_send-end.result) =
-    subst (λ (boxes : List (PortBox g.row.F.Denot g.row.G.Denot)). Retry (answers_of g.F.BackpressureFn.allows g.G.DegradationFn.allows boxes) s c.args.self.loan.publisher b c.args.elapsed after (end_result c.retry_send-end.result))
-    (ap (λ (k : Kept g.row.T.Denot g.row.U.Denot g.row.F.Denot g.row.G.Denot). k.boxes.publishers) c.domain.view_is) inside in (
-      after,
-      retry-shown {T = g.row.T.Denot} {U = g.row.U.Denot} c.domain.inside.state c.retry_send-end.new.state c.args.domain.now c.domain.view_is m s shown c.args.self.loan.publisher (end_result c.retry_send-end.result) (answers_of g.F.BackpressureFn.allows g.G.DegradationFn.allows c.args.domain.now.boxes.publishers) x b at waits c.args.elapsed
-          step.agrees machine step.entries,
-      subst (Retry (answers_of g.F.BackpressureFn.allows g.G.DegradationFn.allows c.args.domain.now.boxes.publishers) s c.args.self.loan.publisher b c.args.elapsed after) (sym c.outcome_of.ensures.same) machine,
+    let step = goes-there {T = g.row.T.Denot} {U = g.row.U.Denot} c.domain.inside.state c.domain.invariant c.args.domain.now c.domain.view_is c.args.self c.requires.live c.find_live_publisher-place.result c.find_live_publisher-place.ensures c.retry_send-end.ensures.goes in
+    let machine = does-there {T = g.row.T.Denot} {U = g.row.U.Denot} c.domain.inside.state c.domain.invariant c.args.domain.now c.domain.view_is c.args.self c.requires.live c.find_live_publisher-place.result c.find_live_publisher-place.ensures (λ all t q w r. Retry (answers_of g.F.BackpressureFn.allows g.G.DegradationFn.allows all) t q w c.args.elapsed (state_of (kept_of c.retry_send-end.new.state)) r) (end_result c.retry_send-end.result) step.retries (result_of_send c.outcome_of.result) c.outcome_of.ensures.same m s x b shown at waits in (
+      (state_of (kept_of c.retry_send-end.new.state)),
+      retry-shown {T = g.row.T.Denot} {U = g.row.U.Denot} c.domain.inside.state c.retry_send-end.new.state c.args.domain.now c.domain.view_is m s shown c.args.self.loan.publisher (result_of_send c.outcome_of.result) (answers_of g.F.BackpressureFn.allows g.G.DegradationFn.allows c.args.domain.now.boxes.publishers) x b at waits c.args.elapsed step.agrees machine step.entries,
+      machine,
     )
 
-pub invariant_of-domain : goal.invariant_of-domain
-invariant_of-domain g c =
-    let d = delivery-there {T = g.row.T.Denot} {U = g.row.U.Denot} c.domain.inside.state c.domain.invariant c.args.domain.now c.domain.view_is c.args.self c.requires.live c.find_live_publisher-place.result c.find_live_publisher-place.ensures in
-    (c.retry_send-end.ensures.goes c.find_live_publisher-place.ensures.0 (d).0 c.find_live_publisher-place.ensures.1 (d).1).agrees
+pub find_live_publisher-place-requires : goal.find_live_publisher-place-requires
+find_live_publisher-place-requires g c = blocked-stands {T = g.row.T.Denot} {U = g.row.U.Denot} c.domain.inside.state c.domain.invariant c.args.domain.now c.domain.view_is c.args.self c.requires.live
 
 pub returns-clause-stays : goal.returns-clause-stays
 returns-clause-stays g c =
     let it = from-blocked {T = g.row.T.Denot} {U = g.row.U.Denot} c.domain.inside.state c.domain.invariant c.args.domain.now c.domain.view_is c.args.self c.requires.live (returns-clause-retries g c) in
-    let d = delivery-there {T = g.row.T.Denot} {U = g.row.U.Denot} c.domain.inside.state c.domain.invariant c.args.domain.now c.domain.view_is c.args.self c.requires.live c.find_live_publisher-place.result c.find_live_publisher-place.ensures in
-    let step = c.retry_send-end.ensures.goes c.find_live_publisher-place.ensures.0 (d).0 c.find_live_publisher-place.ensures.1 (d).1 in
+    let step = goes-there {T = g.row.T.Denot} {U = g.row.U.Denot} c.domain.inside.state c.domain.invariant c.args.domain.now c.domain.view_is c.args.self c.requires.live c.find_live_publisher-place.result c.find_live_publisher-place.ensures c.retry_send-end.ensures.goes in
     retry-stays {T = g.row.T.Denot} {U = g.row.U.Denot} c.domain.inside.state c.retry_send-end.new.state c.args.domain.now c.domain.view_is it.m it.s it.shown c.args.self.loan.publisher (result_of_send c.outcome_of.result) (answers_of g.F.BackpressureFn.allows g.G.DegradationFn.allows c.args.domain.now.boxes.publishers) it.held.0 it.held.1 it.at it.held.3 c.args.elapsed
     step.agrees (subst (λ (t : State g.row.T.Denot g.row.U.Denot). Retry (answers_of g.F.BackpressureFn.allows g.G.DegradationFn.allows c.args.domain.now.boxes.publishers) it.s c.args.self.loan.publisher it.held.1 c.args.elapsed t (result_of_send c.outcome_of.result)) (it.step.1).state it.step.2) step.entries
+
+pub invariant_of-domain : goal.invariant_of-domain
+invariant_of-domain g c = (goes-there {T = g.row.T.Denot} {U = g.row.U.Denot} c.domain.inside.state c.domain.invariant c.args.domain.now c.domain.view_is c.args.self c.requires.live c.find_live_publisher-place.result c.find_live_publisher-place.ensures c.retry_send-end.ensures.goes).agrees
 
 pub returns-clause-blocked : goal.returns-clause-blocked
 returns-clause-blocked g c =
