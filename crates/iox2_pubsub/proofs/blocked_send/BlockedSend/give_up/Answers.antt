@@ -1,78 +1,56 @@
-use Rattle.std.proofs.Common.{List, ◌<◌, ap, refl, sym, subst, ◌∙◌}
+use Rattle.std.proofs.Common.{◌<◌, refl, sym, subst, ◌∙◌}
 use Rattle.iox2_domain.specs.Boxes.{answers_of}
-use Rattle.iox2_domain.specs.declared.boxes.PortBox.{PortBox}
 use Rattle.iox2_store.specs.machine.Sends.{GiveUp}
-use Rattle.iox2_store.specs.machine.SingleCalls.{HoldsBlocked}
 use Rattle.iox2_store.specs.machine.State.{State}
-use Rattle.iox2_store.specs.declared.service_config.ServiceConfig.{ServiceConfig}
 use Rattle.iox2_laws.proofs.SendsRemain.{give_up_waits_with}
 use Rattle.iox2_deliveries.specs.SendEnds.{end_result}
 use Rattle.iox2_domain.specs.Fields.{kept_of, keeping}
 use Rattle.iox2_domain.specs.Kept.{Kept, state_of}
 use Rattle.iox2_pubsub.specs.Live.{blocked_key, lender_key, written_key}
 use Rattle.iox2_pubsub.specs.SendCalls.{result_of_send}
-use Rattle.iox2_pubsub.proofs.BlockedShown.{as-machine, give-up-shown, give-up-stays, give-up-frees-key, only-undelivered}
-use Rattle.iox2_pubsub.proofs.LiveParts.{blocked-parts, blocked-live, unblocked-alike, unfailed-parts}
+use Rattle.iox2_pubsub.proofs.BlockedShown.{give-up-shown, give-up-stays, give-up-frees-key, only-undelivered}
+use Rattle.iox2_pubsub.proofs.LiveParts.{unblocked-alike, unfailed-parts}
 use Rattle.iox2_pubsub.proofs.UnfailedSends.{IsMild, give-up-unfailed}
 use Rattle.iox2_pubsub.proofs.LoansLeftShown.{give-up-left, give-up-gives, sent-free}
 use Rattle.iox2_pubsub.proofs.ReceiversAhead.{give-up-fewer, since-again, where-blocked}
 use Rattle.iox2_pubsub.specs.BlockedSends.{StaysSince, receivers_ahead}
 use Rattle.iox2_pubsub.specs.declared.blocked_send.BlockedSend.{BlockedSend as Handle}
-use Rattle.iox2_pubsub.proofs.SendShown.{is-blocked, only-ok}
+use Rattle.iox2_pubsub.proofs.SendShown.{only-ok}
 use Rattle.iox2_pubsub.proofs.StaysBut.{stays-since-block}
-use Rattle.iox2_pubsub.proofs.WaitingSends.{blocked-inside, blocked-stands, delivery-there, from-blocked, waits-there}
+use Rattle.iox2_pubsub.proofs.WaitingSends.{blocked-again, blocked-stands, does-there, from-blocked, goes-there, waits-there}
 use Rattle.iox2_pubsub.proofs.UpToDateShown.{give-up-leaves}
 use Rattle.iox2_pubsub.proofs.WaitingShown.{give-up-adds}
 use Rattle.iox2_pubsub.proofs.blocked_send.BlockedSend.give_up.Goals as goal
 
-pub find_live_publisher-place-requires : goal.find_live_publisher-place-requires
-find_live_publisher-place-requires g c = blocked-stands {T = g.row.T.Denot} {U = g.row.U.Denot} c.domain.inside.state c.domain.invariant c.args.domain.now c.domain.view_is c.args.self c.requires.live
-
 pub give_up_send-end-requires-clause-waits : goal.give_up_send-end-requires-clause-waits
 give_up_send-end-requires-clause-waits g c = waits-there {T = g.row.T.Denot} {U = g.row.U.Denot} c.domain.inside.state c.domain.invariant c.args.domain.now c.domain.view_is c.args.self c.requires.live c.find_live_publisher-place.result c.find_live_publisher-place.ensures
 
-pub invariant_of-domain : goal.invariant_of-domain
-invariant_of-domain g c =
-    let d = delivery-there {T = g.row.T.Denot} {U = g.row.U.Denot} c.domain.inside.state c.domain.invariant c.args.domain.now c.domain.view_is c.args.self c.requires.live c.find_live_publisher-place.result c.find_live_publisher-place.ensures in
-    (c.give_up_send-end.ensures.goes c.find_live_publisher-place.ensures.0 (d).0 c.find_live_publisher-place.ensures.1 (d).1).agrees
-
 pub returns-clause-gives_up : goal.returns-clause-gives_up
 returns-clause-gives_up g c = λ m s x b shown at waits.
-    let d = delivery-there {T = g.row.T.Denot} {U = g.row.U.Denot} c.domain.inside.state c.domain.invariant c.args.domain.now c.domain.view_is c.args.self c.requires.live c.find_live_publisher-place.result c.find_live_publisher-place.ensures in
-    let step = c.give_up_send-end.ensures.goes c.find_live_publisher-place.ensures.0 (d).0 c.find_live_publisher-place.ensures.1 (d).1 in
-    let after : State g.row.T.Denot g.row.U.Denot = state_of (kept_of c.give_up_send-end.new.state) in
-    let inside : GiveUp (answers_of g.F.BackpressureFn.allows g.G.DegradationFn.allows c.domain.inside.boxes.boxes) s c.args.self.loan.publisher b after (end_result c.give_up_send-end.result) =
-    as-machine c.domain.inside.state c.domain.invariant c.find_live_publisher-place.result c.args.self.loan.publisher c.args.self.loan.number c.find_live_publisher-place.ensures
-    (blocked-inside {T = g.row.T.Denot} {U = g.row.U.Denot} c.domain.inside.state c.domain.invariant c.args.domain.now c.domain.view_is c.args.self c.requires.live)
-    c.args.domain.now c.domain.view_is m s shown x b at waits
-    (λ t q w. GiveUp (answers_of g.F.BackpressureFn.allows g.G.DegradationFn.allows c.domain.inside.boxes.boxes) t q w after (end_result c.give_up_send-end.result)) step.gives_up in
-    let machine : GiveUp (answers_of g.F.BackpressureFn.allows g.G.DegradationFn.allows c.args.domain.now.boxes.publishers) s c.args.self.loan.publisher b after (end_result c.give_up_send-end.result) =
-    subst (λ (boxes : List (PortBox g.row.F.Denot g.row.G.Denot)). GiveUp (answers_of g.F.BackpressureFn.allows g.G.DegradationFn.allows boxes) s c.args.self.loan.publisher b after (end_result c.give_up_send-end.result))
-    (ap (λ (k : Kept g.row.T.Denot g.row.U.Denot g.row.F.Denot g.row.G.Denot). k.boxes.publishers) c.domain.view_is) inside in (
-      after,
-      give-up-shown {T = g.row.T.Denot} {U = g.row.U.Denot} c.domain.inside.state c.give_up_send-end.new.state c.args.domain.now c.domain.view_is m s shown c.args.self.loan.publisher (end_result c.give_up_send-end.result) (answers_of g.F.BackpressureFn.allows g.G.DegradationFn.allows c.args.domain.now.boxes.publishers) x b at waits
-          step.agrees machine step.entries,
-      subst (GiveUp (answers_of g.F.BackpressureFn.allows g.G.DegradationFn.allows c.args.domain.now.boxes.publishers) s c.args.self.loan.publisher b after) (sym c.outcome_of.ensures.same) machine,
+    let step = goes-there {T = g.row.T.Denot} {U = g.row.U.Denot} c.domain.inside.state c.domain.invariant c.args.domain.now c.domain.view_is c.args.self c.requires.live c.find_live_publisher-place.result c.find_live_publisher-place.ensures c.give_up_send-end.ensures.goes in
+    let machine = does-there {T = g.row.T.Denot} {U = g.row.U.Denot} c.domain.inside.state c.domain.invariant c.args.domain.now c.domain.view_is c.args.self c.requires.live c.find_live_publisher-place.result c.find_live_publisher-place.ensures (λ all t q w r. GiveUp (answers_of g.F.BackpressureFn.allows g.G.DegradationFn.allows all) t q w (state_of (kept_of c.give_up_send-end.new.state)) r) (end_result c.give_up_send-end.result) step.gives_up (result_of_send c.outcome_of.result) c.outcome_of.ensures.same m s x b shown at waits in (
+      (state_of (kept_of c.give_up_send-end.new.state)),
+      give-up-shown {T = g.row.T.Denot} {U = g.row.U.Denot} c.domain.inside.state c.give_up_send-end.new.state c.args.domain.now c.domain.view_is m s shown c.args.self.loan.publisher (result_of_send c.outcome_of.result) (answers_of g.F.BackpressureFn.allows g.G.DegradationFn.allows c.args.domain.now.boxes.publishers) x b at waits step.agrees machine step.entries,
+      machine,
     )
+
+pub find_live_publisher-place-requires : goal.find_live_publisher-place-requires
+find_live_publisher-place-requires g c = blocked-stands {T = g.row.T.Denot} {U = g.row.U.Denot} c.domain.inside.state c.domain.invariant c.args.domain.now c.domain.view_is c.args.self c.requires.live
 
 pub returns-clause-stays : goal.returns-clause-stays
 returns-clause-stays g c =
     let it = from-blocked {T = g.row.T.Denot} {U = g.row.U.Denot} c.domain.inside.state c.domain.invariant c.args.domain.now c.domain.view_is c.args.self c.requires.live (returns-clause-gives_up g c) in
-    let d = delivery-there {T = g.row.T.Denot} {U = g.row.U.Denot} c.domain.inside.state c.domain.invariant c.args.domain.now c.domain.view_is c.args.self c.requires.live c.find_live_publisher-place.result c.find_live_publisher-place.ensures in
-    let step = c.give_up_send-end.ensures.goes c.find_live_publisher-place.ensures.0 (d).0 c.find_live_publisher-place.ensures.1 (d).1 in
+    let step = goes-there {T = g.row.T.Denot} {U = g.row.U.Denot} c.domain.inside.state c.domain.invariant c.args.domain.now c.domain.view_is c.args.self c.requires.live c.find_live_publisher-place.result c.find_live_publisher-place.ensures c.give_up_send-end.ensures.goes in
     give-up-stays {T = g.row.T.Denot} {U = g.row.U.Denot} c.domain.inside.state c.give_up_send-end.new.state c.args.domain.now c.domain.view_is it.m it.s it.shown c.args.self.loan.publisher (result_of_send c.outcome_of.result) (answers_of g.F.BackpressureFn.allows g.G.DegradationFn.allows c.args.domain.now.boxes.publishers) it.held.0 it.held.1 it.at it.held.3
     step.agrees (subst (λ (t : State g.row.T.Denot g.row.U.Denot). GiveUp (answers_of g.F.BackpressureFn.allows g.G.DegradationFn.allows c.args.domain.now.boxes.publishers) it.s c.args.self.loan.publisher it.held.1 t (result_of_send c.outcome_of.result)) (it.step.1).state it.step.2) step.entries
+
+pub invariant_of-domain : goal.invariant_of-domain
+invariant_of-domain g c = (goes-there {T = g.row.T.Denot} {U = g.row.U.Denot} c.domain.inside.state c.domain.invariant c.args.domain.now c.domain.view_is c.args.self c.requires.live c.find_live_publisher-place.result c.find_live_publisher-place.ensures c.give_up_send-end.ensures.goes).agrees
 
 pub returns-clause-blocked : goal.returns-clause-blocked
 returns-clause-blocked g c =
     let it = from-blocked {T = g.row.T.Denot} {U = g.row.U.Denot} c.domain.inside.state c.domain.invariant c.args.domain.now c.domain.view_is c.args.self c.requires.live (returns-clause-gives_up g c) in
-    is-blocked {T = g.row.T.Denot} {U = g.row.U.Denot} (keeping _ c.give_up_send-end.new.state) (blocked_key c.args.self) c.args.self refl c.outcome_of.result c.outcome_of.ensures.blocked (λ blocked.
-    blocked-live (keeping _ c.give_up_send-end.new.state) (blocked_key c.args.self) (
-      (blocked-parts c.args.domain.now (blocked_key c.args.self) c.requires.live).0 ∙ sym (ap (λ (k : ServiceConfig). k.service_id) (returns-clause-stays g c).settings),
-      subst (HoldsBlocked (state_of (kept_of c.give_up_send-end.new.state)) c.args.self.loan.publisher) it.held.4
-          (subst (λ (t : State g.row.T.Denot g.row.U.Denot). HoldsBlocked t c.args.self.loan.publisher it.held.1.message) (it.step.1).state
-          (give_up_waits_with (answers_of g.F.BackpressureFn.allows g.G.DegradationFn.allows c.args.domain.now.boxes.publishers) it.s c.args.self.loan.publisher it.held.1 it.step.0 _ it.step.2 blocked)),
-    ))
+    blocked-again {T = g.row.T.Denot} {U = g.row.U.Denot} c.domain.inside.state c.domain.invariant c.args.domain.now c.domain.view_is c.args.self c.requires.live (keeping _ c.give_up_send-end.new.state) (returns-clause-stays g c).settings c.outcome_of.result c.outcome_of.ensures.blocked it.held it.step.0 (it.step.1).state (give_up_waits_with (answers_of g.F.BackpressureFn.allows g.G.DegradationFn.allows c.args.domain.now.boxes.publishers) it.s c.args.self.loan.publisher it.held.1 it.step.0 _ it.step.2)
 
 pub returns-clause-failed : goal.returns-clause-failed
 returns-clause-failed g c = only-undelivered c.give_up_send-end.result c.give_up_send-end.ensures.kept c.outcome_of.result c.outcome_of.ensures.same
@@ -125,10 +103,7 @@ returns-clause-ok g c = λ never.
     let it = from-blocked {T = g.row.T.Denot} {U = g.row.U.Denot} c.domain.inside.state c.domain.invariant c.args.domain.now c.domain.view_is c.args.self c.requires.live (returns-clause-gives_up g c) in
     let has = unfailed-parts c.args.domain.now c.args.self.loan.publisher never in
     let mild : IsMild it.s c.args.self.loan.publisher = subst (λ (t : State g.row.T.Denot g.row.U.Denot). IsMild t c.args.self.loan.publisher) (sym it.shown.state) has.1 in
-    only-ok c.give_up_send-end.result c.give_up_send-end.ensures.kept (λ failed.
-    (give-up-unfailed {T = g.row.T.Denot} {U = g.row.U.Denot} (answers_of g.F.BackpressureFn.allows g.G.DegradationFn.allows c.args.domain.now.boxes.publishers) it.s c.args.self.loan.publisher it.held.1 it.step.0 (result_of_send c.outcome_of.result) mild (has.2 it.held.0 it.held.1 it.held.2 it.held.3) it.step.2).1
-    (c.outcome_of.ensures.same ∙ failed))
-    c.outcome_of.result c.outcome_of.ensures.same
+    only-ok c.give_up_send-end.result c.give_up_send-end.ensures.kept (λ failed. (give-up-unfailed {T = g.row.T.Denot} {U = g.row.U.Denot} (answers_of g.F.BackpressureFn.allows g.G.DegradationFn.allows c.args.domain.now.boxes.publishers) it.s c.args.self.loan.publisher it.held.1 it.step.0 (result_of_send c.outcome_of.result) mild (has.2 it.held.0 it.held.1 it.held.2 it.held.3) it.step.2).1 (c.outcome_of.ensures.same ∙ failed)) c.outcome_of.result c.outcome_of.ensures.same
 
 pub returns-clause-since_again : goal.returns-clause-since_again
 returns-clause-since_again g c =
