@@ -5,21 +5,15 @@ pub mark_written-requires : goal.mark_written-requires
 mark_written-requires g c = let at = c.requires.lies in (at.book, at.stands, (at.loan_slot).in_bounds)
 
 pub contents_mut-requires : goal.contents_mut-requires
-contents_mut-requires g c =
-    contents-still {T = g.row.T.Denot} {U = g.row.U.Denot} c.args.state.now c.requires.agrees c.args.publisher c.args.number c.args.book c.args.slot c.requires.lies
-    c.mark_written.new.state (c.mark_written.ensures (c.requires.lies).book (c.requires.lies).stands)
+contents_mut-requires g c = contents-still {T = g.row.T.Denot} {U = g.row.U.Denot} _ c.requires.agrees _ _ _ _ c.requires.lies _ (c.mark_written.ensures _ (c.requires.lies).stands)
 
 pub write_from_fn-requires-clause-in_lists : goal.write_from_fn-requires-clause-in_lists
 write_from_fn-requires-clause-in_lists g c =
-    all-writable {T = g.row.T.Denot} {U = g.row.U.Denot} c.args.state.now c.requires.agrees c.args.publisher c.args.number c.args.book c.args.slot c.requires.lies
-    c.mark_written.new.state (c.mark_written.ensures (c.requires.lies).book (c.requires.lies).stands)
-    c.contents_mut.result.now c.contents_mut.ensures.value c.requires.live c.requires.several
+    all-writable {T = g.row.T.Denot} {U = g.row.U.Denot} _ c.requires.agrees _ _ _ _ c.requires.lies _ (c.mark_written.ensures _ (c.requires.lies).stands) _ c.contents_mut.ensures.value c.requires.live c.requires.several
 
 pub returns : goal.returns
 returns g c = (
   c.write_from_fn.ensures.0,
   c.write_from_fn.ensures.1,
-  many-written {T = g.row.T.Denot} {U = g.row.U.Denot} c.args.state.now c.requires.agrees c.args.publisher c.args.number c.args.book c.args.slot c.requires.lies
-      c.mark_written.new.state (c.mark_written.ensures (c.requires.lies).book (c.requires.lies).stands)
-      c.contents_mut.result.now c.contents_mut.ensures.value c.requires.live c.write_from_fn.ensures.0 c.write_from_fn.new.self c.write_from_fn.ensures.2,
+  many-written {T = g.row.T.Denot} {U = g.row.U.Denot} _ c.requires.agrees _ _ _ _ c.requires.lies _ (c.mark_written.ensures _ (c.requires.lies).stands) _ c.contents_mut.ensures.value c.requires.live c.write_from_fn.ensures.0 c.write_from_fn.new.self c.write_from_fn.ensures.2,
 )
