@@ -99,6 +99,7 @@ fn a_message_goes_into_one_channel_of_one_connection(rt: HostRuntime) {
         publisher.get_connection_id_of(&domain, first.id().value()),
         publisher.get_connection_id_of(&domain, second.id().value()),
         publisher.get_connection_id_of(&domain, publisher.id().value()),
+        publisher.get_connection_id_of(&domain, 0),
     ];
     let past = publisher.has_channel_state(&domain, 0, 2, 0);
     let taken = [
@@ -116,7 +117,7 @@ fn a_message_goes_into_one_channel_of_one_connection(rt: HostRuntime) {
     first.disown();
     second.disown();
     drop(domain);
-    assert!(rt; places == [Some(0), Some(1), None] && !past);
+    assert!(rt; places == [Some(0), Some(1), None, None] && !past);
     assert!(rt; taken == [1, 0, 0, 1]);
     assert!(rt; more == [false, true]);
     assert!(rt; read == Some(4));
