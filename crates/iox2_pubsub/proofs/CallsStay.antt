@@ -37,15 +37,13 @@ use Rattle.iox2_domain.specs.Invariant.{IsDomain}
 use Rattle.iox2_domain.specs.Kept.{Kept, state_of, entries_of}
 use Rattle.iox2_domain.specs.Lending.{LoanCall, loan_memory}
 use Rattle.iox2_domain.specs.Shows.{Shows}
-use Rattle.iox2_pubsub.specs.Live.{Item, IsOtherLoan, IsPublisherKey, IsSubscriberKey, IsLoanKey, IsSampleKey, IsUnblocked, No_item, A_publisher, A_subscriber, A_loan, A_sample, IsOtherSample, IsBlockedKey, A_sent_loan, StaysBut, Stays, IsNewIn, unwritten_key, written_key}
+use Rattle.iox2_pubsub.specs.Live.{Item, IsOtherLoan, IsPublisherKey, IsSubscriberKey, IsLoanKey, IsSampleKey, IsUnblocked, No_item, A_publisher, A_subscriber, A_loan, A_sample, IsOtherSample, IsBlockedKey, A_sent_loan, StaysBut, Stays, IsNewIn}
 use Rattle.iox2_pubsub.specs.declared.sample_mut.SampleMut.{SampleMut}
-use Rattle.iox2_pubsub.specs.Slices.{HasUnwrittenCells, HasValues}
 use Rattle.iox2_pubsub.proofs.AlwaysShows.{shows_itself}
 use Rattle.iox2_pubsub.proofs.SentMessages.{after-error}
 use Rattle.iox2_pubsub.proofs.SendShown.{never-waits-send}
-use Rattle.iox2_pubsub.proofs.LiveParts.{publisher-parts, subscriber-parts, loan-parts, sample-parts, origin-parts, blocked-parts, unblocked-parts}
-use Rattle.iox2_pubsub.proofs.SliceParts.{cells-parts, values-parts}
-use Rattle.iox2_pubsub.proofs.StaysBut.{BoxesStayBut, IsSpared, PortsRemainBut, SamplesStayBut, ports-remain, stays-between, none-spared, SparedPublishers}
+use Rattle.iox2_pubsub.proofs.LiveParts.{publisher-parts, subscriber-parts, loan-parts, sample-parts, blocked-parts, unblocked-parts}
+use Rattle.iox2_pubsub.proofs.StaysBut.{BoxesStayBut, IsSpared, PortsRemainBut, SamplesStayBut, ports-remain, stays-between, new-in, none-spared, SparedPublishers}
 use Rattle.iox2_pubsub.proofs.UnfailedSends.{IsMild, HasNotFailed, blocked-unfailed}
 use Rattle.iox2_laws.proofs.MailboxLemmas.{contains_borrowed}
 
@@ -74,25 +72,23 @@ module _ {T U F G : Type 0} {boxes : DomainBoxes F G} (f : Fields T U) (kept : K
     pub sample-shown : IsSampleKey kept key → (m : Messages T U) × (s : State T U) × Shows kept m s × HoldsSample s key.port key.message
     sample-shown live = shown-with (λ (s : State T U). HoldsSample s key.port key.message) (sample-parts kept key live).1
 
--- the next id is that of no publisher that is there
-pub apart-from-next : {T U F G : Type 0} {boxes : DomainBoxes F G} (f : Fields T U) (kept : Kept T U F G) → IsDomain f → keeping boxes f ≡ kept → (key : Key) → IsPublisherKey kept key
-    → key.port ≢ f.next_port
-apart-from-next {T} {U} {F} {G} f kept sound view key live same =
-    let it = always-shown f kept sound view in
-    let has = (publisher-parts kept key live).2 in
-    let known : key.port < (it.1).next_port = ((it.2).well_formed.publishers key.port has.0 (ap (λ (t : State T U). t.publishers key.port) (it.2).state ∙ has.1)).is_known in
-    let next : (it.1).next_port ≡ f.next_port = ap (λ (t : State T U). t.next_port) (it.2).state ∙ ap (λ (k : Kept T U F G). k.next_port) (sym view) in
+-- the next id is none that is known in the state that is shown
+below-next : {T U F G : Type 0} {boxes : DomainBoxes F G} (f : Fields T U) (kept : Kept T U F G) → keeping boxes f ≡ kept → (m : Messages T U) (s : State T U) → Shows kept m s → (id : ℕ) → id < s.next_port → id ≢ f.next_port
+below-next {T} {U} {F} {G} f kept view m s shown id known same =
+    let next : s.next_port ≡ f.next_port = ap (λ (t : State T U). t.next_port) shown.state ∙ ap (λ (k : Kept T U F G). k.next_port) (sym view) in
     omega arith
 
--- nor is a subscriber that is there the next port
+-- so it is that of no publisher that is there
+pub apart-from-next : {T U F G : Type 0} {boxes : DomainBoxes F G} (f : Fields T U) (kept : Kept T U F G) → IsDomain f → keeping boxes f ≡ kept → (key : Key) → IsPublisherKey kept key
+    → key.port ≢ f.next_port
+apart-from-next f kept sound view key live =
+    let has = publisher-shown f kept sound view key live in below-next f kept view has.0 has.1 has.2 key.port ((has.2).well_formed.publishers key.port (has.3).0 (has.3).1).is_known
+
+-- nor of a subscriber
 pub subscriber-apart-from-next : {T U F G : Type 0} {boxes : DomainBoxes F G} (f : Fields T U) (kept : Kept T U F G) → IsDomain f → keeping boxes f ≡ kept → (key : Key) → IsSubscriberKey kept key
     → key.port ≢ f.next_port
-subscriber-apart-from-next {T} {U} {F} {G} f kept sound view key live same =
-    let it = always-shown f kept sound view in
-    let has = (subscriber-parts kept key live).2 in
-    let known : key.port < (it.1).next_port = ((it.2).well_formed.subscribers key.port has.0 (ap (λ (t : State T U). t.subscribers key.port) (it.2).state ∙ has.1)).is_known in
-    let next : (it.1).next_port ≡ f.next_port = ap (λ (t : State T U). t.next_port) (it.2).state ∙ ap (λ (k : Kept T U F G). k.next_port) (sym view) in
-    omega arith
+subscriber-apart-from-next f kept sound view key live =
+    let has = subscriber-shown f kept sound view key live in below-next f kept view has.0 has.1 has.2 key.port ((has.2).well_formed.subscribers key.port (has.3).0 (has.3).1).is_known
 
 -- two publishers whose messages with one number are borrowed are one
 one-origin : {T U F G : Type 0} (kept : Kept T U F G) (m : Messages T U) (s : State T U) → Shows kept m s → (p p' q q' n : ℕ)
@@ -106,6 +102,34 @@ one-origin {T} {U} kept m s shown p p' q q' n here there =
   where
     entry : (i j : ℕ) → is_borrowed n ((state_of kept).mailboxes i j) ≡ true → (e : Entry T U) × (entries_of kept n ≡ Some e) × ((e.header).publisher_id ≡ i)
     entry i j borrowed = shown.complete i n (In_mailbox j (contains_borrowed ((state_of kept).mailboxes i j) n borrowed))
+
+-- where all publishers but one wait as they did, and that one has no blocked send, as before, all do
+pub free-waits : {T U : Type 0} (Spared : ℕ → Type 0) (publisher : ℕ) (s s' : State T U) → Waits (λ q. q ≡ publisher) s s' → Remain s s'
+    → ((x : Publisher) → s.publishers publisher ≡ Some x → x.blocked ≡ None) → Waits Spared s s'
+free-waits Spared publisher s s' mine remain free = record {
+  next_port = mine.next_port;
+  publishers = λ p x' low at.
+      let was = mine.publishers p x' low at in (
+        was.0,
+        was.1,
+        record {
+          place = was.2.place;
+          strategy = was.2.strategy;
+          handler = was.2.handler;
+          degradation = was.2.degradation;
+          blocked = λ _. elim (cases_eq p publisher) [
+            | inr away ↦ was.2.blocked away
+            | inl same ↦
+                let none : (was.0).blocked ≡ None = free was.0 (ap s.publishers (sym same) ∙ was.1) in
+                let there = remain.publishers p was.0 was.1 in
+                let both : Some x' ≡ Some there.0 = sym at ∙ there.1 in
+                let is : x' ≡ there.0 = cc in
+                ap (λ (x : Publisher). x.blocked) is ∙ there.2 none ∙ sym none
+          ];
+        },
+      );
+  subscribers = mine.subscribers;
+}
 
 module _ {T U F G : Type 0} (old new : Kept T U F G) (m : Messages T U) (s : State T U) (shown : Shows old m s) where
   -- ports, loans and samples stay
@@ -128,51 +152,28 @@ module _ {T U F G : Type 0} (old new : Kept T U F G) (m : Messages T U) (s : Sta
 
   -- the new publisher is none that was there
   pub publisher-is-new : (id : ℕ) → id ≡ s.next_port → IsNewIn old (A_publisher id)
-  publisher-is-new id is = record {
-    publishers = apart;
-    subscribers = λ key live. tt;
-    loans = λ key live. tt;
-    unwritten_loans = λ it live. tt;
-    written_loans = λ it live. tt;
-    samples = λ key live. tt;
-    origins = λ it from. tt;
-    cells = λ n cells has. tt;
-    payloads = λ n values has. tt;
-    unblocked = λ key free. (known-apart key free, tt);
-    blocked_sends = λ key live. (waiting-apart key live, tt);
-  } where
-    apart : (key : Key) → IsPublisherKey old key → key.port ≢ id
-    apart key live same =
-        let has = (publisher-parts old key live).2 in
-        let known : key.port < s.next_port = (shown.well_formed.publishers key.port has.0 (ap (λ (t : State T U). t.publishers key.port) shown.state ∙ has.1)).is_known in
-        omega arith
+  publisher-is-new id is =
+      new-in old (A_publisher id) apart (λ key live. tt) (λ n l out. tt) (λ p q n borrowed. tt) (λ key free. (known-apart key free, tt)) (λ key live. (waiting-apart key live, tt)) where
+        apart : (key : Key) → IsPublisherKey old key → key.port ≢ id
+        apart key live same =
+            let has = (publisher-parts old key live).2 in
+            let known : key.port < s.next_port = (shown.well_formed.publishers key.port has.0 (ap (λ (t : State T U). t.publishers key.port) shown.state ∙ has.1)).is_known in
+            omega arith
 
-    known-apart : (key : Key) → IsUnblocked old key → key.port ≢ id
-    known-apart key free same =
-        let low : key.port < s.next_port = subst (λ (t : State T U). key.port < t.next_port) (sym shown.state) (unblocked-parts old key free).0 in
-        omega arith
+        known-apart : (key : Key) → IsUnblocked old key → key.port ≢ id
+        known-apart key free same =
+            let low : key.port < s.next_port = subst (λ (t : State T U). key.port < t.next_port) (sym shown.state) (unblocked-parts old key free).0 in
+            omega arith
 
-    waiting-apart : (key : Key) → IsBlockedKey old key → key.port ≢ id
-    waiting-apart key live same =
-        let has = (blocked-parts old key live).1 in
-        let known : key.port < s.next_port = (shown.well_formed.publishers key.port has.0 (ap (λ (t : State T U). t.publishers key.port) shown.state ∙ has.2)).is_known in
-        omega arith
+        waiting-apart : (key : Key) → IsBlockedKey old key → key.port ≢ id
+        waiting-apart key live same =
+            let has = (blocked-parts old key live).1 in
+            let known : key.port < s.next_port = (shown.well_formed.publishers key.port has.0 (ap (λ (t : State T U). t.publishers key.port) shown.state ∙ has.2)).is_known in
+            omega arith
 
   -- the new subscriber is none that was there
   pub subscriber-is-new : (id : ℕ) → id ≡ s.next_port → IsNewIn old (A_subscriber id)
-  subscriber-is-new id is = record {
-    publishers = λ key live. tt;
-    subscribers = apart;
-    loans = λ key live. tt;
-    unwritten_loans = λ it live. tt;
-    written_loans = λ it live. tt;
-    samples = λ key live. tt;
-    origins = λ it from. tt;
-    cells = λ n cells has. tt;
-    payloads = λ n values has. tt;
-    unblocked = λ key free. (tt, tt);
-    blocked_sends = λ key live. (tt, tt);
-  } where
+  subscriber-is-new id is = new-in old (A_subscriber id) (λ key live. tt) apart (λ n l out. tt) (λ p q n borrowed. tt) (λ key free. (tt, tt)) (λ key live. (tt, tt)) where
     apart : (key : Key) → IsSubscriberKey old key → key.port ≢ id
     apart key live same =
         let has = (subscriber-parts old key live).2 in
@@ -191,19 +192,7 @@ module _ {T U F G : Type 0} (old new : Kept T U F G) (m : Messages T U) (s : Sta
 
   -- the new loan is none that was there
   pub loan-is-new : (number : ℕ) → number ≡ old.next_message → IsNewIn old (A_loan number)
-  loan-is-new number is = record {
-    publishers = λ key live. tt;
-    subscribers = λ key live. tt;
-    loans = apart;
-    unwritten_loans = λ it live. apart (unwritten_key it) live.live;
-    written_loans = λ it live. apart (written_key it) live.live;
-    samples = λ key live. tt;
-    origins = λ it from. tt;
-    cells = cells-apart;
-    payloads = values-apart;
-    unblocked = λ key free. (tt, tt);
-    blocked_sends = λ key live. (tt, tt);
-  }
+  loan-is-new number is = new-in old (A_loan number) (λ key live. tt) (λ key live. tt) out-apart (λ p q n borrowed. tt) (λ key free. (tt, tt)) (λ key live. (tt, tt))
     where
       out-apart : (n : ℕ) (l : Loan T U) → (state_of old).loans n ≡ Some l → n ≢ number
       out-apart n l out same =
@@ -211,15 +200,6 @@ module _ {T U F G : Type 0} (old new : Kept T U F G) (m : Messages T U) (s : Sta
           let low : n < s.next_message = (shown.well_formed.loans n l at).below in
           let next : s.next_message ≡ old.next_message = ap (λ (t : State T U). t.next_message) shown.state in
           omega arith
-
-      apart : (key : Key) → IsLoanKey old key → key.message ≢ number
-      apart key live = let has = (loan-parts old key live).1 in out-apart key.message has.0 has.1
-
-      cells-apart : (n : ℕ) (cells : List (Option T)) → HasUnwrittenCells old n cells → n ≢ number
-      cells-apart n cells has = let it = cells-parts old n cells has in out-apart n it.0 it.1
-
-      values-apart : (n : ℕ) (values : List T) → HasValues old n values → n ≢ number
-      values-apart n values has = let it = values-parts old n values has in out-apart n it.0 it.1
 
   -- a loan is changed
   pub change-stays : (n : ℕ) (l : Loan T U) → Shows new m (with_loan s n (Some l)) → BoxesStayBut (A_loan n) old new → StaysBut (A_loan n) old new
@@ -248,31 +228,7 @@ module _ {T U F G : Type 0} (old new : Kept T U F G) (m : Messages T U) (s : Sta
     -- where it isn't blocked, so does its own
     unblocked-waits : (Spared : ℕ → Type 0) → (result ≡ Blocked_send → ⊥) → ((x : Publisher) → s.publishers l.publisher ≡ Some x → x.blocked ≡ None) → Waits Spared s s'
     unblocked-waits Spared ends free =
-        let mine = send_spared (λ (q : ℕ). q ≡ l.publisher) environment s n l refl s' result h in
-        record {
-          next_port = mine.next_port;
-          publishers = λ p x' low at.
-              let was = mine.publishers p x' low at in (
-                was.0,
-                was.1,
-                record {
-                  place = was.2.place;
-                  strategy = was.2.strategy;
-                  handler = was.2.handler;
-                  degradation = was.2.degradation;
-                  blocked = λ _. elim (cases_eq p l.publisher) [
-                    | inr away ↦ was.2.blocked away
-                    | inl same ↦
-                        let none : (was.0).blocked ≡ None = free was.0 (ap s.publishers (sym same) ∙ was.1) in
-                        let there = ((send_stays environment s n l s' result h ends).remain).publishers p was.0 was.1 in
-                        let both : Some x' ≡ Some there.0 = sym at ∙ there.1 in
-                        let is : x' ≡ there.0 = cc in
-                        ap (λ (x : Publisher). x.blocked) is ∙ there.2 none ∙ sym none
-                  ];
-                },
-              );
-          subscribers = mine.subscribers;
-        }
+        free-waits Spared l.publisher s s' (send_spared (λ (q : ℕ). q ≡ l.publisher) environment s n l refl s' result h) (send_stays environment s n l s' result h ends).remain free
 
     -- all but the loan stays, and its publisher where it is blocked
     sent-keeps : (spent : Item) → BoxesStayBut spent old new → ((k : ℕ) → IsOtherLoan spent k → k ≢ n) → Waits (IsSpared spent) s s' → SparedPublishers spent old s s' → (m' : Messages T U) → Shows new m' s' → ((k : ℕ) (entry : Entry T U) → m k ≡ Some entry → m' k ≡ Some entry)
@@ -367,29 +323,27 @@ module _ {T U F G : Type 0} (old new : Kept T U F G) (m : Messages T U) (s : Sta
       (λ e _ k. let clash : Got_sample p n ≡ Receive_error _ = k.1 in absurd cc)
 
   pub received-is-new : (environment : Environment) (p q n : ℕ) (s' : State T U) → Shows new m s' → Receive environment s q s' (Got_sample p n) → IsNewIn old (A_sample q n)
-  received-is-new environment p q n s' shown' h = record { publishers = λ key live. tt; subscribers = λ key live. tt; loans = λ key live. tt; unwritten_loans = λ it live. tt; written_loans = λ it live. tt; samples = apart; origins = λ it from. away it.origin it.sample.subscriber it.sample.number (origin-parts old it from); cells = λ n cells has. tt; payloads = λ n values has. tt; unblocked = λ key free. (tt, tt); blocked_sends = λ key live. (tt, tt) } where
-    got : IsReceived environment s q p n s'
-    got = received_one environment s q p n s' h
+  received-is-new environment p q n s' shown' h =
+      new-in old (A_sample q n) (λ key live. tt) (λ key live. tt) (λ k l out. tt) away (λ key free. (tt, tt)) (λ key live. (tt, tt)) where
+        got : IsReceived environment s q p n s'
+        got = received_one environment s q p n s' h
 
-    same : (i : ℕ) → is_borrowed n (s.mailboxes i q) ≡ true → ⊥
-    same i there = elim (cases_eq i p) [
-      | inl e ↦ not-borrowed environment p q n s' h (ap (λ (v : ℕ). is_borrowed n (s.mailboxes v q)) (sym e) ∙ there)
-      | inr away ↦ away (one-origin new m s' shown' i p q q n (got.others i q n (λ e _ _. away e) ∙ there) got.now)
-    ]
+        same : (i : ℕ) → is_borrowed n (s.mailboxes i q) ≡ true → ⊥
+        same i there = elim (cases_eq i p) [
+          | inl e ↦ not-borrowed environment p q n s' h (ap (λ (v : ℕ). is_borrowed n (s.mailboxes v q)) (sym e) ∙ there)
+          | inr away ↦ away (one-origin new m s' shown' i p q q n (got.others i q n (λ e _ _. away e) ∙ there) got.now)
+        ]
 
-    away : (i j k : ℕ) → is_borrowed k ((state_of old).mailboxes i j) ≡ true → IsOtherSample (A_sample q n) j k
-    away i j k borrowed = elim (cases_eq j q) [
-      | inr other ↦ inl other
-      | inl e_q ↦ elim (cases_eq k n) [
-        | inr other ↦ inr other
-        | inl e_n ↦ absurd (same i (
-            ap (λ (v : ℕ). is_borrowed n (s.mailboxes i v)) (sym e_q) ∙ ap (λ (v : ℕ). is_borrowed v (s.mailboxes i j)) (sym e_n)
-            ∙ ap (λ (t : State T U). is_borrowed k (t.mailboxes i j)) shown.state ∙ borrowed))
-      ]
-    ]
-
-    apart : (key : Key) → IsSampleKey old key → IsOtherSample (A_sample q n) key.port key.message
-    apart key live = let has = (sample-parts old key live).1 in away has.0 key.port key.message has.1
+        away : (i j k : ℕ) → is_borrowed k ((state_of old).mailboxes i j) ≡ true → IsOtherSample (A_sample q n) j k
+        away i j k borrowed = elim (cases_eq j q) [
+          | inr other ↦ inl other
+          | inl e_q ↦ elim (cases_eq k n) [
+            | inr other ↦ inr other
+            | inl e_n ↦ absurd (same i (
+                ap (λ (v : ℕ). is_borrowed n (s.mailboxes i v)) (sym e_q) ∙ ap (λ (v : ℕ). is_borrowed v (s.mailboxes i j)) (sym e_n)
+                ∙ ap (λ (t : State T U). is_borrowed k (t.mailboxes i j)) shown.state ∙ borrowed))
+          ]
+        ]
 
   -- a sample is released
   pub release-stays : (p q n : ℕ) (s' : State T U) → Shows new m s' → s' ≡ released s p q n → BoxesStayBut (A_sample q n) old new → StaysBut (A_sample q n) old new

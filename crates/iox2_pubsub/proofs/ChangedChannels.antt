@@ -4,6 +4,7 @@ use Rattle.iox2_store.specs.machine.Channel.{is_closed}
 use Rattle.iox2_store.specs.machine.Mailbox.{is_borrowed}
 use Rattle.iox2_store.specs.machine.State.{State, Messages}
 use Rattle.iox2_store.specs.machine.Waiting.{waiting_from}
+use Rattle.iox2_store.specs.machine.WellFormed.{IsWellFormed}
 use Rattle.iox2_laws.proofs.LoansLeft.{LoansKept, kept_itself}
 use Rattle.iox2_laws.proofs.PortsStay.{Remain}
 use Rattle.iox2_laws.proofs.UpToDate.{same_subscribers}
@@ -16,11 +17,12 @@ use Rattle.iox2_domain.specs.Reaches.{Reaches}
 use Rattle.iox2_domain.specs.Shows.{Shows}
 use Rattle.iox2_domain.proofs.lemmas.fields.ReachesShows.{reaches-shows-same}
 use Rattle.iox2_pubsub.specs.DepartedPorts.{HasRoom}
-use Rattle.iox2_pubsub.specs.Leaves.{Leaves}
+use Rattle.iox2_pubsub.specs.Leaves.{Leaves, LeavesButChannels}
 use Rattle.iox2_pubsub.specs.Live.{IsConnected, IsUpToDate, No_item, RoomStays, Stays, WaitingStays}
 use Rattle.iox2_pubsub.specs.LoansLeft.{LoansLeftStay}
 use Rattle.iox2_pubsub.specs.declared.subscriber.Subscriber.{Subscriber}
 use Rattle.iox2_pubsub.proofs.CallsStay.{always-shown}
+use Rattle.iox2_pubsub.proofs.OpenChannels.{still-connects}
 use Rattle.iox2_pubsub.proofs.LoansLeftShown.{all-left}
 use Rattle.iox2_pubsub.proofs.StaysBut.{BoxesStayBut, IsSpared, none-spared, ports-remain, stays-between}
 use Rattle.iox2_pubsub.proofs.UpToDateShown.{connected, connected-in, rooms-stay, up-to-date, up-to-date-in}
@@ -58,7 +60,7 @@ module _ {T U F G : Type 0} {boxes : DomainBoxes F G} (f : Fields T U) (old : Ke
     now = shows m s shown
 
     -- what was live is
-    pub changed-stays : BoxesStayBut No_item old new → Stays old new
+    changed-stays : BoxesStayBut No_item old new → Stays old new
     changed-stays boxed =
         let waits = waits_itself (IsSpared No_item) s in
         stays-between No_item old new m m s (change s) shown now (λ n entry at. at)
@@ -69,53 +71,61 @@ module _ {T U F G : Type 0} {boxes : DomainBoxes F G} (f : Fields T U) (old : Ke
         (none-spared No_item old s (change s) (λ _. tt)) boxed
 
     -- the same messages wait
-    pub changed-waits : WaitingStays old new
+    changed-waits : WaitingStays old new
     changed-waits = payloads-stay old new m m s (change s) shown now (λ n entry at. at) (record {
       ports = ap (λ (t : State T U). t.next_port) (only s);
       from = λ p q. ap (λ (t : State T U). waiting_from t p q) (only s);
     })
 
     -- who was up to date is
-    pub changed-updated : (subscriber : Subscriber) → IsUpToDate old subscriber → IsUpToDate new subscriber
+    changed-updated : (subscriber : Subscriber) → IsUpToDate old subscriber → IsUpToDate new subscriber
     changed-updated subscriber is =
         up-to-date new m (change s) now subscriber
         (same_subscribers s (change s) (ap (λ (t : State T U). t.subscribers) (only s)) subscriber.id (up-to-date-in old m s shown subscriber is))
 
     -- each subscriber has the room that it had
-    pub changed-room : RoomStays old new
+    changed-room : RoomStays old new
     changed-room = rooms-stay old new m m s (change s) shown now (λ q closes has. subst (λ (t : State T U). HasRoom t q closes) (sym (only s)) has)
 
     -- as many loans and numbers are left
-    pub changed-left : LoansLeftStay old new
+    changed-left : LoansLeftStay old new
     changed-left =
         let kept = kept_itself s in
         all-left old new m m s (change s) shown now (subst (LoansKept s) (sym (only s)) (record { config = refl; numbers = refl; publishers = kept.publishers }))
 
     -- who was connected is, where their channel stays open
-    pub changed-connected : (m : Messages T U) (s : State T U) (shown : Shows old m s) (p : ℕ) (subscriber : Subscriber)
-        → (is_closed (s.channels p subscriber.id 0) ≡ false → is_closed ((change s).channels p subscriber.id 0) ≡ false) → IsConnected old p subscriber → IsConnected new p subscriber
-    changed-connected m s shown p subscriber takes is =
+    changed-connected : (p : ℕ) (subscriber : Subscriber)
+        → (is_closed ((state_of old).channels p subscriber.id 0) ≡ false → is_closed ((change (state_of old)).channels p subscriber.id 0) ≡ false)
+        → IsConnected old p subscriber → IsConnected new p subscriber
+    changed-connected p subscriber takes is =
         let was = connected-in old m s shown p subscriber is in
-        connected new m (change s) (shows m s shown) p subscriber (record {
-          publisher = was.publisher;
-          stands = ap (λ (t : State T U). t.publishers p) (only s) ∙ was.stands;
-          sends = was.sends;
-          subscriber = was.subscriber;
-          there = ap (λ (t : State T U). t.subscribers subscriber.id) (only s) ∙ was.there;
-          receives = was.receives;
-          takes = takes was.takes;
-        })
+        connected new m (change s) now p subscriber
+        (still-connects s (change s) p subscriber.id was (ap (λ (t : State T U). t.publishers p) (only s)) (ap (λ (t : State T U). t.subscribers subscriber.id) (only s))
+        (subst (λ (t : State T U). is_closed (t.channels p subscriber.id 0) ≡ false → is_closed ((change t).channels p subscriber.id 0) ≡ false) (sym shown.state) takes was.takes))
 
-    -- all is left, where no channel is closed
-    pub changed-leaves : BoxesStayBut No_item old new
-        → ((s : State T U) (p q : ℕ) → is_closed (s.channels p q 0) ≡ false → is_closed ((change s).channels p q 0) ≡ false) → Leaves old new
-    changed-leaves boxed takes = record {
+    -- so all but channels is left
+    pub changed-leaves : BoxesStayBut No_item old new → (StaysOpen : ℕ → Subscriber → Type 0)
+        → ((p : ℕ) (subscriber : Subscriber) → StaysOpen p subscriber → IsWellFormed (state_of old) → is_closed ((state_of old).channels p subscriber.id 0) ≡ false
+        → is_closed ((change (state_of old)).channels p subscriber.id 0) ≡ false) → LeavesButChannels StaysOpen old new
+    changed-leaves boxed StaysOpen takes = record {
       stays = changed-stays boxed;
       waits = changed-waits;
-      up_to_date = record {
-        subscribers = changed-updated;
-        connections = λ p subscriber. changed-connected m s shown p subscriber (takes s p subscriber.id);
-        room = changed-room;
-      };
+      up_to_date = changed-updated;
+      connections = λ p subscriber stays. changed-connected p subscriber (takes p subscriber stays (subst IsWellFormed shown.state shown.well_formed));
+      room = changed-room;
       loans_left = changed-left;
     }
+
+-- all is left, where every channel stays open
+pub open-leaves : {T U F G : Type 0} {StaysOpen : ℕ → Subscriber → Type 0} {old new : Kept T U F G} → LeavesButChannels StaysOpen old new
+    → ((p : ℕ) (subscriber : Subscriber) → StaysOpen p subscriber) → Leaves old new
+open-leaves left stays-open = record {
+  stays = left.stays;
+  waits = left.waits;
+  up_to_date = record {
+    subscribers = left.up_to_date;
+    connections = λ p subscriber. left.connections p subscriber (stays-open p subscriber);
+    room = left.room;
+  };
+  loans_left = left.loans_left;
+}

@@ -11,13 +11,10 @@ use Rattle.iox2_store.specs.machine.Records.{Publisher}
 use Rattle.iox2_store.specs.machine.State.{State, with_channels}
 use Rattle.iox2_store.specs.machine.WellFormed.{IsWellFormed}
 use Rattle.iox2_laws.proofs.PlaceLemmas.{is_port-true}
+use Rattle.iox2_pubsub.specs.Leaves.{ClosesNone}
 use Rattle.iox2_laws.proofs.Puts.{at_each, put_at-same, put_at-other}
 
 -- ---- one connection
-
--- The change closes no channel that is in the state.
-abbrev pub ClosesNone : (expected : ℕ) → (Channel → Channel) → Type 0
-ClosesNone expected change = (c : Channel) → is_in_state expected c ≡ true → is_closed c ≡ false → is_closed (change c) ≡ false
 
 -- a hint closes none
 pub hint-closes-none : (expected : ℕ) → ClosesNone expected with_hint

@@ -1,5 +1,5 @@
 -- A close of a port, seen from outside, and what it leaves.
-use Rattle.std.proofs.Common.{◌≡◌, ℕ, get_or, true, refl, ap, sym, subst, ◌∙◌, List, [], Option, None, Some, arith}
+use Rattle.std.proofs.Common.{◌≡◌, ◌≤◌, ℕ, get_or, true, refl, ap, sym, subst, ◌∙◌, List, [], Option, None, Some, arith}
 use Rattle.std.proofs.lemmas.Bool.{true≢false}
 use Rattle.std.proofs.lemmas.Option.{none-some, same_Some}
 use Rattle.iox2_store.specs.machine.Mailbox.{is_borrowed}
@@ -28,34 +28,34 @@ module _ {T U F G : Type 0} {boxes : DomainBoxes F G} (f g : Fields T U) (sound 
   here : Shows (kept_of f) m s
   here = subst (λ (k : Kept T U F G). Shows k m s) (sym view) shown
 
-  -- the domain shows the machine's close of the publisher that stands at the place
+  -- where the fields reach the machine's close of the port that stands at the place, it is shown
+  close-shows : {Port : Type 0} (port_at : State T U → ℕ → Option Port) (closed : State T U → ℕ → Port → State T U)
+      → ((x : Port) → (s.next_message ≤ (closed s id x).next_message) × ((n : ℕ) (l : Loan T U) → (closed s id x).loans n ≡ Some l → s.loans n ≡ Some l))
+      → (found : ℕ) → found ≡ id → (port : Port) → port_at (state_of (kept_of f)) found ≡ Some port → Reaches f g (closed (state_of (kept_of f)) found port)
+      → (x : Port) → port_at s id ≡ Some x → Shows (kept_of g) m (closed s id x)
+  close-shows {Port} port_at closed keeps found is port stands reached x at =
+      let same : port ≡ x = same_Some port x (sym stands ∙ ap (port_at (state_of (kept_of f))) is ∙ ap (λ (t : State T U). port_at t id) (sym here.state) ∙ at) in
+      let here_reached : Reaches f g (closed s id x) =
+      subst (λ (t : State T U). Reaches f g (closed t id x)) (sym here.state)
+      (subst (λ (z : Port). Reaches f g (closed (state_of (kept_of f)) id z)) same (subst (λ (p : ℕ). Reaches f g (closed (state_of (kept_of f)) p port)) is reached)) in
+      reaches-shows f g m s (closed s id x) here here_reached (keeps x).0 (λ n l out. here.unsent n l ((keeps x).1 n l out))
+
+  -- a publisher's
   pub publisher-close-shows : (found : (x : PublisherFields) × (get_or f.publishers place None ≡ Some x) × (x.id ≡ id))
       → ((x : PublisherFields) → get_or f.publishers place None ≡ Some x → Reaches f g (publisher_closed (state_of (kept_of f)) x.id (publisher_of f.books f.connections x).port))
       → (x : Publisher) → s.publishers id ≡ Some x → Shows (kept_of g) m (publisher_closed s id x)
-  publisher-close-shows found closes x at =
-      let machine : Publisher = (publisher_of f.books f.connections found.0).port in
-      let same : machine ≡ x =
-      same_Some machine x (sym (publisher-stands f sound.parts place found.0 found.1) ∙ ap (state_of (kept_of f)).publishers found.2 ∙ ap (λ (t : State T U). t.publishers id) (sym here.state) ∙ at) in
-      let reached : Reaches f g (publisher_closed s id x) =
-      subst (λ (t : State T U). Reaches f g (publisher_closed t id x)) (sym here.state)
-      (subst (λ (z : Publisher). Reaches f g (publisher_closed (state_of (kept_of f)) id z)) same
-      (subst (λ (p : ℕ). Reaches f g (publisher_closed (state_of (kept_of f)) p machine)) found.2 (closes found.0 found.1))) in
-      reaches-shows f g m s (publisher_closed s id x) here reached (omega arith) here.unsent
+  publisher-close-shows found closes =
+      close-shows (λ t p. t.publishers p) publisher_closed (λ x. (omega arith, λ n l out. out)) found.0.id found.2 (publisher_of f.books f.connections found.0).port
+      (publisher-stands f sound.parts place found.0 found.1) (closes found.0 found.1)
 
-  -- and that of the subscriber
+  -- a subscriber's
   pub subscriber-close-shows : (found : (y : SubscriberFields) × (get_or f.subscribers place None ≡ Some y) × (y.id ≡ id))
       → ((y : SubscriberFields) → get_or f.subscribers place None ≡ Some y → Reaches f g (subscriber_closed (state_of (kept_of f)) y.id (subscriber_of f.books f.connections y).port))
       → (y : Subscriber) → s.subscribers id ≡ Some y → Shows (kept_of g) m (subscriber_closed s id y)
-  subscriber-close-shows found closes y at =
-      let machine : Subscriber = (subscriber_of f.books f.connections found.0).port in
-      let same : machine ≡ y =
-      same_Some machine y (sym (subscriber-stands f sound.parts place found.0 found.1) ∙ ap (state_of (kept_of f)).subscribers found.2 ∙ ap (λ (t : State T U). t.subscribers id) (sym here.state) ∙ at) in
-      let reached : Reaches f g (subscriber_closed s id y) =
-      subst (λ (t : State T U). Reaches f g (subscriber_closed t id y)) (sym here.state)
-      (subst (λ (z : Subscriber). Reaches f g (subscriber_closed (state_of (kept_of f)) id z)) same
-      (subst (λ (q : ℕ). Reaches f g (subscriber_closed (state_of (kept_of f)) q machine)) found.2 (closes found.0 found.1))) in
-      reaches-shows f g m s (subscriber_closed s id y) here reached (subscriber_closed_advances s id y).next_message
-      (λ n l out. here.unsent n l (ap (λ (loans : ℕ → Option (Loan T U)). loans n) (sym (subscriber_closed_loans s id y)) ∙ out))
+  subscriber-close-shows found closes =
+      close-shows (λ t q. t.subscribers q) subscriber_closed
+      (λ y. ((subscriber_closed_advances s id y).next_message, λ n l out. ap (λ (loans : ℕ → Option (Loan T U)). loans n) (sym (subscriber_closed_loans s id y)) ∙ out))
+      found.0.id found.2 (subscriber_of f.books f.connections found.0).port (subscriber-stands f sound.parts place found.0 found.1) (closes found.0 found.1)
 
 module _ {T U F G : Type 0} (old new : Kept T U F G) (m : Messages T U) (s : State T U) (shown : Shows old m s) (id : ℕ) where
   -- what is borrowed is told from what is borrowed in the mailboxes

@@ -25,7 +25,7 @@ use Rattle.iox2_laws.proofs.PlaceLemmas.{occupant-set_place, found_set}
 use Rattle.iox2_laws.proofs.Puts.{put_at-same, put_at-other}
 use Rattle.iox2_laws.proofs.Walks.{for_each_place_keeps}
 use Rattle.iox2_pubsub.specs.ConnectedPorts.{Connects}
-use Rattle.iox2_pubsub.proofs.OpenChannels.{sender-reset-connects}
+use Rattle.iox2_pubsub.proofs.OpenChannels.{sender-reset-connects, still-connects}
 
 -- ---- a publisher's update
 
@@ -175,15 +175,7 @@ module _ {T U : Type 0} where
     -- another publisher updates its own
     other-updated : (i : ℕ) (x : Publisher) (side : SenderSide) → eqb p i ≡ false → KeepsBox s (with_sender_side s i x side) p q
     other-updated i x side apart = (
-      record {
-        publisher = c.publisher;
-        stands = put_at-other s.publishers i _ p apart ∙ c.stands;
-        sends = c.sends;
-        subscriber = c.subscriber;
-        there = c.there;
-        receives = c.receives;
-        takes = c.takes;
-      },
+      still-connects s (with_sender_side s i x side) p q c (put_at-other s.publishers i _ p apart) refl c.takes,
       ap (λ (row : ℕ → Mailbox). row q) (put_at-other s.mailboxes i side.mailboxes p apart),
     )
 

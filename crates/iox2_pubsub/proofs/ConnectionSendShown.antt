@@ -38,6 +38,7 @@ use Rattle.iox2_pubsub.proofs.PassingSends.{never-suspended}
 use Rattle.iox2_pubsub.proofs.SendShown.{LeavesSent, leaves-shown, loan-is}
 use Rattle.iox2_pubsub.proofs.SendsServe.{same-connections}
 use Rattle.iox2_pubsub.proofs.SentMessages.{sent-before-stays}
+use Rattle.iox2_pubsub.proofs.CallsStay.{free-waits}
 use Rattle.iox2_pubsub.proofs.StaysBut.{BoxesStayBut, IsSpared, SparedPublishers, none-spared, stays-between}
 use Rattle.iox2_pubsub.proofs.UnfailedSends.{HasNotFailed, IsMild, IsUnfailed, delivered-unfailed}
 use Rattle.iox2_pubsub.proofs.UpToDateShown.{stay}
@@ -196,31 +197,8 @@ module _ {T U F G : Type 0} (old new : Kept T U F G) (m : Messages T U) (s : Sta
   -- where it isn't blocked, its publisher waits as it did
   unblocked-waits : (Spared : ℕ → Type 0) → (result ≡ Blocked_send → ⊥) → ((x : Publisher) → s.publishers l.publisher ≡ Some x → x.blocked ≡ None) → Waits Spared s s'
   unblocked-waits Spared ends free =
-      let mine = send_to_connection_waits environment s n l channel place s' result h (λ (q : ℕ). q ≡ l.publisher) refl in
-      record {
-        next_port = mine.next_port;
-        publishers = λ p x' low at.
-            let was = mine.publishers p x' low at in (
-              was.0,
-              was.1,
-              record {
-                place = was.2.place;
-                strategy = was.2.strategy;
-                handler = was.2.handler;
-                degradation = was.2.degradation;
-                blocked = λ _. elim (cases_eq p l.publisher) [
-                  | inr away ↦ was.2.blocked away
-                  | inl same ↦
-                      let none : (was.0).blocked ≡ None = free was.0 (ap s.publishers (sym same) ∙ was.1) in
-                      let there = ((send_to_connection_stays environment s n l channel place s' result h ends).remain).publishers p was.0 was.1 in
-                      let both : Some x' ≡ Some there.0 = sym at ∙ there.1 in
-                      let is : x' ≡ there.0 = cc in
-                      ap (λ (x : Publisher). x.blocked) is ∙ there.2 none ∙ sym none
-                ];
-              },
-            );
-        subscribers = mine.subscribers;
-      }
+      free-waits Spared l.publisher s s' (send_to_connection_waits environment s n l channel place s' result h (λ (q : ℕ). q ≡ l.publisher) refl)
+      (send_to_connection_stays environment s n l channel place s' result h ends).remain free
 
   -- all but the loan stays, and its publisher where it is blocked
   keeps : (is_blocked : Bool) → BoxesStayBut (A_sent_loan n l.publisher is_blocked) old new → Waits (IsSpared (A_sent_loan n l.publisher is_blocked)) s s' → SparedPublishers (A_sent_loan n l.publisher is_blocked) old s s'

@@ -35,6 +35,10 @@ pub mod DiscardShows
 mod DiscardedLoans
 pub mod QuestionShown
 pub mod UpdatesStay
+pub mod UpdatesLeave
+pub mod ClosesLeave
+pub mod HeldKeys
+pub mod SampleReads
 pub mod UpdateShown
 pub mod ClosesShown
 pub mod PayloadLists

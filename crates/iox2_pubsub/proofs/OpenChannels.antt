@@ -29,26 +29,22 @@ module _ {T U : Type 0} (t : State T U) (i p q : ℕ) (takes : is_closed (t.chan
     | inr away ↦ ap (λ (channels : ℕ → Channel). is_closed (channels 0)) (put_at-other (t.channels p) i (channels_if_linked t p i) q (ne_eqb q i away)) ∙ takes
   ]
 
--- so who is connected stays so
+-- who is connected stays so where the two ports stay and their channel is open
+pub still-connects : {T U : Type 0} (s s' : State T U) (p q : ℕ) (c : Connects s p q) → s'.publishers p ≡ s.publishers p → s'.subscribers q ≡ s.subscribers q → is_closed (s'.channels p q 0) ≡ false
+    → Connects s' p q
+still-connects s s' p q c publisher subscriber takes = record {
+  publisher = c.publisher;
+  stands = publisher ∙ c.stands;
+  sends = c.sends;
+  subscriber = c.subscriber;
+  there = subscriber ∙ c.there;
+  receives = c.receives;
+  takes = takes;
+}
+
 module _ {T U : Type 0} (t : State T U) (i p q : ℕ) (c : Connects t p q) where
   pub sender-reset-connects : Connects (sender_channels_reset t i) p q
-  sender-reset-connects = record {
-    publisher = c.publisher;
-    stands = c.stands;
-    sends = c.sends;
-    subscriber = c.subscriber;
-    there = c.there;
-    receives = c.receives;
-    takes = sender-reset-takes t i p q c.takes;
-  }
+  sender-reset-connects = still-connects t (sender_channels_reset t i) p q c refl refl (sender-reset-takes t i p q c.takes)
 
   pub receiver-reset-connects : Connects (receiver_channels_reset t i) p q
-  receiver-reset-connects = record {
-    publisher = c.publisher;
-    stands = c.stands;
-    sends = c.sends;
-    subscriber = c.subscriber;
-    there = c.there;
-    receives = c.receives;
-    takes = receiver-reset-takes t i p q c.takes;
-  }
+  receiver-reset-connects = still-connects t (receiver_channels_reset t i) p q c refl refl (receiver-reset-takes t i p q c.takes)

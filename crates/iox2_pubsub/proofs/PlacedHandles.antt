@@ -95,26 +95,24 @@ module _ {T U F G : Type 0} {boxes : DomainBoxes F G} (f : Fields T U) (sound : 
       ap (option_map {T = Subscriber} {U = ℕ} (λ y. y.place)) has.1 ∙ ap Some (parts.1 has.0 has.1) in
       occupied (subscriber_of f.books f.connections) f.subscribers it.place it.id (((sound.well_formed).subscriber_places).stands it.id it.place place)
 
+  -- so one stands there
+  pub subscriber-there : (it : SubscriberHandle) → IsLiveSubscriber kept it → (y : SubscriberFields) × (get_or f.subscribers it.place None ≡ Some y)
+  subscriber-there it live = let at = subscriber-at-place it live in (at.0, at.1)
+
   -- ---- what a search tells
 
-  -- who was found is named by its key, and else it isn't, nor in a domain of another service
+  -- who was found is named by its key, and who is named is found, in a domain of this service
   pub publisher-named : (key : Key) → key.message ≡ 0 → key.service_id ≡ (f.config).service_id → HoldsPublisher (shown f) key.port → IsPublisherKey kept key
   publisher-named key none service holds = subst (λ (k : Kept T U F G). IsPublisherKey k key) view (publisher-live (keeping boxes f) key (none, service, holds))
 
-  pub publisher-unnamed : (key : Key) → (HoldsPublisher (shown f) key.port → ⊥) → IsPublisherKey kept key → ⊥
-  publisher-unnamed key none live = none ((publisher-parts (keeping boxes f) key (subst (λ (k : Kept T U F G). IsPublisherKey k key) (sym view) live)).2)
-
-  pub publisher-elsewhere : (key : Key) → (key.service_id ≡ (f.config).service_id → ⊥) → IsPublisherKey kept key → ⊥
-  publisher-elsewhere key away live = away ((publisher-parts (keeping boxes f) key (subst (λ (k : Kept T U F G). IsPublisherKey k key) (sym view) live)).1)
+  pub publisher-among : (key : Key) → IsPublisherKey kept key → (key.message ≡ 0) × (key.service_id ≡ (f.config).service_id) × HoldsPublisher (shown f) key.port
+  publisher-among key live = publisher-parts (keeping boxes f) key (subst (λ (k : Kept T U F G). IsPublisherKey k key) (sym view) live)
 
   pub subscriber-named : (key : Key) → key.message ≡ 0 → key.service_id ≡ (f.config).service_id → HoldsSubscriber (shown f) key.port → IsSubscriberKey kept key
   subscriber-named key none service holds = subst (λ (k : Kept T U F G). IsSubscriberKey k key) view (subscriber-live (keeping boxes f) key (none, service, holds))
 
-  pub subscriber-unnamed : (key : Key) → (HoldsSubscriber (shown f) key.port → ⊥) → IsSubscriberKey kept key → ⊥
-  subscriber-unnamed key none live = none ((subscriber-parts (keeping boxes f) key (subst (λ (k : Kept T U F G). IsSubscriberKey k key) (sym view) live)).2)
-
-  pub subscriber-elsewhere : (key : Key) → (key.service_id ≡ (f.config).service_id → ⊥) → IsSubscriberKey kept key → ⊥
-  subscriber-elsewhere key away live = away ((subscriber-parts (keeping boxes f) key (subst (λ (k : Kept T U F G). IsSubscriberKey k key) (sym view) live)).1)
+  pub subscriber-among : (key : Key) → IsSubscriberKey kept key → (key.message ≡ 0) × (key.service_id ≡ (f.config).service_id) × HoldsSubscriber (shown f) key.port
+  subscriber-among key live = subscriber-parts (keeping boxes f) key (subst (λ (k : Kept T U F G). IsSubscriberKey k key) (sym view) live)
 
   -- a handle with the place at which its port was found says where that stands
   pub publisher-found-placed : (it : PublisherHandle) → (x : PublisherFields) × (get_or f.publishers it.place None ≡ Some x) × (x.id ≡ it.id) → IsPlacedPublisher kept it

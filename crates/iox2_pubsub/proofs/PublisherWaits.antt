@@ -197,8 +197,9 @@ module _ {T U F G : Type 0} (old new : Kept T U F G) (m m' : Messages T U) (s s'
   send-joins p values earlier all its room (Err error) serves = tt
 
   -- and a receive takes the first
-  pub receive-takes-first : (sample : Sample) → TakesOldest subscriber sample old new → waiting new subscriber < waiting old subscriber → TakesFirst subscriber sample old new
-  receive-takes-first sample oldest fewer = λ p payload later all. (received-first old new before-well after-well p subscriber sample oldest fewer payload later all).0
-
-  pub receive-leaves-later : (sample : Sample) → TakesOldest subscriber sample old new → waiting new subscriber < waiting old subscriber → LeavesLater subscriber old new
-  receive-leaves-later sample oldest fewer = λ p payload later all. (received-first old new before-well after-well p subscriber sample oldest fewer payload later all).1
+  pub receive-takes-first : (sample : Sample) → TakesOldest subscriber sample old new → waiting new subscriber < waiting old subscriber
+      → TakesFirst subscriber sample old new × LeavesLater subscriber old new
+  receive-takes-first sample oldest fewer = (
+    λ p payload later all. (received-first old new before-well after-well p subscriber sample oldest fewer payload later all).0,
+    λ p payload later all. (received-first old new before-well after-well p subscriber sample oldest fewer payload later all).1,
+  )

@@ -1,5 +1,5 @@
 -- Asking for samples, seen from outside.
-use Rattle.std.proofs.Common.{◌≡◌, ℕ, Bool, get_or, ap, sym, subst, ◌∙◌, Option, Some, None, Result, Ok, Err}
+use Rattle.std.proofs.Common.{◌≡◌, ℕ, Bool, get_or, subst, Option, Some, None, Result, Ok, Err}
 use Rattle.iox2_store.specs.machine.Records.{Environment}
 use Rattle.iox2_store.specs.machine.Receives.{HasSamples}
 use Rattle.iox2_store.specs.machine.State.{State, Messages}
@@ -12,7 +12,7 @@ use Rattle.iox2_domain.specs.Kept.{Kept}
 use Rattle.iox2_domain.specs.Ports.{SubscriberFields}
 use Rattle.iox2_domain.specs.Questions.{AnswersAs, IsAnswer}
 use Rattle.iox2_domain.specs.Shows.{Shows}
-use Rattle.iox2_domain.proofs.lemmas.fields.ReachesShows.{reaches-shows}
+use Rattle.iox2_pubsub.proofs.UpdateShown.{step-shows}
 
 module _ {T U : Type 0} (environment : Environment) where
   -- an answer, or a failure, is the machine's
@@ -24,15 +24,10 @@ module _ {T U : Type 0} (environment : Environment) where
   -- the domain shows what the question comes to, with the same messages
   pub answer-shows : {F G : Type 0} {boxes : DomainBoxes F G} (kept : Kept T U F G) (f g : Fields T U) → keeping boxes f ≡ kept → (q : ℕ) (result : Result Bool ConnectionFailure) → AnswersAs environment f q result g
       → (m : Messages T U) (s : State T U) → Shows kept m s → (s' : State T U) × Shows (kept_of g) m s' × IsAnswer environment s q result s'
-  answer-shows {F} {G} kept f g same q result answers m s shown =
-      let here : Shows (kept_of f) m s = subst (λ (k : Kept T U F G). Shows k m s) (sym same) shown in
-      let asked : IsAnswer environment s q result answers.0 = subst (λ (t : State T U). IsAnswer environment t q result answers.0) (sym here.state) answers.2 in
-      let has = answered s q result answers.0 asked in (
-        answers.0,
-        reaches-shows f g m s answers.0 here answers.1 (has_samples_advances environment s q answers.0 has.0 has.1 has.2).next_message
-            (λ n l at. here.unsent n l (ap (λ all. all n) (sym (has_samples_loans environment s q answers.0 has.0 has.1 has.2)) ∙ at)),
-        asked,
-      )
+  answer-shows kept f g same q result answers =
+      step-shows kept f g same (λ s t. IsAnswer environment s q result t)
+      (λ s t asked. let has = answered s q result t asked in ((has_samples_advances environment s q t has.0 has.1 has.2).next_message, has_samples_loans environment s q t has.0 has.1 has.2))
+      answers.0 answers.1 answers.2
 
   -- the subscriber that was found is the one that was asked
   pub answer-at : (f g : Fields T U) (place q : ℕ) (result : Result Bool ConnectionFailure)

@@ -18,26 +18,21 @@ use Rattle.iox2_domain.specs.Shows.{Shows}
 use Rattle.iox2_domain.specs.Kept.{Kept, state_of}
 use Rattle.iox2_domain.specs.Boxes.{DomainBoxes}
 use Rattle.iox2_domain.specs.Fields.{Fields, kept_of, keeping}
+use Rattle.iox2_domain.specs.Invariant.{IsDomain}
 use Rattle.iox2_store.specs.machine.Records.{Environment}
 use Rattle.iox2_domain.specs.Receipts.{receive_result, ReceivesAs}
 use Rattle.iox2_domain.specs.declared.sample_slots.Receipt.{Receipt}
 use Rattle.iox2_domain.specs.declared.sample_slots.SampleAt.{SampleAt}
-use Rattle.iox2_domain.proofs.lemmas.fields.ReachesShows.{reaches-shows}
+use Rattle.iox2_pubsub.proofs.UpdateShown.{step-shows}
 use Rattle.iox2_domain.proofs.lemmas.receives.Reception.{received-borrowed}
 
 module _ {T U : Type 0} where
   -- the domain shows what the receive comes to, with the same messages
   pub reception-shows : {F G : Type 0} {boxes : DomainBoxes F G} (environment : Environment) (kept : Kept T U F G) (f g : Fields T U) → keeping boxes f ≡ kept → (q : ℕ) (result : Result (Option Receipt) ReceiveError) → ReceivesAs environment f q result g
       → (m : Messages T U) (s : State T U) → Shows kept m s → (s' : State T U) × Shows (kept_of g) m s' × Receive environment s q s' (receive_result result)
-  reception-shows {F} {G} environment kept f g same q result receives m s shown =
-      let here : Shows (kept_of f) m s = subst (λ (k : Kept T U F G). Shows k m s) (sym same) shown in
-      let received_result : Receive environment s q receives.0 (receive_result result) =
-      subst (λ (t : State T U). Receive environment t q receives.0 (receive_result result)) (sym here.state) receives.2 in (
-        receives.0,
-        reaches-shows f g m s receives.0 here receives.1 (receive_advances environment s q receives.0 (receive_result result) received_result).next_message
-            (λ n l at. here.unsent n l (ap (λ all. all n) (sym (receive_loans environment s q receives.0 (receive_result result) received_result)) ∙ at)),
-        received_result,
-      )
+  reception-shows environment kept f g same q result receives =
+      step-shows kept f g same (λ s t. Receive environment s q t (receive_result result))
+      (λ s t h. ((receive_advances environment s q t (receive_result result) h).next_message, receive_loans environment s q t (receive_result result) h)) receives.0 receives.1 receives.2
 
   -- the sample that was received
   module _ {F G : Type 0} {boxes : DomainBoxes F G} (environment : Environment) (kept : Kept T U F G) (f g : Fields T U) (same : keeping boxes f ≡ kept) (subscriber : Subscriber) (sample : Sample) (receipt : Receipt)
@@ -72,6 +67,12 @@ module _ {T U : Type 0} where
   reception-at environment f g place q result result' found is receives =
       subst (λ (r : Result (Option Receipt) ReceiveError). ReceivesAs environment f q r g) is
       (subst (λ (r : ℕ). ReceivesAs environment f r result g) found.2 (receives found.0 found.1))
+
+  -- it leaves a domain
+  pub reception-agrees : (environment : Environment) (f g : Fields T U) (place : ℕ) (result : Result (Option Receipt) ReceiveError)
+      → ((y : SubscriberFields) → get_or f.subscribers place None ≡ Some y → ReceivesAs environment f y.id result g)
+      → (y : SubscriberFields) × (get_or f.subscribers place None ≡ Some y) → IsDomain g
+  reception-agrees environment f g place result receives at = (receives at.0 at.1).1.agrees
 
 -- ---- a receive that failed
 

@@ -4,6 +4,8 @@ use Rattle.iox2_store.specs.SingleValues.{is_single_valued}
 use Rattle.iox2_store.specs.declared.service_config.TypeVariant.TheVariants.{Dynamic}
 use Rattle.iox2_store.specs.machine.Records.{Entry, Loan}
 use Rattle.iox2_store.specs.declared.key.Key.{Key}
+use Rattle.iox2_domain.specs.Boxes.{DomainBoxes}
+use Rattle.iox2_domain.specs.Fields.{Fields, keeping}
 use Rattle.iox2_domain.specs.Kept.{Kept, state_of, entries_of}
 use Rattle.iox2_domain.specs.LoanCalls.{HasCells}
 use Rattle.iox2_domain.proofs.lemmas.fields.SingleSettings.{dynamic-several}
@@ -25,6 +27,10 @@ module _ {T U F G : Type 0} (kept : Kept T U F G) where
   pub holds-parts : HoldsSlices kept → is_single_valued kept.config ≡ false
   unfolding HoldsSlices
   holds-parts holds = holds
+
+  -- as the fields have it
+  pub holds-in : {boxes : DomainBoxes F G} (f : Fields T U) → keeping boxes f ≡ kept → HoldsSlices kept → is_single_valued f.config ≡ false
+  holds-in f view holds = ap (λ (k : Kept T U F G). is_single_valued k.config) view ∙ holds-parts holds
 
   -- messages of a service for slices are slices
   pub dynamic-holds : (kept.config).variant ≡ Dynamic → HoldsSlices kept

@@ -21,6 +21,8 @@ use Rattle.iox2_domain.specs.Handlers.{may_fail, may_fail_update}
 use Rattle.iox2_domain.specs.Kept.{Kept, state_of, entries_of}
 use Rattle.iox2_domain.specs.Shows.{Shows}
 use Rattle.iox2_pubsub.proofs.UnfailedSends.{IsMild, HasNotFailed}
+use Rattle.iox2_pubsub.proofs.LiveParts.{loan-parts, origin-parts, sample-parts}
+use Rattle.iox2_pubsub.proofs.SliceParts.{cells-parts, values-parts}
 use Rattle.iox2_pubsub.specs.Handlers.{may_wait}
 use Rattle.iox2_pubsub.specs.Live.{degradation_box, handler_box, subscriber_box, IsSingleValued, IsPlacedPublisher, IsPlacedSubscriber, HasItsBuffer, IsPublisherKey, IsSubscriberKey, IsLoanKey, IsSampleKey, IsBlockedKey, HasMark, IsFromOrigin, LoanHasHeader, LoanHasUserHeader, SampleHasHeader, SampleHasUserHeader, Item, No_item, A_publisher, A_subscriber, A_loan, A_sample, A_blocked_send, A_sent_loan, A_sent_copy, Both, IsOtherPublisher, IsOtherSubscriber, IsOtherLoan, IsOtherSample, IsUnblocked, IsUnwritten, IsWritten, PassesFull, NeverFails, NeverWaits, IsOtherBlocked, StaysBut, Stays, IsNewIn, unwritten_key, written_key}
 use Rattle.iox2_pubsub.specs.Slices.{HoldsSlices, IsSliced, HasUnwrittenCells, HasValues, SampleHasValues}
@@ -391,21 +393,34 @@ stays-between {T} {U} spent old new m m' s s' shown shown' sent remain loans sam
     between : (P : State T U → State T U → Type 0) → P s s' → P (state_of old) (state_of new)
     between P h = subst (λ (t : State T U). P t (state_of new)) shown.state (subst (P s) shown'.state h)
 
+-- what is made is new where it is another than each port, loan and sample that was there, and than each publisher that had no blocked
+-- send, or one
+pub new-in : {T U F G : Type 0} (start : Kept T U F G) (made : Item) → ((key : Key) → IsPublisherKey start key → IsOtherPublisher made key.port)
+    → ((key : Key) → IsSubscriberKey start key → IsOtherSubscriber made key.port)
+    → ((n : ℕ) (l : Loan T U) → (state_of start).loans n ≡ Some l → IsOtherLoan made n)
+    → ((p q n : ℕ) → is_borrowed n ((state_of start).mailboxes p q) ≡ true → IsOtherSample made q n)
+    → ((key : Key) → IsUnblocked start key → IsOtherPublisher made key.port × IsOtherBlocked made key.port)
+    → ((key : Key) → IsBlockedKey start key → IsOtherPublisher made key.port × IsOtherBlocked made key.port) → IsNewIn start made
+new-in {T} {U} start made publishers subscribers loans samples unblocked blocked = record {
+  publishers = publishers;
+  subscribers = subscribers;
+  loans = out;
+  unwritten_loans = λ it live. out (unwritten_key it) live.live;
+  written_loans = λ it live. out (written_key it) live.live;
+  samples = λ key live. let has = (sample-parts start key live).1 in samples has.0 key.port key.message has.1;
+  origins = λ it from. samples it.origin it.sample.subscriber it.sample.number (origin-parts start it from);
+  cells = λ n cells has. let it = cells-parts start n cells has in loans n it.0 it.1;
+  payloads = λ n values has. let it = values-parts start n values has in loans n it.0 it.1;
+  unblocked = unblocked;
+  blocked_sends = blocked;
+}
+  where
+    out : (key : Key) → IsLoanKey start key → IsOtherLoan made key.message
+    out key live = let has = (loan-parts start key live).1 in loans key.message has.0 has.1
+
 -- nothing is always new
 pub nothing-is-new : {T U F G : Type 0} (start : Kept T U F G) → IsNewIn start No_item
-nothing-is-new start = record {
-  publishers = λ key live. tt;
-  subscribers = λ key live. tt;
-  loans = λ key live. tt;
-  unwritten_loans = λ it live. tt;
-  written_loans = λ it live. tt;
-  samples = λ key live. tt;
-  origins = λ it from. tt;
-  cells = λ n cells has. tt;
-  payloads = λ n values has. tt;
-  unblocked = λ key free. (tt, tt);
-  blocked_sends = λ key live. (tt, tt);
-}
+nothing-is-new start = new-in start No_item (λ key live. tt) (λ key live. tt) (λ n l out. tt) (λ p q n borrowed. tt) (λ key free. (tt, tt)) (λ key live. (tt, tt))
 
 -- nothing changed
 pub unchanged-stays : {T U F G : Type 0} (spent : Item) (kept : Kept T U F G) → StaysBut spent kept kept
@@ -464,19 +479,9 @@ module _ {T U F G : Type 0} (start : Kept T U F G) where
 
   -- a blocked send of a new publisher is new
   pub blocked-new : (p : ℕ) → IsNewIn start (A_publisher p) → IsNewIn start (A_blocked_send p)
-  blocked-new p new = record {
-    publishers = λ key live. tt;
-    subscribers = λ key live. tt;
-    loans = λ key live. tt;
-    unwritten_loans = λ it live. tt;
-    written_loans = λ it live. tt;
-    samples = λ key live. tt;
-    origins = λ it from. tt;
-    cells = λ n cells has. tt;
-    payloads = λ n values has. tt;
-    unblocked = λ key free. (tt, (new.unblocked key free).0);
-    blocked_sends = λ key live. (tt, (new.blocked_sends key live).0);
-  }
+  blocked-new p new =
+      new-in start (A_blocked_send p) (λ key live. tt) (λ key live. tt) (λ n l out. tt) (λ p q n borrowed. tt)
+      (λ key free. (tt, (new.unblocked key free).0)) (λ key live. (tt, (new.blocked_sends key live).0))
 
 -- ---- parts of items
 

@@ -1,7 +1,10 @@
 -- What a call leaves as it was.
 use Rattle.iox2_domain.specs.Kept.{Kept}
-use Rattle.iox2_pubsub.specs.Live.{Item, No_item, StaysBut, UpToDateStay, WaitingStays}
+use Rattle.std.specs.Prelude.{ℕ, ◌≡◌, ◌≢◌, ◌≤◌, true, false}
+use Rattle.iox2_store.specs.machine.Channel.{Channel, is_closed, is_in_state}
+use Rattle.iox2_pubsub.specs.Live.{AddAtMost, IsConnected, IsUpToDate, Item, No_item, OthersStayUpToDate, OthersWait, RoomStays, Stays, StaysBut, UpToDateStay, WaitingStays, subscriber_port, waiting}
 use Rattle.iox2_pubsub.specs.LoansLeft.{LoansLeftStay}
+use Rattle.iox2_pubsub.specs.declared.subscriber.Subscriber.{Subscriber}
 
 -- The call leaves all as it was, but for this item: what else is live stays so, the same messages wait, who was up to date and
 -- connected is, and as many loans and numbers are left.
@@ -14,3 +17,42 @@ pub record LeavesBut {T U F G : Type 0} (item : Item) (old new : Kept T U F G) :
 -- The call leaves all as it was, and spends nothing.
 abbrev pub Leaves : {T U F G : Type 0} → (old new : Kept T U F G) → Type 0
 Leaves = LeavesBut No_item
+
+-- The call leaves all as it was, but what waits for this subscriber, for which no more waits than before.
+pub record LeavesButWaiting {T U F G : Type 0} (subscriber : Subscriber) (old new : Kept T U F G) : Type 0 where
+  pub stays : Stays old new
+  pub others : OthersWait subscriber old new
+  pub no_more : waiting new subscriber ≤ waiting old subscriber
+  pub up_to_date : UpToDateStay old new
+  pub loans_left : LoansLeftStay old new
+
+-- The call leaves all as it was, but that for no subscriber more than so many messages are added to what waits.
+pub record LeavesAdding {T U F G : Type 0} (more : ℕ) (old new : Kept T U F G) : Type 0 where
+  pub stays : Stays old new
+  pub adds : AddAtMost more old new
+  pub up_to_date : UpToDateStay old new
+  pub loans_left : LoansLeftStay old new
+
+-- The call leaves all as it was, but this subscriber, for which nothing waits afterwards.
+pub record LeavesWithout {T U F G : Type 0} (subscriber : Subscriber) (old new : Kept T U F G) : Type 0 where
+  pub stays : StaysBut (subscriber_port subscriber) old new
+  pub none : waiting new subscriber ≡ 0
+  pub others : OthersWait subscriber old new
+  pub up_to_date : OthersStayUpToDate subscriber old new
+  pub connections : (publisher : ℕ) (other : Subscriber) → other.id ≢ subscriber.id → IsConnected old publisher other → IsConnected new publisher other
+  pub room : RoomStays old new
+  pub loans_left : LoansLeftStay old new
+
+-- The call leaves all as it was, but channels: a publisher and a subscriber that were connected are, where their channel stays open.
+pub record LeavesButChannels {T U F G : Type 0} (StaysOpen : (publisher : ℕ) → Subscriber → Type 0) (old new : Kept T U F G) : Type 0 where
+  pub stays : Stays old new
+  pub waits : WaitingStays old new
+  pub up_to_date : (subscriber : Subscriber) → IsUpToDate old subscriber → IsUpToDate new subscriber
+  pub connections : (publisher : ℕ) (subscriber : Subscriber) → StaysOpen publisher subscriber → IsConnected old publisher subscriber
+      → IsConnected new publisher subscriber
+  pub room : RoomStays old new
+  pub loans_left : LoansLeftStay old new
+
+-- The change closes no channel that is in the state.
+abbrev pub ClosesNone : (expected : ℕ) → (Channel → Channel) → Type 0
+ClosesNone expected change = (channel : Channel) → is_in_state expected channel ≡ true → is_closed channel ≡ false → is_closed (change channel) ≡ false

@@ -21,8 +21,8 @@ pub trait UpdateConnections<T: Drop, U: Default + Drop, F: BackpressureFn, G: De
     ghost use Rattle.iox2_store.specs.declared.errors.ConnectionFailure.{ConnectionFailure};
     ghost use Rattle.iox2_domain.specs.Kept.{Kept};
     ghost use Rattle.iox2_domain.specs.Shows.{Shows};
-    ghost use Rattle.iox2_pubsub.specs.Live.{AddAtMost, Stays, UpToDateStay};
-    ghost use Rattle.iox2_pubsub.specs.LoansLeft.{LoansLeftStay};
+    ghost use Rattle.iox2_pubsub.specs.Leaves.{LeavesAdding};
+    ghost use Rattle.iox2_pubsub.specs.Live.{Stays};
     ghost use Rattle.iox2_pubsub.specs.UpdateCalls.{returned_failure};
 
     // The port is one of the domain's, wasn't closed, and no send of it is blocked.
@@ -54,12 +54,9 @@ pub trait UpdateConnections<T: Drop, U: Default + Drop, F: BackpressureFn, G: De
         ensures live { is_live domain.new self.now }
         ensures updates { (m : Messages T U) (s : State T U) → Shows domain.old m s
             → (s' : State T U) × Shows domain.new m s' × updates domain.old s self.now s' (returned_failure result) }
-        ensures adds { AddAtMost (adds domain.old) domain.old domain.new }
         ensures updated { OnOk result (is_updated domain.new self.now) }
         ensures leaves { leaves domain.old domain.new self.now }
-        ensures up_to_date { UpToDateStay domain.old domain.new }
-        ensures loans_left { LoansLeftStay domain.old domain.new }
-        ensures stays { Stays domain.old domain.new };
+        ensures rest { LeavesAdding (adds domain.old) domain.old domain.new };
 
     // A port that is live stays so where everything does.
     ghost live_stays: { (old new : Kept T U F G) (port : Self) → Stays old new → is_live old port → is_live new port };

@@ -1,5 +1,5 @@
 //! A publisher asks about the channels of its connections, and closes them.
-ghost use Rattle.std.specs.Prelude.{◌≡◌, ◌≢◌, ◌⊎◌, ◌<◌, ℕ};
+ghost use Rattle.std.specs.Prelude.{◌≡◌, ◌≢◌, ◌⊎◌, ◌<◌};
 
 use crate::domain::Domain;
 use crate::publisher::Publisher;
@@ -11,9 +11,9 @@ impl Publisher {
     ghost use Rattle.iox2_store.specs.machine.ChannelCalls.{connection_place, has_channel_state, has_disconnect_hint, sent_closed};
     ghost use Rattle.iox2_store.specs.machine.Limits.{channel_count};
     ghost use Rattle.iox2_store.specs.machine.State.{State, Messages};
-    ghost use Rattle.iox2_pubsub.specs.Live.{IsConnected, IsPlacedPublisher, IsPublisherKey, IsUpToDate, RoomStays, Stays, WaitingStays, publisher_key};
-    ghost use Rattle.iox2_pubsub.specs.LoansLeft.{LoansLeftStay};
-    ghost use Rattle.iox2_pubsub.specs.declared.subscriber.Subscriber.{Subscriber};
+    ghost use Rattle.iox2_domain.specs.Kept.{state_of};
+    ghost use Rattle.iox2_pubsub.specs.Leaves.{LeavesButChannels};
+    ghost use Rattle.iox2_pubsub.specs.Live.{IsPlacedPublisher, IsPublisherKey, publisher_key};
     ghost use Rattle.iox2_pubsub.specs.Handles.{publisher_id, subscriber_id};
     ghost use Rattle.iox2_domain.specs.Shows.{Shows};
 
@@ -97,14 +97,9 @@ impl Publisher {
         requires placed { IsPlacedPublisher domain.old self.now }
         requires channel { channel < channel_count domain.old.config }
         ensures closed { (m : Messages T U) (s : State T U) → Shows domain.old m s → Shows domain.new m (sent_closed s (publisher_id self.now) channel connection expected) }
-        ensures waits { WaitingStays domain.old domain.new }
-        ensures up_to_date { (subscriber : Subscriber) → IsUpToDate domain.old subscriber → IsUpToDate domain.new subscriber }
-        ensures connections { (m : Messages T U) (s : State T U) (publisher : ℕ) (subscriber : Subscriber) → Shows domain.old m s
-            → (publisher ≢ publisher_id self.now) ⊎ (connection_place s publisher (subscriber_id subscriber) ≢ Some connection) ⊎ (channel ≢ 0)
-            → IsConnected domain.old publisher subscriber → IsConnected domain.new publisher subscriber }
-        ensures room { RoomStays domain.old domain.new }
-        ensures loans_left { LoansLeftStay domain.old domain.new }
-        ensures stays { Stays domain.old domain.new }
+        ensures leaves { LeavesButChannels
+            (λ publisher subscriber. (publisher ≢ publisher_id self.now) ⊎ (connection_place (state_of domain.old) publisher (subscriber_id subscriber) ≢ Some connection) ⊎ (channel ≢ 0))
+            domain.old domain.new }
     {
         close_sent(&mut domain.state, self.place, channel, connection, expected);
     }

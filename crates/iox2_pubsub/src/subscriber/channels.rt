@@ -1,5 +1,5 @@
 //! A subscriber asks about the channels of its connections, and changes them.
-ghost use Rattle.std.specs.Prelude.{◌≡◌, ◌≢◌, ◌⊎◌, ◌<◌, ℕ};
+ghost use Rattle.std.specs.Prelude.{◌≡◌, ◌≢◌, ◌⊎◌, ◌<◌};
 
 use crate::domain::Domain;
 use crate::subscriber::Subscriber;
@@ -8,13 +8,12 @@ use iox2_slots::CHANNEL_STATE_CLOSED;
 use iox2_store::{BackpressureFn, DegradationFn};
 
 impl Subscriber {
-    ghost use Rattle.iox2_store.specs.machine.ChannelCalls.{SetChannelState, received_closed, received_hinted, some_channel_has_state};
+    ghost use Rattle.iox2_store.specs.machine.ChannelCalls.{SetChannelState, received_changed, received_closed, received_hinted, some_channel_has_state};
     ghost use Rattle.iox2_store.specs.machine.Limits.{channel_count};
     ghost use Rattle.iox2_store.specs.machine.State.{State, Messages};
-    ghost use Rattle.iox2_pubsub.specs.Leaves.{Leaves};
-    ghost use Rattle.iox2_pubsub.specs.Live.{IsConnected, IsLiveSubscriber, IsUpToDate, RoomStays, Stays, WaitingStays};
-    ghost use Rattle.iox2_pubsub.specs.LoansLeft.{LoansLeftStay};
-    ghost use Rattle.iox2_pubsub.specs.declared.subscriber.Subscriber.{Subscriber as Handle};
+    ghost use Rattle.iox2_messages.specs.ChannelChanges.{changed_channel};
+    ghost use Rattle.iox2_pubsub.specs.Leaves.{ClosesNone, Leaves, LeavesButChannels};
+    ghost use Rattle.iox2_pubsub.specs.Live.{IsLiveSubscriber};
     ghost use Rattle.iox2_pubsub.specs.Handles.{subscriber_id};
     ghost use Rattle.iox2_domain.specs.Shows.{Shows};
 
@@ -60,13 +59,7 @@ impl Subscriber {
     {
         let were_closed = all_received_in(&domain.state, self.place, channel, CHANNEL_STATE_CLOSED);
         let change = ChannelChange::SetState(state);
-        change_received(
-            &mut domain.state,
-            self.place,
-            channel,
-            CHANNEL_STATE_CLOSED,
-            change,
-        );
+        self.change_channel(domain, channel, CHANNEL_STATE_CLOSED, change);
         were_closed
     }
 
@@ -88,15 +81,10 @@ impl Subscriber {
         requires live { IsLiveSubscriber domain.old self.now }
         requires channel { channel < channel_count domain.old.config }
         ensures closed { (m : Messages T U) (s : State T U) → Shows domain.old m s → Shows domain.new m (received_closed s (subscriber_id self.now) channel expected) }
-        ensures waits { WaitingStays domain.old domain.new }
-        ensures up_to_date { (subscriber : Handle) → IsUpToDate domain.old subscriber → IsUpToDate domain.new subscriber }
-        ensures connections { (publisher : ℕ) (other : Handle) → (subscriber_id other ≢ subscriber_id self.now) ⊎ (channel ≢ 0) → IsConnected domain.old publisher other → IsConnected domain.new publisher other }
-        ensures room { RoomStays domain.old domain.new }
-        ensures loans_left { LoansLeftStay domain.old domain.new }
-        ensures stays { Stays domain.old domain.new }
+        ensures leaves { LeavesButChannels (λ publisher other. (subscriber_id other ≢ subscriber_id self.now) ⊎ (channel ≢ 0)) domain.old domain.new }
     {
         let change = ChannelChange::SetState(CHANNEL_STATE_CLOSED);
-        change_received(&mut domain.state, self.place, channel, expected, change);
+        self.change_channel(domain, channel, expected, change);
     }
 
     /// Hints at each connection of the subscriber, where a channel is in the state `expected`, that
@@ -118,12 +106,23 @@ impl Subscriber {
         ensures hinted { (m : Messages T U) (s : State T U) → Shows domain.old m s → Shows domain.new m (received_hinted s (subscriber_id self.now) channel expected) }
         ensures leaves { Leaves domain.old domain.new }
     {
-        change_received(
-            &mut domain.state,
-            self.place,
-            channel,
-            expected,
-            ChannelChange::SetHint,
-        );
+        self.change_channel(domain, channel, expected, ChannelChange::SetHint);
+    }
+
+    // Changes a channel so at each connection of the subscriber where it is in the state `expected`.
+    fn change_channel<T: Drop, U: Default + Drop, F: BackpressureFn, G: DegradationFn>(
+        &self,
+        domain: &mut Domain<T, U, F, G>,
+        channel: usize,
+        expected: u64,
+        change: ChannelChange,
+    )
+        requires live { IsLiveSubscriber domain.old self.now }
+        requires channel { channel < channel_count domain.old.config }
+        ensures changed { (m : Messages T U) (s : State T U) → Shows domain.old m s
+            → Shows domain.new m (received_changed s (subscriber_id self.now) channel expected (changed_channel change)) }
+        ensures leaves { LeavesButChannels (λ publisher other. ClosesNone expected (changed_channel change) ⊎ (subscriber_id other ≢ subscriber_id self.now) ⊎ (channel ≢ 0)) domain.old domain.new }
+    {
+        change_received(&mut domain.state, self.place, channel, expected, change);
     }
 }

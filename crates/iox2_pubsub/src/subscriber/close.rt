@@ -1,5 +1,5 @@
 //! A subscriber is closed.
-ghost use Rattle.std.specs.Prelude.{◌≡◌, ◌≢◌, ℕ};
+ghost use Rattle.std.specs.Prelude.{◌≡◌};
 
 use crate::domain::Domain;
 use crate::subscriber::Subscriber;
@@ -11,10 +11,8 @@ impl Subscriber {
     ghost use Rattle.iox2_store.specs.machine.Ports.{subscriber_closed};
     ghost use Rattle.iox2_store.specs.machine.Records.{Subscriber as Record};
     ghost use Rattle.iox2_store.specs.machine.State.{State, Messages};
-    ghost use Rattle.iox2_pubsub.specs.Live.{IsConnected, IsLiveSubscriber, IsSubscriberKey, OthersStayUpToDate, OthersWait, RoomStays, StaysBut, subscriber_box, subscriber_key, subscriber_port, waiting};
-    ghost use Rattle.iox2_pubsub.specs.LoansLeft.{LoansLeftStay};
-    ghost use Rattle.iox2_pubsub.specs.declared.subscriber.Subscriber.{Subscriber as Handle};
-    ghost use Rattle.iox2_pubsub.specs.Handles.{subscriber_id};
+    ghost use Rattle.iox2_pubsub.specs.Leaves.{LeavesWithout};
+    ghost use Rattle.iox2_pubsub.specs.Live.{IsLiveSubscriber, IsSubscriberKey, subscriber_box, subscriber_key};
     ghost use Rattle.iox2_domain.specs.Shows.{Shows};
 
     /// Closes the subscriber: it takes no messages any more, and what waits for it is lost. Its
@@ -31,13 +29,7 @@ impl Subscriber {
             → Shows domain.new m (subscriber_closed s (subscriber_key self).port y) }
         ensures spent { IsSubscriberKey domain.new (subscriber_key self) → ⊥ }
         ensures unboxed { subscriber_box domain.new (subscriber_key self).port ≡ None }
-        ensures none { waiting domain.new self ≡ 0 }
-        ensures others { OthersWait self domain.old domain.new }
-        ensures up_to_date { OthersStayUpToDate self domain.old domain.new }
-        ensures connections { (publisher : ℕ) (other : Handle) → subscriber_id other ≢ subscriber_id self → IsConnected domain.old publisher other → IsConnected domain.new publisher other }
-        ensures room { RoomStays domain.old domain.new }
-        ensures loans_left { LoansLeftStay domain.old domain.new }
-        ensures stays { StaysBut (subscriber_port self) domain.old domain.new }
+        ensures leaves { LeavesWithout self domain.old domain.new }
     {
         let Subscriber {
             service_id: _,

@@ -1,5 +1,5 @@
 //! A subscriber is asked whether messages wait.
-ghost use Rattle.std.specs.Prelude.{◌<◌, ◌≤◌, ◌↔◌, IfOk, IsTrue, OnOk};
+ghost use Rattle.std.specs.Prelude.{◌<◌, ◌↔◌, IfOk, IsTrue, OnOk};
 
 use crate::domain::Domain;
 use crate::subscriber::Subscriber;
@@ -8,8 +8,8 @@ use iox2_store::{BackpressureFn, ConnectionFailure, DegradationFn};
 
 impl Subscriber {
     ghost use Rattle.iox2_store.specs.machine.State.{State, Messages};
-    ghost use Rattle.iox2_pubsub.specs.Live.{IsLiveSubscriber, IsUpToDate, KeepsAll, OthersWait, Stays, UpToDateStay, waiting, WaitingStays};
-    ghost use Rattle.iox2_pubsub.specs.LoansLeft.{LoansLeftStay};
+    ghost use Rattle.iox2_pubsub.specs.Leaves.{LeavesButWaiting};
+    ghost use Rattle.iox2_pubsub.specs.Live.{IsLiveSubscriber, IsUpToDate, KeepsAll, waiting, WaitingStays};
     ghost use Rattle.iox2_pubsub.specs.QuestionCalls.{Answers};
     ghost use Rattle.iox2_domain.specs.Boxes.{answers_of};
     ghost use Rattle.iox2_domain.specs.Shows.{Shows};
@@ -30,12 +30,8 @@ impl Subscriber {
             → (s' : State T U) × Shows domain.new m s' × Answers (answers_of F.allows G.allows (domain.old.boxes).subscribers) s (subscriber_id self.now) result s' }
         ensures waits { IfOk result (λ waits. IsTrue waits ↔ (0 < waiting domain.new self.now)) }
         ensures undisturbed { KeepsAll domain.old self.now → WaitingStays domain.old domain.new }
-        ensures no_more { waiting domain.new self.now ≤ waiting domain.old self.now }
-        ensures others { OthersWait self.now domain.old domain.new }
         ensures updated { OnOk result (IsUpToDate domain.new self.now) }
-        ensures up_to_date { UpToDateStay domain.old domain.new }
-        ensures loans_left { LoansLeftStay domain.old domain.new }
-        ensures stays { Stays domain.old domain.new }
+        ensures leaves { LeavesButWaiting self.now domain.old domain.new }
     {
         has_samples_at(&mut domain.state, &domain.subscriber_boxes, self.place)
     }

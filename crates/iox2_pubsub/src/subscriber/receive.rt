@@ -1,5 +1,5 @@
 //! A subscriber receives.
-ghost use Rattle.std.specs.Prelude.{◌≡◌, ◌<◌, ◌≤◌, List, IfOk, suc, IfSome, IfNone, OnOk, OnSome, [], ◌∷◌};
+ghost use Rattle.std.specs.Prelude.{◌≡◌, ◌<◌, List, IfOk, suc, IfSome, IfNone, OnOk, OnSome, [], ◌∷◌};
 
 use crate::domain::Domain;
 use crate::sample::Sample;
@@ -12,8 +12,8 @@ impl Subscriber {
     ghost use Rattle.iox2_domain.specs.Boxes.{answers_of};
     ghost use Rattle.iox2_store.specs.machine.Receives.{Receive};
     ghost use Rattle.iox2_store.specs.machine.State.{State, Messages};
-    ghost use Rattle.iox2_pubsub.specs.Live.{AreAllSlices, IsFromOrigin, IsLiveSample, IsLiveSubscriber, IsUpToDate, KeepsAll, IsNewIn, OthersWait, Stays, TakesOldest, UpToDateStay, payloads, received_sample, sample_key, waiting, LeavesLater, LeavesOthers, TakesFirst};
-    ghost use Rattle.iox2_pubsub.specs.LoansLeft.{LoansLeftStay};
+    ghost use Rattle.iox2_pubsub.specs.Live.{AreAllSlices, IsFromOrigin, IsLiveSample, IsLiveSubscriber, IsUpToDate, KeepsAll, IsNewIn, TakesOldest, payloads, received_sample, sample_key, waiting, LeavesLater, LeavesOthers, TakesFirst};
+    ghost use Rattle.iox2_pubsub.specs.Leaves.{LeavesButWaiting};
     ghost use Rattle.iox2_pubsub.specs.ReceivedSamples.{received_result};
     ghost use Rattle.iox2_pubsub.specs.Slices.{SampleHasValues};
     ghost use Rattle.iox2_domain.specs.Shows.{Shows};
@@ -52,12 +52,8 @@ impl Subscriber {
         ensures later { IfOk result (λ sample. OnSome sample (LeavesLater self.now domain.old domain.new)) }
         ensures rest { KeepsAll domain.old self.now → IfOk result (λ sample. IfSome sample (λ it. LeavesOthers self.now it domain.old domain.new)) }
         ensures nothing { KeepsAll domain.old self.now → IfOk result (λ sample. IfNone sample (waiting domain.old self.now ≡ 0)) }
-        ensures no_more { waiting domain.new self.now ≤ waiting domain.old self.now }
-        ensures others { OthersWait self.now domain.old domain.new }
         ensures updated { OnOk result (IsUpToDate domain.new self.now) }
-        ensures up_to_date { UpToDateStay domain.old domain.new }
-        ensures loans_left { LoansLeftStay domain.old domain.new }
-        ensures stays { Stays domain.old domain.new }
+        ensures leaves { LeavesButWaiting self.now domain.old domain.new }
     {
         let receipt = receive_at(&mut domain.state, &domain.subscriber_boxes, self.place)?;
         let Some(receipt) = receipt else {

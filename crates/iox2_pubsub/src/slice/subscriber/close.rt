@@ -1,5 +1,5 @@
 //! A subscriber of slices is closed.
-ghost use Rattle.std.specs.Prelude.{◌≡◌, ◌≢◌, ℕ};
+ghost use Rattle.std.specs.Prelude.{◌≡◌};
 
 use crate::domain::Domain;
 use crate::slice::Subscriber;
@@ -10,11 +10,10 @@ impl Subscriber {
     ghost use Rattle.iox2_store.specs.machine.Ports.{subscriber_closed};
     ghost use Rattle.iox2_store.specs.machine.Records.{Subscriber as Record};
     ghost use Rattle.iox2_store.specs.machine.State.{State, Messages};
-    ghost use Rattle.iox2_pubsub.specs.Live.{IsConnected, IsLiveSubscriber, IsSubscriberKey, OthersStayUpToDate, OthersWait, RoomStays, StaysBut, subscriber_box, subscriber_key, subscriber_port, waiting};
-    ghost use Rattle.iox2_pubsub.specs.LoansLeft.{LoansLeftStay};
-    ghost use Rattle.iox2_pubsub.specs.declared.subscriber.Subscriber.{Subscriber as Handle};
+    ghost use Rattle.iox2_pubsub.specs.Leaves.{LeavesWithout};
+    ghost use Rattle.iox2_pubsub.specs.Live.{IsLiveSubscriber, IsSubscriberKey, subscriber_box, subscriber_key};
     ghost use Rattle.iox2_domain.specs.Shows.{Shows};
-    ghost use Rattle.iox2_pubsub.specs.Handles.{as_subscriber, subscriber_id};
+    ghost use Rattle.iox2_pubsub.specs.Handles.{as_subscriber};
 
     /// Closes the subscriber, as one of single values is closed.
     ///
@@ -28,13 +27,7 @@ impl Subscriber {
             → Shows domain.new m (subscriber_closed s (subscriber_key (as_subscriber self)).port y) }
         ensures spent { IsSubscriberKey domain.new (subscriber_key (as_subscriber self)) → ⊥ }
         ensures unboxed { subscriber_box domain.new (subscriber_key (as_subscriber self)).port ≡ None }
-        ensures none { waiting domain.new (as_subscriber self) ≡ 0 }
-        ensures others { OthersWait (as_subscriber self) domain.old domain.new }
-        ensures up_to_date { OthersStayUpToDate (as_subscriber self) domain.old domain.new }
-        ensures connections { (publisher : ℕ) (other : Handle) → subscriber_id other ≢ subscriber_id (as_subscriber self) → IsConnected domain.old publisher other → IsConnected domain.new publisher other }
-        ensures room { RoomStays domain.old domain.new }
-        ensures loans_left { LoansLeftStay domain.old domain.new }
-        ensures stays { StaysBut (subscriber_port (as_subscriber self)) domain.old domain.new }
+        ensures leaves { LeavesWithout (as_subscriber self) domain.old domain.new }
     {
         let Subscriber { subscriber } = self;
         subscriber.close(domain);

@@ -1,5 +1,5 @@
 //! A subscriber of slices receives, also bytes of the caller's own.
-ghost use Rattle.std.specs.Prelude.{◌<◌, ◌∷◌, ◌≡◌, ◌≤◌, IfNone, IfOk, IfSome, List, OnOk, OnSome, [], suc};
+ghost use Rattle.std.specs.Prelude.{◌<◌, ◌∷◌, ◌≡◌, IfNone, IfOk, IfSome, List, OnOk, OnSome, [], suc};
 
 use crate::custom_markers::CustomPayloadMarker;
 use crate::domain::Domain;
@@ -10,8 +10,8 @@ impl Subscriber {
     ghost use Rattle.iox2_domain.specs.Boxes.{answers_of};
     ghost use Rattle.iox2_store.specs.machine.Receives.{Receive};
     ghost use Rattle.iox2_store.specs.machine.State.{State, Messages};
-    ghost use Rattle.iox2_pubsub.specs.Live.{AreAllSlices, IsFromOrigin, IsLiveSample, IsLiveSubscriber, IsUpToDate, KeepsAll, IsNewIn, OthersWait, Stays, TakesOldest, UpToDateStay, payloads, received_sample, sample_key, waiting, LeavesLater, LeavesOthers, TakesFirst};
-    ghost use Rattle.iox2_pubsub.specs.LoansLeft.{LoansLeftStay};
+    ghost use Rattle.iox2_pubsub.specs.Live.{AreAllSlices, IsFromOrigin, IsLiveSample, IsLiveSubscriber, IsUpToDate, KeepsAll, IsNewIn, TakesOldest, payloads, received_sample, sample_key, waiting, LeavesLater, LeavesOthers, TakesFirst};
+    ghost use Rattle.iox2_pubsub.specs.Leaves.{LeavesButWaiting};
     ghost use Rattle.iox2_pubsub.specs.ReceivedSamples.{received_slice};
     ghost use Rattle.iox2_pubsub.specs.Slices.{SampleHasValues};
     ghost use Rattle.iox2_domain.specs.Shows.{Shows};
@@ -50,12 +50,8 @@ impl Subscriber {
         ensures later { IfOk result (λ sample. OnSome sample (LeavesLater (as_subscriber self.now) domain.old domain.new)) }
         ensures rest { KeepsAll domain.old (as_subscriber self.now) → IfOk result (λ sample. IfSome sample (λ it. LeavesOthers (as_subscriber self.now) (as_sample it) domain.old domain.new)) }
         ensures nothing { KeepsAll domain.old (as_subscriber self.now) → IfOk result (λ sample. IfNone sample (waiting domain.old (as_subscriber self.now) ≡ 0)) }
-        ensures no_more { waiting domain.new (as_subscriber self.now) ≤ waiting domain.old (as_subscriber self.now) }
-        ensures others { OthersWait (as_subscriber self.now) domain.old domain.new }
         ensures updated { OnOk result (IsUpToDate domain.new (as_subscriber self.now)) }
-        ensures up_to_date { UpToDateStay domain.old domain.new }
-        ensures loans_left { LoansLeftStay domain.old domain.new }
-        ensures stays { Stays domain.old domain.new }
+        ensures leaves { LeavesButWaiting (as_subscriber self.now) domain.old domain.new }
     {
         match self.subscriber.receive(domain) {
             Ok(Some(sample)) => Ok(Some(Sample { sample })),
@@ -69,8 +65,8 @@ impl Subscriber {
     ghost use Rattle.iox2_domain.specs.Boxes.{answers_of};
     ghost use Rattle.iox2_store.specs.machine.Receives.{Receive};
     ghost use Rattle.iox2_store.specs.machine.State.{State, Messages};
-    ghost use Rattle.iox2_pubsub.specs.Live.{AreAllSlices, IsFromOrigin, IsLiveSample, IsLiveSubscriber, IsUpToDate, KeepsAll, IsNewIn, OthersWait, Stays, TakesOldest, UpToDateStay, payloads, received_sample, sample_key, waiting, LeavesLater, LeavesOthers, TakesFirst};
-    ghost use Rattle.iox2_pubsub.specs.LoansLeft.{LoansLeftStay};
+    ghost use Rattle.iox2_pubsub.specs.Live.{AreAllSlices, IsFromOrigin, IsLiveSample, IsLiveSubscriber, IsUpToDate, KeepsAll, IsNewIn, TakesOldest, payloads, received_sample, sample_key, waiting, LeavesLater, LeavesOthers, TakesFirst};
+    ghost use Rattle.iox2_pubsub.specs.Leaves.{LeavesButWaiting};
     ghost use Rattle.iox2_pubsub.specs.ReceivedSamples.{received_slice};
     ghost use Rattle.iox2_pubsub.specs.Slices.{SampleHasValues};
     ghost use Rattle.iox2_domain.specs.Shows.{Shows};
@@ -101,12 +97,8 @@ impl Subscriber {
         ensures later { IfOk result (λ sample. OnSome sample (LeavesLater (as_subscriber self.now) domain.old domain.new)) }
         ensures rest { KeepsAll domain.old (as_subscriber self.now) → IfOk result (λ sample. IfSome sample (λ it. LeavesOthers (as_subscriber self.now) (as_sample it) domain.old domain.new)) }
         ensures nothing { KeepsAll domain.old (as_subscriber self.now) → IfOk result (λ sample. IfNone sample (waiting domain.old (as_subscriber self.now) ≡ 0)) }
-        ensures no_more { waiting domain.new (as_subscriber self.now) ≤ waiting domain.old (as_subscriber self.now) }
-        ensures others { OthersWait (as_subscriber self.now) domain.old domain.new }
         ensures updated { OnOk result (IsUpToDate domain.new (as_subscriber self.now)) }
-        ensures up_to_date { UpToDateStay domain.old domain.new }
-        ensures loans_left { LoansLeftStay domain.old domain.new }
-        ensures stays { Stays domain.old domain.new }
+        ensures leaves { LeavesButWaiting (as_subscriber self.now) domain.old domain.new }
     {
         self.receive(domain)
     }

@@ -1,14 +1,11 @@
-use Rattle.std.proofs.Common.{◌≡◌, ap, sym, subst}
 use Rattle.iox2_store.specs.machine.SingleCalls.{HoldsLoan}
-use Rattle.iox2_domain.specs.Kept.{Kept, state_of}
+use Rattle.iox2_store.specs.machine.State.{State}
 use Rattle.iox2_pubsub.specs.Live.{IsLoanKey}
+use Rattle.iox2_pubsub.proofs.HeldKeys.{held-message, same-service}
 use Rattle.iox2_pubsub.proofs.domain.Domain.holds_loan.Goals as goal
 
 pub returns : goal.returns
 unfolding IsLoanKey
 returns g c =
     let has = rw c.new.ensures at c.has_loan.ensures in
-    let its : c.args.key.service_id ≡ (c.args.self.now.config).service_id = cc (ap (λ (k : Kept g.row.T.Denot g.row.U.Denot g.row.F.Denot g.row.G.Denot). (k.config).service_id) c.self.view_is) in (
-      λ yes. (its, subst (λ (k : Kept g.row.T.Denot g.row.U.Denot g.row.F.Denot g.row.G.Denot). HoldsLoan (state_of k) c.args.key.port c.args.key.message) c.self.view_is (has.0 yes)),
-      λ live. has.1 (subst (λ (k : Kept g.row.T.Denot g.row.U.Denot g.row.F.Denot g.row.G.Denot). HoldsLoan (state_of k) c.args.key.port c.args.key.message) (sym c.self.view_is) live.1),
-    )
+    held-message c.self.inside.state c.args.self.now c.self.view_is (λ (s : State g.row.T.Denot g.row.U.Denot). HoldsLoan s c.args.key.port c.args.key.message) c.args.key.service_id (same-service c.config.ensures c.if-key-config.false) has

@@ -1,14 +1,11 @@
-use Rattle.std.proofs.Common.{◌≡◌, ap, sym, subst}
 use Rattle.iox2_store.specs.machine.SingleCalls.{HoldsPublisher}
-use Rattle.iox2_domain.specs.Kept.{Kept, state_of}
+use Rattle.iox2_store.specs.machine.State.{State}
 use Rattle.iox2_pubsub.specs.Live.{IsPublisherKey}
+use Rattle.iox2_pubsub.proofs.HeldKeys.{held-port, same-service}
 use Rattle.iox2_pubsub.proofs.domain.Domain.holds_publisher.Goals as goal
 
 pub returns : goal.returns
 unfolding IsPublisherKey
 returns g c =
     let has = rw c.new.ensures at c.has_publisher.ensures in
-    let its : c.args.key.service_id ≡ (c.args.self.now.config).service_id = cc (ap (λ (k : Kept g.row.T.Denot g.row.U.Denot g.row.F.Denot g.row.G.Denot). (k.config).service_id) c.self.view_is) in (
-      λ yes. (c.if-key-ne0.false, its, subst (λ (k : Kept g.row.T.Denot g.row.U.Denot g.row.F.Denot g.row.G.Denot). HoldsPublisher (state_of k) c.args.key.port) c.self.view_is (has.0 yes)),
-      λ live. has.1 (subst (λ (k : Kept g.row.T.Denot g.row.U.Denot g.row.F.Denot g.row.G.Denot). HoldsPublisher (state_of k) c.args.key.port) (sym c.self.view_is) live.2),
-    )
+    held-port c.self.inside.state c.args.self.now c.self.view_is (λ (s : State g.row.T.Denot g.row.U.Denot). HoldsPublisher s c.args.key.port) c.args.key.service_id c.args.key.message c.if-key-ne0.false (same-service c.config.ensures c.if-key-config.false) has

@@ -5,7 +5,7 @@ use Rattle.iox2_domain.specs.Fields.{kept_of, keeping}
 use Rattle.iox2_domain.specs.Kept.{state_of}
 use Rattle.iox2_domain.specs.Reaches.{Reaches}
 use Rattle.iox2_messages.proofs.SentChannels.{sent-closed-is}
-use Rattle.iox2_pubsub.proofs.ChangedChannels.{changed-shows, changed-waits, changed-updated, changed-connected, changed-room, changed-left, changed-stays}
+use Rattle.iox2_pubsub.proofs.ChangedChannels.{changed-shows, changed-leaves}
 use Rattle.iox2_pubsub.proofs.ClosedChannels.{sent-further, sent-others}
 use Rattle.iox2_pubsub.proofs.PlacedHandles.{publisher-there}
 use Rattle.iox2_pubsub.proofs.StaysBut.{same-boxes}
@@ -25,46 +25,17 @@ returns-clause-closed g c =
     (ap (λ (p : ℕ). sent_closed (state_of (kept_of c.domain.inside.state)) p c.args.channel c.args.connection c.args.expected) at.2)
     (c.close_sent.ensures at.0 at.1))
 
-pub returns-clause-waits : goal.returns-clause-waits
-returns-clause-waits g c =
-    changed-waits {T = g.row.T.Denot} {U = g.row.U.Denot} c.domain.inside.state c.args.domain.now c.domain.view_is
+pub returns-clause-leaves : goal.returns-clause-leaves
+returns-clause-leaves g c =
+    let s = state_of c.args.domain.now in
+    changed-leaves {T = g.row.T.Denot} {U = g.row.U.Denot} c.domain.inside.state c.args.domain.now c.domain.view_is
     (λ s. sent_closed s c.args.self.now.id c.args.channel c.args.connection c.args.expected) (λ s. sent-closed-is s c.args.self.now.id c.args.channel c.args.connection c.args.expected)
     c.domain.invariant (keeping _ c.close_sent.new.state) (returns-clause-closed g c)
-
-pub returns-clause-up_to_date : goal.returns-clause-up_to_date
-returns-clause-up_to_date g c =
-    changed-updated {T = g.row.T.Denot} {U = g.row.U.Denot} c.domain.inside.state c.args.domain.now c.domain.view_is
-    (λ s. sent_closed s c.args.self.now.id c.args.channel c.args.connection c.args.expected) (λ s. sent-closed-is s c.args.self.now.id c.args.channel c.args.connection c.args.expected)
-    c.domain.invariant (keeping _ c.close_sent.new.state) (returns-clause-closed g c)
-
-pub returns-clause-connections : goal.returns-clause-connections
-returns-clause-connections g c = λ m s publisher subscriber shown other.
-    changed-connected {T = g.row.T.Denot} {U = g.row.U.Denot} c.domain.inside.state c.args.domain.now c.domain.view_is
-    (λ s. sent_closed s c.args.self.now.id c.args.channel c.args.connection c.args.expected) (λ s. sent-closed-is s c.args.self.now.id c.args.channel c.args.connection c.args.expected)
-    c.domain.invariant (keeping _ c.close_sent.new.state) (returns-clause-closed g c) m s shown publisher subscriber
-    (λ takes. elim other [
-      | inl away ↦ ap (λ (channels : ℕ → Channel). is_closed (channels 0)) (sent-others s shown.well_formed c.args.self.now.id c.args.channel c.args.connection c.args.expected publisher subscriber.id (inl away)) ∙ takes
+    (same-boxes c.domain.inside.state c.close_sent.new.state c.args.domain.now c.domain.view_is) _
+    (λ p subscriber stays well_formed takes. elim stays [
+      | inl away ↦ ap (λ (channels : ℕ → Channel). is_closed (channels 0)) (sent-others s well_formed c.args.self.now.id c.args.channel c.args.connection c.args.expected p subscriber.id (inl away)) ∙ takes
       | inr more ↦ elim more [
-        | inl elsewhere ↦ ap (λ (channels : ℕ → Channel). is_closed (channels 0)) (sent-others s shown.well_formed c.args.self.now.id c.args.channel c.args.connection c.args.expected publisher subscriber.id (inr elsewhere)) ∙ takes
-        | inr further ↦ ap is_closed (sent-further s c.args.self.now.id c.args.channel c.args.connection c.args.expected further publisher subscriber.id) ∙ takes
+        | inl elsewhere ↦ ap (λ (channels : ℕ → Channel). is_closed (channels 0)) (sent-others s well_formed c.args.self.now.id c.args.channel c.args.connection c.args.expected p subscriber.id (inr elsewhere)) ∙ takes
+        | inr further ↦ ap is_closed (sent-further s c.args.self.now.id c.args.channel c.args.connection c.args.expected further p subscriber.id) ∙ takes
       ]
     ])
-
-pub returns-clause-room : goal.returns-clause-room
-returns-clause-room g c =
-    changed-room {T = g.row.T.Denot} {U = g.row.U.Denot} c.domain.inside.state c.args.domain.now c.domain.view_is
-    (λ s. sent_closed s c.args.self.now.id c.args.channel c.args.connection c.args.expected) (λ s. sent-closed-is s c.args.self.now.id c.args.channel c.args.connection c.args.expected)
-    c.domain.invariant (keeping _ c.close_sent.new.state) (returns-clause-closed g c)
-
-pub returns-clause-loans_left : goal.returns-clause-loans_left
-returns-clause-loans_left g c =
-    changed-left {T = g.row.T.Denot} {U = g.row.U.Denot} c.domain.inside.state c.args.domain.now c.domain.view_is
-    (λ s. sent_closed s c.args.self.now.id c.args.channel c.args.connection c.args.expected) (λ s. sent-closed-is s c.args.self.now.id c.args.channel c.args.connection c.args.expected)
-    c.domain.invariant (keeping _ c.close_sent.new.state) (returns-clause-closed g c)
-
-pub returns-clause-stays : goal.returns-clause-stays
-returns-clause-stays g c =
-    changed-stays {T = g.row.T.Denot} {U = g.row.U.Denot} c.domain.inside.state c.args.domain.now c.domain.view_is
-    (λ s. sent_closed s c.args.self.now.id c.args.channel c.args.connection c.args.expected) (λ s. sent-closed-is s c.args.self.now.id c.args.channel c.args.connection c.args.expected)
-    c.domain.invariant (keeping _ c.close_sent.new.state) (returns-clause-closed g c)
-    (same-boxes c.domain.inside.state c.close_sent.new.state c.args.domain.now c.domain.view_is)

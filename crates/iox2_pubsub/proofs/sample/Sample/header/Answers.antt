@@ -1,21 +1,18 @@
 use Rattle.std.specs.Prelude.{IsTrue}
-use Rattle.std.proofs.Common.{ap, sym, subst, ◌∙◌}
+use Rattle.std.proofs.Common.{sym, subst}
 use Rattle.iox2_store.specs.machine.Mailbox.{is_borrowed}
-use Rattle.iox2_store.specs.machine.SingleCalls.{HoldsSample}
-use Rattle.iox2_domain.specs.Kept.{Kept, entries_of, state_of}
+use Rattle.iox2_domain.specs.Kept.{Kept, state_of}
 use Rattle.iox2_pubsub.specs.Live.{sample_key}
 use Rattle.iox2_pubsub.proofs.SampleOrigins.{entry-origin}
-use Rattle.iox2_pubsub.proofs.LiveParts.{sample-header, sample-header-one, sample-parts, origin-parts}
+use Rattle.iox2_pubsub.proofs.LiveParts.{sample-header, sample-header-one, origin-parts}
+use Rattle.iox2_pubsub.proofs.SampleReads.{entry-kept, entry-shown, sample-held}
 use Rattle.iox2_pubsub.proofs.sample.Sample.header.Goals as goal
 
 pub sample_header-requires-clause-live : goal.sample_header-requires-clause-live
-sample_header-requires-clause-live g c =
-    subst (λ (k : Kept g.row.T.Denot g.row.U.Denot g.row.F.Denot g.row.G.Denot). HoldsSample (state_of k) c.args.self.now.sample.subscriber c.args.self.now.sample.number) (sym c.domain.view_is) (sample-parts c.args.domain.now _ c.requires.live).1
+sample_header-requires-clause-live g c = sample-held {T = g.row.T.Denot} {U = g.row.U.Denot} c.domain.inside.state c.args.domain.now c.domain.view_is c.args.self.now c.requires.live
 
 pub returns-clause-header : goal.returns-clause-header
-returns-clause-header g c = λ m s shown.
-    let read = c.sample_header.ensures in
-    (read.0, shown.entries c.args.self.now.sample.number read.0 (ap (λ (k : Kept g.row.T.Denot g.row.U.Denot g.row.F.Denot g.row.G.Denot). entries_of k c.args.self.now.sample.number) (sym c.domain.view_is) ∙ read.1), read.2)
+returns-clause-header g c = entry-shown {T = g.row.T.Denot} {U = g.row.U.Denot} c.domain.inside.state c.args.domain.now c.domain.view_is c.args.self.now c.sample_header.ensures
 
 pub returns-clause-origin : goal.returns-clause-origin
 returns-clause-origin g c = λ from.
@@ -24,11 +21,7 @@ returns-clause-origin g c = λ from.
     c.sample_header.ensures
 
 pub returns-clause-reads : goal.returns-clause-reads
-returns-clause-reads g c =
-    let read = c.sample_header.ensures in
-    sample-header {T = g.row.T.Denot} {U = g.row.U.Denot} c.args.domain.now (sample_key c.args.self.now) c.sample_header.result.now
-    (read.0, ap (λ (k : Kept g.row.T.Denot g.row.U.Denot g.row.F.Denot g.row.G.Denot). entries_of k c.args.self.now.sample.number) (sym c.domain.view_is) ∙ read.1, read.2)
+returns-clause-reads g c = sample-header {T = g.row.T.Denot} {U = g.row.U.Denot} c.args.domain.now (sample_key c.args.self.now) c.sample_header.result.now (entry-kept {T = g.row.T.Denot} {U = g.row.U.Denot} c.domain.inside.state c.args.domain.now c.domain.view_is c.args.self.now c.sample_header.ensures)
 
 pub returns-clause-same : goal.returns-clause-same
-returns-clause-same g c = λ header has.
-    sample-header-one {T = g.row.T.Denot} {U = g.row.U.Denot} c.args.domain.now (sample_key c.args.self.now) c.sample_header.result.now header (returns-clause-reads g c) has
+returns-clause-same g c = λ header has. sample-header-one {T = g.row.T.Denot} {U = g.row.U.Denot} c.args.domain.now (sample_key c.args.self.now) c.sample_header.result.now header (returns-clause-reads g c) has

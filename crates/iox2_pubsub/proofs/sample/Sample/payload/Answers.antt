@@ -1,17 +1,14 @@
-use Rattle.std.proofs.Common.{ap, sym, subst, ◌∙◌}
-use Rattle.iox2_store.specs.machine.SingleCalls.{HoldsSample}
-use Rattle.iox2_domain.specs.Kept.{Kept, entries_of, state_of}
-use Rattle.iox2_pubsub.proofs.LiveParts.{single-parts, sample-reads, sample-reads-one, sample-parts}
+use Rattle.std.proofs.Common.{ap, ◌∙◌}
+use Rattle.iox2_domain.specs.Kept.{Kept}
+use Rattle.iox2_pubsub.proofs.LiveParts.{single-parts, sample-reads, sample-reads-one}
+use Rattle.iox2_pubsub.proofs.SampleReads.{entry-kept, entry-shown, sample-held}
 use Rattle.iox2_pubsub.proofs.sample.Sample.payload.Goals as goal
 
 pub sample_payload-requires-clause-live : goal.sample_payload-requires-clause-live
-sample_payload-requires-clause-live g c =
-    subst (λ (k : Kept g.row.T.Denot g.row.U.Denot g.row.F.Denot g.row.G.Denot). HoldsSample (state_of k) c.args.self.now.sample.subscriber c.args.self.now.sample.number) (sym c.domain.view_is) (sample-parts c.args.domain.now _ c.requires.live).1
+sample_payload-requires-clause-live g c = sample-held {T = g.row.T.Denot} {U = g.row.U.Denot} c.domain.inside.state c.args.domain.now c.domain.view_is c.args.self.now c.requires.live
 
 pub returns-clause-entry : goal.returns-clause-entry
-returns-clause-entry g c = λ m s shown.
-    let read = c.sample_payload.ensures in
-    (read.0, shown.entries c.args.self.now.sample.number read.0 (ap (λ (k : Kept g.row.T.Denot g.row.U.Denot g.row.F.Denot g.row.G.Denot). entries_of k c.args.self.now.sample.number) (sym c.domain.view_is) ∙ read.1), read.2)
+returns-clause-entry g c = entry-shown {T = g.row.T.Denot} {U = g.row.U.Denot} c.domain.inside.state c.args.domain.now c.domain.view_is c.args.self.now c.sample_payload.ensures
 
 pub sample_payload-requires-clause-single : goal.sample_payload-requires-clause-single
 sample_payload-requires-clause-single g c =
@@ -19,9 +16,8 @@ sample_payload-requires-clause-single g c =
 
 pub returns-clause-reads : goal.returns-clause-reads
 returns-clause-reads g c =
-    let read = c.sample_payload.ensures in
-    sample-reads {T = g.row.T.Denot} {U = g.row.U.Denot} c.args.domain.now c.args.self.now c.sample_payload.result.now read.0
-    (ap (λ (k : Kept g.row.T.Denot g.row.U.Denot g.row.F.Denot g.row.G.Denot). entries_of k c.args.self.now.sample.number) (sym c.domain.view_is) ∙ read.1) read.2
+    let read = entry-kept {T = g.row.T.Denot} {U = g.row.U.Denot} c.domain.inside.state c.args.domain.now c.domain.view_is c.args.self.now c.sample_payload.ensures in
+    sample-reads {T = g.row.T.Denot} {U = g.row.U.Denot} c.args.domain.now c.args.self.now c.sample_payload.result.now read.0 read.1 read.2
 
 pub returns-clause-same : goal.returns-clause-same
 returns-clause-same g c = λ value reads. sample-reads-one {T = g.row.T.Denot} {U = g.row.U.Denot} c.args.domain.now c.args.self.now c.sample_payload.result.now value (returns-clause-reads g c) reads

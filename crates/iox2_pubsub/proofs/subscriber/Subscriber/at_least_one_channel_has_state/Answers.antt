@@ -4,13 +4,12 @@ use Rattle.iox2_store.specs.machine.State.{State}
 use Rattle.iox2_domain.specs.Fields.{kept_of}
 use Rattle.iox2_domain.specs.Kept.{state_of}
 use Rattle.iox2_pubsub.proofs.ChannelsShown.{shown-answer}
-use Rattle.iox2_pubsub.proofs.PlacedHandles.{subscriber-at-place}
+use Rattle.iox2_pubsub.proofs.PlacedHandles.{subscriber-at-place, subscriber-there}
 use Rattle.iox2_pubsub.proofs.subscriber.Subscriber.at_least_one_channel_has_state.Goals as goal
 
 pub some_received_in-requires-clause-stands : goal.some_received_in-requires-clause-stands
 some_received_in-requires-clause-stands g c =
-    let at = subscriber-at-place {T = g.row.T.Denot} {U = g.row.U.Denot} c.domain.inside.state c.domain.invariant c.args.domain.now c.domain.view_is c.args.self.now c.requires.live in
-    (at.0, at.1)
+    subscriber-there {T = g.row.T.Denot} {U = g.row.U.Denot} c.domain.inside.state c.domain.invariant c.args.domain.now c.domain.view_is c.args.self.now c.requires.live
 
 pub returns : goal.returns
 returns g c =

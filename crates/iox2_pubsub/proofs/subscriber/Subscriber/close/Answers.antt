@@ -5,13 +5,10 @@ use Rattle.iox2_domain.specs.Boxes.{degradation_box_of}
 use Rattle.iox2_domain.specs.declared.boxes.PortBoxes.{PortBoxes}
 use Rattle.iox2_domain.specs.Fields.{keeping}
 use Rattle.iox2_pubsub.specs.Live.{subscriber_key}
-use Rattle.iox2_pubsub.proofs.DepartedShown.{subscriber-close-room}
 use Rattle.iox2_pubsub.proofs.PlacedHandles.{subscriber-at-place}
 use Rattle.iox2_pubsub.proofs.CallsStay.{subscriber-shown}
-use Rattle.iox2_pubsub.proofs.ClosesShown.{subscriber-close-shows, subscriber-close-stays, subscriber-close-spends}
-use Rattle.iox2_pubsub.proofs.ClosesWait.{subscriber-close-none, subscriber-close-others, subscriber-close-leaves}
-use Rattle.iox2_pubsub.proofs.ConnectionsShown.{subscriber-close-connections}
-use Rattle.iox2_pubsub.proofs.LoansLeftShown.{subscriber-close-left}
+use Rattle.iox2_pubsub.proofs.ClosesShown.{subscriber-close-shows, subscriber-close-spends}
+use Rattle.iox2_pubsub.proofs.ClosesLeave.{subscriber-close-left}
 use Rattle.iox2_pubsub.proofs.StaysBut.{other-subscriber-boxes, subscriber-box-is}
 use Rattle.iox2_pubsub.proofs.subscriber.Subscriber.close.Goals as goal
 
@@ -32,50 +29,12 @@ returns-clause-spent g c =
     subscriber-close-spends {T = g.row.T.Denot} {U = g.row.U.Denot} c.args.domain.now (keeping _ c.close_subscriber.new.state) it.0 it.1 it.2 c.args.self.id (it.3).0
     (returns-clause-closed g c it.0 it.1 (it.3).0 it.2 (it.3).1) (subscriber_key c.args.self) refl
 
-pub returns-clause-stays : goal.returns-clause-stays
-returns-clause-stays g c =
-    let it = subscriber-shown {T = g.row.T.Denot} {U = g.row.U.Denot} c.domain.inside.state c.args.domain.now c.domain.invariant c.domain.view_is _ c.requires.live.there in
-    subscriber-close-stays {T = g.row.T.Denot} {U = g.row.U.Denot} c.args.domain.now (keeping _ c.close_subscriber.new.state) it.0 it.1 it.2 c.args.self.id (it.3).0
-    (returns-clause-closed g c it.0 it.1 (it.3).0 it.2 (it.3).1) (it.3).1
+pub returns-clause-leaves : goal.returns-clause-leaves
+returns-clause-leaves g c =
+    subscriber-close-left {T = g.row.T.Denot} {U = g.row.U.Denot} c.domain.inside.state c.args.domain.now (keeping _ c.close_subscriber.new.state) c.domain.invariant c.domain.view_is c.args.self c.requires.live.there (returns-clause-closed g c)
     (other-subscriber-boxes c.domain.inside.state c.close_subscriber.new.state c.args.domain.now c.domain.view_is
     (λ q other. c.remove.ensures.others q (λ same. other (same ∙ c.value.ensures))))
 
 pub returns-clause-unboxed : goal.returns-clause-unboxed
 returns-clause-unboxed g c = subscriber-box-is _ c.close_subscriber.new.state c.args.self.id None
     (subst (λ (q : ℕ). degradation_box_of q (c.remove.new.self).boxes ≡ None) c.value.ensures (ap (option_and_then (λ (b : PortBoxes g.row.F.Denot g.row.G.Denot). b.degradation)) c.remove.ensures.its))
-
-pub returns-clause-none : goal.returns-clause-none
-returns-clause-none g c =
-    let it = subscriber-shown {T = g.row.T.Denot} {U = g.row.U.Denot} c.domain.inside.state c.args.domain.now c.domain.invariant c.domain.view_is _ c.requires.live.there in
-    subscriber-close-none {T = g.row.T.Denot} {U = g.row.U.Denot} c.args.domain.now (keeping _ c.close_subscriber.new.state) it.0 it.1 it.2 c.args.self.id (it.3).0
-    (returns-clause-closed g c it.0 it.1 (it.3).0 it.2 (it.3).1) c.args.self refl
-
-pub returns-clause-others : goal.returns-clause-others
-returns-clause-others g c =
-    let it = subscriber-shown {T = g.row.T.Denot} {U = g.row.U.Denot} c.domain.inside.state c.args.domain.now c.domain.invariant c.domain.view_is _ c.requires.live.there in
-    subscriber-close-others {T = g.row.T.Denot} {U = g.row.U.Denot} c.args.domain.now (keeping _ c.close_subscriber.new.state) it.0 it.1 it.2 c.args.self.id (it.3).0
-    (returns-clause-closed g c it.0 it.1 (it.3).0 it.2 (it.3).1) c.args.self refl
-
-pub returns-clause-up_to_date : goal.returns-clause-up_to_date
-returns-clause-up_to_date g c =
-    let it = subscriber-shown {T = g.row.T.Denot} {U = g.row.U.Denot} c.domain.inside.state c.args.domain.now c.domain.invariant c.domain.view_is _ c.requires.live.there in
-    subscriber-close-leaves {T = g.row.T.Denot} {U = g.row.U.Denot} c.args.domain.now (keeping _ c.close_subscriber.new.state) it.0 it.1 it.2 c.args.self.id (it.3).0
-    (returns-clause-closed g c it.0 it.1 (it.3).0 it.2 (it.3).1) c.args.self refl
-
-pub returns-clause-loans_left : goal.returns-clause-loans_left
-returns-clause-loans_left g c =
-    let it = subscriber-shown {T = g.row.T.Denot} {U = g.row.U.Denot} c.domain.inside.state c.args.domain.now c.domain.invariant c.domain.view_is _ c.requires.live.there in
-    subscriber-close-left {T = g.row.T.Denot} {U = g.row.U.Denot} c.args.domain.now (keeping _ c.close_subscriber.new.state) it.0 it.0 it.1 _ it.2
-    (returns-clause-closed g c it.0 it.1 (it.3).0 it.2 (it.3).1) c.args.self.id (it.3).0 refl
-
-pub returns-clause-connections : goal.returns-clause-connections
-returns-clause-connections g c =
-    let it = subscriber-shown {T = g.row.T.Denot} {U = g.row.U.Denot} c.domain.inside.state c.args.domain.now c.domain.invariant c.domain.view_is _ c.requires.live.there in
-    subscriber-close-connections {T = g.row.T.Denot} {U = g.row.U.Denot} c.args.domain.now (keeping _ c.close_subscriber.new.state) it.0 it.1 it.2 c.args.self.id (it.3).0
-    (returns-clause-closed g c it.0 it.1 (it.3).0 it.2 (it.3).1)
-
-pub returns-clause-room : goal.returns-clause-room
-returns-clause-room g c =
-    let it = subscriber-shown {T = g.row.T.Denot} {U = g.row.U.Denot} c.domain.inside.state c.args.domain.now c.domain.invariant c.domain.view_is _ c.requires.live.there in
-    subscriber-close-room {T = g.row.T.Denot} {U = g.row.U.Denot} c.args.domain.now (keeping _ c.close_subscriber.new.state) it.0 it.1 it.2 c.args.self.id (it.3).0
-    (returns-clause-closed g c it.0 it.1 (it.3).0 it.2 (it.3).1) (it.3).1

@@ -1,19 +1,13 @@
 use Rattle.iox2_domain.specs.Boxes.{answers_of}
 use Rattle.iox2_pubsub.proofs.KeptAnswers.{asked}
 use Rattle.iox2_domain.specs.Fields.{keeping}
-use Rattle.iox2_laws.proofs.LoanKeeping.{has_samples_loans}
-use Rattle.iox2_laws.proofs.PortsStay.{update_subscriber_stays}
-use Rattle.iox2_laws.proofs.Waits.{update_subscriber_waits}
-use Rattle.iox2_pubsub.specs.Live.{No_item}
-use Rattle.iox2_pubsub.proofs.PlacedHandles.{subscriber-at-place}
+use Rattle.iox2_pubsub.proofs.PlacedHandles.{subscriber-at-place, subscriber-there}
 use Rattle.iox2_pubsub.proofs.CallsStay.{always-shown}
 use Rattle.iox2_pubsub.proofs.QuestionShown.{answer-at, answer-shows, answered}
-use Rattle.iox2_pubsub.proofs.StaysBut.{same-boxes, IsSpared}
-use Rattle.iox2_pubsub.proofs.UpdatesStay.{updates-stay}
-use Rattle.iox2_pubsub.proofs.WaitingShown.{answers-say, update-no-more, update-others}
-use Rattle.iox2_pubsub.proofs.UpToDateShown.{subscriber-update-leaves, answers-updated}
+use Rattle.iox2_pubsub.proofs.StaysBut.{same-boxes}
+use Rattle.iox2_pubsub.proofs.UpdatesLeave.{question-left, question-updated}
+use Rattle.iox2_pubsub.proofs.WaitingShown.{answers-say}
 use Rattle.iox2_pubsub.proofs.KeptReceives.{question-waits}
-use Rattle.iox2_pubsub.proofs.LoansLeftShown.{update-subscriber-left}
 use Rattle.iox2_pubsub.proofs.subscriber.Subscriber.has_samples.Goals as goal
 
 pub returns-clause-answers : goal.returns-clause-answers
@@ -23,15 +17,10 @@ returns-clause-answers g c =
     (subscriber-at-place {T = g.row.T.Denot} {U = g.row.U.Denot} c.domain.inside.state c.domain.invariant c.args.domain.now c.domain.view_is c.args.self.now c.requires.live)
     (asked g.F.BackpressureFn.allows g.G.DegradationFn.allows c.domain.inside.state c.has_samples_at.new.state c.args.domain.now c.domain.view_is c.args.self.now.place c.has_samples_at.result c.has_samples_at.ensures))
 
-pub returns-clause-stays : goal.returns-clause-stays
-returns-clause-stays g c =
-    let it = always-shown {T = g.row.T.Denot} {U = g.row.U.Denot} c.domain.inside.state c.args.domain.now c.domain.invariant c.domain.view_is in
-    let step = returns-clause-answers g c it.0 it.1 it.2 in
-    let has = answered {T = g.row.T.Denot} {U = g.row.U.Denot} (answers_of g.F.BackpressureFn.allows g.G.DegradationFn.allows c.args.domain.now.boxes.subscribers) it.1 c.args.self.now.id c.has_samples_at.result step.0 step.2 in
-    updates-stay {T = g.row.T.Denot} {U = g.row.U.Denot} c.args.domain.now (keeping _ c.has_samples_at.new.state) it.0 it.1 step.0 it.2 step.1
-    (update_subscriber_stays (answers_of g.F.BackpressureFn.allows g.G.DegradationFn.allows c.args.domain.now.boxes.subscribers) it.1 c.args.self.now.id step.0 has.0 (has.2).0)
-    (has_samples_loans (answers_of g.F.BackpressureFn.allows g.G.DegradationFn.allows c.args.domain.now.boxes.subscribers) it.1 c.args.self.now.id step.0 has.0 has.1 has.2)
-    (update_subscriber_waits (IsSpared No_item) (answers_of g.F.BackpressureFn.allows g.G.DegradationFn.allows c.args.domain.now.boxes.subscribers) it.1 c.args.self.now.id step.0 has.0 (has.2).0) (same-boxes c.domain.inside.state c.has_samples_at.new.state c.args.domain.now c.domain.view_is)
+pub returns-clause-leaves : goal.returns-clause-leaves
+returns-clause-leaves g c =
+    question-left {T = g.row.T.Denot} {U = g.row.U.Denot} c.domain.inside.state c.args.domain.now (keeping _ c.has_samples_at.new.state) c.domain.invariant c.domain.view_is
+    (same-boxes c.domain.inside.state c.has_samples_at.new.state c.args.domain.now c.domain.view_is) (answers_of g.F.BackpressureFn.allows g.G.DegradationFn.allows c.args.domain.now.boxes.subscribers) c.args.self.now c.has_samples_at.result (returns-clause-answers g c)
 
 pub returns-clause-waits : goal.returns-clause-waits
 returns-clause-waits g c =
@@ -39,39 +28,10 @@ returns-clause-waits g c =
     let step = returns-clause-answers g c it.0 it.1 it.2 in
     answers-say {T = g.row.T.Denot} {U = g.row.U.Denot} c.args.domain.now (keeping _ c.has_samples_at.new.state) it.0 it.0 it.1 step.0 it.2 step.1 (answers_of g.F.BackpressureFn.allows g.G.DegradationFn.allows c.args.domain.now.boxes.subscribers) c.args.self.now c.requires.live c.has_samples_at.result step.2
 
-pub returns-clause-no_more : goal.returns-clause-no_more
-returns-clause-no_more g c =
-    let it = always-shown {T = g.row.T.Denot} {U = g.row.U.Denot} c.domain.inside.state c.args.domain.now c.domain.invariant c.domain.view_is in
-    let step = returns-clause-answers g c it.0 it.1 it.2 in
-    let has = answered {T = g.row.T.Denot} {U = g.row.U.Denot} (answers_of g.F.BackpressureFn.allows g.G.DegradationFn.allows c.args.domain.now.boxes.subscribers) it.1 c.args.self.now.id c.has_samples_at.result step.0 step.2 in
-    update-no-more {T = g.row.T.Denot} {U = g.row.U.Denot} c.args.domain.now (keeping _ c.has_samples_at.new.state) it.0 it.0 it.1 step.0 it.2 step.1 (answers_of g.F.BackpressureFn.allows g.G.DegradationFn.allows c.args.domain.now.boxes.subscribers) c.args.self.now has.0 (has.2).0
-
-pub returns-clause-others : goal.returns-clause-others
-returns-clause-others g c =
-    let it = always-shown {T = g.row.T.Denot} {U = g.row.U.Denot} c.domain.inside.state c.args.domain.now c.domain.invariant c.domain.view_is in
-    let step = returns-clause-answers g c it.0 it.1 it.2 in
-    let has = answered {T = g.row.T.Denot} {U = g.row.U.Denot} (answers_of g.F.BackpressureFn.allows g.G.DegradationFn.allows c.args.domain.now.boxes.subscribers) it.1 c.args.self.now.id c.has_samples_at.result step.0 step.2 in
-    update-others {T = g.row.T.Denot} {U = g.row.U.Denot} c.args.domain.now (keeping _ c.has_samples_at.new.state) it.0 it.0 it.1 step.0 it.2 step.1 (answers_of g.F.BackpressureFn.allows g.G.DegradationFn.allows c.args.domain.now.boxes.subscribers) c.args.self.now (λ n entry at. at) has.0 (has.2).0
-
-pub returns-clause-up_to_date : goal.returns-clause-up_to_date
-returns-clause-up_to_date g c =
-    let it = always-shown {T = g.row.T.Denot} {U = g.row.U.Denot} c.domain.inside.state c.args.domain.now c.domain.invariant c.domain.view_is in
-    let step = returns-clause-answers g c it.0 it.1 it.2 in
-    let has = answered {T = g.row.T.Denot} {U = g.row.U.Denot} (answers_of g.F.BackpressureFn.allows g.G.DegradationFn.allows c.args.domain.now.boxes.subscribers) it.1 c.args.self.now.id c.has_samples_at.result step.0 step.2 in
-    subscriber-update-leaves {T = g.row.T.Denot} {U = g.row.U.Denot} c.args.domain.now (keeping _ c.has_samples_at.new.state) it.0 it.0 it.1 step.0 it.2 step.1 (answers_of g.F.BackpressureFn.allows g.G.DegradationFn.allows c.args.domain.now.boxes.subscribers) c.args.self.now.id has.0 (has.2).0
-
 pub returns-clause-updated : goal.returns-clause-updated
 returns-clause-updated g c =
-    let it = always-shown {T = g.row.T.Denot} {U = g.row.U.Denot} c.domain.inside.state c.args.domain.now c.domain.invariant c.domain.view_is in
-    let step = returns-clause-answers g c it.0 it.1 it.2 in
-    answers-updated {T = g.row.T.Denot} {U = g.row.U.Denot} c.args.domain.now (keeping _ c.has_samples_at.new.state) it.0 it.0 it.1 step.0 it.2 step.1 (answers_of g.F.BackpressureFn.allows g.G.DegradationFn.allows c.args.domain.now.boxes.subscribers) c.args.self.now c.requires.live c.has_samples_at.result step.2
-
-pub returns-clause-loans_left : goal.returns-clause-loans_left
-returns-clause-loans_left g c =
-    let it = always-shown {T = g.row.T.Denot} {U = g.row.U.Denot} c.domain.inside.state c.args.domain.now c.domain.invariant c.domain.view_is in
-    let step = returns-clause-answers g c it.0 it.1 it.2 in
-    let has = answered {T = g.row.T.Denot} {U = g.row.U.Denot} (answers_of g.F.BackpressureFn.allows g.G.DegradationFn.allows c.args.domain.now.boxes.subscribers) it.1 c.args.self.now.id c.has_samples_at.result step.0 step.2 in
-    update-subscriber-left {T = g.row.T.Denot} {U = g.row.U.Denot} c.args.domain.now (keeping _ c.has_samples_at.new.state) it.0 it.0 it.1 step.0 it.2 step.1 (answers_of g.F.BackpressureFn.allows g.G.DegradationFn.allows c.args.domain.now.boxes.subscribers) c.args.self.now.id has.0 (has.2).0
+    question-updated {T = g.row.T.Denot} {U = g.row.U.Denot} c.domain.inside.state c.args.domain.now (keeping _ c.has_samples_at.new.state) c.domain.invariant c.domain.view_is
+    (same-boxes c.domain.inside.state c.has_samples_at.new.state c.args.domain.now c.domain.view_is) (answers_of g.F.BackpressureFn.allows g.G.DegradationFn.allows c.args.domain.now.boxes.subscribers) c.args.self.now c.requires.live c.has_samples_at.result (returns-clause-answers g c)
 
 pub returns-clause-undisturbed : goal.returns-clause-undisturbed
 returns-clause-undisturbed g c = λ keeps.
@@ -81,11 +41,9 @@ returns-clause-undisturbed g c = λ keeps.
     question-waits {T = g.row.T.Denot} {U = g.row.U.Denot} c.args.domain.now (keeping _ c.has_samples_at.new.state) it.0 it.0 it.1 step.0 it.2 step.1 (answers_of g.F.BackpressureFn.allows g.G.DegradationFn.allows c.args.domain.now.boxes.subscribers) c.args.self.now keeps (λ n entry at. at) has.0 (has.2).0
 
 pub has_samples_at-requires-clause-stands : goal.has_samples_at-requires-clause-stands
-has_samples_at-requires-clause-stands g c =
-    let at = subscriber-at-place {T = g.row.T.Denot} {U = g.row.U.Denot} c.domain.inside.state c.domain.invariant c.args.domain.now c.domain.view_is c.args.self.now c.requires.live in
-    (at.0, at.1)
+has_samples_at-requires-clause-stands g c = subscriber-there {T = g.row.T.Denot} {U = g.row.U.Denot} c.domain.inside.state c.domain.invariant c.args.domain.now c.domain.view_is c.args.self.now c.requires.live
 
 pub invariant_of-domain : goal.invariant_of-domain
 invariant_of-domain g c =
-    let at = subscriber-at-place {T = g.row.T.Denot} {U = g.row.U.Denot} c.domain.inside.state c.domain.invariant c.args.domain.now c.domain.view_is c.args.self.now c.requires.live in
+    let at = subscriber-there {T = g.row.T.Denot} {U = g.row.U.Denot} c.domain.inside.state c.domain.invariant c.args.domain.now c.domain.view_is c.args.self.now c.requires.live in
     (c.has_samples_at.ensures at.0 at.1).1.agrees

@@ -1,25 +1,15 @@
-use Rattle.std.proofs.Common.{ap, sym, eqb-true, eq-eqb, ◌∙◌}
-use Rattle.iox2_store.specs.declared.service_config.ServiceConfig.{ServiceConfig}
 use Rattle.iox2_pubsub.specs.Live.{subscriber_key}
-use Rattle.iox2_pubsub.proofs.PlacedHandles.{subscriber-elsewhere, subscriber-in, subscriber-unnamed}
+use Rattle.iox2_pubsub.proofs.HeldKeys.{other-service, place-told, refuted, same-service}
+use Rattle.iox2_pubsub.proofs.PlacedHandles.{subscriber-among, subscriber-in}
 use Rattle.iox2_pubsub.proofs.subscriber.Subscriber.is_in.Goals as goal
 
 pub returns-then-self-config : goal.returns-then-self-config
-returns-then-self-config g c = (
-  λ no. absurd cc,
-  λ live. absurd (subscriber-elsewhere {T = g.row.T.Denot} {U = g.row.U.Denot} c.domain.inside.state c.domain.invariant c.args.domain.now c.domain.view_is (subscriber_key c.args.self.now)
-      (λ same. c.if-self-config.true (same ∙ sym (ap (λ (config : ServiceConfig). config.service_id) c.config.ensures))) live.there),
-)
+returns-then-self-config g c = refuted (λ live. other-service c.config.ensures c.if-self-config.true (subscriber-among {T = g.row.T.Denot} {U = g.row.U.Denot} c.domain.inside.state c.domain.invariant c.args.domain.now c.domain.view_is (subscriber_key c.args.self.now) live.there).1)
 
 pub returns-in-Some : goal.returns-in-Some
 returns-in-Some g c =
     let found = c.in-Some.ensures in
-    let is = subscriber-in {T = g.row.T.Denot} {U = g.row.U.Denot} c.domain.inside.state c.domain.invariant c.args.domain.now c.domain.view_is c.args.self.now
-    (c.if-self-config.false ∙ ap (λ (config : ServiceConfig). config.service_id) c.config.ensures) found.0 c.in-Some.place (found.1, found.2, found.3) in
-    (λ yes. is.0 (eqb-true c.in-Some.place c.args.self.now.place yes), λ live. eq-eqb c.in-Some.place c.args.self.now.place (is.1 live))
+    place-told c.in-Some.place c.args.self.now.place (subscriber-in {T = g.row.T.Denot} {U = g.row.U.Denot} c.domain.inside.state c.domain.invariant c.args.domain.now c.domain.view_is c.args.self.now (same-service c.config.ensures c.if-self-config.false) found.0 c.in-Some.place (found.1, found.2, found.3))
 
 pub returns-in-None : goal.returns-in-None
-returns-in-None g c = (
-  λ no. absurd cc,
-  λ live. absurd (subscriber-unnamed {T = g.row.T.Denot} {U = g.row.U.Denot} c.domain.inside.state c.domain.invariant c.args.domain.now c.domain.view_is (subscriber_key c.args.self.now) c.in-None.ensures live.there),
-)
+returns-in-None g c = refuted (λ live. c.in-None.ensures (subscriber-among {T = g.row.T.Denot} {U = g.row.U.Denot} c.domain.inside.state c.domain.invariant c.args.domain.now c.domain.view_is (subscriber_key c.args.self.now) live.there).2)

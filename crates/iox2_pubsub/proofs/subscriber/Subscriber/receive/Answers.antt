@@ -3,18 +3,20 @@ use Rattle.iox2_domain.specs.Boxes.{answers_of}
 use Rattle.iox2_pubsub.proofs.KeptAnswers.{received}
 use Rattle.iox2_store.specs.machine.Receives.{Got_sample, No_sample, Receive_error}
 use Rattle.iox2_domain.specs.Fields.{keeping}
-use Rattle.iox2_pubsub.specs.Live.{IsNewIn, A_sample}
+use Rattle.iox2_pubsub.specs.Live.{A_sample, IsNewIn, LeavesLater, TakesFirst}
 use Rattle.iox2_pubsub.specs.ReceivedSamples.{received_result}
+use Rattle.iox2_domain.specs.Receipts.{ReceivesAs}
 use Rattle.iox2_domain.specs.declared.sample_slots.Receipt.{Receipt}
-use Rattle.iox2_pubsub.proofs.ReceptionShown.{reception-at, reception-shows, reception-live, reception-origin, error-shows}
-use Rattle.iox2_pubsub.proofs.PlacedHandles.{subscriber-at-place}
-use Rattle.iox2_pubsub.proofs.CallsStay.{always-shown, receive-stays, received-is-new}
-use Rattle.iox2_pubsub.proofs.WaitingShown.{received-fewer, received-none, received-no-more, received-others, received-reads, received-oldest}
-use Rattle.iox2_pubsub.proofs.UpToDateShown.{receive-leaves, received-updated}
-use Rattle.iox2_pubsub.proofs.LoansLeftShown.{receive-left}
-use Rattle.iox2_pubsub.proofs.PublisherWaits.{one-is-all, receive-leaves-later, receive-takes-first}
+use Rattle.iox2_pubsub.proofs.ReceptionShown.{reception-agrees, reception-at, reception-shows, reception-live, reception-origin, error-shows}
+use Rattle.iox2_pubsub.proofs.PlacedHandles.{subscriber-at-place, subscriber-there}
+use Rattle.iox2_pubsub.proofs.CallsStay.{always-shown, received-is-new}
+use Rattle.iox2_pubsub.proofs.WaitingShown.{received-fewer, received-none, received-reads, received-oldest}
+use Rattle.iox2_pubsub.proofs.UpToDateShown.{received-updated}
+use Rattle.iox2_pubsub.proofs.UpdatesLeave.{reception-left}
+use Rattle.iox2_pubsub.proofs.PublisherWaits.{one-is-all, receive-takes-first}
 use Rattle.iox2_pubsub.proofs.KeptReceives.{nothing-waited, one-fewer-waits, others-wait-still}
 use Rattle.iox2_pubsub.proofs.StaysBut.{same-boxes}
+use Rattle.iox2_pubsub.proofs.subscriber.Subscriber.receive.Given.{Over}
 use Rattle.iox2_pubsub.proofs.subscriber.Subscriber.receive.Goals as goal
 
 pub returns-in_err-receipt-clause-receives : goal.returns-in_err-receipt-clause-receives
@@ -29,36 +31,24 @@ returns-in_default-clause-receives g c =
     (reception-at {T = g.row.T.Denot} {U = g.row.U.Denot} (answers_of g.F.BackpressureFn.allows g.G.DegradationFn.allows c.args.domain.now.boxes.subscribers) c.domain.inside.state c.receive_at.new.state c.args.self.now.place c.args.self.now.id c.receive_at.result (Ok None)
     (subscriber-at-place {T = g.row.T.Denot} {U = g.row.U.Denot} c.domain.inside.state c.domain.invariant c.args.domain.now c.domain.view_is c.args.self.now c.requires.live) (c.in_ok-receipt.was ∙ ap (λ (o : Option Receipt). Ok o) c.in_default.is) (received g.F.BackpressureFn.allows g.G.DegradationFn.allows c.domain.inside.state c.receive_at.new.state c.args.domain.now c.domain.view_is c.args.self.now.place c.receive_at.result c.receive_at.ensures))
 
-pub returns-clause-receives : goal.returns-clause-receives
-returns-clause-receives g c =
-    let receipt = c.in-Some.receipt in
-    reception-shows {T = g.row.T.Denot} {U = g.row.U.Denot} (answers_of g.F.BackpressureFn.allows g.G.DegradationFn.allows c.args.domain.now.boxes.subscribers) c.args.domain.now c.domain.inside.state c.receive_at.new.state c.domain.view_is c.args.self.now.id (Ok (Some receipt))
-    (reception-at {T = g.row.T.Denot} {U = g.row.U.Denot} (answers_of g.F.BackpressureFn.allows g.G.DegradationFn.allows c.args.domain.now.boxes.subscribers) c.domain.inside.state c.receive_at.new.state c.args.self.now.place c.args.self.now.id c.receive_at.result (Ok (Some receipt))
-    (subscriber-at-place {T = g.row.T.Denot} {U = g.row.U.Denot} c.domain.inside.state c.domain.invariant c.args.domain.now c.domain.view_is c.args.self.now c.requires.live) (c.in_ok-receipt.was ∙ ap (λ (o : Option Receipt). Ok o) c.in-Some.is) (received g.F.BackpressureFn.allows g.G.DegradationFn.allows c.domain.inside.state c.receive_at.new.state c.args.domain.now c.domain.view_is c.args.self.now.place c.receive_at.result c.receive_at.ensures))
-
-pub returns-clause-live : goal.returns-clause-live
-returns-clause-live g c =
-    let receipt = c.in-Some.receipt in
-    reception-live {T = g.row.T.Denot} {U = g.row.U.Denot} (answers_of g.F.BackpressureFn.allows g.G.DegradationFn.allows c.args.domain.now.boxes.subscribers) c.args.domain.now c.domain.inside.state c.receive_at.new.state c.domain.view_is c.args.self.now
-    (record { service_id = c.args.self.now.service_id; origin = receipt.publisher; sample = receipt.sample }) receipt
-    (reception-at {T = g.row.T.Denot} {U = g.row.U.Denot} (answers_of g.F.BackpressureFn.allows g.G.DegradationFn.allows c.args.domain.now.boxes.subscribers) c.domain.inside.state c.receive_at.new.state c.args.self.now.place c.args.self.now.id c.receive_at.result (Ok (Some receipt))
-    (subscriber-at-place {T = g.row.T.Denot} {U = g.row.U.Denot} c.domain.inside.state c.domain.invariant c.args.domain.now c.domain.view_is c.args.self.now c.requires.live) (c.in_ok-receipt.was ∙ ap (λ (o : Option Receipt). Ok o) c.in-Some.is) (received g.F.BackpressureFn.allows g.G.DegradationFn.allows c.domain.inside.state c.receive_at.new.state c.args.domain.now c.domain.view_is c.args.self.now.place c.receive_at.result c.receive_at.ensures)) refl refl refl c.requires.live
-
-pub returns-clause-origin : goal.returns-clause-origin
-returns-clause-origin g c =
-    let receipt = c.in-Some.receipt in
-    reception-origin {T = g.row.T.Denot} {U = g.row.U.Denot} (answers_of g.F.BackpressureFn.allows g.G.DegradationFn.allows c.args.domain.now.boxes.subscribers) c.args.domain.now c.domain.inside.state c.receive_at.new.state c.domain.view_is c.args.self.now
-    (record { service_id = c.args.self.now.service_id; origin = receipt.publisher; sample = receipt.sample }) receipt
-    (reception-at {T = g.row.T.Denot} {U = g.row.U.Denot} (answers_of g.F.BackpressureFn.allows g.G.DegradationFn.allows c.args.domain.now.boxes.subscribers) c.domain.inside.state c.receive_at.new.state c.args.self.now.place c.args.self.now.id c.receive_at.result (Ok (Some receipt))
-    (subscriber-at-place {T = g.row.T.Denot} {U = g.row.U.Denot} c.domain.inside.state c.domain.invariant c.args.domain.now c.domain.view_is c.args.self.now c.requires.live) (c.in_ok-receipt.was ∙ ap (λ (o : Option Receipt). Ok o) c.in-Some.is) (received g.F.BackpressureFn.allows g.G.DegradationFn.allows c.domain.inside.state c.receive_at.new.state c.args.domain.now c.domain.view_is c.args.self.now.place c.receive_at.result c.receive_at.ensures)) refl refl
-
-pub returns-clause-subscriber : goal.returns-clause-subscriber
-returns-clause-subscriber g c =
-    let receives =
+-- the subscriber has received, as its domain's boxes answer
+got-one : (g : Over) (c : goal.In-Some g) → ReceivesAs (answers_of g.F.BackpressureFn.allows g.G.DegradationFn.allows c.args.domain.now.boxes.subscribers) c.domain.inside.state c.args.self.now.id (Ok (Some c.in-Some.receipt)) c.receive_at.new.state
+got-one g c =
     reception-at {T = g.row.T.Denot} {U = g.row.U.Denot} (answers_of g.F.BackpressureFn.allows g.G.DegradationFn.allows c.args.domain.now.boxes.subscribers) c.domain.inside.state c.receive_at.new.state c.args.self.now.place c.args.self.now.id c.receive_at.result (Ok (Some c.in-Some.receipt))
     (subscriber-at-place {T = g.row.T.Denot} {U = g.row.U.Denot} c.domain.inside.state c.domain.invariant c.args.domain.now c.domain.view_is c.args.self.now c.requires.live) (c.in_ok-receipt.was ∙ ap (λ (o : Option Receipt). Ok o) c.in-Some.is)
-    (received g.F.BackpressureFn.allows g.G.DegradationFn.allows c.domain.inside.state c.receive_at.new.state c.args.domain.now c.domain.view_is c.args.self.now.place c.receive_at.result c.receive_at.ensures) in
-    (receives.3).its
+    (received g.F.BackpressureFn.allows g.G.DegradationFn.allows c.domain.inside.state c.receive_at.new.state c.args.domain.now c.domain.view_is c.args.self.now.place c.receive_at.result c.receive_at.ensures)
+
+pub returns-clause-receives : goal.returns-clause-receives
+returns-clause-receives g c = reception-shows {T = g.row.T.Denot} {U = g.row.U.Denot} (answers_of g.F.BackpressureFn.allows g.G.DegradationFn.allows c.args.domain.now.boxes.subscribers) c.args.domain.now c.domain.inside.state c.receive_at.new.state c.domain.view_is c.args.self.now.id (Ok (Some c.in-Some.receipt)) (got-one g c)
+
+pub returns-clause-live : goal.returns-clause-live
+returns-clause-live g c = reception-live {T = g.row.T.Denot} {U = g.row.U.Denot} (answers_of g.F.BackpressureFn.allows g.G.DegradationFn.allows c.args.domain.now.boxes.subscribers) c.args.domain.now c.domain.inside.state c.receive_at.new.state c.domain.view_is c.args.self.now (record { service_id = c.args.self.now.service_id; origin = c.in-Some.receipt.publisher; sample = c.in-Some.receipt.sample }) c.in-Some.receipt (got-one g c) refl refl refl c.requires.live
+
+pub returns-clause-origin : goal.returns-clause-origin
+returns-clause-origin g c = reception-origin {T = g.row.T.Denot} {U = g.row.U.Denot} (answers_of g.F.BackpressureFn.allows g.G.DegradationFn.allows c.args.domain.now.boxes.subscribers) c.args.domain.now c.domain.inside.state c.receive_at.new.state c.domain.view_is c.args.self.now (record { service_id = c.args.self.now.service_id; origin = c.in-Some.receipt.publisher; sample = c.in-Some.receipt.sample }) c.in-Some.receipt (got-one g c) refl refl
+
+pub returns-clause-subscriber : goal.returns-clause-subscriber
+returns-clause-subscriber g c = ((got-one g c).3).its
 
 pub returns-clause-new : goal.returns-clause-new
 returns-clause-new g c =
@@ -68,23 +58,20 @@ returns-clause-new g c =
     (received-is-new {T = g.row.T.Denot} {U = g.row.U.Denot} c.args.domain.now (keeping (record { publishers = (c.domain.inside.boxes).boxes; subscribers = (c.domain.inside.subscriber_boxes).boxes }) c.receive_at.new.state) it.0 it.1 it.2 (answers_of g.F.BackpressureFn.allows g.G.DegradationFn.allows c.args.domain.now.boxes.subscribers) c.in-Some.receipt.publisher c.args.self.now.id
     c.in-Some.receipt.sample.number step.0 step.1 step.2)
 
-pub returns-in_err-receipt-clause-stays : goal.returns-in_err-receipt-clause-stays
-returns-in_err-receipt-clause-stays g c =
-    let it = always-shown {T = g.row.T.Denot} {U = g.row.U.Denot} c.domain.inside.state c.args.domain.now c.domain.invariant c.domain.view_is in
-    let step = returns-in_err-receipt-clause-receives g c it.0 it.1 it.2 in
-    receive-stays {T = g.row.T.Denot} {U = g.row.U.Denot} c.args.domain.now _ it.0 it.1 it.2 (answers_of g.F.BackpressureFn.allows g.G.DegradationFn.allows c.args.domain.now.boxes.subscribers) c.args.self.now.id (received_result c.from_residual.result) step.0 step.1 step.2 (same-boxes c.domain.inside.state c.receive_at.new.state c.args.domain.now c.domain.view_is)
+pub returns-in_err-receipt-clause-leaves : goal.returns-in_err-receipt-clause-leaves
+returns-in_err-receipt-clause-leaves g c =
+    reception-left {T = g.row.T.Denot} {U = g.row.U.Denot} c.domain.inside.state c.args.domain.now (keeping _ c.receive_at.new.state) c.domain.invariant c.domain.view_is
+    (same-boxes c.domain.inside.state c.receive_at.new.state c.args.domain.now c.domain.view_is) (answers_of g.F.BackpressureFn.allows g.G.DegradationFn.allows c.args.domain.now.boxes.subscribers) c.args.self.now c.requires.live (received_result c.from_residual.result) (returns-in_err-receipt-clause-receives g c)
 
-pub returns-in_default-clause-stays : goal.returns-in_default-clause-stays
-returns-in_default-clause-stays g c =
-    let it = always-shown {T = g.row.T.Denot} {U = g.row.U.Denot} c.domain.inside.state c.args.domain.now c.domain.invariant c.domain.view_is in
-    let step = returns-in_default-clause-receives g c it.0 it.1 it.2 in
-    receive-stays {T = g.row.T.Denot} {U = g.row.U.Denot} c.args.domain.now _ it.0 it.1 it.2 (answers_of g.F.BackpressureFn.allows g.G.DegradationFn.allows c.args.domain.now.boxes.subscribers) c.args.self.now.id No_sample step.0 step.1 step.2 (same-boxes c.domain.inside.state c.receive_at.new.state c.args.domain.now c.domain.view_is)
+pub returns-in_default-clause-leaves : goal.returns-in_default-clause-leaves
+returns-in_default-clause-leaves g c =
+    reception-left {T = g.row.T.Denot} {U = g.row.U.Denot} c.domain.inside.state c.args.domain.now (keeping _ c.receive_at.new.state) c.domain.invariant c.domain.view_is
+    (same-boxes c.domain.inside.state c.receive_at.new.state c.args.domain.now c.domain.view_is) (answers_of g.F.BackpressureFn.allows g.G.DegradationFn.allows c.args.domain.now.boxes.subscribers) c.args.self.now c.requires.live No_sample (returns-in_default-clause-receives g c)
 
-pub returns-clause-stays : goal.returns-clause-stays
-returns-clause-stays g c =
-    let it = always-shown {T = g.row.T.Denot} {U = g.row.U.Denot} c.domain.inside.state c.args.domain.now c.domain.invariant c.domain.view_is in
-    let step = returns-clause-receives g c it.0 it.1 it.2 in
-    receive-stays {T = g.row.T.Denot} {U = g.row.U.Denot} c.args.domain.now _ it.0 it.1 it.2 (answers_of g.F.BackpressureFn.allows g.G.DegradationFn.allows c.args.domain.now.boxes.subscribers) c.args.self.now.id (Got_sample c.in-Some.receipt.publisher c.in-Some.receipt.sample.number) step.0 step.1 step.2 (same-boxes c.domain.inside.state c.receive_at.new.state c.args.domain.now c.domain.view_is)
+pub returns-clause-leaves : goal.returns-clause-leaves
+returns-clause-leaves g c =
+    reception-left {T = g.row.T.Denot} {U = g.row.U.Denot} c.domain.inside.state c.args.domain.now (keeping _ c.receive_at.new.state) c.domain.invariant c.domain.view_is
+    (same-boxes c.domain.inside.state c.receive_at.new.state c.args.domain.now c.domain.view_is) (answers_of g.F.BackpressureFn.allows g.G.DegradationFn.allows c.args.domain.now.boxes.subscribers) c.args.self.now c.requires.live (Got_sample c.in-Some.receipt.publisher c.in-Some.receipt.sample.number) (returns-clause-receives g c)
 
 pub returns-clause-fewer : goal.returns-clause-fewer
 returns-clause-fewer g c =
@@ -97,42 +84,6 @@ returns-in_default-clause-none g c =
     let it = always-shown {T = g.row.T.Denot} {U = g.row.U.Denot} c.domain.inside.state c.args.domain.now c.domain.invariant c.domain.view_is in
     let step = returns-in_default-clause-receives g c it.0 it.1 it.2 in
     received-none {T = g.row.T.Denot} {U = g.row.U.Denot} c.args.domain.now (keeping (record { publishers = (c.domain.inside.boxes).boxes; subscribers = (c.domain.inside.subscriber_boxes).boxes }) c.receive_at.new.state) it.0 it.0 it.1 step.0 it.2 step.1 (answers_of g.F.BackpressureFn.allows g.G.DegradationFn.allows c.args.domain.now.boxes.subscribers) c.args.self.now step.2
-
-pub returns-in_err-receipt-clause-others : goal.returns-in_err-receipt-clause-others
-returns-in_err-receipt-clause-others g c =
-    let it = always-shown {T = g.row.T.Denot} {U = g.row.U.Denot} c.domain.inside.state c.args.domain.now c.domain.invariant c.domain.view_is in
-    let step = returns-in_err-receipt-clause-receives g c it.0 it.1 it.2 in
-    received-others {T = g.row.T.Denot} {U = g.row.U.Denot} c.args.domain.now (keeping (record { publishers = (c.domain.inside.boxes).boxes; subscribers = (c.domain.inside.subscriber_boxes).boxes }) c.receive_at.new.state) it.0 it.0 it.1 step.0 it.2 step.1 (answers_of g.F.BackpressureFn.allows g.G.DegradationFn.allows c.args.domain.now.boxes.subscribers) c.args.self.now (λ n entry at. at) (received_result c.from_residual.result) step.2
-
-pub returns-in_default-clause-others : goal.returns-in_default-clause-others
-returns-in_default-clause-others g c =
-    let it = always-shown {T = g.row.T.Denot} {U = g.row.U.Denot} c.domain.inside.state c.args.domain.now c.domain.invariant c.domain.view_is in
-    let step = returns-in_default-clause-receives g c it.0 it.1 it.2 in
-    received-others {T = g.row.T.Denot} {U = g.row.U.Denot} c.args.domain.now (keeping (record { publishers = (c.domain.inside.boxes).boxes; subscribers = (c.domain.inside.subscriber_boxes).boxes }) c.receive_at.new.state) it.0 it.0 it.1 step.0 it.2 step.1 (answers_of g.F.BackpressureFn.allows g.G.DegradationFn.allows c.args.domain.now.boxes.subscribers) c.args.self.now (λ n entry at. at) No_sample step.2
-
-pub returns-clause-others : goal.returns-clause-others
-returns-clause-others g c =
-    let it = always-shown {T = g.row.T.Denot} {U = g.row.U.Denot} c.domain.inside.state c.args.domain.now c.domain.invariant c.domain.view_is in
-    let step = returns-clause-receives g c it.0 it.1 it.2 in
-    received-others {T = g.row.T.Denot} {U = g.row.U.Denot} c.args.domain.now (keeping (record { publishers = (c.domain.inside.boxes).boxes; subscribers = (c.domain.inside.subscriber_boxes).boxes }) c.receive_at.new.state) it.0 it.0 it.1 step.0 it.2 step.1 (answers_of g.F.BackpressureFn.allows g.G.DegradationFn.allows c.args.domain.now.boxes.subscribers) c.args.self.now (λ n entry at. at) (Got_sample c.in-Some.receipt.publisher c.in-Some.receipt.sample.number) step.2
-
-pub returns-in_err-receipt-clause-no_more : goal.returns-in_err-receipt-clause-no_more
-returns-in_err-receipt-clause-no_more g c =
-    let it = always-shown {T = g.row.T.Denot} {U = g.row.U.Denot} c.domain.inside.state c.args.domain.now c.domain.invariant c.domain.view_is in
-    let step = returns-in_err-receipt-clause-receives g c it.0 it.1 it.2 in
-    received-no-more {T = g.row.T.Denot} {U = g.row.U.Denot} c.args.domain.now (keeping (record { publishers = (c.domain.inside.boxes).boxes; subscribers = (c.domain.inside.subscriber_boxes).boxes }) c.receive_at.new.state) it.0 it.0 it.1 step.0 it.2 step.1 (answers_of g.F.BackpressureFn.allows g.G.DegradationFn.allows c.args.domain.now.boxes.subscribers) c.args.self.now c.requires.live (received_result c.from_residual.result) step.2
-
-pub returns-in_default-clause-no_more : goal.returns-in_default-clause-no_more
-returns-in_default-clause-no_more g c =
-    let it = always-shown {T = g.row.T.Denot} {U = g.row.U.Denot} c.domain.inside.state c.args.domain.now c.domain.invariant c.domain.view_is in
-    let step = returns-in_default-clause-receives g c it.0 it.1 it.2 in
-    received-no-more {T = g.row.T.Denot} {U = g.row.U.Denot} c.args.domain.now (keeping (record { publishers = (c.domain.inside.boxes).boxes; subscribers = (c.domain.inside.subscriber_boxes).boxes }) c.receive_at.new.state) it.0 it.0 it.1 step.0 it.2 step.1 (answers_of g.F.BackpressureFn.allows g.G.DegradationFn.allows c.args.domain.now.boxes.subscribers) c.args.self.now c.requires.live No_sample step.2
-
-pub returns-clause-no_more : goal.returns-clause-no_more
-returns-clause-no_more g c =
-    let it = always-shown {T = g.row.T.Denot} {U = g.row.U.Denot} c.domain.inside.state c.args.domain.now c.domain.invariant c.domain.view_is in
-    let step = returns-clause-receives g c it.0 it.1 it.2 in
-    received-no-more {T = g.row.T.Denot} {U = g.row.U.Denot} c.args.domain.now (keeping (record { publishers = (c.domain.inside.boxes).boxes; subscribers = (c.domain.inside.subscriber_boxes).boxes }) c.receive_at.new.state) it.0 it.0 it.1 step.0 it.2 step.1 (answers_of g.F.BackpressureFn.allows g.G.DegradationFn.allows c.args.domain.now.boxes.subscribers) c.args.self.now c.requires.live (Got_sample c.in-Some.receipt.publisher c.in-Some.receipt.sample.number) step.2
 
 pub returns-clause-reads : goal.returns-clause-reads
 returns-clause-reads g c =
@@ -147,24 +98,6 @@ returns-clause-oldest g c =
     let step = returns-clause-receives g c it.0 it.1 it.2 in
     received-oldest {T = g.row.T.Denot} {U = g.row.U.Denot} c.args.domain.now (keeping (record { publishers = (c.domain.inside.boxes).boxes; subscribers = (c.domain.inside.subscriber_boxes).boxes }) c.receive_at.new.state) it.0 it.0 it.1 step.0 it.2 step.1 (answers_of g.F.BackpressureFn.allows g.G.DegradationFn.allows c.args.domain.now.boxes.subscribers) c.args.self.now (λ n entry at. at) c.requires.live
     (record { service_id = c.args.self.now.service_id; origin = c.in-Some.receipt.publisher; sample = c.in-Some.receipt.sample }) step.2
-
-pub returns-in_err-receipt-clause-up_to_date : goal.returns-in_err-receipt-clause-up_to_date
-returns-in_err-receipt-clause-up_to_date g c =
-    let it = always-shown {T = g.row.T.Denot} {U = g.row.U.Denot} c.domain.inside.state c.args.domain.now c.domain.invariant c.domain.view_is in
-    let step = returns-in_err-receipt-clause-receives g c it.0 it.1 it.2 in
-    receive-leaves {T = g.row.T.Denot} {U = g.row.U.Denot} c.args.domain.now (keeping (record { publishers = (c.domain.inside.boxes).boxes; subscribers = (c.domain.inside.subscriber_boxes).boxes }) c.receive_at.new.state) it.0 it.0 it.1 step.0 it.2 step.1 (answers_of g.F.BackpressureFn.allows g.G.DegradationFn.allows c.args.domain.now.boxes.subscribers) c.args.self.now (received_result c.from_residual.result) step.2
-
-pub returns-in_default-clause-up_to_date : goal.returns-in_default-clause-up_to_date
-returns-in_default-clause-up_to_date g c =
-    let it = always-shown {T = g.row.T.Denot} {U = g.row.U.Denot} c.domain.inside.state c.args.domain.now c.domain.invariant c.domain.view_is in
-    let step = returns-in_default-clause-receives g c it.0 it.1 it.2 in
-    receive-leaves {T = g.row.T.Denot} {U = g.row.U.Denot} c.args.domain.now (keeping (record { publishers = (c.domain.inside.boxes).boxes; subscribers = (c.domain.inside.subscriber_boxes).boxes }) c.receive_at.new.state) it.0 it.0 it.1 step.0 it.2 step.1 (answers_of g.F.BackpressureFn.allows g.G.DegradationFn.allows c.args.domain.now.boxes.subscribers) c.args.self.now No_sample step.2
-
-pub returns-clause-up_to_date : goal.returns-clause-up_to_date
-returns-clause-up_to_date g c =
-    let it = always-shown {T = g.row.T.Denot} {U = g.row.U.Denot} c.domain.inside.state c.args.domain.now c.domain.invariant c.domain.view_is in
-    let step = returns-clause-receives g c it.0 it.1 it.2 in
-    receive-leaves {T = g.row.T.Denot} {U = g.row.U.Denot} c.args.domain.now (keeping (record { publishers = (c.domain.inside.boxes).boxes; subscribers = (c.domain.inside.subscriber_boxes).boxes }) c.receive_at.new.state) it.0 it.0 it.1 step.0 it.2 step.1 (answers_of g.F.BackpressureFn.allows g.G.DegradationFn.allows c.args.domain.now.boxes.subscribers) c.args.self.now (Got_sample c.in-Some.receipt.publisher c.in-Some.receipt.sample.number) step.2
 
 pub returns-in_default-clause-updated : goal.returns-in_default-clause-updated
 returns-in_default-clause-updated g c =
@@ -184,43 +117,24 @@ returns-clause-one_fewer g c = λ keeps.
     let step = returns-clause-receives g c it.0 it.1 it.2 in
     one-fewer-waits {T = g.row.T.Denot} {U = g.row.U.Denot} c.args.domain.now (keeping (record { publishers = (c.domain.inside.boxes).boxes; subscribers = (c.domain.inside.subscriber_boxes).boxes }) c.receive_at.new.state) it.0 it.0 it.1 step.0 it.2 step.1 (answers_of g.F.BackpressureFn.allows g.G.DegradationFn.allows c.args.domain.now.boxes.subscribers) c.args.self.now keeps c.requires.live c.in-Some.receipt.publisher c.in-Some.receipt.sample.number step.2
 
-pub returns-in_err-receipt-clause-loans_left : goal.returns-in_err-receipt-clause-loans_left
-returns-in_err-receipt-clause-loans_left g c =
-    let it = always-shown {T = g.row.T.Denot} {U = g.row.U.Denot} c.domain.inside.state c.args.domain.now c.domain.invariant c.domain.view_is in
-    let step = returns-in_err-receipt-clause-receives g c it.0 it.1 it.2 in
-    receive-left {T = g.row.T.Denot} {U = g.row.U.Denot} c.args.domain.now (keeping (record { publishers = (c.domain.inside.boxes).boxes; subscribers = (c.domain.inside.subscriber_boxes).boxes }) c.receive_at.new.state) it.0 it.0 it.1 step.0 it.2 step.1 (answers_of g.F.BackpressureFn.allows g.G.DegradationFn.allows c.args.domain.now.boxes.subscribers) c.args.self.now.id (received_result c.from_residual.result) step.2
-
-pub returns-in_default-clause-loans_left : goal.returns-in_default-clause-loans_left
-returns-in_default-clause-loans_left g c =
-    let it = always-shown {T = g.row.T.Denot} {U = g.row.U.Denot} c.domain.inside.state c.args.domain.now c.domain.invariant c.domain.view_is in
-    let step = returns-in_default-clause-receives g c it.0 it.1 it.2 in
-    receive-left {T = g.row.T.Denot} {U = g.row.U.Denot} c.args.domain.now (keeping (record { publishers = (c.domain.inside.boxes).boxes; subscribers = (c.domain.inside.subscriber_boxes).boxes }) c.receive_at.new.state) it.0 it.0 it.1 step.0 it.2 step.1 (answers_of g.F.BackpressureFn.allows g.G.DegradationFn.allows c.args.domain.now.boxes.subscribers) c.args.self.now.id No_sample step.2
-
-pub returns-clause-loans_left : goal.returns-clause-loans_left
-returns-clause-loans_left g c =
-    let it = always-shown {T = g.row.T.Denot} {U = g.row.U.Denot} c.domain.inside.state c.args.domain.now c.domain.invariant c.domain.view_is in
-    let step = returns-clause-receives g c it.0 it.1 it.2 in
-    receive-left {T = g.row.T.Denot} {U = g.row.U.Denot} c.args.domain.now (keeping (record { publishers = (c.domain.inside.boxes).boxes; subscribers = (c.domain.inside.subscriber_boxes).boxes }) c.receive_at.new.state) it.0 it.0 it.1 step.0 it.2 step.1 (answers_of g.F.BackpressureFn.allows g.G.DegradationFn.allows c.args.domain.now.boxes.subscribers) c.args.self.now.id (Got_sample c.in-Some.receipt.publisher c.in-Some.receipt.sample.number) step.2
-
 pub returns-in_default-clause-nothing : goal.returns-in_default-clause-nothing
 returns-in_default-clause-nothing g c = λ keeps.
     let it = always-shown {T = g.row.T.Denot} {U = g.row.U.Denot} c.domain.inside.state c.args.domain.now c.domain.invariant c.domain.view_is in
     let step = returns-in_default-clause-receives g c it.0 it.1 it.2 in
     nothing-waited {T = g.row.T.Denot} {U = g.row.U.Denot} c.args.domain.now (keeping (record { publishers = (c.domain.inside.boxes).boxes; subscribers = (c.domain.inside.subscriber_boxes).boxes }) c.receive_at.new.state) it.0 it.0 it.1 step.0 it.2 step.1 (answers_of g.F.BackpressureFn.allows g.G.DegradationFn.allows c.args.domain.now.boxes.subscribers) c.args.self.now keeps step.2
 
-pub returns-clause-first : goal.returns-clause-first
-returns-clause-first g c =
+-- of one publisher's messages the first is taken, and the rest left
+first-later : (g : Over) (c : goal.In-Some g) → TakesFirst c.args.self.now (record { service_id = c.args.self.now.service_id; origin = c.in-Some.receipt.publisher; sample = c.in-Some.receipt.sample }) c.args.domain.now (keeping (record { publishers = (c.domain.inside.boxes).boxes; subscribers = (c.domain.inside.subscriber_boxes).boxes }) c.receive_at.new.state) × LeavesLater c.args.self.now c.args.domain.now (keeping (record { publishers = (c.domain.inside.boxes).boxes; subscribers = (c.domain.inside.subscriber_boxes).boxes }) c.receive_at.new.state)
+first-later g c =
     let it = always-shown {T = g.row.T.Denot} {U = g.row.U.Denot} c.domain.inside.state c.args.domain.now c.domain.invariant c.domain.view_is in
     let step = returns-clause-receives g c it.0 it.1 it.2 in
-    receive-takes-first {T = g.row.T.Denot} {U = g.row.U.Denot} c.args.domain.now (keeping (record { publishers = (c.domain.inside.boxes).boxes; subscribers = (c.domain.inside.subscriber_boxes).boxes }) c.receive_at.new.state) it.0 it.0 it.1 step.0 it.2 step.1 c.args.self.now
-    (record { service_id = c.args.self.now.service_id; origin = c.in-Some.receipt.publisher; sample = c.in-Some.receipt.sample }) (returns-clause-oldest g c) (returns-clause-fewer g c)
+    receive-takes-first {T = g.row.T.Denot} {U = g.row.U.Denot} c.args.domain.now (keeping (record { publishers = (c.domain.inside.boxes).boxes; subscribers = (c.domain.inside.subscriber_boxes).boxes }) c.receive_at.new.state) it.0 it.0 it.1 step.0 it.2 step.1 c.args.self.now (record { service_id = c.args.self.now.service_id; origin = c.in-Some.receipt.publisher; sample = c.in-Some.receipt.sample }) (returns-clause-oldest g c) (returns-clause-fewer g c)
+
+pub returns-clause-first : goal.returns-clause-first
+returns-clause-first g c = (first-later g c).0
 
 pub returns-clause-later : goal.returns-clause-later
-returns-clause-later g c =
-    let it = always-shown {T = g.row.T.Denot} {U = g.row.U.Denot} c.domain.inside.state c.args.domain.now c.domain.invariant c.domain.view_is in
-    let step = returns-clause-receives g c it.0 it.1 it.2 in
-    receive-leaves-later {T = g.row.T.Denot} {U = g.row.U.Denot} c.args.domain.now (keeping (record { publishers = (c.domain.inside.boxes).boxes; subscribers = (c.domain.inside.subscriber_boxes).boxes }) c.receive_at.new.state) it.0 it.0 it.1 step.0 it.2 step.1 c.args.self.now
-    (record { service_id = c.args.self.now.service_id; origin = c.in-Some.receipt.publisher; sample = c.in-Some.receipt.sample }) (returns-clause-oldest g c) (returns-clause-fewer g c)
+returns-clause-later g c = (first-later g c).1
 
 pub returns-clause-rest : goal.returns-clause-rest
 returns-clause-rest g c = λ keeps other away.
@@ -233,21 +147,13 @@ pub returns-clause-only : goal.returns-clause-only
 returns-clause-only g c = λ values is. returns-clause-reads g c values (one-is-all _ values is)
 
 pub receive_at-requires-clause-stands : goal.receive_at-requires-clause-stands
-receive_at-requires-clause-stands g c =
-    let at = subscriber-at-place {T = g.row.T.Denot} {U = g.row.U.Denot} c.domain.inside.state c.domain.invariant c.args.domain.now c.domain.view_is c.args.self.now c.requires.live in
-    (at.0, at.1)
+receive_at-requires-clause-stands g c = subscriber-there {T = g.row.T.Denot} {U = g.row.U.Denot} c.domain.inside.state c.domain.invariant c.args.domain.now c.domain.view_is c.args.self.now c.requires.live
 
 pub invariant_of-domain : goal.invariant_of-domain
-invariant_of-domain g c =
-    let at = subscriber-at-place {T = g.row.T.Denot} {U = g.row.U.Denot} c.domain.inside.state c.domain.invariant c.args.domain.now c.domain.view_is c.args.self.now c.requires.live in
-    (c.receive_at.ensures at.0 at.1).1.agrees
+invariant_of-domain g c = reception-agrees (answers_of g.F.BackpressureFn.allows g.G.DegradationFn.allows (c.domain.inside.subscriber_boxes).boxes) c.domain.inside.state c.receive_at.new.state c.args.self.now.place c.receive_at.result c.receive_at.ensures (subscriber-there {T = g.row.T.Denot} {U = g.row.U.Denot} c.domain.inside.state c.domain.invariant c.args.domain.now c.domain.view_is c.args.self.now c.requires.live)
 
 pub invariant_of-domain-in_default : goal.invariant_of-domain-in_default
-invariant_of-domain-in_default g c =
-    let at = subscriber-at-place {T = g.row.T.Denot} {U = g.row.U.Denot} c.domain.inside.state c.domain.invariant c.args.domain.now c.domain.view_is c.args.self.now c.requires.live in
-    (c.receive_at.ensures at.0 at.1).1.agrees
+invariant_of-domain-in_default g c = reception-agrees (answers_of g.F.BackpressureFn.allows g.G.DegradationFn.allows (c.domain.inside.subscriber_boxes).boxes) c.domain.inside.state c.receive_at.new.state c.args.self.now.place c.receive_at.result c.receive_at.ensures (subscriber-there {T = g.row.T.Denot} {U = g.row.U.Denot} c.domain.inside.state c.domain.invariant c.args.domain.now c.domain.view_is c.args.self.now c.requires.live)
 
 pub invariant_of-domain-2 : goal.invariant_of-domain-2
-invariant_of-domain-2 g c =
-    let at = subscriber-at-place {T = g.row.T.Denot} {U = g.row.U.Denot} c.domain.inside.state c.domain.invariant c.args.domain.now c.domain.view_is c.args.self.now c.requires.live in
-    (c.receive_at.ensures at.0 at.1).1.agrees
+invariant_of-domain-2 g c = reception-agrees (answers_of g.F.BackpressureFn.allows g.G.DegradationFn.allows (c.domain.inside.subscriber_boxes).boxes) c.domain.inside.state c.receive_at.new.state c.args.self.now.place c.receive_at.result c.receive_at.ensures (subscriber-there {T = g.row.T.Denot} {U = g.row.U.Denot} c.domain.inside.state c.domain.invariant c.args.domain.now c.domain.view_is c.args.self.now c.requires.live)

@@ -1,17 +1,14 @@
-use Rattle.std.proofs.Common.{ℕ, Bool, ap, refl, subst, ◌∙◌}
+use Rattle.std.proofs.Common.{ℕ, Bool, ap, inl, refl, ◌∙◌}
 use Rattle.std.specs.List.{list_all}
 use Rattle.iox2_store.specs.machine.Channel.{closed_state, is_closed, with_state}
 use Rattle.iox2_store.specs.machine.ChannelCalls.{received_changed, senders_of}
 use Rattle.iox2_store.specs.machine.State.{State}
-use Rattle.iox2_domain.specs.Fields.{kept_of, keeping}
+use Rattle.iox2_domain.specs.Fields.{kept_of}
 use Rattle.iox2_domain.specs.Kept.{state_of}
-use Rattle.iox2_domain.specs.Reaches.{Reaches}
-use Rattle.iox2_domain.specs.Shows.{Shows}
-use Rattle.iox2_pubsub.proofs.ChangedChannels.{changed-shows, changed-leaves}
+use Rattle.iox2_pubsub.proofs.ChangedChannels.{open-leaves}
 use Rattle.iox2_pubsub.proofs.ChannelsShown.{shown-answer}
-use Rattle.iox2_pubsub.proofs.ClosedChannels.{opening-closes-none, received-takes}
-use Rattle.iox2_pubsub.proofs.PlacedHandles.{subscriber-at-place}
-use Rattle.iox2_pubsub.proofs.StaysBut.{same-boxes}
+use Rattle.iox2_pubsub.proofs.ClosedChannels.{opening-closes-none}
+use Rattle.iox2_pubsub.proofs.PlacedHandles.{subscriber-at-place, subscriber-there}
 use Rattle.iox2_pubsub.proofs.subscriber.Subscriber.set_channel_state.Goals as goal
 
 -- whether the channel is closed at each connection of the subscriber
@@ -20,28 +17,13 @@ all_closed s q number = list_all (λ p. is_closed (s.channels p q number)) (send
 
 pub all_received_in-were_closed-requires-clause-stands : goal.all_received_in-were_closed-requires-clause-stands
 all_received_in-were_closed-requires-clause-stands g c =
-    let at = subscriber-at-place {T = g.row.T.Denot} {U = g.row.U.Denot} c.domain.inside.state c.domain.invariant c.args.domain.now c.domain.view_is c.args.self.now c.requires.live in
-    (at.0, at.1)
-
-pub change_received-requires-clause-stands : goal.change_received-requires-clause-stands
-change_received-requires-clause-stands g c =
-    let at = subscriber-at-place {T = g.row.T.Denot} {U = g.row.U.Denot} c.domain.inside.state c.domain.invariant c.args.domain.now c.domain.view_is c.args.self.now c.requires.live in
-    (at.0, at.1)
-
-pub invariant_of-domain : goal.invariant_of-domain
-invariant_of-domain g c =
-    let at = subscriber-at-place {T = g.row.T.Denot} {U = g.row.U.Denot} c.domain.inside.state c.domain.invariant c.args.domain.now c.domain.view_is c.args.self.now c.requires.live in
-    (c.change_received.ensures at.0 at.1).agrees
+    subscriber-there {T = g.row.T.Denot} {U = g.row.U.Denot} c.domain.inside.state c.domain.invariant c.args.domain.now c.domain.view_is c.args.self.now c.requires.live
 
 pub returns-clause-sets : goal.returns-clause-sets
 returns-clause-sets g c = λ m s shown.
     let at = subscriber-at-place {T = g.row.T.Denot} {U = g.row.U.Denot} c.domain.inside.state c.domain.invariant c.args.domain.now c.domain.view_is c.args.self.now c.requires.live in (
       received_changed s c.args.self.now.id c.args.channel closed_state (with_state c.args.state),
-      changed-shows {T = g.row.T.Denot} {U = g.row.U.Denot} c.domain.inside.state c.args.domain.now c.domain.view_is
-          (λ s. received_changed s c.args.self.now.id c.args.channel closed_state (with_state c.args.state)) (λ s. refl) c.change_received.new.state
-          (subst (Reaches c.domain.inside.state c.change_received.new.state)
-          (ap (λ (q : ℕ). received_changed (state_of (kept_of c.domain.inside.state)) q c.args.channel closed_state (with_state c.args.state)) at.2)
-          (c.change_received.ensures at.0 at.1)) m s shown,
+      c.change_channel.ensures.changed m s shown,
       (
         refl,
         shown-answer {T = g.row.T.Denot} {U = g.row.U.Denot} c.domain.inside.state c.args.domain.now c.domain.view_is
@@ -52,10 +34,4 @@ returns-clause-sets g c = λ m s shown.
     )
 
 pub returns-clause-leaves : goal.returns-clause-leaves
-returns-clause-leaves g c =
-    changed-leaves {T = g.row.T.Denot} {U = g.row.U.Denot} c.domain.inside.state c.args.domain.now c.domain.view_is
-    (λ s. received_changed s c.args.self.now.id c.args.channel closed_state (with_state c.args.state)) (λ s. refl)
-    c.domain.invariant (keeping _ c.change_received.new.state)
-    (λ m s shown. let step = returns-clause-sets g c m s shown in subst (Shows (kept_of c.change_received.new.state) m) (step.2).0 step.1)
-    (same-boxes c.domain.inside.state c.change_received.new.state c.args.domain.now c.domain.view_is)
-    (λ s p q. received-takes s c.args.self.now.id c.args.channel closed_state (with_state c.args.state) (opening-closes-none c.args.state) p q)
+returns-clause-leaves g c = open-leaves c.change_channel.ensures.leaves (λ p other. inl (opening-closes-none c.args.state))

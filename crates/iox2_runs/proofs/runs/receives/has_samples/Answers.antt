@@ -64,11 +64,11 @@ returns-in_default-clause-carries g c =
 
 pub returns-in-Ok-clause-leaves : goal.returns-in-Ok-clause-leaves
 returns-in-Ok-clause-leaves g c =
-    leaves-making {T = g.row.T.Denot} {U = g.row.U.Denot} c.args.domain.now c.has_samples.new.domain c.args.table.now c.has_samples.ensures.stays Nothing (nothing-is-new {T = g.row.T.Denot} {U = g.row.U.Denot} c.args.domain.now) tt
+    leaves-making {T = g.row.T.Denot} {U = g.row.U.Denot} c.args.domain.now c.has_samples.new.domain c.args.table.now c.has_samples.ensures.leaves.stays Nothing (nothing-is-new {T = g.row.T.Denot} {U = g.row.U.Denot} c.args.domain.now) tt
 
 pub returns-in-Err-clause-leaves : goal.returns-in-Err-clause-leaves
 returns-in-Err-clause-leaves g c =
-    leaves-making {T = g.row.T.Denot} {U = g.row.U.Denot} c.args.domain.now c.has_samples.new.domain c.args.table.now c.has_samples.ensures.stays Nothing (nothing-is-new {T = g.row.T.Denot} {U = g.row.U.Denot} c.args.domain.now) tt
+    leaves-making {T = g.row.T.Denot} {U = g.row.U.Denot} c.args.domain.now c.has_samples.new.domain c.args.table.now c.has_samples.ensures.leaves.stays Nothing (nothing-is-new {T = g.row.T.Denot} {U = g.row.U.Denot} c.args.domain.now) tt
 
 pub returns-in_default-made-clause-leaves : goal.returns-in_default-made-clause-leaves
 returns-in_default-made-clause-leaves g c =

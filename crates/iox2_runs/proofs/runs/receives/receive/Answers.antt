@@ -92,15 +92,15 @@ returns-in-Ok-Some-clause-leaves g c =
     let result : c.receive.result ≡ Ok (Some c.in-Ok-Some.sample) = c.in-Ok-Some.is ∙ ap (λ (o : Option Sample). Ok o) c.in-Ok-Some.field-0-is in
     let new : IsNewIn c.args.domain.now (received_sample c.in-Ok-Some.sample) =
     subst (λ (r : Result (Option Sample) ReceiveError). IfOk r (λ o. IfSome o (λ it. IsNewIn c.args.domain.now (received_sample it)))) result c.receive.ensures.new in
-    leaves-making {T = g.row.T.Denot} {U = g.row.U.Denot} c.args.domain.now c.receive.new.domain c.args.table.now c.receive.ensures.stays (MadeSample c.in-Ok-Some.sample) new tt
+    leaves-making {T = g.row.T.Denot} {U = g.row.U.Denot} c.args.domain.now c.receive.new.domain c.args.table.now c.receive.ensures.leaves.stays (MadeSample c.in-Ok-Some.sample) new tt
 
 pub returns-in-Ok-None-clause-leaves : goal.returns-in-Ok-None-clause-leaves
 returns-in-Ok-None-clause-leaves g c =
-    leaves-making {T = g.row.T.Denot} {U = g.row.U.Denot} c.args.domain.now c.receive.new.domain c.args.table.now c.receive.ensures.stays Nothing (nothing-is-new {T = g.row.T.Denot} {U = g.row.U.Denot} c.args.domain.now) tt
+    leaves-making {T = g.row.T.Denot} {U = g.row.U.Denot} c.args.domain.now c.receive.new.domain c.args.table.now c.receive.ensures.leaves.stays Nothing (nothing-is-new {T = g.row.T.Denot} {U = g.row.U.Denot} c.args.domain.now) tt
 
 pub returns-in-Err-clause-leaves : goal.returns-in-Err-clause-leaves
 returns-in-Err-clause-leaves g c =
-    leaves-making {T = g.row.T.Denot} {U = g.row.U.Denot} c.args.domain.now c.receive.new.domain c.args.table.now c.receive.ensures.stays Nothing (nothing-is-new {T = g.row.T.Denot} {U = g.row.U.Denot} c.args.domain.now) tt
+    leaves-making {T = g.row.T.Denot} {U = g.row.U.Denot} c.args.domain.now c.receive.new.domain c.args.table.now c.receive.ensures.leaves.stays Nothing (nothing-is-new {T = g.row.T.Denot} {U = g.row.U.Denot} c.args.domain.now) tt
 
 pub returns-in_default-made-clause-leaves : goal.returns-in_default-made-clause-leaves
 returns-in_default-made-clause-leaves g c =

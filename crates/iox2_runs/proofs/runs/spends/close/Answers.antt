@@ -25,7 +25,7 @@ returns-in-Subscriber g c = record {
       c.in-Subscriber.subscriber (sym c.take.ensures.made ∙ c.in-Subscriber.is) c.close-in-Subscriber.ensures.closed c.take.ensures.items;
   leaves =
       leaves-spending {T = g.row.T.Denot} {U = g.row.U.Denot} c.args.domain.now c.close-in-Subscriber.new.domain c.args.table.now.items c.take.new.table.items c.args.of
-      (MadeSubscriber c.in-Subscriber.subscriber) Nothing (sym c.take.ensures.made ∙ c.in-Subscriber.is) c.close-in-Subscriber.ensures.stays (λ start new. nothing-is-new start) c.take.ensures.items tt;
+      (MadeSubscriber c.in-Subscriber.subscriber) Nothing (sym c.take.ensures.made ∙ c.in-Subscriber.is) c.close-in-Subscriber.ensures.leaves.stays (λ start new. nothing-is-new start) c.take.ensures.items tt;
   room = c.take.ensures.room;
 }
 

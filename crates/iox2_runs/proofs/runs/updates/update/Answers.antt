@@ -45,7 +45,7 @@ returns-in_default-clause-carries g c =
 
 pub returns-in-Subscriber-clause-leaves : goal.returns-in-Subscriber-clause-leaves
 returns-in-Subscriber-clause-leaves g c =
-    leaves-making {T = g.row.T.Denot} {U = g.row.U.Denot} c.args.domain.now c.update_connections-in-Subscriber.new.domain c.args.table.now c.update_connections-in-Subscriber.ensures.stays
+    leaves-making {T = g.row.T.Denot} {U = g.row.U.Denot} c.args.domain.now c.update_connections-in-Subscriber.new.domain c.args.table.now c.update_connections-in-Subscriber.ensures.rest.stays
     Nothing (nothing-is-new {T = g.row.T.Denot} {U = g.row.U.Denot} c.args.domain.now) tt
 
 pub returns-in_default-made-clause-leaves : goal.returns-in_default-made-clause-leaves
@@ -88,5 +88,5 @@ returns-else-is_blocked-clause-carries g c =
 
 pub returns-else-is_blocked-clause-leaves : goal.returns-else-is_blocked-clause-leaves
 returns-else-is_blocked-clause-leaves g c =
-    leaves-making {T = g.row.T.Denot} {U = g.row.U.Denot} c.args.domain.now c.update_connections.new.domain c.args.table.now c.update_connections.ensures.stays
+    leaves-making {T = g.row.T.Denot} {U = g.row.U.Denot} c.args.domain.now c.update_connections.new.domain c.args.table.now c.update_connections.ensures.rest.stays
     Nothing (nothing-is-new {T = g.row.T.Denot} {U = g.row.U.Denot} c.args.domain.now) tt

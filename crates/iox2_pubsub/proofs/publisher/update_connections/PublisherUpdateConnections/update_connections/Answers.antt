@@ -1,26 +1,21 @@
-use Rattle.std.proofs.Common.{◌≡◌, ap, sym, subst, ◌∙◌, false, Some}
+use Rattle.std.proofs.Common.{◌≡◌, ap, sym, subst, ◌∙◌, false, Option, Some}
 use Rattle.iox2_store.specs.machine.State.{is_blocked}
 use Rattle.iox2_domain.specs.Kept.{Kept, state_of}
 use Rattle.iox2_domain.specs.Ports.{PublisherFields}
 use Rattle.iox2_domain.proofs.lemmas.fields.ConnectionEnds.{free-of}
-use Rattle.iox2_laws.proofs.Waits.{update_publisher_waits}
 use Rattle.iox2_pubsub.proofs.LiveParts.{unblocked-test}
-use Rattle.iox2_pubsub.proofs.StaysBut.{same-boxes, IsSpared}
+use Rattle.iox2_pubsub.proofs.StaysBut.{same-boxes}
+use Rattle.iox2_store.specs.declared.errors.ConnectionFailure.{ConnectionFailure}
 use Rattle.iox2_domain.specs.Boxes.{answers_of}
 use Rattle.iox2_pubsub.proofs.KeptAnswers.{publisher-updated}
-use Rattle.iox2_laws.proofs.LoanKeeping.{update_publisher_loans}
-use Rattle.iox2_laws.proofs.PortsStay.{update_publisher_stays}
 use Rattle.iox2_domain.specs.Connects.{UpdatesPublisher}
 use Rattle.iox2_domain.specs.Fields.{keeping}
 use Rattle.iox2_pubsub.specs.UpdateCalls.{returned_failure}
-use Rattle.iox2_pubsub.specs.Live.{No_item, publisher_key}
+use Rattle.iox2_pubsub.specs.Live.{publisher_key}
 use Rattle.iox2_pubsub.proofs.PlacedHandles.{publisher-at-place}
 use Rattle.iox2_pubsub.proofs.CallsStay.{always-shown}
 use Rattle.iox2_pubsub.proofs.UpdateShown.{publisher-update-shows}
-use Rattle.iox2_pubsub.proofs.UpdatesStay.{updates-stay}
-use Rattle.iox2_pubsub.proofs.WaitingShown.{publisher-update-adds}
-use Rattle.iox2_pubsub.proofs.UpToDateShown.{publisher-update-leaves}
-use Rattle.iox2_pubsub.proofs.LoansLeftShown.{update-publisher-left}
+use Rattle.iox2_pubsub.proofs.UpdatesLeave.{publisher-update-left}
 use Rattle.iox2_pubsub.proofs.AwaitedShown.{update-connected}
 use Rattle.iox2_pubsub.proofs.publisher.update_connections.PublisherUpdateConnections.update_connections.Goals as goal
 
@@ -28,47 +23,26 @@ pub invariant_of-domain : goal.invariant_of-domain
 invariant_of-domain g c = (c.update_publisher.ensures (publisher-at-place {T = g.row.T.Denot} {U = g.row.U.Denot} c.domain.inside.state c.domain.invariant c.args.domain.now c.domain.view_is c.args.self.now c.requires.live).0 (publisher-at-place {T = g.row.T.Denot} {U = g.row.U.Denot} c.domain.inside.state c.domain.invariant c.args.domain.now c.domain.view_is c.args.self.now c.requires.live).1).reaches.agrees
 
 pub returns-clause-updates : goal.returns-clause-updates
-returns-clause-updates g c = λ m s shown.
-    publisher-update-shows {T = g.row.T.Denot} {U = g.row.U.Denot} (answers_of g.F.BackpressureFn.allows g.G.DegradationFn.allows c.args.domain.now.boxes.publishers) c.args.domain.now c.domain.inside.state c.update_publisher.new.state c.domain.view_is
-    c.args.self.now.place c.args.self.now.id m s shown (returned_failure c.outcome_of.result) (publisher-at-place {T = g.row.T.Denot} {U = g.row.U.Denot} c.domain.inside.state c.domain.invariant c.args.domain.now c.domain.view_is c.args.self.now c.requires.live)
-    (λ x at. subst (UpdatesPublisher (answers_of g.F.BackpressureFn.allows g.G.DegradationFn.allows c.args.domain.now.boxes.publishers) c.domain.inside.state c.args.self.now.place x c.update_publisher.new.state) (sym c.outcome_of.ensures)
+returns-clause-updates g c =
+    publisher-update-shows {T = g.row.T.Denot} {U = g.row.U.Denot} c.args.domain.now c.domain.inside.state c.update_publisher.new.state c.domain.view_is (answers_of g.F.BackpressureFn.allows g.G.DegradationFn.allows c.args.domain.now.boxes.publishers) c.args.self.now.place c.args.self.now.id (returned_failure c.outcome_of.result)
+    (publisher-at-place {T = g.row.T.Denot} {U = g.row.U.Denot} c.domain.inside.state c.domain.invariant c.args.domain.now c.domain.view_is c.args.self.now c.requires.live)
+    (λ x at. subst (λ (failure : Option ConnectionFailure). UpdatesPublisher (answers_of g.F.BackpressureFn.allows g.G.DegradationFn.allows c.args.domain.now.boxes.publishers) c.domain.inside.state c.args.self.now.place x c.update_publisher.new.state failure) (sym c.outcome_of.ensures)
     (publisher-updated g.F.BackpressureFn.allows g.G.DegradationFn.allows c.domain.inside.state c.update_publisher.new.state c.args.domain.now c.domain.view_is c.args.self.now.place c.update_publisher.result c.update_publisher.ensures x at))
 
-pub returns-clause-stays : goal.returns-clause-stays
-returns-clause-stays g c =
-    let it = always-shown {T = g.row.T.Denot} {U = g.row.U.Denot} c.domain.inside.state c.args.domain.now c.domain.invariant c.domain.view_is in
-    let step = returns-clause-updates g c it.0 it.1 it.2 in
-    updates-stay {T = g.row.T.Denot} {U = g.row.U.Denot} c.args.domain.now (keeping _ c.update_publisher.new.state) it.0 it.1 step.0 it.2 step.1
-    (update_publisher_stays (answers_of g.F.BackpressureFn.allows g.G.DegradationFn.allows c.args.domain.now.boxes.publishers) it.1 c.args.self.now.id step.0 (returned_failure c.outcome_of.result) step.2) (update_publisher_loans (answers_of g.F.BackpressureFn.allows g.G.DegradationFn.allows c.args.domain.now.boxes.publishers) it.1 c.args.self.now.id step.0 (returned_failure c.outcome_of.result) step.2)
-    (update_publisher_waits (IsSpared No_item) (answers_of g.F.BackpressureFn.allows g.G.DegradationFn.allows c.args.domain.now.boxes.publishers) it.1 c.args.self.now.id step.0 (returned_failure c.outcome_of.result) step.2) (same-boxes c.domain.inside.state c.update_publisher.new.state c.args.domain.now c.domain.view_is)
+pub returns-clause-rest : goal.returns-clause-rest
+returns-clause-rest g c =
+    publisher-update-left {T = g.row.T.Denot} {U = g.row.U.Denot} c.domain.inside.state c.args.domain.now (keeping _ c.update_publisher.new.state) c.domain.invariant c.domain.view_is
+    (same-boxes c.domain.inside.state c.update_publisher.new.state c.args.domain.now c.domain.view_is) (answers_of g.F.BackpressureFn.allows g.G.DegradationFn.allows c.args.domain.now.boxes.publishers) c.args.self.now.id (returned_failure c.outcome_of.result) (returns-clause-updates g c)
 
 pub update_publisher-requires-clause-stands : goal.update_publisher-requires-clause-stands
 update_publisher-requires-clause-stands g c = ((publisher-at-place {T = g.row.T.Denot} {U = g.row.U.Denot} c.domain.inside.state c.domain.invariant c.args.domain.now c.domain.view_is c.args.self.now c.requires.live).0, (publisher-at-place {T = g.row.T.Denot} {U = g.row.U.Denot} c.domain.inside.state c.domain.invariant c.args.domain.now c.domain.view_is c.args.self.now c.requires.live).1)
 
 pub returns-clause-live : goal.returns-clause-live
 returns-clause-live g c = record {
-  there = (returns-clause-stays g c).publishers (publisher_key c.args.self.now) c.requires.live.there tt;
-  placed = (returns-clause-stays g c).placed_publishers c.args.self.now c.requires.live.placed;
-  unblocked = (returns-clause-stays g c).unblocked (publisher_key c.args.self.now) c.requires.live.unblocked tt;
+  there = (returns-clause-rest g c).stays.publishers (publisher_key c.args.self.now) c.requires.live.there tt;
+  placed = (returns-clause-rest g c).stays.placed_publishers c.args.self.now c.requires.live.placed;
+  unblocked = (returns-clause-rest g c).stays.unblocked (publisher_key c.args.self.now) c.requires.live.unblocked tt;
 }
-
-pub returns-clause-adds : goal.returns-clause-adds
-returns-clause-adds g c =
-    let it = always-shown {T = g.row.T.Denot} {U = g.row.U.Denot} c.domain.inside.state c.args.domain.now c.domain.invariant c.domain.view_is in
-    let step = returns-clause-updates g c it.0 it.1 it.2 in
-    publisher-update-adds {T = g.row.T.Denot} {U = g.row.U.Denot} c.args.domain.now (keeping _ c.update_publisher.new.state) it.0 it.0 it.1 step.0 it.2 step.1 (answers_of g.F.BackpressureFn.allows g.G.DegradationFn.allows c.args.domain.now.boxes.publishers) c.args.self.now.id (returned_failure c.outcome_of.result) step.2
-
-pub returns-clause-up_to_date : goal.returns-clause-up_to_date
-returns-clause-up_to_date g c =
-    let it = always-shown {T = g.row.T.Denot} {U = g.row.U.Denot} c.domain.inside.state c.args.domain.now c.domain.invariant c.domain.view_is in
-    let step = returns-clause-updates g c it.0 it.1 it.2 in
-    publisher-update-leaves {T = g.row.T.Denot} {U = g.row.U.Denot} c.args.domain.now (keeping _ c.update_publisher.new.state) it.0 it.0 it.1 step.0 it.2 step.1 (answers_of g.F.BackpressureFn.allows g.G.DegradationFn.allows c.args.domain.now.boxes.publishers) c.args.self.now.id (returned_failure c.outcome_of.result) step.2
-
-pub returns-clause-loans_left : goal.returns-clause-loans_left
-returns-clause-loans_left g c =
-    let it = always-shown {T = g.row.T.Denot} {U = g.row.U.Denot} c.domain.inside.state c.args.domain.now c.domain.invariant c.domain.view_is in
-    let step = returns-clause-updates g c it.0 it.1 it.2 in
-    update-publisher-left {T = g.row.T.Denot} {U = g.row.U.Denot} c.args.domain.now (keeping _ c.update_publisher.new.state) it.0 it.0 it.1 step.0 it.2 step.1 (answers_of g.F.BackpressureFn.allows g.G.DegradationFn.allows c.args.domain.now.boxes.publishers) c.args.self.now.id (returned_failure c.outcome_of.result) step.2
 
 pub update_publisher-requires-clause-unblocked : goal.update_publisher-requires-clause-unblocked
 update_publisher-requires-clause-unblocked g c = λ z at_z.

@@ -1,25 +1,16 @@
-use Rattle.std.proofs.Common.{◌≡◌, false, ap, sym, subst, ◌∙◌}
-use Rattle.iox2_store.specs.SingleValues.{is_single_valued}
-use Rattle.iox2_store.specs.machine.SingleCalls.{HoldsSample}
-use Rattle.iox2_domain.specs.Kept.{Kept, entries_of, state_of}
 use Rattle.iox2_pubsub.specs.Live.{sample_key}
-use Rattle.iox2_pubsub.proofs.LiveParts.{sample-parts}
-use Rattle.iox2_pubsub.proofs.SliceParts.{holds-parts, sample-values, sample-values-one}
+use Rattle.iox2_pubsub.proofs.SliceParts.{holds-in, sample-values, sample-values-one}
+use Rattle.iox2_pubsub.proofs.SampleReads.{entry-kept, sample-held}
 use Rattle.iox2_pubsub.proofs.slice.sample.Sample.payload.Goals as goal
 
 pub sample_payloads-requires-clause-live : goal.sample_payloads-requires-clause-live
-sample_payloads-requires-clause-live g c =
-    subst (λ (k : Kept g.row.T.Denot g.row.U.Denot g.row.F.Denot g.row.G.Denot). HoldsSample (state_of k) c.args.self.now.sample.sample.subscriber c.args.self.now.sample.sample.number) (sym c.domain.view_is) (sample-parts c.args.domain.now _ c.requires.live).1
+sample_payloads-requires-clause-live g c = sample-held {T = g.row.T.Denot} {U = g.row.U.Denot} c.domain.inside.state c.args.domain.now c.domain.view_is c.args.self.now.sample c.requires.live
 
 pub sample_payloads-requires-clause-several : goal.sample_payloads-requires-clause-several
-sample_payloads-requires-clause-several g c =
-    subst (λ (k : Kept g.row.T.Denot g.row.U.Denot g.row.F.Denot g.row.G.Denot). is_single_valued k.config ≡ false) (sym c.domain.view_is) (holds-parts c.args.domain.now c.requires.sliced)
+sample_payloads-requires-clause-several g c = holds-in c.args.domain.now c.domain.inside.state c.domain.view_is c.requires.sliced
 
 pub returns-clause-reads : goal.returns-clause-reads
-returns-clause-reads g c =
-    let read = c.sample_payloads.ensures in
-    sample-values c.args.domain.now (sample_key c.args.self.now.sample) c.sample_payloads.result.now
-    (read.0, ap (λ (k : Kept g.row.T.Denot g.row.U.Denot g.row.F.Denot g.row.G.Denot). entries_of k c.args.self.now.sample.sample.number) (sym c.domain.view_is) ∙ read.1, read.2)
+returns-clause-reads g c = sample-values c.args.domain.now (sample_key c.args.self.now.sample) c.sample_payloads.result.now (entry-kept {T = g.row.T.Denot} {U = g.row.U.Denot} c.domain.inside.state c.args.domain.now c.domain.view_is c.args.self.now.sample c.sample_payloads.ensures)
 
 pub returns-clause-same : goal.returns-clause-same
 returns-clause-same g c = λ values has. sample-values-one c.args.domain.now (sample_key c.args.self.now.sample) c.sample_payloads.result.now values (returns-clause-reads g c) has

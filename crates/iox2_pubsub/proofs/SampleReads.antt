@@ -1,0 +1,29 @@
+-- What is read of a sample, from the fields of its domain.
+use Rattle.std.proofs.Common.{◌≡◌, Some, ap, sym, subst, ◌∙◌}
+use Rattle.iox2_store.specs.machine.Records.{Entry}
+use Rattle.iox2_store.specs.machine.SingleCalls.{HoldsSample}
+use Rattle.iox2_store.specs.machine.State.{State, Messages}
+use Rattle.iox2_domain.specs.Boxes.{DomainBoxes}
+use Rattle.iox2_domain.specs.Fields.{Fields, kept_of, keeping}
+use Rattle.iox2_domain.specs.Kept.{Kept, entries_of, state_of}
+use Rattle.iox2_domain.specs.Shows.{Shows}
+use Rattle.iox2_pubsub.specs.Live.{IsLiveSample}
+use Rattle.iox2_pubsub.specs.declared.sample.Sample.{Sample}
+use Rattle.iox2_pubsub.proofs.LiveParts.{sample-parts}
+
+module _ {T U F G : Type 0} {boxes : DomainBoxes F G} (f : Fields T U) (kept : Kept T U F G) (view : keeping boxes f ≡ kept) (it : Sample) where
+  -- a live sample's message is borrowed
+  pub sample-held : IsLiveSample kept it → HoldsSample (state_of (kept_of f)) it.sample.subscriber it.sample.number
+  sample-held live = subst (λ (k : Kept T U F G). HoldsSample (state_of k) it.sample.subscriber it.sample.number) (sym view) (sample-parts kept _ live).1
+
+  module _ {Reads : Entry T U → Type 0} (read : (entry : Entry T U) × (entries_of (kept_of f) it.sample.number ≡ Some entry) × Reads entry) where
+    entry-at : entries_of kept it.sample.number ≡ Some read.0
+    entry-at = ap (λ (k : Kept T U F G). entries_of k it.sample.number) (sym view) ∙ read.1
+
+    -- what is read there is read of the domain
+    pub entry-kept : (entry : Entry T U) × (entries_of kept it.sample.number ≡ Some entry) × Reads entry
+    entry-kept = (read.0, entry-at, read.2)
+
+    -- and of each state that it shows
+    pub entry-shown : (m : Messages T U) (s : State T U) → Shows kept m s → (entry : Entry T U) × (m it.sample.number ≡ Some entry) × Reads entry
+    entry-shown m s shown = (read.0, shown.entries it.sample.number read.0 entry-at, read.2)
