@@ -1,6 +1,11 @@
 -- What is left behind a reference to a list with room, of which the last elements may be hidden.
-use Rattle.std.proofs.Common.{◌≡◌, ◌≤◌, ◌∙◌, ℕ, Option, zero, suc, List, [], ◌∷◌, ◌++◌, length, take, drop, refl, ap, sym, arith}
+use Rattle.std.proofs.Common.{◌≡◌, ◌≤◌, ◌∙◌, ℕ, Option, None, Some, true, zero, suc, replicate, List, [], ◌∷◌, ◌++◌, length, take, drop, refl, ap, sym, arith}
 use Rattle.std.proofs.lemmas.List.{length-append, length-drop, length-take-le, take-append-le, take-take}
+use Rattle.std.proofs.lemmas.Bool.{true≢false}
+use Rattle.std.proofs.lemmas.List.Elements.{All-cons, All-nil}
+use Rattle.std.specs.Prelude.{IsSome}
+use Rattle.std.specs.List.{All, list_all}
+use Rattle.std.specs.Option.{is_some}
 use Rattle.iox2_contents.specs.CellLists.{CellList}
 use Rattle.iox2_contents.specs.RoomLists.{RoomList, with_each}
 
@@ -16,6 +21,13 @@ no-items (x ∷ xs) none = absurd (omega (arith, none))
 -- these cells, with that room, of so many lists
 abbrev pub cell-list : {T : Type 0} → List (Option T) → (room lists : ℕ) → CellList T
 cell-list items room lists = record { items = items; room = room; lists = lists }
+
+-- cells that are all written are all listed
+pub all-written : {T : Type 0} (xs : List (Option T)) (n : ℕ) → list_all is_some (xs ++ replicate n None) ≡ true → All IsSome xs × (n ≡ 0)
+all-written [] zero is = (All-nil IsSome, refl)
+all-written [] (suc n) is = absurd (true≢false (sym is))
+all-written (None ∷ xs) n is = absurd (true≢false (sym is))
+all-written (Some x ∷ xs) n is = let rest = all-written xs n is in (All-cons IsSome (Some x) xs refl rest.0, rest.1)
 
 -- all cells of a list with none behind them
 pub cells-each : {T : Type 0} (n room lists : ℕ) (xs zs ws : List (Option T)) → n ≡ length xs → zs ≡ xs
