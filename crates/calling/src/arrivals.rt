@@ -2,6 +2,7 @@
 ghost use Rattle.std.specs.Prelude.{◌≡◌, IfOk, IfSome, OnOk};
 ghost use Rattle.iox2_pubsub.specs.Handles.{publisher_id};
 ghost use Rattle.iox2_pubsub.specs.Live.{IsConnected, IsLivePublisher, IsLiveSubscriber, IsSingleValued, IsUpToDate, Stays, UpToDateStay, waiting};
+ghost use Rattle.calling.specs.Ports.{AreJoined};
 
 use crate::failure::Failure;
 use iox2_pubsub::{BackpressureStrategy, Domain, Publisher, Subscriber, UpdateConnections};
@@ -67,10 +68,7 @@ fn echo_if_drained(
     subscriber: &Subscriber,
     celsius: u32,
 ) -> Result<Option<u32>, Failure>
-    requires single_valued { IsSingleValued domain.old }
-    requires publisher { IsLivePublisher domain.old publisher.now }
-    requires subscriber { IsLiveSubscriber domain.old subscriber.now }
-    requires connected { IsConnected domain.old (publisher_id publisher.now) subscriber.now }
+    requires joined { AreJoined domain.old publisher.now subscriber.now }
     ensures same { IfOk result (λ received. IfSome received (λ it. it ≡ celsius)) }
     ensures stays { Stays domain.old domain.new }
 {

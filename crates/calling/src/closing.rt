@@ -1,9 +1,8 @@
 //! A port is closed on every way out, and what it has sent is received afterwards.
-ghost use Rattle.std.specs.Prelude.{◌≡◌, IfOk, OnSome, suc};
-ghost use Rattle.iox2_pubsub.specs.Live.{HasRoomFor, IsLivePublisher, IsLiveSubscriber, IsSingleValued, Stays, StaysBut, publisher_port, waiting};
+ghost use Rattle.iox2_pubsub.specs.Live.{HasRoomFor, IsLivePublisher, IsLiveSubscriber, IsSingleValued, Stays, StaysBut, publisher_port};
 
 use crate::failure::Failure;
-use crate::passing::{pass, send};
+use crate::passing::{pass, receive_next, send};
 use iox2_pubsub::{BackpressureStrategy, Domain, Publisher, Subscriber};
 
 /// Makes a publisher, passes a reading, and closes the publisher, whatever came of the reading.
@@ -36,30 +35,11 @@ pub fn send_last(
     requires publisher { IsLivePublisher domain.old publisher }
     requires subscriber { IsLiveSubscriber domain.old subscriber.now }
     requires room { HasRoomFor domain.old subscriber.now 1 }
+    ensures room { HasRoomFor domain.new subscriber.now 0 }
     ensures stays { StaysBut (publisher_port publisher) domain.old domain.new }
 {
     let sent = send(domain, &publisher, celsius);
     publisher.close(domain);
     sent?;
-    receive_left(domain, subscriber)
-}
-
-/// Receives the next reading that waits, of a closed publisher or another. Exactly one fewer waits
-/// afterwards.
-pub fn receive_left(
-    domain: &mut Domain<u32, ()>,
-    subscriber: &Subscriber,
-) -> Result<Option<u32>, Failure>
-    requires single_valued { IsSingleValued domain.old }
-    requires subscriber { IsLiveSubscriber domain.old subscriber.now }
-    requires room { HasRoomFor domain.old subscriber.now 0 }
-    ensures one_fewer { IfOk result (λ reading. OnSome reading (suc (waiting domain.new subscriber.now) ≡ waiting domain.old subscriber.now)) }
-    ensures stays { Stays domain.old domain.new }
-{
-    let Some(sample) = subscriber.receive(domain)? else {
-        return Ok(None);
-    };
-    let celsius = *sample.payload(domain);
-    sample.release(domain);
-    Ok(Some(celsius))
+    receive_next(domain, subscriber)
 }

@@ -13,7 +13,7 @@ mod passing;
 mod station;
 
 pub use arrivals::{echo, echo_once, join};
-pub use closing::{pass_once, receive_left, send_last};
+pub use closing::{pass_once, send_last};
 pub use failure::Failure;
 pub use generic::pass_value;
 pub use inbox::{Inbox, warmest};

@@ -2,6 +2,7 @@
 ghost use Rattle.std.specs.Prelude.{ℕ, List, [], ◌∷◌, ◌<◌, ◌≤◌, ◌≡◌, IfOk, OnOk};
 ghost use Rattle.iox2_pubsub.specs.Handles.{buffer_size_of, publisher_id};
 ghost use Rattle.iox2_pubsub.specs.Live.{AllFrom, HasItsBuffer, IsConnected, IsLivePublisher, IsLiveSubscriber, IsSingleValued, IsUpToDate, Stays, UpToDateStay, waiting};
+ghost use Rattle.calling.specs.Ports.{AreIdle};
 
 use crate::failure::Failure;
 use iox2_pubsub::{Domain, Publisher, Subscriber};
@@ -15,12 +16,7 @@ pub fn echo_pair(
     earlier: u32,
     later: u32,
 ) -> Result<(u32, u32), Failure>
-    requires single_valued { IsSingleValued domain.old }
-    requires publisher { IsLivePublisher domain.old publisher.now }
-    requires subscriber { IsLiveSubscriber domain.old subscriber.now }
-    requires connected { IsConnected domain.old (publisher_id publisher.now) subscriber.now }
-    requires up_to_date { IsUpToDate domain.old subscriber.now }
-    requires drained { waiting domain.old subscriber.now ≡ 0 }
+    requires ports { AreIdle domain.old publisher.now subscriber.now }
     requires buffer { HasItsBuffer domain.old subscriber.now }
     requires room { 2 ≤ buffer_size_of subscriber.now }
     ensures earlier { IfOk result (λ received. received.0 ≡ earlier) }

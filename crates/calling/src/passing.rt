@@ -1,6 +1,6 @@
 //! Readings go from a publisher to a subscriber.
-ghost use Rattle.std.specs.Prelude.{◌≡◌, OnOk};
-ghost use Rattle.iox2_pubsub.specs.Live.{IsLivePublisher, IsLiveSubscriber, IsSingleValued, Stays, UpToDateStay, waiting};
+ghost use Rattle.std.specs.Prelude.{◌≡◌, IfOk, OnOk, OnSome, suc};
+ghost use Rattle.iox2_pubsub.specs.Live.{HasRoomFor, IsLivePublisher, IsLiveSubscriber, IsSingleValued, Stays, UpToDateStay, waiting};
 
 use crate::failure::Failure;
 use iox2_pubsub::{Domain, Publisher, Subscriber};
@@ -36,13 +36,16 @@ pub fn send(
     Ok(())
 }
 
-/// Receives the next reading that waits, and gives it back. `None` where none waits.
+/// Receives the next reading that waits, and gives it back. `None` where none waits. Exactly one fewer
+/// waits afterwards, if the subscriber has room for all publishers that were closed.
 pub fn receive_next(
     domain: &mut Domain<u32, ()>,
     subscriber: &Subscriber,
 ) -> Result<Option<u32>, Failure>
     requires single_valued { IsSingleValued domain.old }
     requires subscriber { IsLiveSubscriber domain.old subscriber.now }
+    ensures one_fewer { HasRoomFor domain.old subscriber.now 0 → IfOk result (λ reading. OnSome reading (suc (waiting domain.new subscriber.now) ≡ waiting domain.old subscriber.now)) }
+    ensures up_to_date { UpToDateStay domain.old domain.new }
     ensures stays { Stays domain.old domain.new }
 {
     let Some(sample) = subscriber.receive(domain)? else {
