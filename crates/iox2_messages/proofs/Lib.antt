@@ -4,3 +4,4 @@ pub mod ChangedChannels
 pub mod ChangedLinks
 pub mod ReceivedChannels
 pub mod SentChannels
+pub mod StandingPlaces

@@ -1,9 +1,8 @@
-use Rattle.std.proofs.Common.{◌≡◌, ◌∙◌, ap, sym, refl, None, Some, slice_index_or, rules, length, vec_len}
-use Rattle.iox2_ends.proofs.MailboxChanges.{within_if_some}
+use Rattle.std.proofs.Common.{◌∙◌, ap, refl, None, slice_index_or, rules, vec_len}
 use Rattle.iox2_domain.specs.Fields.{Fields}
 use Rattle.iox2_domain.proofs.lemmas.receives.ReceiptSteps.{has-keys, connected-places, connected-expired}
-use Rattle.iox2_domain.proofs.lemmas.slots.PublisherBooks.{read-there}
 use Rattle.iox2_messages.proofs.ReceivedChannels.{reaches-then-marks, received-from}
+use Rattle.iox2_messages.proofs.StandingPlaces.{place-within, place-read}
 use Rattle.iox2_messages.proofs.changed_channels.change_received.Goals as goal
 
 pub change_known-requires-clause-places : goal.change_known-requires-clause-places
@@ -36,12 +35,7 @@ returns g c = λ y at.
     c.mark_received.ensures
 
 pub index-requires : goal.index-requires
-index-requires g c =
-    let there : slice_index_or c.state.inside.subscribers.items c.args.place None ≡ Some c.requires.stands.0 = ap (λ (f : Fields g.row.T.Denot g.row.U.Denot). slice_index_or f.subscribers c.args.place None) c.state.view_is ∙ c.requires.stands.1 in
-    let long : vec_len c.state.inside.subscribers ≡ length c.state.inside.subscribers.items = search rules in
-    rw long (within_if_some c.state.inside.subscribers.items c.args.place c.requires.stands.0 there)
+index-requires g c = place-within c.state.inside.subscribers.items c.args.place c.requires.stands.0 (ap (λ (f : Fields g.row.T.Denot g.row.U.Denot). slice_index_or f.subscribers c.args.place None) c.state.view_is ∙ c.requires.stands.1) (vec_len c.state.inside.subscribers) (search rules)
 
 pub unreachable-requires : goal.unreachable-requires
-unreachable-requires g c =
-    let there : slice_index_or c.state.inside.subscribers.items c.args.place None ≡ Some c.requires.stands.0 = ap (λ (f : Fields g.row.T.Denot g.row.U.Denot). slice_index_or f.subscribers c.args.place None) c.state.view_is ∙ c.requires.stands.1 in
-    c.in_default.not-Some c.requires.stands.0 (sym (read-there _ c.args.place _ _ there c.index.ensures) ∙ there)
+unreachable-requires g c = c.in_default.not-Some c.requires.stands.0 (place-read c.state.inside.subscribers.items c.args.place c.requires.stands.0 (ap (λ (f : Fields g.row.T.Denot g.row.U.Denot). slice_index_or f.subscribers c.args.place None) c.state.view_is ∙ c.requires.stands.1) _ c.index.ensures)

@@ -1,15 +1,14 @@
-use Rattle.iox2_domain.proofs.lemmas.slots.PublisherBooks.{read-there}
 use Rattle.iox2_store.specs.declared.errors.ReceiveError.{ReceiveError}
 use Rattle.iox2_ends.specs.Takes.{ReceivesSlot}
 use Rattle.iox2_ends.specs.declared.receiver.Taken.{Taken}
 use denote.Param.{param}
 use Rattle.iox2_domain.specs.Fields.{Fields}
 use Rattle.iox2_domain.specs.contracts.state.DomainState.{the_view}
-use Rattle.iox2_ends.proofs.MailboxChanges.{within_if_some}
-use Rattle.std.proofs.Common.{◌≡◌, ◌∙◌, ap, sym, subst, Option, None, Some, Result, Ok, Err, slice_index_or, slice_set, rules, length, vec_len}
+use Rattle.std.proofs.Common.{◌≡◌, ◌∙◌, ap, sym, subst, Option, None, Some, Result, Ok, Err, slice_index_or, slice_set, rules, vec_len}
 use Rattle.iox2_domain.specs.Receipts.{TakesAs}
 use Rattle.iox2_domain.proofs.lemmas.receives.ReceiptSteps.{has-keys, put-back, connected-places, connected-expired, taken-within, at-taken, at-nothing, at-error}
 use Rattle.iox2_domain.proofs.lemmas.fields.SameEnds.{stands_still}
+use Rattle.iox2_messages.proofs.StandingPlaces.{place-within, place-read}
 use Rattle.iox2_messages.proofs.receipts.take_at.Goals as goal
 
 pub receive-requires-clause-keys : goal.receive-requires-clause-keys
@@ -82,12 +81,7 @@ returns g c = λ y at.
     c.in-Some-taken.taken c.receipt_of.result c.receive.new.connections got.0 got.1 c.receipt_of.ensures.receipt y at)
 
 pub index_mut-requires : goal.index_mut-requires
-index_mut-requires g c =
-    let there : slice_index_or c.state.inside.subscribers.items c.args.place None ≡ Some c.requires.stands.0 = ap (λ (f : Fields g.row.T.Denot g.row.U.Denot). slice_index_or f.subscribers c.args.place None) c.state.view_is ∙ c.requires.stands.1 in
-    let long : vec_len c.state.inside.subscribers ≡ length c.state.inside.subscribers.items = search rules in
-    rw long (within_if_some c.state.inside.subscribers.items c.args.place c.requires.stands.0 there)
+index_mut-requires g c = place-within c.state.inside.subscribers.items c.args.place c.requires.stands.0 (ap (λ (f : Fields g.row.T.Denot g.row.U.Denot). slice_index_or f.subscribers c.args.place None) c.state.view_is ∙ c.requires.stands.1) (vec_len c.state.inside.subscribers) (search rules)
 
 pub unreachable-requires : goal.unreachable-requires
-unreachable-requires g c =
-    let there : slice_index_or c.state.inside.subscribers.items c.args.place None ≡ Some c.requires.stands.0 = ap (λ (f : Fields g.row.T.Denot g.row.U.Denot). slice_index_or f.subscribers c.args.place None) c.state.view_is ∙ c.requires.stands.1 in
-    c.in_default.not-Some c.requires.stands.0 (sym (read-there _ c.args.place _ _ there c.index_mut.ensures.value) ∙ there)
+unreachable-requires g c = c.in_default.not-Some c.requires.stands.0 (place-read c.state.inside.subscribers.items c.args.place c.requires.stands.0 (ap (λ (f : Fields g.row.T.Denot g.row.U.Denot). slice_index_or f.subscribers c.args.place None) c.state.view_is ∙ c.requires.stands.1) _ c.index_mut.ensures.value)
