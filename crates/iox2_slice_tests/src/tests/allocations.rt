@@ -1,20 +1,10 @@
-//! By which strategy a publisher's memory grows: its factory's, or else the settings'.
+//! By which strategy a publisher's memory grows: the last one of its factory, or else the settings'.
 
 use crate::tests::fixtures::slice_factory;
 use iox2_fixtures::{Numbers, is_slice_publisher_ready, is_sliced, slices};
 use iox2_pubsub::{Domain, slice};
 use iox2_store::{AllocationStrategy, LoanError, ServiceConfig};
-use std::alloc::Global;
 use std::process::Abort;
-
-// A domain whose publishers' memory grows by the strategy, where their factories name none.
-fn domain_of(rt: &impl Abort, alloc: Global, strategy: AllocationStrategy) -> Numbers {
-    let config = ServiceConfig {
-        publisher_allocation_strategy: strategy,
-        ..slices()
-    };
-    Domain::new(alloc, config).expect(rt, "a domain")
-}
 
 // What a publisher says to a loan of two elements, which is longer than its first slots. The
 // publisher is then closed.
@@ -35,29 +25,20 @@ fn longer_loan(
 
 #[test]
 fn a_factory_begins_with_the_strategy_of_the_settings(rt: HostRuntime) {
-    let mut domain = domain_of(&rt, rt.alloc(), AllocationStrategy::PowerOfTwo);
+    let config = ServiceConfig {
+        publisher_allocation_strategy: AllocationStrategy::PowerOfTwo,
+        ..slices()
+    };
+    let mut domain: Numbers = Domain::new(rt.alloc(), config).expect(&rt, "a domain");
     let factory = slice_factory(&domain);
     let by_settings = longer_loan(&rt, &mut domain, factory);
-    let factory = slice_factory(&domain).allocation_strategy(AllocationStrategy::Static);
-    let clone = factory.internal_partial_clone();
-    drop(factory);
-    let by_clone = longer_loan(&rt, &mut domain, clone);
-    assert!(rt; by_settings == Ok(()));
-    assert!(rt; by_clone == Err(LoanError::ExceedsMaxLoanSize));
-}
-
-#[test]
-fn the_last_strategy_counts(rt: HostRuntime) {
-    let mut domain = domain_of(&rt, rt.alloc(), AllocationStrategy::Static);
-    let factory = slice_factory(&domain);
-    let by_settings = longer_loan(&rt, &mut domain, factory);
-    let factory = slice_factory(&domain).allocation_strategy(AllocationStrategy::BestFit);
-    let by_factory = longer_loan(&rt, &mut domain, factory);
     let factory = slice_factory(&domain)
         .allocation_strategy(AllocationStrategy::BestFit)
         .allocation_strategy(AllocationStrategy::Static);
-    let set_back = longer_loan(&rt, &mut domain, factory);
-    assert!(rt; by_settings == Err(LoanError::ExceedsMaxLoanSize));
-    assert!(rt; by_factory == Ok(()));
-    assert!(rt; set_back == Err(LoanError::ExceedsMaxLoanSize));
+    let clone = factory.internal_partial_clone();
+    let by_factory = longer_loan(&rt, &mut domain, factory);
+    let by_clone = longer_loan(&rt, &mut domain, clone);
+    assert!(rt; by_settings == Ok(()));
+    assert!(rt; by_factory == Err(LoanError::ExceedsMaxLoanSize));
+    assert!(rt; by_clone == Err(LoanError::ExceedsMaxLoanSize));
 }

@@ -5,7 +5,7 @@ ghost use Rattle.iox2_store.specs.machine.Limits.{channel_count};
 use crate::tests::fixtures::{
     lend_slice, receive_slice, send_slice, slice_publisher, slice_subscriber,
 };
-use iox2_fixtures::{Numbers, is_slice_publisher_ready, is_sliced, receiver_count, smallest};
+use iox2_fixtures::{Numbers, is_slice_publisher_ready, receiver_count, smallest};
 use iox2_pubsub::slice::{Publisher, Subscriber};
 use iox2_pubsub::{Domain, UpdateConnections};
 use iox2_store::{ServiceConfig, TypeVariant};
@@ -52,19 +52,6 @@ fn sent_to(
         .deliver_offset_to_connection(domain, channel, connection)
         .expect(rt, "an outcome");
     receiver_count(outcome).expect(rt, "a send that isn't blocked")
-}
-
-// Whether no slice waits.
-fn gets_nothing(rt: &impl Abort, domain: &mut Numbers, subscriber: &Subscriber) -> bool {
-    assert!(rt; is_sliced(domain));
-    assert!(rt; subscriber.is_in(domain));
-    match subscriber.receive(domain).expect(rt, "an answer") {
-        Some(sample) => {
-            sample.disown();
-            false
-        }
-        None => true,
-    }
 }
 
 // Whether the next slice has this value.
@@ -154,7 +141,7 @@ fn a_further_channel_of_slices_has_a_state_of_its_own(rt: HostRuntime) {
 }
 
 // A slice reaches the one connection, in a further channel too until that is full, and nobody where
-// there is no connection. A receive looks at channel 0 alone.
+// there is no connection. A question looks at channel 0 alone.
 #[test]
 fn a_slice_goes_into_one_channel_of_one_connection(rt: HostRuntime) {
     let config = ServiceConfig {
@@ -165,24 +152,21 @@ fn a_slice_goes_into_one_channel_of_one_connection(rt: HostRuntime) {
     let first = slice_subscriber(&rt, &mut domain);
     let second = slice_subscriber(&rt, &mut domain);
     let publisher = slice_publisher(&rt, &mut domain, 1);
-    let further = [
+    let place = publisher.get_connection_id_of(&domain, second.id().value());
+    let taken = [
         sent_to(&rt, &mut domain, &publisher, 1, 1, 0),
         sent_to(&rt, &mut domain, &publisher, 2, 1, 0),
-    ];
-    let unconnected = [
         sent_to(&rt, &mut domain, &publisher, 3, 0, 5),
-        sent_to(&rt, &mut domain, &publisher, 4, 1, 7),
+        sent_to(&rt, &mut domain, &publisher, 4, 0, 1),
     ];
-    let nothing = gets_nothing(&rt, &mut domain, &first);
-    let taken = sent_to(&rt, &mut domain, &publisher, 5, 0, 1);
-    let still_nothing = gets_nothing(&rt, &mut domain, &first);
-    let is_fifth = gets(&rt, &mut domain, &second, 5);
+    assert!(rt; first.is_in(&domain));
+    let waits = first.has_samples(&mut domain);
+    let is_fourth = gets(&rt, &mut domain, &second, 4);
     publisher.disown();
     first.disown();
     second.disown();
     drop(domain);
-    assert!(rt; further == [1, 0]);
-    assert!(rt; unconnected == [0, 0]);
-    assert!(rt; nothing && still_nothing);
-    assert!(rt; taken == 1 && is_fifth);
+    assert!(rt; place == Some(1));
+    assert!(rt; taken == [1, 0, 0, 1]);
+    assert!(rt; waits == Ok(false) && is_fourth);
 }

@@ -1,13 +1,12 @@
 //! Publishers of slices whose memory grows.
-ghost use Rattle.iox2_pubsub.specs.Live.{IsUnwritten, Stays};
 ghost use Rattle.iox2_pubsub.specs.Slices.{IsSliced};
 ghost use Rattle.iox2_store.specs.declared.service_config.TypeVariant.TheVariants.{Dynamic};
-ghost use Rattle.std.specs.Prelude.{◌≡◌, IfOk};
+ghost use Rattle.std.specs.Prelude.{◌≡◌};
 
 use crate::tests::fixtures::{Bytes, byte_domain, slice_factory};
 use iox2_fixtures::{Numbers, is_slice_publisher_ready, is_sliced, smallest};
 use iox2_pubsub::Domain;
-use iox2_pubsub::slice::{Publisher, SampleMutUninit};
+use iox2_pubsub::slice::Publisher;
 use iox2_store::{AllocationStrategy, LoanError, ServiceConfig, TypeVariant};
 use std::alloc::Global;
 use std::process::Abort;
@@ -21,33 +20,12 @@ fn slices() -> ServiceConfig {
     }
 }
 
-// A publisher whose first slots have room for one element.
-fn growing(
-    rt: &impl Abort,
-    domain: &mut Numbers,
-    loans: usize,
-    strategy: AllocationStrategy,
-) -> Publisher {
+// A publisher with one loan, whose first slots have room for one element.
+fn growing(rt: &impl Abort, domain: &mut Numbers, strategy: AllocationStrategy) -> Publisher {
     let factory = slice_factory(domain)
-        .max_loaned_samples(loans)
+        .max_loaned_samples(1)
         .allocation_strategy(strategy);
     factory.create(domain).expect(rt, "a publisher")
-}
-
-// A loan of that length, or why there is none.
-fn lend(
-    rt: &impl Abort,
-    domain: &mut Numbers,
-    publisher: &Publisher,
-    len: usize,
-) -> Result<SampleMutUninit, LoanError>
-    ensures sliced { IsSliced domain.new }
-    ensures loan { IfOk result (λ loan. IsUnwritten domain.new loan.sample) }
-    ensures stays { Stays domain.old domain.new }
-{
-    assert!(rt; is_sliced(domain));
-    assert!(rt; is_slice_publisher_ready(domain, publisher));
-    publisher.loan_slice_uninit(domain, len)
 }
 
 // Whether a loan of that length is granted, which is given back.
@@ -57,7 +35,9 @@ fn lends(
     publisher: &Publisher,
     len: usize,
 ) -> Result<(), LoanError> {
-    let loan = lend(rt, domain, publisher, len)?;
+    assert!(rt; is_sliced(domain));
+    assert!(rt; is_slice_publisher_ready(domain, publisher));
+    let loan = publisher.loan_slice_uninit(domain, len)?;
     assert!(rt; loan.payload(domain).len() == len);
     loan.discard(domain);
     Ok(())
@@ -77,25 +57,23 @@ fn granted_up_to(
 }
 
 #[test]
-fn best_fit_makes_at_most_255_segments(rt: HostRuntime) {
-    let mut domain: Numbers = Domain::new(rt.alloc(), slices()).expect(&rt, "a domain");
-    let publisher = growing(&rt, &mut domain, 1, AllocationStrategy::BestFit);
-    let up_to_255 = granted_up_to(&rt, &mut domain, &publisher, 255);
-    let next = lends(&rt, &mut domain, &publisher, 256);
-    let last = lends(&rt, &mut domain, &publisher, 255);
-    publisher.disown();
-    assert!(rt; up_to_255 == Ok(()));
-    assert!(rt; next == Err(LoanError::OutOfMemory));
-    assert!(rt; last == Ok(()));
-}
-
-#[test]
-fn powers_of_two_need_few_segments(rt: HostRuntime) {
-    let mut domain: Numbers = Domain::new(rt.alloc(), slices()).expect(&rt, "a domain");
-    let publisher = growing(&rt, &mut domain, 1, AllocationStrategy::PowerOfTwo);
-    let up_to_256 = granted_up_to(&rt, &mut domain, &publisher, 256);
-    publisher.disown();
-    assert!(rt; up_to_256 == Ok(()));
+fn at_most_255_segments_are_made(rt: HostRuntime) {
+    for strategy in [AllocationStrategy::BestFit, AllocationStrategy::PowerOfTwo] {
+        let mut domain: Numbers = Domain::new(rt.alloc(), slices()).expect(&rt, "a domain");
+        let publisher = growing(&rt, &mut domain, strategy);
+        let up_to_255 = granted_up_to(&rt, &mut domain, &publisher, 255);
+        let next = lends(&rt, &mut domain, &publisher, 256);
+        let last = lends(&rt, &mut domain, &publisher, 255);
+        publisher.disown();
+        drop(domain);
+        let expected = match strategy {
+            AllocationStrategy::BestFit => Err(LoanError::OutOfMemory),
+            _ => Ok(()),
+        };
+        assert!(rt; up_to_255 == Ok(()));
+        assert!(rt; next == expected);
+        assert!(rt; last == Ok(()));
+    }
 }
 
 // Asserts that messages are slices, of elements of any number of units.

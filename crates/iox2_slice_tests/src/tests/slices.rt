@@ -8,8 +8,7 @@ use crate::tests::fixtures::{
     slice_subscriber,
 };
 use iox2_fixtures::{
-    Costly, Numbers, close_publisher, close_subscriber, costly_time, is_slice_publisher_ready,
-    is_sliced, micros_since, slices,
+    Costly, Numbers, costly_time, is_slice_publisher_ready, is_sliced, micros_since, slices,
 };
 use iox2_pubsub::slice::{Publisher, Sample, SampleMut, SampleMutUninit, Subscriber};
 use iox2_pubsub::{DegradationHandler, Domain, UpdateConnections};
@@ -29,41 +28,32 @@ fn set(values: &mut [u64], index: usize, value: u64) {
     }
 }
 
-// Receives the next slice and gives it back. Whether it reads so, and how many elements its header
-// says that it has.
-fn read_next(
-    rt: &impl Abort,
-    domain: &mut Numbers,
-    subscriber: &Subscriber,
-    written: &[u64],
-) -> (bool, u64) {
-    let sample = receive_slice(rt, domain, subscriber);
-    let is_read = sample.payload(domain) == written;
-    let elements = sample.header(domain).number_of_elements();
-    sample.release(domain);
-    (is_read, elements)
-}
-
 #[test]
 fn a_slice_is_sent_as_it_was_written(rt: HostRuntime) {
     let mut domain: Numbers = Domain::new(rt.alloc(), slices()).expect(&rt, "a domain");
     let factory = domain.slice_subscriber_builder().buffer_size(2);
     let subscriber = factory.create(&mut domain).expect(&rt, "a subscriber");
-    let publisher = slice_publisher(&rt, &mut domain, 16);
-    let loan = lend_slice(&rt, &mut domain, &publisher, 12);
-    let mut message = loan.write_from_fn(&mut domain, |index| (index as u64).wrapping_mul(1234));
+    let publisher = slice_publisher(&rt, &mut domain, 5000);
+    let loan = lend_slice(&rt, &mut domain, &publisher, 5000);
+    publisher.disown();
+    let mut message = loan.write_from_fn(&mut domain, |index| (index as u64).wrapping_mul(3));
     set(SampleMut::payload_mut(&mut domain, &mut message), 0, 42);
     let takers = send_slice(&rt, &mut domain, message);
-    let written = [
-        42, 1234, 2468, 3702, 4936, 6170, 7404, 8638, 9872, 11106, 12340, 13574,
+    let sample = receive_slice(&rt, &mut domain, &subscriber);
+    subscriber.disown();
+    let read = sample.payload(&domain);
+    let values = [
+        read.first().copied(),
+        read.get(17).copied(),
+        read.last().copied(),
     ];
-    let (is_read, elements) = read_next(&rt, &mut domain, &subscriber, written.as_slice());
-    assert!(rt; close_publisher(&mut domain, publisher.into_inner()));
-    assert!(rt; close_subscriber(&mut domain, subscriber.into_inner()));
+    let length = read.len();
+    let elements = sample.header(&domain).number_of_elements();
+    sample.disown();
     drop(domain);
     assert!(rt; takers == 1);
-    assert!(rt; is_read);
-    assert!(rt; elements == 12);
+    assert!(rt; values == [Some(42), Some(51), Some(14997)]);
+    assert!(rt; length == 5000 && elements == 5000);
 }
 
 #[test]
@@ -123,26 +113,6 @@ fn no_default_values_are_made_for_a_refused_loan(rt: HostRuntime) {
     assert!(rt; number != 0 && spent < once / 2);
 }
 
-#[test]
-fn a_slice_may_be_long(rt: HostRuntime) {
-    let mut domain: Numbers = Domain::new(rt.alloc(), slices()).expect(&rt, "a domain");
-    let subscriber = slice_subscriber(&rt, &mut domain);
-    let publisher = slice_publisher(&rt, &mut domain, 5000);
-    let loan = lend_slice(&rt, &mut domain, &publisher, 5000);
-    publisher.disown();
-    let message = loan.write_from_fn(&mut domain, |index| index as u64);
-    let takers = send_slice(&rt, &mut domain, message);
-    let sample = receive_slice(&rt, &mut domain, &subscriber);
-    subscriber.disown();
-    let read = sample.payload(&domain);
-    let values = [read.get(17).copied(), read.last().copied()];
-    let length = read.len();
-    sample.disown();
-    drop(domain);
-    assert!(rt; takers == 1 && length == 5000);
-    assert!(rt; values == [Some(17), Some(4999)]);
-}
-
 // How many elements the loan of this length has, which is given back, or why there is none.
 fn lent_length(
     rt: &impl Abort,
@@ -170,16 +140,14 @@ fn a_loan_may_be_as_long_as_its_publisher_lends(rt: HostRuntime) {
         .expect(&rt, "a publisher");
     let lengths = [
         lent_length(&rt, &mut domain, &publisher, 0),
-        lent_length(&rt, &mut domain, &publisher, 1),
         lent_length(&rt, &mut domain, &publisher, 16),
         lent_length(&rt, &mut domain, &publisher, 17),
-        lent_length(&rt, &mut domain, &publisher, usize::MAX),
     ];
     let longest = publisher.initial_max_slice_len();
     publisher.disown();
     drop(domain);
     let too_long = Err(LoanError::ExceedsMaxLoanSize);
-    assert!(rt; lengths == [Ok(0), Ok(1), Ok(16), too_long, too_long]);
+    assert!(rt; lengths == [Ok(0), Ok(16), too_long]);
     assert!(rt; longest == 16);
 }
 
@@ -247,75 +215,51 @@ fn total(tags: &[Tag]) -> u64 {
     tags.iter().fold(0, |sum: u64, tag| sum.wrapping_add(tag.0))
 }
 
-// Updates both ports. Whether each was.
-fn update_both(
-    rt: &impl Abort,
-    domain: &mut Domain<Tag, Tag>,
-    publisher: &Publisher,
-    subscriber: &Subscriber,
-) -> [bool; 2] {
-    assert!(rt; is_slice_publisher_ready(domain, publisher));
-    let first = publisher.update_connections(domain).is_ok();
-    assert!(rt; subscriber.is_in(domain));
-    let second = subscriber.update_connections(domain).is_ok();
-    [first, second]
-}
-
 // Whether messages wait for the subscriber.
 fn waits(rt: &impl Abort, domain: &mut Domain<Tag, Tag>, subscriber: &Subscriber) -> bool {
     assert!(rt; subscriber.is_in(domain));
     subscriber.has_samples(domain).expect(rt, "an answer")
 }
 
+// Updates the publisher.
+fn update(rt: &impl Abort, domain: &mut Domain<Tag, Tag>, publisher: &Publisher) {
+    assert!(rt; is_slice_publisher_ready(domain, publisher));
+    let updated = publisher.update_connections(domain);
+    assert!(rt; updated.is_ok());
+}
+
+// Their handlers would fail each call that can't make a connection.
 #[test]
 fn ports_of_slices_have_the_calls_of_ports(rt: HostRuntime) {
     let mut domain: Domain<Tag, Tag> = Domain::new(rt.alloc(), slices()).expect(&rt, "a domain");
-    let subscriber = slice_subscriber(&rt, &mut domain);
-    let publisher = slice_publisher(&rt, &mut domain, 1);
+    let handler = DegradationHandler::new_with(DegradationAction::DegradeAndFail);
+    let factory = domain
+        .slice_subscriber_builder()
+        .set_degradation_handler(handler);
+    let subscriber = factory.create(&mut domain).expect(&rt, "a subscriber");
+    let handler = DegradationHandler::new_with(DegradationAction::DegradeAndFail);
+    let factory = slice_factory(&domain).set_degradation_handler(handler);
+    let publisher = factory.create(&mut domain).expect(&rt, "a publisher");
     let ids = [publisher.id().value(), subscriber.id().value()];
     let keys = [publisher.key().port, subscriber.key().port];
-    let are_in = [publisher.is_in(&domain), subscriber.is_in(&domain)];
-    let is_updated = update_both(&rt, &mut domain, &publisher, &subscriber);
+    let buffer_size = subscriber.buffer_size();
+    update(&rt, &mut domain, &publisher);
     let before = waits(&rt, &mut domain, &subscriber);
     let loan = lend_defaults(&rt, &mut domain, &publisher, 1);
     let takers = send_slice(&rt, &mut domain, loan);
     let after = waits(&rt, &mut domain, &subscriber);
-    let buffer_size = subscriber.buffer_size();
     let publisher = Publisher::new(publisher.into_inner());
-    let subscriber = Subscriber::new(subscriber.into_inner());
     assert!(rt; is_slice_publisher_ready(&domain, &publisher));
     publisher.close(&mut domain);
+    let subscriber = Subscriber::new(subscriber.into_inner());
     assert!(rt; subscriber.is_in(&domain));
+    let updated = subscriber.update_connections(&mut domain);
     subscriber.close(&mut domain);
     drop(domain);
-    assert!(rt; ids == [2, 1]);
-    assert!(rt; keys == [2, 1]);
-    assert!(rt; are_in == [true, true]);
-    assert!(rt; is_updated == [true, true]);
+    assert!(rt; ids == [2, 1] && keys == [2, 1]);
+    assert!(rt; buffer_size == 2 && updated.is_ok());
     assert!(rt; [before, after] == [false, true]);
     assert!(rt; takers == 1);
-    assert!(rt; buffer_size == 2);
-}
-
-#[test]
-fn ports_of_slices_are_told_of_their_channels(rt: HostRuntime) {
-    let mut domain: Domain<Tag, Tag> = Domain::new(rt.alloc(), slices()).expect(&rt, "a domain");
-    let subscriber = slice_subscriber(&rt, &mut domain);
-    let publisher = slice_publisher(&rt, &mut domain, 1);
-    let is_updated = update_both(&rt, &mut domain, &publisher, &subscriber);
-    assert!(rt; is_slice_publisher_ready(&domain, &publisher));
-    assert!(rt; subscriber.is_in(&domain));
-    let place = publisher.get_connection_id_of(&domain, subscriber.id().value());
-    let told = [
-        subscriber.at_least_one_channel_has_state(&domain, 0, 0),
-        publisher.has_channel_state(&domain, 0, 0, 0),
-        publisher.has_disconnect_hint(&domain, 0, 0, 0),
-    ];
-    assert!(rt; close_publisher(&mut domain, publisher.into_inner()));
-    assert!(rt; close_subscriber(&mut domain, subscriber.into_inner()));
-    assert!(rt; is_updated == [true, true]);
-    assert!(rt; place == Some(0));
-    assert!(rt; told == [true, true, false]);
 }
 
 // The number in one of the cells, where there is one.
@@ -399,75 +343,31 @@ fn a_slice_of_values_without_copies_is_received_as_it_was_left(rt: HostRuntime) 
     assert!(rt; is_over);
 }
 
-// The subscriber has the id 1, the publisher 2, and the messages have the numbers 1 and 2.
-#[test]
-fn loans_and_samples_of_slices_have_keys(rt: HostRuntime) {
-    let mut domain: Domain<Tag, Tag> = Domain::new(rt.alloc(), slices()).expect(&rt, "a domain");
-    let subscriber = slice_subscriber(&rt, &mut domain);
-    let publisher = slice_publisher(&rt, &mut domain, 1);
-    let message = lend_defaults(&rt, &mut domain, &publisher, 1);
-    let given_back = message.key();
-    message.discard(&mut domain);
-    let loan = lend_slice(&rt, &mut domain, &publisher, 1);
-    publisher.disown();
-    let unwritten = loan.key();
-    let message = loan.write_from_fn(&mut domain, |_| Tag(8));
-    let takers = send_slice(&rt, &mut domain, message);
-    let sample = receive_slice(&rt, &mut domain, &subscriber);
-    subscriber.disown();
-    let borrowed = sample.key();
-    sample.disown();
-    drop(domain);
-    assert!(rt; [given_back.port, given_back.message] == [2, 1]);
-    assert!(rt; [unwritten.port, unwritten.message] == [2, 2]);
-    assert!(rt; takers == 1);
-    assert!(rt; [borrowed.port, borrowed.message] == [1, 2]);
-}
-
+// The subscriber has the id 1, the publisher 2, and the message the number 1.
 #[test]
 fn handles_of_slices_are_made_of_those_of_single_values(rt: HostRuntime) {
     let mut domain: Domain<Tag, Tag> = Domain::new(rt.alloc(), slices()).expect(&rt, "a domain");
     let subscriber = slice_subscriber(&rt, &mut domain);
     let publisher = slice_publisher(&rt, &mut domain, 1);
-    let message = lend_defaults(&rt, &mut domain, &publisher, 1);
+    let loan = lend_slice(&rt, &mut domain, &publisher, 1);
+    publisher.disown();
+    let lent = loan.key();
+    let loan = SampleMutUninit::new(loan.into_inner());
+    let is_same_loan = loan.key() == lent;
+    let message = loan.write_from_fn(&mut domain, |_| Tag(8));
+    let written = message.key();
+    let message = SampleMut::new(message.into_inner());
+    let is_same_message = message.key() == written;
     let takers = send_slice(&rt, &mut domain, message);
     let sample = receive_slice(&rt, &mut domain, &subscriber);
-    let message = lend_defaults(&rt, &mut domain, &publisher, 1);
-    let loan = lend_slice(&rt, &mut domain, &publisher, 1);
     subscriber.disown();
-    publisher.disown();
-    let keys = [sample.key(), message.key(), loan.key()];
+    let borrowed = sample.key();
     let sample = Sample::new(sample.into_inner());
-    let message = SampleMut::new(message.into_inner());
-    let loan = SampleMutUninit::new(loan.into_inner());
-    let again = [sample.key(), message.key(), loan.key()];
+    let is_same_sample = sample.key() == borrowed;
     sample.disown();
-    message.disown();
-    loan.disown();
     drop(domain);
+    assert!(rt; is_same_loan && is_same_message && is_same_sample);
+    assert!(rt; written == lent && [lent.port, lent.message] == [2, 1]);
     assert!(rt; takers == 1);
-    assert!(rt; keys == again);
-}
-
-#[test]
-fn slices_arrive_whatever_a_refused_connection_would_do(rt: HostRuntime) {
-    let mut domain: Numbers = Domain::new(rt.alloc(), slices()).expect(&rt, "a domain");
-    let handler = DegradationHandler::new_with(DegradationAction::DegradeAndFail);
-    let factory = domain
-        .slice_subscriber_builder()
-        .set_degradation_handler(handler);
-    let subscriber = factory.create(&mut domain).expect(&rt, "a subscriber");
-    let handler = DegradationHandler::new_with(DegradationAction::DegradeAndFail);
-    let factory = domain
-        .slice_publisher_builder()
-        .set_degradation_handler(handler);
-    let publisher = factory.create(&mut domain).expect(&rt, "a publisher");
-    let message = lend_defaults(&rt, &mut domain, &publisher, 1);
-    let takers = send_slice(&rt, &mut domain, message);
-    let read = read_next(&rt, &mut domain, &subscriber, &[0]);
-    publisher.disown();
-    subscriber.disown();
-    drop(domain);
-    assert!(rt; takers == 1);
-    assert!(rt; read == (true, 1));
+    assert!(rt; [borrowed.port, borrowed.message] == [1, 1]);
 }
