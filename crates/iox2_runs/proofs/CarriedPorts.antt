@@ -27,16 +27,13 @@ use Rattle.iox2_commands.specs.Runs.{Defaults}
 use Rattle.iox2_commands.specs.Step.{publisher_settings}
 use Rattle.iox2_runs.specs.Tables.{Publisher_entry, Subscriber_entry}
 use Rattle.iox2_runs.specs.RunSteps.{Comes}
+use Rattle.iox2_runs.specs.Services.{given_for}
 use Rattle.iox2_runs.specs.Carries.{entry_for, Carries}
 use Rattle.iox2_commands.specs.declared.command.Command.TheVariants.{CreatePublisher as PublisherCommand, CreateSubscriber as SubscriberCommand}
 use Rattle.iox2_commands.specs.declared.reply.Reply.TheVariants.{PublisherMade, PublisherRefused, SubscriberMade, SubscriberRefused}
 use Rattle.iox2_runs.specs.declared.runs.made.Made.{Made}
 use Rattle.iox2_runs.specs.declared.runs.made.Made.TheVariants.{Nothing, Publisher as MadePublisher, Subscriber as MadeSubscriber}
 use Rattle.iox2_runs.proofs.TableMakes.{publisher_comes, publisher_refused_comes, subscriber_comes, subscriber_refused_comes}
-
--- what the command says of a subscriber
-abbrev pub given_for : (limit : ℕ) → Option ℕ → DegradationAction → SubscriberSettings
-given_for limit buffer degradation = record { buffer_size = elim buffer [ None ↦ limit | Some asked ↦ asked ]; degradation_handler = Fixed degradation }
 
 -- what the command says of a publisher
 abbrev pub settings_of : {T U : Type 0} → (loans : ℕ) → BackpressureStrategy → AllocationStrategy → (len : ℕ) (asked : Option ℕ) → DegradationAction → Option BackpressureAction → State T U → PublisherSettings

@@ -17,7 +17,7 @@ use Rattle.iox2_runs.specs.CarriesOut.{CarriesOut}
 use Rattle.iox2_runs.specs.Leaves.{Leaves, item_of}
 use Rattle.iox2_runs.specs.Placed.{IsPlacedMade}
 use Rattle.iox2_runs.specs.Tables.{IsUnblocked}
-use Rattle.iox2_runs.specs.Turns.{IsHeld, IsUnready, Turns, IsTaken, IsSettled}
+use Rattle.iox2_runs.specs.Turns.{IsHeld, IsUnready, Turns, Makes, IsTaken, IsSettled}
 use Rattle.iox2_runs.specs.declared.runs.made.Made.{Made}
 use Rattle.iox2_runs.specs.declared.runs.made.Made.TheVariants.{Nothing, Publisher as MadePublisher, Subscriber as MadeSubscriber, Unwritten, Written, Blocked, Sample as MadeSample}
 use Rattle.iox2_runs.proofs.LeavingSteps.{leaves-all, leaves-making, leaves-spending}
@@ -82,6 +82,11 @@ module _ {T U F G : Type 0} (environment : Environment) (defaults : Defaults T U
       by table of at (Written h) is = passed table of (ap (λ (h : Made). is_publisher_entry (entry_for h)) (at ∙ is)) at
       by table of at (Blocked h) is = passed table of (ap (λ (h : Made). is_publisher_entry (entry_for h)) (at ∙ is)) at
       by table of at (MadeSample h) is = passed table of (ap (λ (h : Made). is_publisher_entry (entry_for h)) (at ∙ is)) at
+
+-- a command that makes something is carried out
+pub carried-here : {T U F G A : Type 0} {environment : Environment} {defaults : Defaults T U} {old new : Domain T U F G} {command : Command T U} {reply : Reply T U} {made : Made}
+    (table : Vec Made A) → Makes environment defaults old new command reply made → CarriesOut environment defaults old new table table command reply made
+carried-here table makes = record { carries = makes.carries table.items; leaves = makes.leaves table.items; room = record { len = refl; capacity = refl } }
 
 module _ {A : Type 0} {table taken : Vec Made A} {of : ℕ} {held : Made} (is_taken : IsTaken table taken of held) where
   -- what was taken is held

@@ -1,8 +1,16 @@
--- What the messages of a service are.
-use Rattle.std.specs.Prelude.{Bool, not, ◌&&◌, ◌==◌}
+-- What the messages of a service are, and what a command says of a port.
+use Rattle.std.specs.Prelude.{ℕ, Bool, not, ◌&&◌, ◌==◌}
+use Rattle.std.specs.declared.option.Option.{Option}
+use Rattle.std.specs.declared.option.Option.TheVariants.{None, Some}
 use Rattle.iox2_store.specs.SingleValues.{is_fixed_size}
+use Rattle.iox2_store.specs.machine.Records.{SubscriberSettings, Fixed}
+use Rattle.iox2_store.specs.declared.degradation.DegradationAction.{DegradationAction}
 use Rattle.iox2_store.specs.declared.service_config.ServiceConfig.{ServiceConfig}
 
 -- The payload of each message is a slice of elements of one unit.
 abbrev pub has_slices : ServiceConfig → Bool
 has_slices c = not (is_fixed_size c.variant) && (c.units_per_element == 1)
+
+-- A subscriber with that buffer, or with the largest, and that answer to a refused connection.
+abbrev pub given_for : (limit : ℕ) → Option ℕ → DegradationAction → SubscriberSettings
+given_for limit buffer degradation = record { buffer_size = elim buffer [ None ↦ limit | Some asked ↦ asked ]; degradation_handler = Fixed degradation }

@@ -35,6 +35,12 @@ pub record Turns {T U F G : Type 0} (environment : Environment) (defaults : Defa
   pub carries : (table : List Made) (of : ℕ) → slice_index_or table of Nothing ≡ held → Carries environment defaults old new table (command of) turn.0 (slice_set table of turn.1) turn.2
   pub leaves : (table : List Made) (of : ℕ) → slice_index_or table of Nothing ≡ held → Leaves old new table (slice_set table of turn.1) turn.2
 
+-- Whatever the table has, the command is carried out with this reply, changes nothing there, and makes that; and all else that was
+-- live stays so.
+pub record Makes {T U F G : Type 0} (environment : Environment) (defaults : Defaults T U) (old new : Domain T U F G) (command : Command T U) (reply : Reply T U) (made : Made) : Type 0 where
+  pub carries : (table : List Made) → Carries environment defaults old new table command reply table made
+  pub leaves : (table : List Made) → Leaves old new table table made
+
 -- This was taken out of the table's position.
 pub record IsTaken {A : Type 0} (old new : Vec Made A) (of : ℕ) (taken : Made) : Type 0 where
   pub items : new.items ≡ slice_set old.items of Nothing

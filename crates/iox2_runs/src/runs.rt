@@ -28,12 +28,19 @@ mod services;
 mod spends;
 mod updates;
 
+use changes::{assume_init, set_payload, write_all, write_cell, write_header};
 use iox2_commands::{Command, Reply};
 use iox2_pubsub::Domain;
 use iox2_store::{BackpressureFn, DegradationFn};
+use lends::{loan, loan_slice, loan_uninit, send_copy};
 pub use made::{Made, disown_all};
 use made::{settle, take};
+use ports::{create_publisher, create_subscriber};
+use reads::{read, read_header, read_user_header};
+use receives::{has_samples, receive};
+use spends::{close, discard, give_up, release, retry, send};
 use std::alloc::Global;
+use updates::update;
 
 // There is a default value of the type. For proofs alone
 // (docs/decisions/crates.md, "What exists for proofs alone").
@@ -79,9 +86,8 @@ pub fn carry_out<
             override_slots,
             degradation,
             backpressure,
-        } => ports::create_publisher(
+        } => create_publisher(
             domain,
-            table,
             loans,
             strategy,
             allocation,
@@ -93,76 +99,60 @@ pub fn carry_out<
         Command::CreateSubscriber {
             buffer,
             degradation,
-        } => ports::create_subscriber(domain, table, buffer, degradation),
-        Command::LoanUninit { of } => settle(
-            lends::loan_uninit(domain, take(table, of)),
-            table,
-            of,
-        ),
-        Command::Loan { of } => settle(lends::loan(domain, take(table, of)), table, of),
+        } => create_subscriber(domain, buffer, degradation),
+        Command::LoanUninit { of } => settle(loan_uninit(domain, take(table, of)), table, of),
+        Command::Loan { of } => settle(loan(domain, take(table, of)), table, of),
         Command::LoanSlice { of, len } => settle(
-            lends::loan_slice(domain, take(table, of), len),
+            loan_slice(domain, take(table, of), len),
             table,
             of,
         ),
         Command::WriteCell { of, at, value } => settle(
-            changes::write_cell(domain, take(table, of), at, value),
+            write_cell(domain, take(table, of), at, value),
             table,
             of,
         ),
         Command::WriteAll { of, value } => settle(
-            changes::write_all(domain, take(table, of), value),
+            write_all(domain, take(table, of), value),
             table,
             of,
         ),
-        Command::AssumeInit { of } => settle(
-            changes::assume_init(domain, take(table, of)),
-            table,
-            of,
-        ),
+        Command::AssumeInit { of } => settle(assume_init(domain, take(table, of)), table, of),
         Command::WriteHeader { of, value } => settle(
-            changes::write_header(domain, take(table, of), value),
+            write_header(domain, take(table, of), value),
             table,
             of,
         ),
         Command::SetPayload { of, at, value } => settle(
-            changes::set_payload(domain, take(table, of), at, value),
+            set_payload(domain, take(table, of), at, value),
             table,
             of,
         ),
-        Command::Send { of } => settle(spends::send(domain, take(table, of)), table, of),
+        Command::Send { of } => settle(send(domain, take(table, of)), table, of),
         Command::SendCopy { of, value } => settle(
-            lends::send_copy(domain, take(table, of), value),
+            send_copy(domain, take(table, of), value),
             table,
             of,
         ),
-        Command::Discard { of } => settle(spends::discard(domain, take(table, of)), table, of),
+        Command::Discard { of } => settle(discard(domain, take(table, of)), table, of),
         Command::Retry { of, elapsed } => settle(
-            spends::retry(domain, take(table, of), elapsed),
+            retry(domain, take(table, of), elapsed),
             table,
             of,
         ),
-        Command::GiveUp { of } => settle(spends::give_up(domain, take(table, of)), table, of),
-        Command::Update { of } => settle(updates::update(domain, take(table, of)), table, of),
-        Command::Receive { of } => settle(receives::receive(domain, take(table, of)), table, of),
-        Command::HasSamples { of } => settle(
-            receives::has_samples(domain, take(table, of)),
-            table,
-            of,
-        ),
-        Command::Read { of, at } => settle(reads::read(domain, take(table, of), at), table, of),
-        Command::ReadHeader { of } => settle(
-            reads::read_header(domain, take(table, of)),
-            table,
-            of,
-        ),
+        Command::GiveUp { of } => settle(give_up(domain, take(table, of)), table, of),
+        Command::Update { of } => settle(update(domain, take(table, of)), table, of),
+        Command::Receive { of } => settle(receive(domain, take(table, of)), table, of),
+        Command::HasSamples { of } => settle(has_samples(domain, take(table, of)), table, of),
+        Command::Read { of, at } => settle(read(domain, take(table, of), at), table, of),
+        Command::ReadHeader { of } => settle(read_header(domain, take(table, of)), table, of),
         Command::ReadUserHeader { of } => settle(
-            reads::read_user_header(domain, take(table, of)),
+            read_user_header(domain, take(table, of)),
             table,
             of,
         ),
-        Command::Release { of } => settle(spends::release(domain, take(table, of)), table, of),
-        Command::Close { of } => settle(spends::close(domain, take(table, of)), table, of),
+        Command::Release { of } => settle(release(domain, take(table, of)), table, of),
+        Command::Close { of } => settle(close(domain, take(table, of)), table, of),
         Command::Nothing => (Reply::Done, Made::Nothing),
     }
 }

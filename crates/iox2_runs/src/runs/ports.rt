@@ -1,14 +1,17 @@
 //! Commands that make ports.
+ghost use Rattle.std.specs.Prelude.{◌≡◌};
 ghost use Rattle.std.specs.declared.option.Option.TheVariants.{None};
 ghost use Rattle.iox2_store.specs.machine.Environments.{fixed_handlers};
-ghost use Rattle.iox2_runs.specs.Leaves.{Leaves};
-ghost use Rattle.iox2_runs.specs.Carries.{IsLiveTable, Carries, defaults_of};
+ghost use Rattle.iox2_store.specs.machine.Limits.{buffer_limit};
+ghost use Rattle.iox2_runs.specs.Carries.{defaults_of};
+ghost use Rattle.iox2_runs.specs.Services.{given_for};
+ghost use Rattle.iox2_runs.specs.Turns.{Makes};
 ghost use Rattle.iox2_commands.specs.declared.command.Command.TheVariants.{CreatePublisher, CreateSubscriber};
 
 use super::made::Made;
 use super::publishers::make_publisher;
 use iox2_commands::Reply;
-use iox2_pubsub::{DegradationHandler, Domain};
+use iox2_pubsub::{DegradationHandler, Domain, PortFactorySubscriber};
 use iox2_store::{
     AllocationStrategy, BackpressureAction, BackpressureFn, BackpressureStrategy,
     DegradationAction, DegradationFn,
@@ -24,7 +27,6 @@ pub(crate) fn create_publisher<
     G: DegradationFn,
 >(
     domain: &mut Domain<T, U, F, G>,
-    table: &[Made],
     loans: usize,
     strategy: BackpressureStrategy,
     allocation: AllocationStrategy,
@@ -33,10 +35,8 @@ pub(crate) fn create_publisher<
     degradation: DegradationAction,
     backpressure: Option<BackpressureAction>,
 ) -> (Reply<T, U>, Made)
-    requires { IsLiveTable domain.old table.now }
-    ensures carries { Carries fixed_handlers (defaults_of T.is_default U.is_default) domain.old domain.new table.now
-        (CreatePublisher loans strategy allocation len asked_slots degradation backpressure) result.0 table.now result.1 }
-    ensures leaves { Leaves domain.old domain.new table.now table.now result.1 }
+    ensures { Makes fixed_handlers (defaults_of T.is_default U.is_default) domain.old domain.new
+        (CreatePublisher loans strategy allocation len asked_slots degradation backpressure) result.0 result.1 }
 {
     match make_publisher(
         domain,
@@ -65,27 +65,35 @@ pub(crate) fn create_subscriber<
     G: DegradationFn,
 >(
     domain: &mut Domain<T, U, F, G>,
-    table: &[Made],
     buffer: Option<usize>,
     degradation: DegradationAction,
 ) -> (Reply<T, U>, Made)
-    requires { IsLiveTable domain.old table.now }
-    ensures carries { Carries fixed_handlers (defaults_of T.is_default U.is_default) domain.old domain.new table.now
-        (CreateSubscriber buffer degradation) result.0 table.now result.1 }
-    ensures leaves { Leaves domain.old domain.new table.now table.now result.1 }
+    ensures { Makes fixed_handlers (defaults_of T.is_default U.is_default) domain.old domain.new
+        (CreateSubscriber buffer degradation) result.0 result.1 }
 {
-    let factory = domain
-        .subscriber_builder()
-        .set_degradation_handler(DegradationHandler::Fixed(degradation));
-    let factory = match buffer {
-        Some(size) => factory.buffer_size(size),
-        None => factory,
-    };
-    match factory.create(domain) {
+    match subscriber_factory(domain, buffer, degradation).create(domain) {
         Ok(subscriber) => (
             Reply::SubscriberMade(subscriber.id()),
             Made::Subscriber(subscriber),
         ),
         Err(error) => (Reply::SubscriberRefused(error), Made::Nothing),
+    }
+}
+
+// A factory of subscribers with that buffer, or with the largest, and that answer to a refused
+// connection.
+fn subscriber_factory<T: Drop, U: Default + Drop, F: BackpressureFn, G: DegradationFn>(
+    domain: &Domain<T, U, F, G>,
+    buffer: Option<usize>,
+    degradation: DegradationAction,
+) -> PortFactorySubscriber<G>
+    ensures { result.settings ≡ given_for (buffer_limit domain.now.config) buffer degradation }
+{
+    let factory = domain
+        .subscriber_builder()
+        .set_degradation_handler(DegradationHandler::Fixed(degradation));
+    match buffer {
+        Some(size) => factory.buffer_size(size),
+        None => factory,
     }
 }

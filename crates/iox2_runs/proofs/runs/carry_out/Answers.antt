@@ -1,31 +1,17 @@
 use Rattle.iox2_domain.specs.Shows.{Shows}
 use Rattle.iox2_runs.specs.Carries.{entry_for}
-use Rattle.std.proofs.Common.{map, sym, refl}
+use Rattle.std.proofs.Common.{map, refl}
 use Rattle.iox2_store.specs.machine.Environments.{fixed_handlers}
 use Rattle.iox2_runs.proofs.TableCalls.{nothing_comes}
 use Rattle.iox2_runs.proofs.LeavingSteps.{leaves-all}
-use Rattle.iox2_runs.proofs.Turned.{carried, taken-held}
+use Rattle.iox2_runs.proofs.Turned.{carried, carried-here, taken-held}
 use Rattle.iox2_runs.proofs.runs.carry_out.Goals as goal
 
-pub create_publisher-requires : goal.create_publisher-requires
-create_publisher-requires g c = rw c.deref.ensures.value c.requires
-
 pub returns-in-CreatePublisher : goal.returns-in-CreatePublisher
-returns-in-CreatePublisher g c = record {
-  carries = rw (c.in-CreatePublisher.is, sym c.deref.ensures.value) c.create_publisher.ensures.carries;
-  leaves = rw (sym c.deref.ensures.value) c.create_publisher.ensures.leaves;
-  room = record { len = refl; capacity = refl };
-}
-
-pub create_subscriber-requires : goal.create_subscriber-requires
-create_subscriber-requires g c = rw c.deref-in-CreateSubscriber.ensures.value c.requires
+returns-in-CreatePublisher g c = rw c.in-CreatePublisher.is (carried-here c.args.table.now c.create_publisher.ensures)
 
 pub returns-in-CreateSubscriber : goal.returns-in-CreateSubscriber
-returns-in-CreateSubscriber g c = record {
-  carries = rw (c.in-CreateSubscriber.is, sym c.deref-in-CreateSubscriber.ensures.value) c.create_subscriber.ensures.carries;
-  leaves = rw (sym c.deref-in-CreateSubscriber.ensures.value) c.create_subscriber.ensures.leaves;
-  room = record { len = refl; capacity = refl };
-}
+returns-in-CreateSubscriber g c = rw c.in-CreateSubscriber.is (carried-here c.args.table.now c.create_subscriber.ensures)
 
 pub loan_uninit-requires : goal.loan_uninit-requires
 loan_uninit-requires g c = taken-held c.take.ensures c.args.domain.now c.requires

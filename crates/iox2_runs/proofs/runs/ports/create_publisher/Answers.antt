@@ -6,19 +6,15 @@ use Rattle.iox2_runs.proofs.LeavingSteps.{leaves-making}
 use Rattle.iox2_runs.specs.declared.runs.made.Made.TheVariants.{Nothing, Publisher as MadePublisher}
 use Rattle.iox2_runs.proofs.runs.ports.create_publisher.Goals as goal
 
-pub returns-in-Ok-clause-carries : goal.returns-in-Ok-clause-carries
-returns-in-Ok-clause-carries g c =
-    publisher_carried {T = g.row.T.Denot} {U = g.row.U.Denot} fixed_handlers _ c.args.domain.now c.make_publisher.new.domain c.args.table.now c.args.loans c.args.strategy c.args.allocation c.args.len c.args.asked_slots c.args.degradation c.args.backpressure c.in-Ok.publisher c.id.result
-    c.in-Ok.ensures.creates (publisher-parts {T = g.row.T.Denot} {U = g.row.U.Denot} c.make_publisher.new.domain _ c.in-Ok.ensures.ready.there).1 c.id.ensures
+pub returns-in-Ok : goal.returns-in-Ok
+returns-in-Ok g c = record {
+  carries = λ table. publisher_carried {T = g.row.T.Denot} {U = g.row.U.Denot} fixed_handlers _ c.args.domain.now c.make_publisher.new.domain table c.args.loans c.args.strategy c.args.allocation c.args.len c.args.asked_slots c.args.degradation c.args.backpressure c.in-Ok.publisher c.id.result
+      c.in-Ok.ensures.creates (publisher-parts {T = g.row.T.Denot} {U = g.row.U.Denot} c.make_publisher.new.domain _ c.in-Ok.ensures.ready.there).1 c.id.ensures;
+  leaves = λ table. leaves-making {T = g.row.T.Denot} {U = g.row.U.Denot} c.args.domain.now c.make_publisher.new.domain table c.make_publisher.ensures.stays (MadePublisher c.in-Ok.publisher) c.in-Ok.ensures.new c.in-Ok.ensures.ready.placed;
+}
 
-pub returns-in-Err-clause-carries : goal.returns-in-Err-clause-carries
-returns-in-Err-clause-carries g c =
-    publisher_denied {T = g.row.T.Denot} {U = g.row.U.Denot} fixed_handlers _ c.args.domain.now c.make_publisher.new.domain c.args.table.now c.args.loans c.args.strategy c.args.allocation c.args.len c.args.asked_slots c.args.degradation c.args.backpressure c.in-Err.error c.in-Err.ensures.creates
-
-pub returns-in-Ok-clause-leaves : goal.returns-in-Ok-clause-leaves
-returns-in-Ok-clause-leaves g c =
-    leaves-making {T = g.row.T.Denot} {U = g.row.U.Denot} c.args.domain.now c.make_publisher.new.domain c.args.table.now c.make_publisher.ensures.stays (MadePublisher c.in-Ok.publisher) c.in-Ok.ensures.new c.in-Ok.ensures.ready.placed
-
-pub returns-in-Err-clause-leaves : goal.returns-in-Err-clause-leaves
-returns-in-Err-clause-leaves g c =
-    leaves-making {T = g.row.T.Denot} {U = g.row.U.Denot} c.args.domain.now c.make_publisher.new.domain c.args.table.now c.make_publisher.ensures.stays Nothing (nothing-is-new {T = g.row.T.Denot} {U = g.row.U.Denot} c.args.domain.now) tt
+pub returns-in-Err : goal.returns-in-Err
+returns-in-Err g c = record {
+  carries = λ table. publisher_denied {T = g.row.T.Denot} {U = g.row.U.Denot} fixed_handlers _ c.args.domain.now c.make_publisher.new.domain table c.args.loans c.args.strategy c.args.allocation c.args.len c.args.asked_slots c.args.degradation c.args.backpressure c.in-Err.error c.in-Err.ensures.creates;
+  leaves = λ table. leaves-making {T = g.row.T.Denot} {U = g.row.U.Denot} c.args.domain.now c.make_publisher.new.domain table c.make_publisher.ensures.stays Nothing (nothing-is-new {T = g.row.T.Denot} {U = g.row.U.Denot} c.args.domain.now) tt;
+}
