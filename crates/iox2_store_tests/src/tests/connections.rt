@@ -21,53 +21,37 @@ pub(super) fn connection(rt: &impl Abort, alloc: Global) -> Connection
 }
 
 #[test]
-fn a_connection_knows_its_ports(rt: HostRuntime) {
-    let connection = connection(&rt, rt.alloc());
+fn a_connection_knows_its_ports_and_the_mark_that_was_set_last(rt: HostRuntime) {
+    let mut connection = connection(&rt, rt.alloc());
     let home = connection.home();
     let buffer = connection.buffer();
-    drop(connection);
-    assert!(rt; home == HOME && buffer == 2);
-}
-
-#[test]
-fn a_connection_has_the_mark_that_was_set_last(rt: HostRuntime) {
-    let mut connection = connection(&rt, rt.alloc());
     let unmarked = connection.is_open();
     connection.set_open(true);
     let marked = connection.is_open();
     connection.set_open(false);
     let cleared = connection.is_open();
     drop(connection);
+    assert!(rt; home == HOME && buffer == 2);
     assert!(rt; [unmarked, marked, cleared] == [false, true, false]);
-}
-
-#[test]
-fn a_slot_is_borrowed(rt: HostRuntime) {
-    let mut connection = connection(&rt, rt.alloc());
-    let empty = connection.has_data();
-    let put = connection.put(0, 7, false);
-    let ready = [connection.has_data(), connection.can_receive()];
-    let taken = connection.take();
-    let borrowed = [connection.is_borrowed(7), connection.is_borrowed(8)];
-    let is_listed = connection.borrowed() == [7].as_slice();
-    let full = connection.can_receive();
-    drop(connection);
-    assert!(rt; put == PutOutcome::Taken && taken == Some(7));
-    assert!(rt; [empty, full] == [false, false] && ready == [true, true]);
-    assert!(rt; borrowed == [true, false] && is_listed);
 }
 
 #[test]
 fn a_borrowed_slot_goes_back(rt: HostRuntime) {
     let mut connection = connection(&rt, rt.alloc());
-    connection.put(0, 7, false);
-    connection.take();
+    let empty = connection.has_data();
+    let put = connection.put(0, 7, false);
+    let ready = [connection.has_data(), connection.can_receive()];
+    let taken = connection.take();
+    let held = [connection.is_borrowed(7), connection.is_borrowed(8)];
+    let full = connection.can_receive();
     assert!(rt; connection.borrowed() == [7].as_slice());
     connection.release(7);
     let borrowed = connection.is_borrowed(7);
     let reclaimed = [connection.reclaim(), connection.reclaim()];
     drop(connection);
-    assert!(rt; !borrowed && reclaimed == [Some(7), None]);
+    assert!(rt; put == PutOutcome::Taken && taken == Some(7));
+    assert!(rt; [empty, full] == [false, false] && ready == [true, true]);
+    assert!(rt; held == [true, false] && !borrowed && reclaimed == [Some(7), None]);
 }
 
 #[test]
@@ -163,18 +147,20 @@ fn wide_connection(rt: &impl Abort, alloc: Global, channels: usize) -> Connectio
 }
 
 #[test]
-fn each_channel_fills_by_itself(rt: HostRuntime) {
-    let mut connection = wide_connection(&rt, rt.alloc(), 2);
+fn each_channel_fills_by_itself_and_they_are_emptied_by_rising_number(rt: HostRuntime) {
+    let mut connection = wide_connection(&rt, rt.alloc(), 3);
     let put = [
-        connection.put(1, 5, false),
+        connection.put(2, 5, false),
         connection.put(1, 6, false),
         connection.put(1, 7, false),
-        connection.put(0, 7, false),
+        connection.put(1, 8, false),
         connection.put(1, 8, true),
+        connection.put(0, 9, false),
     ];
     let waits = [connection.has_data(), connection.has_other_data()];
     let taken = connection.take();
     let gone = [
+        connection.drop_other(),
         connection.drop_other(),
         connection.drop_other(),
         connection.drop_other(),
@@ -183,33 +169,11 @@ fn each_channel_fills_by_itself(rt: HostRuntime) {
     let expected = [
         PutOutcome::Taken,
         PutOutcome::Taken,
-        PutOutcome::Full,
         PutOutcome::Taken,
-        PutOutcome::Overwrote(5),
+        PutOutcome::Full,
+        PutOutcome::Overwrote(6),
+        PutOutcome::Taken,
     ];
     assert!(rt; put == expected && waits == [true, true]);
-    assert!(rt; taken == Some(7) && gone == [Some(6), Some(8), None]);
-}
-
-#[test]
-fn channels_are_emptied_by_rising_number(rt: HostRuntime) {
-    let mut connection = wide_connection(&rt, rt.alloc(), 3);
-    let put = [
-        connection.put(2, 5, false),
-        connection.put(1, 6, false),
-        connection.put(2, 7, false),
-        connection.put(1, 8, false),
-    ];
-    let held = [connection.is_empty(), connection.has_data()];
-    let gone = [
-        connection.drop_other(),
-        connection.drop_other(),
-        connection.drop_other(),
-        connection.drop_other(),
-    ];
-    let left = [connection.is_empty(), connection.has_other_data()];
-    drop(connection);
-    assert!(rt; put == [PutOutcome::Taken; 4]);
-    assert!(rt; gone == [Some(6), Some(8), Some(5), Some(7)]);
-    assert!(rt; held == [false, false] && left == [true, false]);
+    assert!(rt; taken == Some(9) && gone == [Some(7), Some(8), Some(5), None]);
 }

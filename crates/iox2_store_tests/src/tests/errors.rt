@@ -2,6 +2,7 @@ use iox2_store::{
     BackpressureAction, BackpressureToReceiverAction, ConnectionFailure, LoanError, ReceiveError,
     SendError, SharedMemoryOpenError, ZeroCopyCreationError,
 };
+use std::alloc::Global;
 use std::collections::HashMap;
 use std::hash::Hash;
 use std::process::Abort;
@@ -25,7 +26,7 @@ fn a_connection_takes_a_handlers_answer(rt: HostRuntime) {
 }
 
 #[test]
-fn a_failed_connection_holds_its_cause(rt: HostRuntime) {
+fn a_failed_connection_or_call_holds_its_cause(rt: HostRuntime) {
     let full = ZeroCopyCreationError::ExpiredConnectionBufferFull;
     let unmapped = SharedMemoryOpenError::InternalError;
     let failures = [
@@ -37,19 +38,9 @@ fn a_failed_connection_holds_its_cause(rt: HostRuntime) {
         ConnectionFailure::UnableToMapSendersDataSegment(unmapped),
     ];
     assert!(rt; failures == expected);
-}
-
-#[test]
-fn a_failed_call_holds_its_cause(rt: HostRuntime) {
-    let failure = ConnectionFailure::FailedToEstablishConnection(
-        ZeroCopyCreationError::OutOfMemory,
-    );
-    let received = ReceiveError::from(failure);
-    let sent = SendError::from(failure);
-    assert!(rt;
-        received == ReceiveError::ConnectionFailure(failure)
-            && sent == SendError::ConnectionError(failure)
-    );
+    let failure = failures[0];
+    assert!(rt; ReceiveError::from(failure) == ReceiveError::ConnectionFailure(failure));
+    assert!(rt; SendError::from(failure) == SendError::ConnectionError(failure));
 }
 
 // What `?` makes of a refused loan.
@@ -66,23 +57,28 @@ fn a_refused_loan_is_a_refused_send(rt: HostRuntime) {
     assert!(rt; answers == expected && refused != other);
 }
 
-// Keeps the number under the error.
-fn insert<K: Hash + Eq + Drop>(rt: &impl Abort, map: &mut HashMap<K, u8>, error: K, number: u8) {
-    let kept: Result<_, _> = map.insert(error, number);
+// Keeps the number under the error, and finds it there.
+fn is_kept<K: Hash + Eq + Drop>(
+    rt: &impl Abort,
+    alloc: Global,
+    error: K,
+    same: &K,
+    other: &K,
+) -> bool {
+    let mut map = HashMap::new(alloc);
+    let kept: Result<_, _> = map.insert(error, 1);
     kept.expect(rt, "room");
+    let found = [map.get(same).copied(), map.get(other).copied()];
+    drop(map);
+    found == [Some(1), None]
 }
 
 #[test]
-fn failed_connections_are_keys_of_a_map(rt: HostRuntime) {
+fn errors_are_keys_of_a_map(rt: HostRuntime) {
+    let full = LoanError::OutOfMemory;
+    let has_loans = is_kept(&rt, rt.alloc(), full, &full, &LoanError::InternalFailure);
     let refused = ConnectionFailure::from(ZeroCopyCreationError::OutOfMemory);
     let unmapped = ConnectionFailure::from(SharedMemoryOpenError::InternalError);
-    let mut failures = HashMap::new(rt.alloc());
-    insert(&rt, &mut failures, refused, 1);
-    insert(&rt, &mut failures, unmapped, 2);
-    let found = [
-        failures.get(&refused).copied(),
-        failures.get(&unmapped).copied(),
-    ];
-    drop(failures);
-    assert!(rt; found == [Some(1), Some(2)]);
+    let has_failures = is_kept(&rt, rt.alloc(), refused, &refused, &unmapped);
+    assert!(rt; has_loans && has_failures);
 }

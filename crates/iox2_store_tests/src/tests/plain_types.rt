@@ -17,17 +17,6 @@ fn ids_keep_their_numbers(rt: HostRuntime) {
 }
 
 #[test]
-fn ids_compare_by_their_numbers(rt: HostRuntime) {
-    let alike = [
-        UniqueNodeId::new(9) == UniqueNodeId::new(9),
-        UniqueNodeId::new(9) == UniqueNodeId::new(8),
-        UniquePublisherId::new(1) == UniquePublisherId::new(1 << 64),
-        UniqueSubscriberId::new(1) == UniqueSubscriberId::new(2),
-    ];
-    assert!(rt; alike == [true, false, false, false]);
-}
-
-#[test]
 fn a_header_answers_its_fields(rt: HostRuntime) {
     let header = Header {
         node_id: UniqueNodeId::new(9),
@@ -44,32 +33,34 @@ fn a_header_answers_its_fields(rt: HostRuntime) {
 }
 
 #[test]
-fn keys_compare_by_every_field(rt: HostRuntime) {
-    let port = Key {
+fn ids_keys_and_warnings_compare_by_their_fields(rt: HostRuntime) {
+    let sender = UniquePublisherId::new(1);
+    let receiver = UniqueSubscriberId::new(1);
+    let warning = Warning::ConnectionNotMade { sender, receiver };
+    let key = Key {
         service_id: 1,
         port: 2,
         message: 0,
     };
-    let copy = port;
-    let alike = [copy == port, Key { message: 1, ..port } == port];
-    assert!(rt; alike == [true, false]);
-}
-
-#[test]
-fn warnings_compare_by_variant_and_field(rt: HostRuntime) {
-    let sender = UniquePublisherId::new(2);
-    let receiver = UniqueSubscriberId::new(1);
-    let warning = Warning::ConnectionNotMade { sender, receiver };
+    let copy = key;
+    let alike = [
+        UniqueNodeId::new(9) == UniqueNodeId::new(9),
+        copy == key,
+        warning == Warning::ConnectionNotMade { sender, receiver },
+    ];
     let other = Warning::ConnectionNotMade {
         sender,
         receiver: UniqueSubscriberId::new(3),
     };
-    let alike = [
-        warning == Warning::ConnectionNotMade { sender, receiver },
+    let different = [
+        UniqueNodeId::new(9) == UniqueNodeId::new(8),
+        sender == UniquePublisherId::new(1 << 64),
+        receiver == UniqueSubscriberId::new(2),
+        Key { message: 1, ..key } == key,
         warning == Warning::ExpiredDataDiscarded { sender, receiver },
         warning == other,
     ];
-    assert!(rt; alike == [true, false, false]);
+    assert!(rt; alike == [true; 3] && different == [false; 6]);
 }
 
 #[test]
