@@ -1,5 +1,5 @@
 //! Times across a picture, and the commands below it.
-use crate::canvas::{line, push_escaped};
+use crate::canvas::{line, push_escaped, push_word};
 use crate::failure::Failure;
 use crate::story::Story;
 use std::fmt::Write;
@@ -93,13 +93,15 @@ fn push_command(
         "command"
     };
     let x = x.saturating_add(3);
-    write!(svg, "<text class=\"{class}\"")?;
-    write!(svg, " transform=\"translate({x} {y}) rotate(-90)\"")?;
-    svg.push_str(" text-anchor=\"end\">")?;
+    svg.push_str("<text")?;
+    push_word(svg, "class", class)?;
+    svg.push_str(" transform=\"translate(")?;
+    write!(svg, "{x} {y}")?;
+    svg.push_str(") rotate(-90)\" text-anchor=\"end\">")?;
     push_escaped(svg, command.as_str())?;
-    let number = at.saturating_add(1);
     svg.push_str("<tspan dx=\"6\" font-weight=\"bold\">")?;
-    write!(svg, "{number}</tspan><title>")?;
+    write!(svg, "{}", at.saturating_add(1))?;
+    svg.push_str("</tspan><title>")?;
     push_escaped(svg, reply.as_str())?;
     svg.push_str("</title></text>\n")?;
     Ok(())

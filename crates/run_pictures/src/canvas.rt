@@ -25,14 +25,15 @@ pub(crate) fn push_escaped(svg: &mut String, text: &str) -> Result<(), Failure> 
     Ok(())
 }
 
-// What a shape is said to be: ` name="value"`. Each is written by itself, since a short text is proved in seconds and a long one in minutes.
-fn push_word(svg: &mut String, name: &str, value: &str) -> Result<(), Failure> {
+/// What a shape is said to be: ` name="value"`. Each is written by itself, since a short text is proved
+/// in seconds and a long one in minutes.
+pub(crate) fn push_word(svg: &mut String, name: &str, value: &str) -> Result<(), Failure> {
     write!(svg, " {name}=\"{value}\"")?;
     Ok(())
 }
 
-// The same of a number.
-fn push_number(svg: &mut String, name: &str, value: usize) -> Result<(), Failure> {
+/// The same of a number.
+pub(crate) fn push_number(svg: &mut String, name: &str, value: usize) -> Result<(), Failure> {
     write!(svg, " {name}=\"{value}\"")?;
     Ok(())
 }
@@ -90,14 +91,38 @@ pub(crate) fn label(
     class: &str,
     text: &str,
 ) -> Result<(), Failure> {
+    begin_label(svg, x, y, class)?;
+    push_escaped(svg, text)?;
+    end_label(svg)
+}
+
+/// Begins such a text.
+pub(crate) fn begin_label(
+    svg: &mut String,
+    x: usize,
+    y: usize,
+    class: &str,
+) -> Result<(), Failure> {
     svg.push_str("<text")?;
     push_word(svg, "class", class)?;
     push_number(svg, "x", x)?;
     push_number(svg, "y", y)?;
-    svg.push_str(">")?;
-    push_escaped(svg, text)?;
+    svg.push('>')?;
+    Ok(())
+}
+
+/// Ends it.
+pub(crate) fn end_label(svg: &mut String) -> Result<(), Failure> {
     svg.push_str("</text>\n")?;
     Ok(())
+}
+
+/// A path whose beginning is moved there, up to its paint.
+pub(crate) fn begin_path(svg: &mut String, x: usize, y: usize, path: &str) -> Result<(), Failure> {
+    svg.push_str("<path transform=\"translate(")?;
+    write!(svg, "{x} {y}")?;
+    svg.push_str(")\"")?;
+    push_word(svg, "d", path)
 }
 
 /// The color of a publisher's messages. The five are told apart by the colour-blind too.
@@ -116,7 +141,9 @@ pub(crate) fn push_head(svg: &mut String, width: usize, height: usize) -> Result
     svg.push_str(NAMESPACE)?;
     push_number(svg, "width", width)?;
     push_number(svg, "height", height)?;
-    write!(svg, " viewBox=\"0 0 {width} {height}\"")?;
+    svg.push_str(" viewBox=\"0 0 ")?;
+    write!(svg, "{width} {height}")?;
+    svg.push('"')?;
     svg.push_str(FONTS)?;
     svg.push_str(STYLE)?;
     svg.push_str("<rect")?;

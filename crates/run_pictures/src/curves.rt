@@ -1,6 +1,6 @@
 //! Slots in use and messages waiting, as curves.
 use crate::axis::Scale;
-use crate::canvas::{label, line};
+use crate::canvas::{end_label, label, line, push_number, push_word};
 use crate::failure::Failure;
 use crate::story::{Point, Story};
 use std::fmt::Write;
@@ -27,8 +27,8 @@ pub(crate) fn push_curves(
     line(svg, (scale.left, top), (scale.right(), top), "grid", "#ddd")?;
     push_name(svg, top.saturating_add(16), false, "slots in use")?;
     push_name(svg, top.saturating_add(44), true, "messages waiting")?;
-    push_number(svg, scale.left, top.saturating_add(9), most)?;
-    push_number(svg, scale.left, bottom, 0)?;
+    push_limit(svg, scale.left, top.saturating_add(9), most)?;
+    push_limit(svg, scale.left, bottom, 0)?;
     push_curve(svg, story, scale, bottom, most, false)?;
     push_curve(svg, story, scale, bottom, most, true)
 }
@@ -50,13 +50,13 @@ fn paint_of(is_waiting: bool) -> (&'static str, &'static str) {
     }
 }
 
-fn push_number(svg: &mut String, x: usize, y: usize, number: usize) -> Result<(), Failure> {
+fn push_limit(svg: &mut String, x: usize, y: usize, number: usize) -> Result<(), Failure> {
     let x = x.saturating_sub(4);
-    write!(
-        svg,
-        "<text class=\"small\" text-anchor=\"end\" x=\"{x}\" y=\"{y}\">{number}</text>\n"
-    )?;
-    Ok(())
+    svg.push_str("<text class=\"small\" text-anchor=\"end\"")?;
+    push_number(svg, "x", x)?;
+    push_number(svg, "y", y)?;
+    write!(svg, ">{number}")?;
+    end_label(svg)
 }
 
 fn greatest(story: &Story) -> usize {
@@ -76,11 +76,11 @@ fn push_curve(
     is_waiting: bool,
 ) -> Result<(), Failure> {
     let (class, color) = paint_of(is_waiting);
-    write!(
-        svg,
-        "<path class=\"{class}\" stroke=\"{color}\" d=\"M{} {bottom}",
-        scale.left
-    )?;
+    svg.push_str("<path")?;
+    push_word(svg, "class", class)?;
+    push_word(svg, "stroke", color)?;
+    svg.push_str(" d=\"")?;
+    write!(svg, "M{} {bottom}", scale.left)?;
     let count = story.points.len().max(1);
     let width = scale.right().saturating_sub(scale.left);
     let mut last = bottom;
@@ -97,7 +97,8 @@ fn push_curve(
             last = y;
         }
     }
-    write!(svg, "H{}\"/>\n", scale.right())?;
+    write!(svg, "H{}", scale.right())?;
+    svg.push_str("\"/>\n")?;
     Ok(())
 }
 

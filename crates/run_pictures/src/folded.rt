@@ -1,8 +1,9 @@
 //! The picture of a long run: how much there was at each port, for some commands at a time.
 use crate::axis::Scale;
-use crate::canvas::{Place, label, line, push_head, rect};
+use crate::canvas::{Place, begin_label, end_label, label, line, push_head, rect};
 use crate::curves;
 use crate::failure::Failure;
+use crate::positions::Positions;
 use crate::story::{MarkKind, Port, Story, Visit, VisitEnd};
 use std::alloc::Global;
 use std::fmt::Write;
@@ -31,6 +32,26 @@ struct Cell {
     blocked: usize,
 }
 
+// What one of them is.
+#[derive(Clone, Copy)]
+enum What {
+    Message,
+    Refused,
+    Lost,
+    Blocked,
+}
+
+impl Cell {
+    fn add(&mut self, what: What) {
+        match what {
+            What::Message => self.messages = self.messages.saturating_add(1),
+            What::Refused => self.refused = self.refused.saturating_add(1),
+            What::Lost => self.lost = self.lost.saturating_add(1),
+            What::Blocked => self.blocked = self.blocked.saturating_add(1),
+        }
+    }
+}
+
 const EMPTY: Cell = Cell {
     messages: 0,
     refused: 0,
@@ -49,12 +70,12 @@ struct FoldedLane {
 // All lanes, and how commands come into columns.
 #[derive(Drop)]
 struct Folded {
+    alloc: Global,
     lanes: Vec<FoldedLane>,
-    // By id, the lane.
-    positions: Vec<Option<usize>>,
+    positions: Positions,
+    scale: Scale,
     // How many commands a column has.
     group: usize,
-    columns: usize,
 }
 
 /// The scale of the folded picture, by columns, and how many commands a column has.
@@ -71,47 +92,34 @@ pub(crate) fn folded_scale(story: &Story) -> (Scale, usize) {
 
 /// The folded picture of a run, as the text of an SVG.
 pub(crate) fn folded_picture(alloc: Global, story: &Story) -> Result<String, Failure> {
-    let (Scale { count: columns, .. }, group) = folded_scale(story);
+    let (scale, group) = folded_scale(story);
     let mut folded = Folded {
+        alloc,
         lanes: Vec::new(alloc),
-        positions: Vec::new(alloc),
+        positions: Positions::new(alloc),
+        scale,
         group,
-        columns,
     };
-    folded.add_side(alloc, story, true)?;
-    folded.add_side(alloc, story, false)?;
+    folded.add_side(story, true)?;
+    folded.add_side(story, false)?;
     folded.add_messages(story);
     folded.add_marks(story);
-    draw(alloc, story, &folded)
+    draw(story, &folded)
 }
 
 impl Folded {
     // A port goes into a lane whose last port was closed before, or into a lane of its own.
-    fn add_side(
-        &mut self,
-        alloc: Global,
-        story: &Story,
-        is_publisher: bool,
-    ) -> Result<(), Failure> {
+    fn add_side(&mut self, story: &Story, is_publisher: bool) -> Result<(), Failure> {
         for port in story.ports.iter() {
             if port.is_publisher == is_publisher {
-                let lane = self.lane_for(alloc, *port)?;
-                let missing = port
-                    .id
-                    .saturating_add(1)
-                    .saturating_sub(self.positions.len());
-                for _ in 0..missing {
-                    self.positions.push(None)?;
-                }
-                if let Some(position) = self.positions.get_mut(port.id) {
-                    *position = Some(lane);
-                }
+                let lane = self.lane_for(*port)?;
+                self.positions.set(port.id, lane)?;
             }
         }
         Ok(())
     }
 
-    fn lane_for(&mut self, alloc: Global, port: Port) -> Result<usize, Failure> {
+    fn lane_for(&mut self, port: Port) -> Result<usize, Failure> {
         for position in 0..self.lanes.len() {
             if let Some(lane) = self.lanes.get_mut(position) {
                 if lane.is_publisher == port.is_publisher
@@ -124,11 +132,11 @@ impl Folded {
         }
         let mut lane = FoldedLane {
             is_publisher: port.is_publisher,
-            ports: Vec::new(alloc),
-            cells: Vec::new(alloc),
+            ports: Vec::new(self.alloc),
+            cells: Vec::new(self.alloc),
         };
         lane.ports.push(port)?;
-        for _ in 0..self.columns {
+        for _ in 0..self.scale.count {
             lane.cells.push(EMPTY)?;
         }
         self.lanes.push(lane)?;
@@ -140,33 +148,19 @@ impl Folded {
     }
 
     fn cell_mut(&mut self, port: usize, column: usize) -> Option<&mut Cell> {
-        let Some(Some(position)) = self.positions.get(port).copied() else {
-            return None;
-        };
+        let position = self.positions.of(port)?;
         match self.lanes.get_mut(position) {
             Some(lane) => lane.cells.get_mut(column),
             None => None,
         }
     }
 
-    // A message is there in each column from one time to another.
-    fn add_message(&mut self, port: usize, from: usize, to: usize) {
-        let first = self.column(from);
-        let last = self.column(to);
-        for column in first..last.saturating_add(1) {
+    // Something is there in each column from one time to another.
+    fn add(&mut self, what: What, port: usize, from: usize, to: usize) {
+        let end = self.column(to).saturating_add(1);
+        for column in self.column(from)..end {
             if let Some(cell) = self.cell_mut(port, column) {
-                cell.messages = cell.messages.saturating_add(1);
-            }
-        }
-    }
-
-    // A send is blocked in each column from one time to another.
-    fn add_blocked(&mut self, port: usize, from: usize, to: usize) {
-        let first = self.column(from);
-        let last = self.column(to);
-        for column in first..last.saturating_add(1) {
-            if let Some(cell) = self.cell_mut(port, column) {
-                cell.blocked = cell.blocked.saturating_add(1);
+                cell.add(what);
             }
         }
     }
@@ -175,9 +169,9 @@ impl Folded {
         let end = story.commands.len();
         for loan in story.loans.iter() {
             let to = loan.to.unwrap_or(end);
-            self.add_message(loan.publisher, loan.from, to);
+            self.add(What::Message, loan.publisher, loan.from, to);
             if let Some(at) = loan.blocked {
-                self.add_blocked(loan.publisher, at, to);
+                self.add(What::Blocked, loan.publisher, at, to);
             }
         }
         for visit in story.visits.iter() {
@@ -186,28 +180,18 @@ impl Folded {
     }
 
     fn add_visit(&mut self, visit: Visit, to: usize) {
-        self.add_message(visit.subscriber, visit.from, to);
+        self.add(What::Message, visit.subscriber, visit.from, to);
         if visit.end == VisitEnd::Overwritten || visit.end == VisitEnd::Lost {
-            self.add_lost(visit.subscriber, to);
-        }
-    }
-
-    fn add_lost(&mut self, port: usize, at: usize) {
-        let column = self.column(at);
-        if let Some(cell) = self.cell_mut(port, column) {
-            cell.lost = cell.lost.saturating_add(1);
+            self.add(What::Lost, visit.subscriber, to, to);
         }
     }
 
     fn add_marks(&mut self, story: &Story) {
         for mark in story.marks.iter() {
-            let column = self.column(mark.at);
-            if let Some(cell) = self.cell_mut(mark.port, column) {
-                match mark.kind {
-                    MarkKind::Refused => cell.refused = cell.refused.saturating_add(1),
-                    MarkKind::Discarded => cell.lost = cell.lost.saturating_add(1),
-                    _ => {}
-                }
+            match mark.kind {
+                MarkKind::Refused => self.add(What::Refused, mark.port, mark.at, mark.at),
+                MarkKind::Discarded => self.add(What::Lost, mark.port, mark.at, mark.at),
+                _ => {}
             }
         }
     }
@@ -234,22 +218,22 @@ fn is_free(ports: &[Port], from: usize) -> bool {
     }
 }
 
-fn draw(alloc: Global, story: &Story, folded: &Folded) -> Result<String, Failure> {
-    let (scale, _) = folded_scale(story);
+fn draw(story: &Story, folded: &Folded) -> Result<String, Failure> {
+    let scale = folded.scale;
     let lanes = folded.lanes.len().saturating_mul(LANE);
     let bottom = TOP.saturating_add(lanes);
     let curves_top = bottom.saturating_add(40);
     let height = curves_top.saturating_add(curves::HEIGHT).saturating_add(20);
     let width = scale.right().saturating_add(30).max(880);
-    let mut svg = String::new(alloc);
+    let mut svg = String::new(folded.alloc);
     push_head(&mut svg, width, height)?;
     push_title(&mut svg, story, folded)?;
-    push_keys(&mut svg, alloc, folded)?;
+    push_keys(&mut svg, folded)?;
     for (position, lane) in folded.lanes.iter().enumerate() {
         let y = TOP.saturating_add(position.saturating_mul(LANE));
-        push_lane(&mut svg, alloc, folded, lane, scale, y)?;
+        push_lane(&mut svg, folded, lane, y)?;
     }
-    push_times(&mut svg, story, scale, folded.group, bottom)?;
+    push_times(&mut svg, story, folded, bottom)?;
     curves::push_curves(&mut svg, story, scale, curves_top)?;
     svg.push_str("</svg>\n")?;
     Ok(svg)
@@ -267,8 +251,8 @@ fn push_title(svg: &mut String, story: &Story, folded: &Folded) -> Result<(), Fa
 }
 
 // What bars and strips mean. The bars of either side are as high as the most on that side.
-fn push_keys(svg: &mut String, alloc: Global, folded: &Folded) -> Result<(), Failure> {
-    let mut bars = String::new(alloc);
+fn push_keys(svg: &mut String, folded: &Folded) -> Result<(), Failure> {
+    let mut bars = String::new(folded.alloc);
     let (lent, there) = (folded.most(true), folded.most(false));
     bars.push_str("height of a bar: messages that are lent by a publisher")?;
     write!(bars, ", at most {lent}")?;
@@ -303,28 +287,31 @@ fn push_key(svg: &mut String, x: usize, y: usize, color: &str) -> Result<(), Fai
 
 fn push_lane(
     svg: &mut String,
-    alloc: Global,
     folded: &Folded,
     lane: &FoldedLane,
-    scale: Scale,
     y: usize,
 ) -> Result<(), Failure> {
     let kind = kind_of(lane.is_publisher);
     if let Some(port) = lane.ports.first() {
         let more = if lane.ports.len() > 1 { " .." } else { "" };
         let base = y.saturating_add(14);
-        write!(
-            svg,
-            "<text class=\"port\" x=\"6\" y=\"{base}\">{kind} {}{more}</text>\n",
-            port.id
-        )?;
+        begin_label(svg, 6, base, "port")?;
+        write!(svg, "{kind} {}{more}", port.id)?;
+        end_label(svg)?;
     }
-    push_lives(svg, alloc, folded, lane, scale, y)?;
+    push_lives(svg, folded, lane, y)?;
     let most = folded.most(lane.is_publisher);
     for (column, cell) in lane.cells.iter().enumerate() {
         if cell.messages > 0 || cell.refused > 0 || cell.lost > 0 || cell.blocked > 0 {
-            let said = cell_text(alloc, *cell, column, folded.group)?;
-            push_cell(svg, *cell, scale, column, y, most, said.as_str())?;
+            let said = cell_text(folded.alloc, *cell, column, folded.group)?;
+            push_cell(
+                svg,
+                *cell,
+                column_x(folded.scale, column),
+                y,
+                most,
+                said.as_str(),
+            )?;
         }
     }
     Ok(())
@@ -346,12 +333,11 @@ fn column_x(scale: Scale, column: usize) -> usize {
 // When the lane's ports were open.
 fn push_lives(
     svg: &mut String,
-    alloc: Global,
     folded: &Folded,
     lane: &FoldedLane,
-    scale: Scale,
     y: usize,
 ) -> Result<(), Failure> {
+    let scale = folded.scale;
     for port in lane.ports.iter() {
         let x = column_x(scale, folded.column(port.from));
         let end = match port.to {
@@ -364,7 +350,7 @@ fn push_lives(
             width: end.saturating_sub(x).max(2),
             height: LANE.saturating_sub(2),
         };
-        let said = life_text(alloc, *port)?;
+        let said = life_text(folded.alloc, *port)?;
         rect(svg, place, "life", "#e6e6e6", said.as_str())?;
     }
     Ok(())
@@ -411,15 +397,13 @@ fn cell_text(alloc: Global, cell: Cell, column: usize, group: usize) -> Result<S
 fn push_cell(
     svg: &mut String,
     cell: Cell,
-    scale: Scale,
-    column: usize,
+    x: usize,
     y: usize,
     most: usize,
     said: &str,
 ) -> Result<(), Failure> {
     let up = cell.messages.saturating_mul(BAR) / most.max(1);
     let up = if cell.messages > 0 { up.max(2) } else { 0 };
-    let x = column_x(scale, column);
     let second = y.saturating_add(STRIP);
     let bars = second.saturating_add(STRIP);
     let place = Place {
@@ -456,46 +440,27 @@ fn push_strip(
 }
 
 // The numbers of some commands below the lanes: the first one, and round ones.
-fn push_times(
-    svg: &mut String,
-    story: &Story,
-    scale: Scale,
-    group: usize,
-    y: usize,
-) -> Result<(), Failure> {
+fn push_times(svg: &mut String, story: &Story, folded: &Folded, y: usize) -> Result<(), Failure> {
     let count = story.commands.len();
     let step = tick_step(count);
     for tick in 0..11usize {
         let number = tick.saturating_mul(step).max(1);
         if number <= count {
-            push_time(
-                svg,
-                scale,
-                number.saturating_sub(1) / group.max(1),
-                number,
-                y,
-            )?;
+            let column = folded.column(number.saturating_sub(1));
+            push_time(svg, column_x(folded.scale, column), number, y)?;
         }
     }
     Ok(())
 }
 
-fn push_time(
-    svg: &mut String,
-    scale: Scale,
-    column: usize,
-    number: usize,
-    y: usize,
-) -> Result<(), Failure> {
-    let x = column_x(scale, column).saturating_add(COLUMN / 2);
+fn push_time(svg: &mut String, left: usize, number: usize, y: usize) -> Result<(), Failure> {
+    let x = left.saturating_add(COLUMN / 2);
     let below = y.saturating_add(5);
     line(svg, (x, y), (x, below), "grid", "#000")?;
     let base = y.saturating_add(16);
-    write!(
-        svg,
-        "<text class=\"number\" x=\"{x}\" y=\"{base}\">{number}</text>\n"
-    )?;
-    Ok(())
+    begin_label(svg, x, base, "number")?;
+    write!(svg, "{number}")?;
+    end_label(svg)
 }
 
 // 1, 2 or 5 with zeros behind, so that ten steps reach the number.

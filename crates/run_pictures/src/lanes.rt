@@ -1,5 +1,6 @@
 //! Where ports and messages lie in a picture.
 use crate::failure::Failure;
+use crate::positions::Positions;
 use crate::rows::Rows;
 use crate::story::{Port, Story};
 use std::alloc::Global;
@@ -31,8 +32,7 @@ impl Lane {
 #[derive(Drop)]
 pub(crate) struct Lanes {
     pub(crate) lanes: Vec<Lane>,
-    // By id, the lane's position.
-    positions: Vec<Option<usize>>,
+    positions: Positions,
     /// The row of each loan.
     pub(crate) loan_rows: Vec<usize>,
     /// The row of each visit.
@@ -46,7 +46,7 @@ impl Lanes {
     pub(crate) fn new(alloc: Global, story: &Story, top: usize) -> Result<Lanes, Failure> {
         let mut found = Lanes {
             lanes: Vec::new(alloc),
-            positions: Vec::new(alloc),
+            positions: Positions::new(alloc),
             loan_rows: Vec::new(alloc),
             visit_rows: Vec::new(alloc),
             bottom: top,
@@ -60,27 +60,14 @@ impl Lanes {
 
     /// The lane of the port with this id, if it has one.
     pub(crate) fn of(&self, id: usize) -> Option<Lane> {
-        let position = self.position(id)?;
+        let position = self.positions.of(id)?;
         self.lanes.get(position).copied()
-    }
-
-    fn position(&self, id: usize) -> Option<usize> {
-        self.positions.get(id).copied().flatten()
     }
 
     fn add_side(&mut self, story: &Story, is_publisher: bool) -> Result<(), Failure> {
         for port in story.ports.iter() {
             if port.is_publisher == is_publisher {
-                let missing = port
-                    .id
-                    .saturating_add(1)
-                    .saturating_sub(self.positions.len());
-                for _ in 0..missing {
-                    self.positions.push(None)?;
-                }
-                if let Some(position) = self.positions.get_mut(port.id) {
-                    *position = Some(self.lanes.len());
-                }
+                self.positions.set(port.id, self.lanes.len())?;
                 self.lanes.push(Lane {
                     port: *port,
                     top: 0,
@@ -117,7 +104,7 @@ impl Lanes {
         from: usize,
         to: usize,
     ) -> Result<usize, Failure> {
-        let Some(position) = self.position(port) else {
+        let Some(position) = self.positions.of(port) else {
             return Ok(0);
         };
         match rows.get_mut(position) {

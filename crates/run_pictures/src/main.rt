@@ -15,6 +15,7 @@ mod mailboxes;
 mod marks;
 mod page;
 mod picture;
+mod positions;
 mod rows;
 mod story;
 

@@ -1,8 +1,7 @@
 //! Marks, each with a shape of its own.
-use crate::canvas::push_escaped;
+use crate::canvas::{begin_path, push_escaped};
 use crate::failure::Failure;
 use crate::story::MarkKind;
-use std::fmt::Write;
 
 /// Draws a mark with its middle there, which says something when it is pointed at.
 pub(crate) fn push_mark(
@@ -13,10 +12,10 @@ pub(crate) fn push_mark(
     said: &str,
 ) -> Result<(), Failure> {
     let (path, paint) = shape_of(kind);
-    write!(
-        svg,
-        "<path transform=\"translate({x} {y})\" d=\"{path}\" {paint}><title>"
-    )?;
+    begin_path(svg, x, y, path)?;
+    svg.push(' ')?;
+    svg.push_str(paint)?;
+    svg.push_str("><title>")?;
     push_escaped(svg, said)?;
     svg.push_str("</title></path>\n")?;
     Ok(())
@@ -62,10 +61,8 @@ pub(crate) fn push_lost(
     } else {
         "M-5 5L0 -5L5 5z"
     };
-    write!(
-        svg,
-        "<path transform=\"translate({x} {y})\" d=\"{path}\" fill=\"#000\"/>\n"
-    )?;
+    begin_path(svg, x, y, path)?;
+    svg.push_str(" fill=\"#000\"/>\n")?;
     Ok(())
 }
 

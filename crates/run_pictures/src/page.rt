@@ -22,12 +22,18 @@ pub(crate) fn page(alloc: Global, story: &Story) -> Result<String, Failure> {
         (Scale::new(story.commands.len()), 1)
     };
     let Scale { left, step, .. } = scale;
-    write!(
-        page,
-        ";\nconst left = {left}, step = {step}, group = {group};\n"
-    )?;
+    page.push_str(";\nconst")?;
+    push_constant(&mut page, " left", left)?;
+    push_constant(&mut page, ", step", step)?;
+    push_constant(&mut page, ", group", group)?;
+    page.push_str(";\n")?;
     page.push_str(SCRIPT)?;
     Ok(page)
+}
+
+fn push_constant(page: &mut String, name: &str, value: usize) -> Result<(), Failure> {
+    write!(page, "{name} = {value}")?;
+    Ok(())
 }
 
 const HEAD: &str =

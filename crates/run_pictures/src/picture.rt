@@ -1,6 +1,6 @@
 //! The picture of a run, in which each message and each command can be read.
 use crate::axis::{Scale, label_height, push_commands};
-use crate::canvas::{Place, color_of, label, line, push_head, rect};
+use crate::canvas::{Place, begin_label, color_of, end_label, label, line, push_head, rect};
 use crate::curves;
 use crate::failure::Failure;
 use crate::folded::folded_picture;
@@ -30,15 +30,33 @@ pub(crate) fn picture(alloc: Global, story: &Story) -> Result<String, Failure> {
     let mut svg = String::new(alloc);
     push_head(&mut svg, width, height)?;
     push_legend(&mut svg, 14)?;
-    push_lanes(&mut svg, &lanes, scale)?;
-    push_commands(&mut svg, story, scale, top, lanes.bottom)?;
-    push_ways(&mut svg, story, &lanes, scale)?;
-    push_loans(&mut svg, alloc, story, &lanes, scale)?;
-    push_visits(&mut svg, alloc, story, &lanes, scale)?;
-    push_marks(&mut svg, alloc, story, &lanes, scale)?;
+    let ground = Ground {
+        alloc,
+        scale,
+        lanes,
+    };
+    push_lanes(&mut svg, &ground)?;
+    push_commands(&mut svg, story, scale, top, ground.lanes.bottom)?;
+    push_messages(&mut svg, story, &ground)?;
     curves::push_curves(&mut svg, story, scale, labels)?;
     svg.push_str("</svg>\n")?;
     Ok(svg)
+}
+
+// Where ports, messages and commands lie.
+#[derive(Drop)]
+struct Ground {
+    alloc: Global,
+    scale: Scale,
+    lanes: Lanes,
+}
+
+// What lies in the lanes.
+fn push_messages(svg: &mut String, story: &Story, ground: &Ground) -> Result<(), Failure> {
+    push_ways(svg, story, ground)?;
+    push_loans(svg, story, ground)?;
+    push_visits(svg, story, ground)?;
+    push_marks(svg, story, ground)
 }
 
 /// Whether the picture of a run is folded.
@@ -46,8 +64,9 @@ pub(crate) fn is_folded(story: &Story) -> bool {
     story.commands.len() > MOST_COMMANDS || story.ports.len() > MOST_PORTS
 }
 
-fn push_lanes(svg: &mut String, lanes: &Lanes, scale: Scale) -> Result<(), Failure> {
-    for lane in lanes.lanes.iter() {
+fn push_lanes(svg: &mut String, ground: &Ground) -> Result<(), Failure> {
+    let scale = ground.scale;
+    for lane in ground.lanes.lanes.iter() {
         let width = scale.right().saturating_sub(scale.left);
         let all = Place {
             x: scale.left,
@@ -75,11 +94,9 @@ fn push_name(svg: &mut String, lane: Lane) -> Result<(), Failure> {
     } else {
         "subscriber"
     };
-    write!(
-        svg,
-        "<text class=\"port\" x=\"6\" y=\"{y}\">{kind} {}</text>\n",
-        lane.port.id
-    )?;
+    begin_label(svg, 6, y, "port")?;
+    write!(svg, "{kind} {}", lane.port.id)?;
+    end_label(svg)?;
     if lane.port.is_publisher {
         let place = Place {
             x: 6,
@@ -93,12 +110,13 @@ fn push_name(svg: &mut String, lane: Lane) -> Result<(), Failure> {
 }
 
 // The lines from publishers to the mailboxes that their messages come to.
-fn push_ways(svg: &mut String, story: &Story, lanes: &Lanes, scale: Scale) -> Result<(), Failure> {
+fn push_ways(svg: &mut String, story: &Story, ground: &Ground) -> Result<(), Failure> {
+    let lanes = &ground.lanes;
     for (visit, row) in story.visits.iter().zip(lanes.visit_rows.iter()) {
         let (Some(from), Some(to)) = (lanes.of(visit.publisher), lanes.of(visit.subscriber)) else {
             continue;
         };
-        let x = scale.x(visit.from);
+        let x = ground.scale.x(visit.from);
         let (start, class) = match loan_row(story, lanes, visit) {
             Some(row) => (from.row(row).saturating_add(6), "way"),
             None => (from.top.saturating_add(from.height), "late"),
@@ -126,13 +144,8 @@ fn is_sent_at(loan: &Loan, at: usize) -> bool {
     first <= at && at <= last
 }
 
-fn push_loans(
-    svg: &mut String,
-    alloc: Global,
-    story: &Story,
-    lanes: &Lanes,
-    scale: Scale,
-) -> Result<(), Failure> {
+fn push_loans(svg: &mut String, story: &Story, ground: &Ground) -> Result<(), Failure> {
+    let (alloc, scale, lanes) = (ground.alloc, ground.scale, &ground.lanes);
     for (loan, row) in story.loans.iter().zip(lanes.loan_rows.iter()) {
         if let Some(lane) = lanes.of(loan.publisher) {
             let said = loan_text(alloc, story, loan)?;
@@ -201,13 +214,8 @@ fn loan_text(alloc: Global, story: &Story, loan: &Loan) -> Result<String, Failur
     Ok(text)
 }
 
-fn push_visits(
-    svg: &mut String,
-    alloc: Global,
-    story: &Story,
-    lanes: &Lanes,
-    scale: Scale,
-) -> Result<(), Failure> {
+fn push_visits(svg: &mut String, story: &Story, ground: &Ground) -> Result<(), Failure> {
+    let (alloc, scale, lanes) = (ground.alloc, ground.scale, &ground.lanes);
     for (visit, row) in story.visits.iter().zip(lanes.visit_rows.iter()) {
         if let Some(lane) = lanes.of(visit.subscriber) {
             let said = visit_text(alloc, story, visit)?;
@@ -305,21 +313,15 @@ fn push_bar_label(
         return label(svg, x, y, "message", text.as_str());
     }
     if width >= 20 {
-        write!(
-            svg,
-            "<text class=\"small\" x=\"{x}\" y=\"{y}\">#{message}</text>\n"
-        )?;
+        begin_label(svg, x, y, "small")?;
+        write!(svg, "#{message}")?;
+        end_label(svg)?;
     }
     Ok(())
 }
 
-fn push_marks(
-    svg: &mut String,
-    alloc: Global,
-    story: &Story,
-    lanes: &Lanes,
-    scale: Scale,
-) -> Result<(), Failure> {
+fn push_marks(svg: &mut String, story: &Story, ground: &Ground) -> Result<(), Failure> {
+    let (alloc, scale, lanes) = (ground.alloc, ground.scale, &ground.lanes);
     for mark in story.marks.iter() {
         let top = match lanes.of(mark.port) {
             Some(lane) => lane.top,
