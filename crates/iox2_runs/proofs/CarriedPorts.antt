@@ -3,7 +3,7 @@ use Rattle.std.proofs.Common.{◌≡◌, ℕ, List, [], ◌∷◌, ◌++◌, map
 use Rattle.std.specs.Prelude.{MatchResult}
 use Rattle.std.specs.declared.result.Result.{Result}
 use Rattle.iox2_store.specs.machine.Limits.{buffer_limit}
-use Rattle.iox2_store.specs.machine.Records.{PublisherSettings, SubscriberSettings, Fixed, Environment}
+use Rattle.iox2_store.specs.machine.Records.{PublisherSettings, SubscriberSettings, Environment}
 use Rattle.iox2_store.specs.machine.State.{State, Messages}
 use Rattle.iox2_store.specs.machine.Ports.{CreatePublisher, CreateSubscriber}
 use Rattle.iox2_store.specs.declared.allocation.AllocationStrategy.{AllocationStrategy}

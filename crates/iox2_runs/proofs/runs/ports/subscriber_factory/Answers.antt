@@ -1,4 +1,4 @@
-use Rattle.std.proofs.Common.{◌≡◌, ℕ, sym, ap, ◌∙◌, Option}
+use Rattle.std.proofs.Common.{ℕ, sym, ap, ◌∙◌, Option}
 use Rattle.iox2_store.specs.machine.Limits.{buffer_limit}
 use Rattle.iox2_store.specs.machine.Records.{SubscriberSettings, Fixed}
 use Rattle.iox2_pubsub.specs.Factories.{SubscriberFactory}
