@@ -2,9 +2,9 @@
 //!
 //! Its words (`specs`) say what each step comes to. Lemmas say that the step does: those of
 //! `iox2_steps`, and those here (`proofs/lemmas`), which are on loans, receives and samples, on
-//! boxes, and on the parts of the fields. The steps are functions of the crates above: of
-//! `iox2_updates`, `iox2_ports`, `iox2_deliveries` and `iox2_messages`. `iox2_pubsub` keeps the
-//! state in its `Domain`, behind the handles of ports and messages.
+//! boxes, and on the parts of the fields. The steps are functions of the crates above, `iox2_updates`,
+//! `iox2_ports` and `iox2_messages`. `iox2_pubsub` keeps the state in its `Domain`, behind the handles
+//! of ports and messages.
 #![tactic(auto)]
 
 mod boxes;

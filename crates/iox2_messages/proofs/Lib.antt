@@ -5,3 +5,14 @@ pub mod ChangedLinks
 pub mod ReceivedChannels
 pub mod SentChannels
 pub mod StandingPlaces
+mod StaticPass
+mod LoanPass
+mod ClearedSlots
+mod FilledSlots
+mod CountedPass
+mod ReadyPass
+mod GrowthPass
+mod GrowingPass
+pub mod SentEnds
+mod ToConnection
+mod WaitingChannels

@@ -1,3 +1,5 @@
 -- Words of sends, receives and questions, and of what ports ask about channels and change of them.
 pub mod ChannelChanges
 pub mod KeyChannels
+pub mod SendEnds
+pub mod ReadySlots

@@ -9,10 +9,12 @@ ghost use Rattle.iox2_domain.specs.Invariant.{IsDomain};
 ghost use Rattle.iox2_domain.specs.LoanCalls.{HoldsWritten};
 ghost use Rattle.iox2_domain.specs.SentLoans.{IsLeftLoan, IsNotUpdated, IsReadyToSend, SendsLoan};
 ghost use Rattle.iox2_store.specs.machine.State.{is_blocked};
-ghost use Rattle.iox2_deliveries.specs.SendEnds.{IsNotLost, end_result};
-ghost use Rattle.iox2_deliveries.specs.declared.send_end.SendEnd.{SendEnd};
+ghost use Rattle.iox2_messages.specs.SendEnds.{IsNotLost, end_result};
+ghost use Rattle.iox2_messages.specs.declared.send_end.SendEnd.{SendEnd};
 
-use iox2_deliveries::{SendEnd, discard_loan, has_handler_at, send_ready, send_unasked};
+use crate::deliveries::{has_handler_at, send_ready, send_unasked};
+use crate::discards::discard_loan;
+use crate::send_end::SendEnd;
 use iox2_domain::{Boxes, DomainState, LoanAt};
 use iox2_store::{BackpressureFn, ConnectionFailure, DegradationFn, UniquePublisherId};
 use iox2_updates::update_publisher;

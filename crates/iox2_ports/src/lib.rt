@@ -1,7 +1,7 @@
 //! Ports enter a domain, and leave it.
 //!
-//! Each function works on the state of `iox2_domain`, in whose words it says what it does. That it
-//! isn't part of that crate is for the prover's time alone: it is proved beside `iox2_messages`.
+//! Each function works on the state of `iox2_domain`, in whose words it says what it does. It is proved
+//! beside `iox2_messages`.
 #![tactic(auto)]
 
 mod closes;

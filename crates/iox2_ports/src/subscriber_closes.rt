@@ -11,8 +11,8 @@ ghost use Rattle.iox2_domain.specs.Invariant.{IsDomain};
 ghost use Rattle.iox2_domain.specs.OpenMarks.{IsUnmarkedReceiver};
 ghost use Rattle.iox2_domain.specs.Reaches.{Reaches};
 ghost use Rattle.iox2_domain.specs.Updates.{changed_at};
-ghost use Rattle.iox2_closes.specs.Agreement.{HasOwnedParts};
-ghost use Rattle.iox2_closes.specs.Closes.{shut_subscriber, HasNoPublisher, IsBusy, IsStanding, LosesWaiting, LosesIfLeft};
+ghost use Rattle.iox2_steps.specs.Agreement.{HasOwnedParts};
+ghost use Rattle.iox2_steps.specs.Closes.{shut_subscriber, HasNoPublisher, IsBusy, IsStanding, LosesWaiting, LosesIfLeft};
 
 use iox2_domain::{DomainState, SubscriberState, key_at, make_all_due, stands_at};
 use iox2_ends::drops::drop_waiting_at;

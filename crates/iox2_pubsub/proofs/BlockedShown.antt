@@ -34,8 +34,8 @@ use Rattle.std.specs.declared.result.Result.TheVariants.{Ok, Err}
 use Rattle.iox2_store.specs.declared.errors.SendError.{SendError}
 use Rattle.iox2_store.specs.declared.errors.SendError.TheVariants.{UnableToDeliver}
 use Rattle.iox2_store.specs.declared.key.Key.{Key}
-use Rattle.iox2_deliveries.specs.SendEnds.{IsKept, end_result}
-use Rattle.iox2_deliveries.specs.declared.send_end.SendEnd.{SendEnd}
+use Rattle.iox2_messages.specs.SendEnds.{IsKept, end_result}
+use Rattle.iox2_messages.specs.declared.send_end.SendEnd.{SendEnd}
 use Rattle.iox2_pubsub.proofs.StaysBut.{same-boxes, IsSpared, SparedPublishers, stays-between}
 use Rattle.iox2_pubsub.proofs.UnfailedSends.{IsMild, HasNotFailed, retry-unfailed, give-up-unfailed}
 use Rattle.std.proofs.lemmas.Bool.{cases_eq}

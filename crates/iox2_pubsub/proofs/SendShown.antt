@@ -37,8 +37,8 @@ use Rattle.iox2_domain.specs.Fields.{Fields, kept_of, keeping}
 use Rattle.iox2_domain.specs.Invariant.{IsDomain}
 use Rattle.iox2_domain.specs.Kept.{state_of, entries_of}
 use Rattle.iox2_domain.specs.SentLoans.{SendsLoan}
-use Rattle.iox2_deliveries.specs.SendEnds.{IsKept, IsNotLost, end_result}
-use Rattle.iox2_deliveries.specs.declared.send_end.SendEnd.{SendEnd}
+use Rattle.iox2_messages.specs.SendEnds.{IsKept, IsNotLost, end_result}
+use Rattle.iox2_messages.specs.declared.send_end.SendEnd.{SendEnd}
 use Rattle.iox2_domain.specs.Shows.{Shows}
 use Rattle.std.specs.declared.result.Result.{Result}
 use Rattle.std.specs.declared.result.Result.TheVariants.{Ok, Err}

@@ -4,7 +4,7 @@ ghost use Rattle.std.specs.Prelude.{◌≡◌};
 mod release;
 
 use crate::domain::Domain;
-use iox2_deliveries::{sample_header, sample_payload, sample_user_header};
+use iox2_messages::{sample_header, sample_payload, sample_user_header};
 use iox2_domain::SampleAt;
 use iox2_store::{BackpressureFn, DegradationFn, Header, Key, UniquePublisherId};
 

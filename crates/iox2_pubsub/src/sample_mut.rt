@@ -9,7 +9,7 @@ mod user_header_mut;
 
 use crate::domain::Domain;
 use crate::keys::loan_key;
-use iox2_deliveries::{is_waiting, loan_header, loan_user_header, loan_value};
+use iox2_messages::{is_waiting, loan_header, loan_user_header, loan_value};
 use iox2_domain::LoanAt;
 use iox2_store::{BackpressureFn, DegradationFn, Header, Key};
 

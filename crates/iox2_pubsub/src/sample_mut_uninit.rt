@@ -9,7 +9,7 @@ mod write_payload;
 
 use crate::domain::Domain;
 use crate::keys::loan_key;
-use iox2_deliveries::{loan_cell, loan_header, loan_user_header};
+use iox2_messages::{loan_cell, loan_header, loan_user_header};
 use iox2_domain::LoanAt;
 use iox2_store::{BackpressureFn, DegradationFn, Header, Key};
 

@@ -5,4 +5,5 @@ pub mod sends
 pub mod discards
 pub mod releases
 pub mod closes
+pub mod subscriber_closes
 pub mod receivers

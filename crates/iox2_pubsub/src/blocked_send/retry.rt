@@ -7,7 +7,7 @@ use crate::blocked_send::BlockedSend;
 use crate::domain::Domain;
 use crate::sample_mut::send::outcome_of;
 use crate::send_outcome::SendOutcome;
-use iox2_deliveries::{give_up_send, retry_send};
+use iox2_messages::{give_up_send, retry_send};
 use iox2_store::{BackpressureFn, DegradationFn, SendError};
 use std::time::Duration;
 

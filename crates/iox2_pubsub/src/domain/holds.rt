@@ -4,7 +4,7 @@ ghost use Rattle.iox2_domain.specs.Shows.{KeepsEntries};
 ghost use Rattle.iox2_pubsub.specs.Live.{IsBlockedKey, IsLoanKey, IsPublisherKey, IsSampleKey, IsSubscriberKey};
 
 use super::Domain;
-use iox2_deliveries::has_blocked_send;
+use iox2_messages::has_blocked_send;
 use iox2_store::{BackpressureFn, DegradationFn, Key, UniquePublisherId, UniqueSubscriberId};
 
 impl<T: Drop, U: Default + Drop, F: BackpressureFn, G: DegradationFn> Domain<T, U, F, G> {

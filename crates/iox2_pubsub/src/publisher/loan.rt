@@ -4,7 +4,7 @@ ghost use Rattle.std.specs.Prelude.{◌≡◌, ◌≤◌, ◌+◌, ◌*◌, ℕ,
 use crate::domain::Domain;
 use crate::publisher::Publisher;
 use crate::sample_mut_uninit::SampleMutUninit;
-use iox2_deliveries::loan;
+use iox2_messages::loan;
 use iox2_store::{BackpressureFn, DegradationFn, LoanError};
 
 impl Publisher {

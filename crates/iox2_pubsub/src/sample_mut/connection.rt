@@ -7,7 +7,7 @@ use crate::domain::Domain;
 use crate::sample_mut::SampleMut;
 use crate::sample_mut::send::outcome_of;
 use crate::send_outcome::SendOutcome;
-use iox2_deliveries::send_to_connection;
+use iox2_messages::send_to_connection;
 use iox2_domain::LoanAt;
 use iox2_store::{BackpressureFn, DegradationFn, SendError};
 

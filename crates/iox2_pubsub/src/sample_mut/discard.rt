@@ -3,7 +3,7 @@ ghost use Rattle.std.specs.Prelude.{◌≡◌};
 
 use crate::domain::Domain;
 use crate::sample_mut::SampleMut;
-use iox2_deliveries::discard_loan;
+use iox2_messages::discard_loan;
 use iox2_store::{BackpressureFn, DegradationFn};
 
 impl SampleMut {

@@ -3,7 +3,7 @@ ghost use Rattle.std.specs.Prelude.{◌≡◌};
 
 use crate::domain::Domain;
 use crate::sample_mut::SampleMut;
-use iox2_deliveries::value_at_mut;
+use iox2_messages::value_at_mut;
 use iox2_store::{BackpressureFn, DegradationFn};
 
 impl SampleMut {

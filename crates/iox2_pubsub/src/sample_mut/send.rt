@@ -8,17 +8,16 @@ ghost use Rattle.iox2_domain.specs.Invariant.{IsDomain};
 ghost use Rattle.iox2_domain.specs.Kept.{state_of};
 ghost use Rattle.iox2_domain.specs.LoanCalls.{HoldsWritten};
 ghost use Rattle.iox2_domain.specs.SentLoans.{SendsLoan};
-ghost use Rattle.iox2_deliveries.specs.SendEnds.{IsNotLost, end_result};
-ghost use Rattle.iox2_deliveries.specs.declared.send_end.SendEnd.{SendEnd};
+ghost use Rattle.iox2_messages.specs.SendEnds.{IsNotLost, end_result};
+ghost use Rattle.iox2_messages.specs.declared.send_end.SendEnd.{SendEnd};
 ghost use Rattle.iox2_pubsub.specs.SendCalls.{IfBlocked, result_of_send};
 
 use crate::blocked_send::BlockedSend;
 use crate::domain::Domain;
 use crate::sample_mut::SampleMut;
 use crate::send_outcome::SendOutcome;
-use iox2_deliveries::SendEnd;
+use iox2_messages::{SendEnd, send};
 use iox2_domain::{Boxes, DomainState, LoanAt};
-use iox2_messages::send;
 use iox2_store::{BackpressureFn, DegradationFn, SendError};
 
 impl SampleMut {

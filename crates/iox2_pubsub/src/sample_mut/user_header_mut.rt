@@ -3,7 +3,7 @@ ghost use Rattle.std.specs.Prelude.{◌≡◌};
 
 use crate::domain::Domain;
 use crate::sample_mut::SampleMut;
-use iox2_deliveries::user_header_at_mut;
+use iox2_messages::user_header_at_mut;
 use iox2_store::{BackpressureFn, DegradationFn};
 
 impl SampleMut {

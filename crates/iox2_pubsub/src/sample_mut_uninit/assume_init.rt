@@ -4,7 +4,7 @@ ghost use Rattle.std.specs.Prelude.{◌≡◌};
 use crate::domain::Domain;
 use crate::sample_mut::SampleMut;
 use crate::sample_mut_uninit::SampleMutUninit;
-use iox2_deliveries::assume_loan;
+use iox2_messages::assume_loan;
 use iox2_store::{BackpressureFn, DegradationFn};
 
 impl SampleMutUninit {

@@ -3,7 +3,7 @@ ghost use Rattle.std.specs.Prelude.{◌≡◌};
 
 use crate::domain::Domain;
 use crate::sample_mut_uninit::SampleMutUninit;
-use iox2_deliveries::cell_at_mut;
+use iox2_messages::cell_at_mut;
 use iox2_store::{BackpressureFn, DegradationFn};
 
 impl SampleMutUninit {

@@ -4,7 +4,7 @@ ghost use Rattle.std.specs.Prelude.{◌≡◌};
 use crate::domain::Domain;
 use crate::sample_mut::SampleMut;
 use crate::sample_mut_uninit::SampleMutUninit;
-use iox2_deliveries::write_loan;
+use iox2_messages::write_loan;
 use iox2_store::{BackpressureFn, DegradationFn};
 
 impl SampleMutUninit {

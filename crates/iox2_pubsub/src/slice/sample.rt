@@ -3,7 +3,7 @@ ghost use Rattle.std.specs.Prelude.{◌≡◌};
 
 use crate::domain::Domain;
 use crate::parts::hints::sample_values_at_hint;
-use iox2_deliveries::sample_payloads;
+use iox2_messages::sample_payloads;
 use iox2_store::{BackpressureFn, DegradationFn};
 
 /// A slice that a subscriber has received and not yet released. It is a value to be spent, as the

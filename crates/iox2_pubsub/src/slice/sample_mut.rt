@@ -6,7 +6,7 @@ mod user_header_mut;
 
 use crate::domain::Domain;
 use crate::send_outcome::SendOutcome;
-use iox2_deliveries::loan_values;
+use iox2_messages::loan_values;
 use iox2_store::{BackpressureFn, DegradationFn, SendError};
 
 /// A loan of a slice whose payload is written. It is a value to be spent, as the loan of a single

@@ -7,7 +7,7 @@ mod write_unspecified;
 
 use crate::domain::Domain;
 use crate::slice::SampleMut;
-use iox2_deliveries::{loan_cells, write_loan_from_fn, write_loan_from_slice};
+use iox2_messages::{loan_cells, write_loan_from_fn, write_loan_from_slice};
 use iox2_store::{BackpressureFn, DegradationFn};
 
 /// A loan of a slice whose payload isn't written. It is a value to be spent, as the loan of a single

@@ -5,7 +5,7 @@ use Rattle.iox2_steps.proofs.sends.AskedBoxes.{ready-boxes, unasked, unhandled}
 use Rattle.iox2_steps.proofs.sends.DeliverySteps.{sends-alike}
 use Rattle.iox2_steps.proofs.sends.SendSteps.{sender-stands, can-send, sends-loan}
 use Rattle.iox2_domain.proofs.lemmas.fields.ConnectionEnds.{free-of}
-use Rattle.iox2_deliveries.proofs.SentEnds.{not-lost}
+use Rattle.iox2_messages.proofs.SentEnds.{not-lost}
 use Rattle.iox2_messages.proofs.sends.send.Goals as goal
 
 pub send_unasked-requires-clause-can : goal.send_unasked-requires-clause-can

@@ -13,7 +13,7 @@ use Rattle.iox2_domain.specs.Boxes.{answers_of}
 use Rattle.iox2_steps.proofs.sends.SendSteps.{sender-stands, updated-agrees, can-send, sends-loan}
 use Rattle.iox2_domain.proofs.lemmas.fields.ConnectionEnds.{free-of}
 use Rattle.iox2_steps.proofs.sends.FailedUpdates.{failed-agrees, failed-holds, failed-sends}
-use Rattle.iox2_deliveries.proofs.SentEnds.{not-lost}
+use Rattle.iox2_messages.proofs.SentEnds.{not-lost}
 use Rattle.iox2_messages.proofs.sends.update_and_send.Goals as goal
 
 pub send_ready-requires-clause-agrees : goal.send_ready-requires-clause-agrees

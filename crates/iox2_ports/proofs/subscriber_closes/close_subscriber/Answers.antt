@@ -10,10 +10,10 @@ use Rattle.iox2_domain.specs.Ports.{SubscriberFields, due}
 use Rattle.iox2_domain.specs.Updates.{changed_at}
 use Rattle.iox2_domain.specs.Invariant.{HasParts}
 use Rattle.iox2_steps.proofs.releases.Leaving.{FreesMidway}
-use Rattle.iox2_closes.specs.Closes.{HasNoPublisher, shut_subscriber}
-use Rattle.iox2_closes.proofs.CloseReads.{some-of, closing-starts, closing-turns, due-read}
-use Rattle.iox2_closes.proofs.CloseKeys.{KeysLeft, expired-known, closing-expired, key-known, closing-key, none-left}
-use Rattle.iox2_closes.proofs.CloseEnds.{closes-parts, closes-stands, closes}
+use Rattle.iox2_steps.specs.Closes.{HasNoPublisher, shut_subscriber}
+use Rattle.iox2_steps.proofs.subscriber_closes.CloseReads.{some-of, closing-starts, closing-turns, due-read}
+use Rattle.iox2_steps.proofs.subscriber_closes.CloseKeys.{KeysLeft, expired-known, closing-expired, key-known, closing-key, none-left}
+use Rattle.iox2_steps.proofs.subscriber_closes.CloseEnds.{closes-parts, closes-stands, closes}
 use Rattle.iox2_ports.proofs.subscriber_closes.close_subscriber.Goals as goal
 
 pub loop-index-init : goal.loop-index-init

@@ -2,8 +2,8 @@ use Rattle.std.proofs.Common.{◌≡◌, slice_index_or}
 use Rattle.std.specs.declared.option.Option.TheVariants.{None, Some}
 use Rattle.iox2_domain.specs.Ports.{SubscriberFields}
 use Rattle.iox2_domain.specs.Invariant.{IsDomain}
-use Rattle.iox2_closes.proofs.CloseWalk.{IsClosing}
-use Rattle.iox2_closes.proofs.CloseKeys.{ExpiredLeft, KeysLeft}
+use Rattle.iox2_steps.proofs.subscriber_closes.CloseWalk.{IsClosing}
+use Rattle.iox2_steps.proofs.subscriber_closes.CloseKeys.{ExpiredLeft, KeysLeft}
 use Rattle.iox2_ports.proofs.subscriber_closes.close_subscriber.Given as goal
 
 -- the expired keys below the index are left, and all keys at places

@@ -6,8 +6,8 @@ use Rattle.slab.specs.Slab.{ContainsKey, get}
 use Rattle.iox2_slots.specs.Link.{Link}
 use Rattle.iox2_domain.specs.Ports.{PublisherFields}
 use Rattle.iox2_domain.specs.Fields.{Fields}
-use Rattle.iox2_closes.specs.Closes.{IsLeftAt, IsStanding, HasNoPublisher}
-use Rattle.iox2_closes.proofs.CloseReads.{home-read, left-there, left-after, left-loses, left-home, left-within, left-only, left-settles, left-settled, others-after}
+use Rattle.iox2_steps.specs.Closes.{IsLeftAt, IsStanding, HasNoPublisher}
+use Rattle.iox2_steps.proofs.subscriber_closes.CloseReads.{home-read, left-there, left-after, left-loses, left-home, left-within, left-only, left-settles, left-settled, others-after}
 use Rattle.iox2_ports.proofs.subscriber_closes.lose_if_left.Goals.{After-lose_waiting, Then-is_left}
 use Rattle.iox2_ports.proofs.subscriber_closes.lose_if_left.Goals as goal
 

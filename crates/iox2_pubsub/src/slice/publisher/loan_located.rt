@@ -4,7 +4,7 @@ ghost use Rattle.std.specs.List.{All};
 
 use crate::domain::Domain;
 use crate::slice::{Publisher, SampleMut};
-use iox2_deliveries::{fill_from_fn, fill_unspecified, loan};
+use iox2_messages::{fill_from_fn, fill_unspecified, loan};
 use iox2_domain::LoanAt;
 use iox2_store::{BackpressureFn, DegradationFn, LoanError};
 use std::ptr::NonNull;

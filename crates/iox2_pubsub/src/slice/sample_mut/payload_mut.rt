@@ -3,7 +3,7 @@ ghost use Rattle.std.specs.Prelude.{◌≡◌};
 
 use crate::domain::Domain;
 use crate::slice::SampleMut;
-use iox2_deliveries::values_at_mut;
+use iox2_messages::values_at_mut;
 use iox2_store::{BackpressureFn, DegradationFn};
 
 impl SampleMut {

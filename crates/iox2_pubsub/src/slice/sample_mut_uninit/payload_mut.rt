@@ -3,7 +3,7 @@ ghost use Rattle.std.specs.Prelude.{◌≡◌};
 
 use crate::domain::Domain;
 use crate::slice::SampleMutUninit;
-use iox2_deliveries::cells_at_mut;
+use iox2_messages::cells_at_mut;
 use iox2_store::{BackpressureFn, DegradationFn};
 
 impl SampleMutUninit {

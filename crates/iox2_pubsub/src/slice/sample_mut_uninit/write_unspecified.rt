@@ -3,7 +3,7 @@ ghost use Rattle.std.specs.Prelude.{◌≡◌};
 
 use crate::domain::Domain;
 use crate::slice::{SampleMut, SampleMutUninit};
-use iox2_deliveries::write_loan_unspecified;
+use iox2_messages::write_loan_unspecified;
 use iox2_store::{BackpressureFn, DegradationFn};
 
 impl SampleMutUninit {

@@ -3,7 +3,7 @@ use Rattle.iox2_domain.specs.Boxes.{answers_of}
 use Rattle.iox2_store.specs.machine.Sends.{GiveUp}
 use Rattle.iox2_store.specs.machine.State.{State}
 use Rattle.iox2_laws.proofs.SendsRemain.{give_up_waits_with}
-use Rattle.iox2_deliveries.specs.SendEnds.{end_result}
+use Rattle.iox2_messages.specs.SendEnds.{end_result}
 use Rattle.iox2_domain.specs.Fields.{kept_of, keeping}
 use Rattle.iox2_domain.specs.Kept.{Kept, state_of}
 use Rattle.iox2_pubsub.specs.Live.{blocked_key, lender_key, written_key}

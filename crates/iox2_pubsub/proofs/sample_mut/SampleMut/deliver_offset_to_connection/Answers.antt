@@ -11,7 +11,7 @@ use Rattle.iox2_domain.specs.Fields.{kept_of, keeping}
 use Rattle.iox2_domain.specs.Kept.{Kept, state_of}
 use Rattle.iox2_domain.specs.LoanCalls.{HoldsWritten}
 use Rattle.iox2_domain.specs.Shows.{Shows}
-use Rattle.iox2_deliveries.specs.SendEnds.{end_result}
+use Rattle.iox2_messages.specs.SendEnds.{end_result}
 use Rattle.iox2_pubsub.specs.Live.{written_key}
 use Rattle.iox2_pubsub.specs.SendCalls.{result_of_send}
 use Rattle.iox2_pubsub.proofs.SentLoans.{from-shown}

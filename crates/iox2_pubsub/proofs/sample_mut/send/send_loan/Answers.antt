@@ -1,5 +1,5 @@
 use Rattle.std.proofs.Common.{◌≡◌, rules}
-use Rattle.iox2_deliveries.specs.SendEnds.{end_result}
+use Rattle.iox2_messages.specs.SendEnds.{end_result}
 use Rattle.iox2_pubsub.specs.SendCalls.{result_of_send}
 use Rattle.iox2_pubsub.proofs.sample_mut.send.send_loan.Goals as goal
 

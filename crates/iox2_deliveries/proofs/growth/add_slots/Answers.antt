@@ -1,6 +1,0 @@
-use Rattle.iox2_deliveries.proofs.ClearedSlots.{grows-contents}
-use Rattle.iox2_deliveries.proofs.growth.add_slots.Goals as goal
-
-pub returns-clause-contents : goal.returns-clause-contents
-returns-clause-contents g c =
-    grows-contents {T = g.row.T.Denot} {U = g.row.U.Denot} c.args.book.now c.args.contents.now c.grow.new.self c.clear_unused.new.contents c.args.more c.args.room c.args.in_lists c.args.lists c.requires.shaped c.requires.lists c.in_ok-grow.ensures.grown c.clear_unused.ensures

@@ -1,2 +1,0 @@
-pub mod SendEnds
-pub mod ReadySlots
