@@ -3,7 +3,7 @@ ghost use Rattle.call_recorder.specs.Recorder.{Keeps, Same, has_room};
 
 use crate::names::{Entry, NOWHERE, Name, place_of};
 use iox2_commands::{Command, Reply};
-use iox2_store::ServiceConfig;
+use iox2_machine::ServiceConfig;
 use recordings::{Recording, save};
 use std::alloc::{AllocError, Global};
 

@@ -3,7 +3,7 @@ use Rattle.std.proofs.Common.{◌≡◌, ℕ, Bool, ap, arith, inl, inr, sym, su
 use Rattle.std.specs.declared.option.Option.{Option}
 use Rattle.std.specs.declared.option.Option.TheVariants.{Some}
 use Rattle.iox2_c.specs.Boxed.{Knows}
-use Rattle.iox2_store.specs.declared.key.Key.{Key}
+use Rattle.iox2_machine.specs.declared.key.Key.{Key}
 use Rattle.iox2_pubsub.specs.Live.{IsPublisherKey, IsSubscriberKey}
 use Rattle.iox2_c.specs.Channels.{AnswersPublisherChannel, AnswersSubscriberChannel, InEachState, as_number}
 use Rattle.iox2_c.specs.Serving.{KeptBytes, Serving}

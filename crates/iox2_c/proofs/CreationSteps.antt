@@ -4,14 +4,14 @@ use Rattle.std.specs.Prelude.{IfOk, MatchResult}
 use Rattle.std.specs.declared.option.Option.TheVariants.{None, Some}
 use Rattle.std.specs.declared.result.Result.{Result}
 use Rattle.std.specs.declared.result.Result.TheVariants.{Err, Ok}
-use Rattle.iox2_store.specs.declared.errors.PublisherCreateError.{PublisherCreateError}
-use Rattle.iox2_store.specs.declared.errors.PublisherCreateError.TheVariants as publisher
-use Rattle.iox2_store.specs.declared.errors.SubscriberCreateError.{SubscriberCreateError}
-use Rattle.iox2_store.specs.declared.errors.SubscriberCreateError.TheVariants as subscriber
-use Rattle.iox2_store.specs.declared.key.Key.{Key}
-use Rattle.iox2_store.specs.machine.Ports.{CreatePublisher, CreateSubscriber, buffer_for}
-use Rattle.iox2_store.specs.machine.Records.{PublisherSettings, SubscriberSettings}
-use Rattle.iox2_store.specs.machine.State.{Messages}
+use Rattle.iox2_machine.specs.declared.errors.PublisherCreateError.{PublisherCreateError}
+use Rattle.iox2_machine.specs.declared.errors.PublisherCreateError.TheVariants as publisher
+use Rattle.iox2_machine.specs.declared.errors.SubscriberCreateError.{SubscriberCreateError}
+use Rattle.iox2_machine.specs.declared.errors.SubscriberCreateError.TheVariants as subscriber
+use Rattle.iox2_machine.specs.declared.key.Key.{Key}
+use Rattle.iox2_machine.specs.machine.Ports.{CreatePublisher, CreateSubscriber, buffer_for}
+use Rattle.iox2_machine.specs.machine.Records.{PublisherSettings, SubscriberSettings}
+use Rattle.iox2_machine.specs.machine.State.{Messages}
 use Rattle.iox2_domain.specs.Shows.{Shows}
 use Rattle.iox2_pubsub.specs.Handles.{as_publisher, as_subscriber, buffer_size_of, publisher_id, subscriber_id}
 use Rattle.iox2_pubsub.specs.Live.{publisher_key, subscriber_key}

@@ -5,9 +5,9 @@ use Rattle.std.proofs.lemmas.List.Elements.{All-nil, All-cons}
 use Rattle.std.specs.Prelude.{IfErr, IfOk}
 use Rattle.std.specs.declared.result.Result.{Result}
 use Rattle.std.specs.declared.result.Result.TheVariants.{Err, Ok}
-use Rattle.iox2_store.specs.declared.errors.LoanError.{LoanError}
-use Rattle.iox2_store.specs.declared.key.Key.{Key}
-use Rattle.iox2_store.specs.machine.State.{Messages}
+use Rattle.iox2_machine.specs.declared.errors.LoanError.{LoanError}
+use Rattle.iox2_machine.specs.declared.key.Key.{Key}
+use Rattle.iox2_machine.specs.machine.State.{Messages}
 use Rattle.iox2_domain.specs.Shows.{Shows}
 use Rattle.iox2_pubsub.specs.Handles.{as_written}
 use Rattle.iox2_pubsub.specs.Live.{A_loan, HasMark, IsLoanKey, IsNewIn, IsWritten, No_item, written_key, written_loan}

@@ -2,10 +2,10 @@
 use Rattle.std.specs.Prelude.{ℕ, true, ◌≡◌, ◌⊎◌, IfOk}
 use Rattle.std.specs.declared.result.Result.{Result}
 use Rattle.std.specs.declared.result.Result.TheVariants.{Err, Ok}
-use Rattle.iox2_store.specs.declared.errors.LoanError.{LoanError}
-use Rattle.iox2_store.specs.declared.errors.PublisherCreateError.{PublisherCreateError}
-use Rattle.iox2_store.specs.declared.key.Key.{Key}
-use Rattle.iox2_store.specs.machine.Records.{PublisherSettings}
+use Rattle.iox2_machine.specs.declared.errors.LoanError.{LoanError}
+use Rattle.iox2_machine.specs.declared.errors.PublisherCreateError.{PublisherCreateError}
+use Rattle.iox2_machine.specs.declared.key.Key.{Key}
+use Rattle.iox2_machine.specs.machine.Records.{PublisherSettings}
 use Rattle.iox2_pubsub.specs.declared.slice.publisher.Publisher.{Publisher}
 use Rattle.iox2_pubsub.specs.Handles.{as_publisher, max_slice_len_of, publisher_id, strategy_of}
 use Rattle.iox2_pubsub.specs.Live.{HasMark, IsLoanKey, IsNewIn, IsPublisherKey, IsReadyPublisher, IsUnblocked, Stays, publisher_port}

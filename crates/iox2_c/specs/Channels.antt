@@ -1,10 +1,10 @@
 -- Calls on the channels of connections: why they are refused, what they answer, and which step of the machine they made.
 use Rattle.std.specs.Prelude.{ℕ, Bool, cond, ◌≡◌, ◌≤◌, ◌⊎◌}
 use Rattle.std.specs.declared.option.Option.{Option}
-use Rattle.iox2_store.specs.declared.key.Key.{Key}
-use Rattle.iox2_store.specs.machine.ChannelCalls.{SetChannelState, connection_place, has_channel_state, has_disconnect_hint, received_closed, received_hinted, sent_closed, some_channel_has_state}
-use Rattle.iox2_store.specs.machine.Limits.{channel_count}
-use Rattle.iox2_store.specs.machine.State.{Messages}
+use Rattle.iox2_machine.specs.declared.key.Key.{Key}
+use Rattle.iox2_machine.specs.machine.ChannelCalls.{SetChannelState, connection_place, has_channel_state, has_disconnect_hint, received_closed, received_hinted, sent_closed, some_channel_has_state}
+use Rattle.iox2_machine.specs.machine.Limits.{channel_count}
+use Rattle.iox2_machine.specs.machine.State.{Messages}
 use Rattle.iox2_domain.specs.Shows.{Shows}
 use Rattle.iox2_pubsub.specs.Live.{IsPublisherKey, IsSubscriberKey}
 use Rattle.iox2_c.specs.Serving.{KeptBytes}

@@ -4,28 +4,28 @@ use Rattle.std.specs.declared.option.Option.{Option}
 use Rattle.std.specs.declared.option.Option.TheVariants.{None, Some}
 use Rattle.std.specs.declared.result.Result.{Result}
 use Rattle.std.specs.declared.result.Result.TheVariants.{Ok, Err}
-use Rattle.iox2_store.specs.declared.allocation.AllocationStrategy.{AllocationStrategy}
-use Rattle.iox2_store.specs.declared.allocation.AllocationStrategy.TheVariants.{BestFit, PowerOfTwo, Static}
-use Rattle.iox2_store.specs.declared.backpressure.BackpressureStrategy.{BackpressureStrategy}
-use Rattle.iox2_store.specs.declared.backpressure.BackpressureStrategy.TheVariants.{RetryUntilDelivered, DiscardData}
-use Rattle.iox2_store.specs.declared.backpressure.BackpressureAction.{BackpressureAction}
-use Rattle.iox2_store.specs.declared.backpressure.BackpressureAction.TheVariants as action
-use Rattle.iox2_store.specs.declared.degradation.DegradationAction.{DegradationAction}
-use Rattle.iox2_store.specs.declared.degradation.DegradationAction.TheVariants.{DegradeAndFail, Ignore, Warn}
-use Rattle.iox2_store.specs.machine.Records.{Fixed, Handler}
-use Rattle.iox2_store.specs.declared.errors.LoanError.{LoanError}
-use Rattle.iox2_store.specs.declared.errors.LoanError.TheVariants.{OutOfMemory, ExceedsMaxLoans, ExceedsMaxLoanSize, InternalFailure}
-use Rattle.iox2_store.specs.declared.errors.ZeroCopyCreationError.TheVariants.{IncompatibleBufferSize, OutOfMemory as No_memory, ExpiredConnectionBufferFull}
-use Rattle.iox2_store.specs.declared.errors.ConnectionFailure.{ConnectionFailure}
-use Rattle.iox2_store.specs.declared.errors.ConnectionFailure.TheVariants.{FailedToEstablishConnection, UnableToMapSendersDataSegment}
-use Rattle.iox2_store.specs.declared.errors.SendError.{SendError}
-use Rattle.iox2_store.specs.declared.errors.SendError.TheVariants.{ConnectionBrokenSinceSenderNoLongerExists, ConnectionCorrupted, LoanError as Not_lent, ConnectionError, UnableToDeliver, InternalError}
-use Rattle.iox2_store.specs.declared.errors.ReceiveError.{ReceiveError}
-use Rattle.iox2_store.specs.declared.errors.ReceiveError.TheVariants.{ExceedsMaxBorrows, ConnectionFailure as Not_connected}
-use Rattle.iox2_store.specs.declared.errors.PublisherCreateError.{PublisherCreateError}
-use Rattle.iox2_store.specs.declared.errors.PublisherCreateError.TheVariants as publisher
-use Rattle.iox2_store.specs.declared.errors.SubscriberCreateError.{SubscriberCreateError}
-use Rattle.iox2_store.specs.declared.errors.SubscriberCreateError.TheVariants as subscriber
+use Rattle.iox2_machine.specs.declared.allocation.AllocationStrategy.{AllocationStrategy}
+use Rattle.iox2_machine.specs.declared.allocation.AllocationStrategy.TheVariants.{BestFit, PowerOfTwo, Static}
+use Rattle.iox2_machine.specs.declared.backpressure.BackpressureStrategy.{BackpressureStrategy}
+use Rattle.iox2_machine.specs.declared.backpressure.BackpressureStrategy.TheVariants.{RetryUntilDelivered, DiscardData}
+use Rattle.iox2_machine.specs.declared.backpressure.BackpressureAction.{BackpressureAction}
+use Rattle.iox2_machine.specs.declared.backpressure.BackpressureAction.TheVariants as action
+use Rattle.iox2_machine.specs.declared.degradation.DegradationAction.{DegradationAction}
+use Rattle.iox2_machine.specs.declared.degradation.DegradationAction.TheVariants.{DegradeAndFail, Ignore, Warn}
+use Rattle.iox2_machine.specs.machine.Records.{Fixed, Handler}
+use Rattle.iox2_machine.specs.declared.errors.LoanError.{LoanError}
+use Rattle.iox2_machine.specs.declared.errors.LoanError.TheVariants.{OutOfMemory, ExceedsMaxLoans, ExceedsMaxLoanSize, InternalFailure}
+use Rattle.iox2_machine.specs.declared.errors.ZeroCopyCreationError.TheVariants.{IncompatibleBufferSize, OutOfMemory as No_memory, ExpiredConnectionBufferFull}
+use Rattle.iox2_machine.specs.declared.errors.ConnectionFailure.{ConnectionFailure}
+use Rattle.iox2_machine.specs.declared.errors.ConnectionFailure.TheVariants.{FailedToEstablishConnection, UnableToMapSendersDataSegment}
+use Rattle.iox2_machine.specs.declared.errors.SendError.{SendError}
+use Rattle.iox2_machine.specs.declared.errors.SendError.TheVariants.{ConnectionBrokenSinceSenderNoLongerExists, ConnectionCorrupted, LoanError as Not_lent, ConnectionError, UnableToDeliver, InternalError}
+use Rattle.iox2_machine.specs.declared.errors.ReceiveError.{ReceiveError}
+use Rattle.iox2_machine.specs.declared.errors.ReceiveError.TheVariants.{ExceedsMaxBorrows, ConnectionFailure as Not_connected}
+use Rattle.iox2_machine.specs.declared.errors.PublisherCreateError.{PublisherCreateError}
+use Rattle.iox2_machine.specs.declared.errors.PublisherCreateError.TheVariants as publisher
+use Rattle.iox2_machine.specs.declared.errors.SubscriberCreateError.{SubscriberCreateError}
+use Rattle.iox2_machine.specs.declared.errors.SubscriberCreateError.TheVariants as subscriber
 use Rattle.iox2_pubsub.specs.declared.send_outcome.SendOutcome.{SendOutcome}
 use Rattle.iox2_pubsub.specs.declared.send_outcome.SendOutcome.TheVariants.{Delivered, Blocked}
 

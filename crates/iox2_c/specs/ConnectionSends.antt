@@ -2,11 +2,11 @@
 use Rattle.std.specs.Prelude.{ℕ, nat_eq, ◌≡◌, ◌≢◌, ◌≤◌, ◌⊎◌}
 use Rattle.std.specs.declared.option.Option.TheVariants.{Some}
 use Rattle.std.specs.declared.result.Result.{Result}
-use Rattle.iox2_store.specs.declared.errors.SendError.{SendError}
-use Rattle.iox2_store.specs.declared.key.Key.{Key}
-use Rattle.iox2_store.specs.machine.Limits.{channel_count}
-use Rattle.iox2_store.specs.machine.Records.{Loan}
-use Rattle.iox2_store.specs.machine.State.{Messages}
+use Rattle.iox2_machine.specs.declared.errors.SendError.{SendError}
+use Rattle.iox2_machine.specs.declared.key.Key.{Key}
+use Rattle.iox2_machine.specs.machine.Limits.{channel_count}
+use Rattle.iox2_machine.specs.machine.Records.{Loan}
+use Rattle.iox2_machine.specs.machine.State.{Messages}
 use Rattle.iox2_domain.specs.Shows.{Shows}
 use Rattle.iox2_pubsub.specs.Live.{A_sent_loan, IsBlockedKey, IsLoanKey, IsUnblocked}
 use Rattle.iox2_pubsub.specs.SendCalls.{SendsToConnection, messages_after}

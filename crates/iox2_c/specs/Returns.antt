@@ -2,10 +2,10 @@
 use Rattle.std.specs.Prelude.{ℕ, List, length, nat_eq, ◌≡◌, ◌≢◌, ◌<◌, ◌≤◌, ◌⊎◌, IfOk}
 use Rattle.std.specs.declared.result.Result.{Result}
 use Rattle.std.specs.declared.result.Result.TheVariants.{Err, Ok}
-use Rattle.iox2_store.specs.declared.errors.LoanError.{LoanError}
-use Rattle.iox2_store.specs.declared.errors.ReceiveError.{ReceiveError}
-use Rattle.iox2_store.specs.declared.errors.SendError.{SendError}
-use Rattle.iox2_store.specs.machine.Receives.{Got_sample, No_sample, Receive_error}
+use Rattle.iox2_machine.specs.declared.errors.LoanError.{LoanError}
+use Rattle.iox2_machine.specs.declared.errors.ReceiveError.{ReceiveError}
+use Rattle.iox2_machine.specs.declared.errors.SendError.{SendError}
+use Rattle.iox2_machine.specs.machine.Receives.{Got_sample, No_sample, Receive_error}
 use Rattle.iox2_pubsub.specs.Live.{A_loan, A_sample, A_sent_loan, IsBlockedKey, IsLoanKey, IsNewIn, IsSampleKey, IsSubscriberKey, No_item, blocked_key}
 use Rattle.iox2_pubsub.specs.SendCalls.{IfBlocked}
 use Rattle.iox2_pubsub.specs.Slices.{SampleHasValues}

@@ -1,6 +1,6 @@
 -- A domain of bytes.
 use Rattle.std.specs.Prelude.{ℕ, false, ◌≡◌}
-use Rattle.iox2_store.specs.declared.service_config.TypeVariant.TheVariants.{Dynamic}
+use Rattle.iox2_machine.specs.declared.service_config.TypeVariant.TheVariants.{Dynamic}
 use Rattle.iox2_domain.specs.Kept.{Kept}
 use Rattle.iox2_pubsub.specs.Live.{Item, StaysBut}
 use Rattle.iox2_pubsub.specs.Slices.{HoldsSlices}

@@ -1,10 +1,10 @@
 -- The settings that C may choose.
 use Rattle.std.specs.Prelude.{ℕ, false, ◌≡◌, ◌<◌, ◌%◌, ◌⊎◌, not, nat_eq}
-use Rattle.iox2_store.specs.declared.service_config.ServiceConfig.{ServiceConfig}
-use Rattle.iox2_store.specs.declared.service_config.TypeVariant.TheVariants.{Dynamic}
-use Rattle.iox2_store.specs.declared.allocation.AllocationStrategy.TheVariants.{Static}
-use Rattle.iox2_store.specs.machine.Ports.{default_publisher_settings, default_subscriber_settings}
-use Rattle.iox2_store.specs.machine.Records.{Fixed, PublisherSettings, SubscriberSettings}
+use Rattle.iox2_machine.specs.declared.service_config.ServiceConfig.{ServiceConfig}
+use Rattle.iox2_machine.specs.declared.service_config.TypeVariant.TheVariants.{Dynamic}
+use Rattle.iox2_machine.specs.declared.allocation.AllocationStrategy.TheVariants.{Static}
+use Rattle.iox2_machine.specs.machine.Ports.{default_publisher_settings, default_subscriber_settings}
+use Rattle.iox2_machine.specs.machine.Records.{Fixed, PublisherSettings, SubscriberSettings}
 use Rattle.iox2_c.specs.Codes.{allocation_numbered, degradation_numbered, handler_numbered, slots_numbered, strategy_numbered}
 use Rattle.iox2_c.specs.Numbers.{wide}
 use Rattle.iox2_c.specs.Serving.{KeptBytes, Serving}

@@ -5,25 +5,25 @@ use Rattle.std.specs.declared.result.Result.{Result}
 use Rattle.std.specs.declared.result.Result.TheVariants.{Err, Ok}
 use Rattle.std.specs.declared.time.Duration.{Duration}
 use Rattle.core.specs.Duration.{as_nanos}
-use Rattle.iox2_store.specs.declared.backpressure.BackpressureAction.TheVariants.{DiscardData}
-use Rattle.iox2_store.specs.declared.errors.ConnectionFailure.{ConnectionFailure}
-use Rattle.iox2_store.specs.declared.errors.LoanError.{LoanError}
-use Rattle.iox2_store.specs.declared.errors.PublisherCreateError.{PublisherCreateError}
-use Rattle.iox2_store.specs.declared.errors.SendError.{SendError}
-use Rattle.iox2_store.specs.declared.errors.SendError.TheVariants.{LoanError as Not_lent}
-use Rattle.iox2_store.specs.declared.errors.SubscriberCreateError.{SubscriberCreateError}
-use Rattle.iox2_store.specs.declared.key.Key.{Key}
-use Rattle.iox2_store.specs.machine.Loans.{loan_discarded}
-use Rattle.iox2_store.specs.machine.Mailbox.{is_borrowed}
-use Rattle.iox2_store.specs.machine.Ports.{CreatePublisher, CreateSubscriber, buffer_for, publisher_closed, subscriber_closed}
-use Rattle.iox2_store.specs.machine.PublisherUpdate.{UpdatePublisher}
-use Rattle.iox2_store.specs.machine.Receives.{Got_sample, Receive, ReceiveResult}
-use Rattle.iox2_store.specs.machine.Records.{BlockedSend, Environment, Loan, Publisher, PublisherSettings, Subscriber, SubscriberSettings}
-use Rattle.iox2_store.specs.machine.Releases.{released}
-use Rattle.iox2_store.specs.machine.Sends.{GiveUp, Retry}
-use Rattle.iox2_store.specs.machine.SingleCalls.{WriteAllFrom}
-use Rattle.iox2_store.specs.machine.SubscriberUpdate.{UpdateSubscriber}
-use Rattle.iox2_store.specs.machine.State.{Messages, State}
+use Rattle.iox2_machine.specs.declared.backpressure.BackpressureAction.TheVariants.{DiscardData}
+use Rattle.iox2_machine.specs.declared.errors.ConnectionFailure.{ConnectionFailure}
+use Rattle.iox2_machine.specs.declared.errors.LoanError.{LoanError}
+use Rattle.iox2_machine.specs.declared.errors.PublisherCreateError.{PublisherCreateError}
+use Rattle.iox2_machine.specs.declared.errors.SendError.{SendError}
+use Rattle.iox2_machine.specs.declared.errors.SendError.TheVariants.{LoanError as Not_lent}
+use Rattle.iox2_machine.specs.declared.errors.SubscriberCreateError.{SubscriberCreateError}
+use Rattle.iox2_machine.specs.declared.key.Key.{Key}
+use Rattle.iox2_machine.specs.machine.Loans.{loan_discarded}
+use Rattle.iox2_machine.specs.machine.Mailbox.{is_borrowed}
+use Rattle.iox2_machine.specs.machine.Ports.{CreatePublisher, CreateSubscriber, buffer_for, publisher_closed, subscriber_closed}
+use Rattle.iox2_machine.specs.machine.PublisherUpdate.{UpdatePublisher}
+use Rattle.iox2_machine.specs.machine.Receives.{Got_sample, Receive, ReceiveResult}
+use Rattle.iox2_machine.specs.machine.Records.{BlockedSend, Environment, Loan, Publisher, PublisherSettings, Subscriber, SubscriberSettings}
+use Rattle.iox2_machine.specs.machine.Releases.{released}
+use Rattle.iox2_machine.specs.machine.Sends.{GiveUp, Retry}
+use Rattle.iox2_machine.specs.machine.SingleCalls.{WriteAllFrom}
+use Rattle.iox2_machine.specs.machine.SubscriberUpdate.{UpdateSubscriber}
+use Rattle.iox2_machine.specs.machine.State.{Messages, State}
 use Rattle.iox2_domain.specs.Boxes.{answers_of}
 use Rattle.iox2_domain.specs.Lending.{LoanCall}
 use Rattle.iox2_domain.specs.Shows.{Shows}

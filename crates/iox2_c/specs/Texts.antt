@@ -1,20 +1,20 @@
 -- The texts of codes and of warnings' kinds, by their numbers. An error's is the one that is printed.
 use Rattle.std.specs.Prelude.{ℕ, List, [], ◌∷◌, ◌++◌, ◌/◌, ◌≡◌, codes, cond, nat_eq}
-use Rattle.iox2_store.specs.ErrorTexts.{connection_failure_text, loan_error_text, publisher_create_error_text, receive_error_text, send_error_text, subscriber_create_error_text}
-use Rattle.iox2_store.specs.declared.errors.LoanError.{LoanError}
-use Rattle.iox2_store.specs.declared.errors.LoanError.TheVariants as loan
-use Rattle.iox2_store.specs.declared.errors.ZeroCopyCreationError.TheVariants as creation
-use Rattle.iox2_store.specs.declared.errors.SharedMemoryOpenError.TheVariants as opening
-use Rattle.iox2_store.specs.declared.errors.ConnectionFailure.{ConnectionFailure}
-use Rattle.iox2_store.specs.declared.errors.ConnectionFailure.TheVariants as connection
-use Rattle.iox2_store.specs.declared.errors.SendError.{SendError}
-use Rattle.iox2_store.specs.declared.errors.SendError.TheVariants as send
-use Rattle.iox2_store.specs.declared.errors.ReceiveError.{ReceiveError}
-use Rattle.iox2_store.specs.declared.errors.ReceiveError.TheVariants as receive
-use Rattle.iox2_store.specs.declared.errors.PublisherCreateError.{PublisherCreateError}
-use Rattle.iox2_store.specs.declared.errors.PublisherCreateError.TheVariants as publisher
-use Rattle.iox2_store.specs.declared.errors.SubscriberCreateError.{SubscriberCreateError}
-use Rattle.iox2_store.specs.declared.errors.SubscriberCreateError.TheVariants as subscriber
+use Rattle.iox2_machine.specs.ErrorTexts.{connection_failure_text, loan_error_text, publisher_create_error_text, receive_error_text, send_error_text, subscriber_create_error_text}
+use Rattle.iox2_machine.specs.declared.errors.LoanError.{LoanError}
+use Rattle.iox2_machine.specs.declared.errors.LoanError.TheVariants as loan
+use Rattle.iox2_machine.specs.declared.errors.ZeroCopyCreationError.TheVariants as creation
+use Rattle.iox2_machine.specs.declared.errors.SharedMemoryOpenError.TheVariants as opening
+use Rattle.iox2_machine.specs.declared.errors.ConnectionFailure.{ConnectionFailure}
+use Rattle.iox2_machine.specs.declared.errors.ConnectionFailure.TheVariants as connection
+use Rattle.iox2_machine.specs.declared.errors.SendError.{SendError}
+use Rattle.iox2_machine.specs.declared.errors.SendError.TheVariants as send
+use Rattle.iox2_machine.specs.declared.errors.ReceiveError.{ReceiveError}
+use Rattle.iox2_machine.specs.declared.errors.ReceiveError.TheVariants as receive
+use Rattle.iox2_machine.specs.declared.errors.PublisherCreateError.{PublisherCreateError}
+use Rattle.iox2_machine.specs.declared.errors.PublisherCreateError.TheVariants as publisher
+use Rattle.iox2_machine.specs.declared.errors.SubscriberCreateError.{SubscriberCreateError}
+use Rattle.iox2_machine.specs.declared.errors.SubscriberCreateError.TheVariants as subscriber
 use Rattle.iox2_c.specs.Codes.{failure_code, loan_code, publisher_code, receive_code, send_code, subscriber_code}
 
 -- Nothing has this number.

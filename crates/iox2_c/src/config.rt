@@ -1,8 +1,8 @@
 //! The settings of a domain.
 ghost use Rattle.std.specs.Prelude.{◌≡◌, ◌<◌, ◌↔◌, false, IsTrue};
-ghost use Rattle.iox2_store.specs.Defaults.{default_config};
-ghost use Rattle.iox2_store.specs.declared.allocation.AllocationStrategy.TheVariants.{Static};
-ghost use Rattle.iox2_store.specs.declared.service_config.TypeVariant.TheVariants.{Dynamic};
+ghost use Rattle.iox2_machine.specs.Defaults.{default_config};
+ghost use Rattle.iox2_machine.specs.declared.allocation.AllocationStrategy.TheVariants.{Static};
+ghost use Rattle.iox2_machine.specs.declared.service_config.TypeVariant.TheVariants.{Dynamic};
 ghost use Rattle.iox2_c.specs.Codes.{strategy_numbered};
 ghost use Rattle.iox2_c.specs.Settings.{AreValid, IsAlignment, settings_of};
 

@@ -1,6 +1,6 @@
 //! Handlers of no size, which no port asks.
 ghost use Rattle.std.specs.Prelude.{◌≡◌};
-ghost use Rattle.iox2_store.specs.declared.backpressure.BackpressureAction.TheVariants.{DiscardData};
+ghost use Rattle.iox2_machine.specs.declared.backpressure.BackpressureAction.TheVariants.{DiscardData};
 
 use iox2_pubsub::{
     BackpressureAction, BackpressureFn, BackpressureInfo, DegradationAction, DegradationCause,

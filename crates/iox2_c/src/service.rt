@@ -35,7 +35,7 @@ impl Model for Service {
 
 impl Service {
     ghost use Rattle.std.specs.Prelude.{◌≡◌, IfSome};
-    ghost use Rattle.iox2_store.specs.machine.State.{fresh, no_messages};
+    ghost use Rattle.iox2_machine.specs.machine.State.{fresh, no_messages};
     ghost use Rattle.iox2_domain.specs.Shows.{Shows};
     ghost use Rattle.iox2_c.specs.Settings.{settings_of};
 

@@ -3,13 +3,13 @@ use Rattle.std.proofs.Common.{◌≡◌, ℕ, Bool, true, false, cond, not, ◌&
 use Rattle.std.specs.Option.{option_map, option_map_or}
 use Rattle.std.specs.List.{list_all}
 use Rattle.std.proofs.lemmas.Bool.{eqb-true, cond_both}
-use Rattle.iox2_store.specs.machine.Numbers.{put_at}
-use Rattle.iox2_store.specs.machine.Places.{vacated}
-use Rattle.iox2_store.specs.machine.Mailbox.{Mailbox, has_borrows, waiting_dropped}
-use Rattle.iox2_store.specs.machine.Records.{Publisher, Subscriber}
-use Rattle.iox2_store.specs.machine.State.{State, is_present, connected_publishers, receiver_channels_reset}
-use Rattle.iox2_store.specs.machine.Releases.{is_unused, place_freed, pruned, subscriber_pruned}
-use Rattle.iox2_store.specs.machine.Ports.{mailbox_after_subscriber, subscriber_shut, subscriber_closed}
+use Rattle.iox2_machine.specs.machine.Numbers.{put_at}
+use Rattle.iox2_machine.specs.machine.Places.{vacated}
+use Rattle.iox2_machine.specs.machine.Mailbox.{Mailbox, has_borrows, waiting_dropped}
+use Rattle.iox2_machine.specs.machine.Records.{Publisher, Subscriber}
+use Rattle.iox2_machine.specs.machine.State.{State, is_present, connected_publishers, receiver_channels_reset}
+use Rattle.iox2_machine.specs.machine.Releases.{is_unused, place_freed, pruned, subscriber_pruned}
+use Rattle.iox2_machine.specs.machine.Ports.{mailbox_after_subscriber, subscriber_shut, subscriber_closed}
 use Rattle.iox2_laws.proofs.Puts.{put_at-same}
 use Rattle.iox2_commands.specs.Isolation.{HasBorrowedNothing}
 use Rattle.iox2_commands.specs.Views.{public_part}

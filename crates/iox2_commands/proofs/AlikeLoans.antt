@@ -3,19 +3,19 @@ use Rattle.std.proofs.Common.{◌≡◌, ℕ, ◌+◌, ◌*◌, ◌≤◌, ◌<�
 use Rattle.std.specs.Prelude.{nat_lt, nat_le, max, replicate}
 use Rattle.std.proofs.lemmas.Bool.{ne_eqb, leb-false, true≢false}
 use Rattle.std.proofs.lemmas.Option.{none-some}
-use Rattle.iox2_store.specs.machine.Limits.{buffer_limit, channel_count, worst_case, last_number}
-use Rattle.iox2_store.specs.machine.Numbers.{put_at, size}
-use Rattle.iox2_store.specs.machine.Records.{Publisher}
-use Rattle.iox2_store.specs.machine.State.{State, held}
-use Rattle.iox2_store.specs.machine.Loans.{is_static, limit_error, loan_granted, GrantLoan, written}
-use Rattle.iox2_store.specs.machine.SingleCalls.{GrantWrittenLoan}
-use Rattle.iox2_store.specs.machine.WellFormed.{IsWellFormed}
-use Rattle.iox2_store.specs.declared.service_config.ServiceConfig.{ServiceConfig}
-use Rattle.iox2_store.specs.declared.errors.LoanError.{LoanError}
-use Rattle.iox2_store.specs.declared.errors.LoanError.TheVariants.{ExceedsMaxLoans, ExceedsMaxLoanSize, InternalFailure}
+use Rattle.iox2_machine.specs.machine.Limits.{buffer_limit, channel_count, worst_case, last_number}
+use Rattle.iox2_machine.specs.machine.Numbers.{put_at, size}
+use Rattle.iox2_machine.specs.machine.Records.{Publisher}
+use Rattle.iox2_machine.specs.machine.State.{State, held}
+use Rattle.iox2_machine.specs.machine.Loans.{is_static, limit_error, loan_granted, GrantLoan, written}
+use Rattle.iox2_machine.specs.machine.SingleCalls.{GrantWrittenLoan}
+use Rattle.iox2_machine.specs.machine.WellFormed.{IsWellFormed}
+use Rattle.iox2_machine.specs.declared.service_config.ServiceConfig.{ServiceConfig}
+use Rattle.iox2_machine.specs.declared.errors.LoanError.{LoanError}
+use Rattle.iox2_machine.specs.declared.errors.LoanError.TheVariants.{ExceedsMaxLoans, ExceedsMaxLoanSize, InternalFailure}
 use Rattle.iox2_laws.proofs.Cases.{by_options, by_bool, by_bools}
 use Rattle.iox2_laws.proofs.Enough.{holds_at_most_worst_case}
-use Rattle.iox2_store.specs.machine.Environments.{ample_memory}
+use Rattle.iox2_machine.specs.machine.Environments.{ample_memory}
 use Rattle.iox2_commands.specs.Isolation.{IsIndependentPublisher}
 use Rattle.iox2_commands.proofs.AlikeViews.{View, view_of}
 

@@ -3,25 +3,25 @@ use Rattle.std.proofs.Common.{◌≡◌, ℕ, Bool, true, false, cond, ◌&&◌,
 use Rattle.std.specs.Prelude.{◌≢◌, slice_get}
 use Rattle.std.specs.Option.{MatchOption, option_map}
 use Rattle.std.proofs.lemmas.Bool.{eqb-true, true≢false}
-use Rattle.iox2_store.specs.machine.Limits.{worst_case}
-use Rattle.iox2_store.specs.machine.Ports.{slots_for}
-use Rattle.iox2_store.specs.machine.Records.{Entry, Publisher, PublisherSettings, Handler, Fixed}
-use Rattle.iox2_store.specs.machine.State.{State, Messages}
-use Rattle.iox2_store.specs.machine.Loans.{GrantLoan, is_static, is_initialized, initialized}
-use Rattle.iox2_store.specs.machine.Sends.{SendResult, Delivered_to, Blocked_send, Send_error}
-use Rattle.iox2_store.specs.machine.Receives.{ReceiveResult, Got_sample, No_sample, Receive_error}
-use Rattle.iox2_store.specs.declared.service_config.ServiceConfig.{ServiceConfig}
-use Rattle.iox2_store.specs.declared.allocation.AllocationStrategy.{AllocationStrategy}
-use Rattle.iox2_store.specs.declared.backpressure.BackpressureStrategy.{BackpressureStrategy}
-use Rattle.iox2_store.specs.declared.backpressure.BackpressureAction.{BackpressureAction}
-use Rattle.iox2_store.specs.declared.degradation.DegradationAction.{DegradationAction}
-use Rattle.iox2_store.specs.declared.errors.ConnectionFailure.{ConnectionFailure}
-use Rattle.iox2_store.specs.declared.errors.LoanError.{LoanError}
-use Rattle.iox2_store.specs.declared.errors.SendError.TheVariants.{ConnectionBrokenSinceSenderNoLongerExists, ConnectionCorrupted, LoanError as NotLoaned, ConnectionError, UnableToDeliver, InternalError}
-use Rattle.iox2_store.specs.declared.errors.PublisherCreateError.{PublisherCreateError}
-use Rattle.iox2_store.specs.declared.errors.SubscriberCreateError.{SubscriberCreateError}
+use Rattle.iox2_machine.specs.machine.Limits.{worst_case}
+use Rattle.iox2_machine.specs.machine.Ports.{slots_for}
+use Rattle.iox2_machine.specs.machine.Records.{Entry, Publisher, PublisherSettings, Handler, Fixed}
+use Rattle.iox2_machine.specs.machine.State.{State, Messages}
+use Rattle.iox2_machine.specs.machine.Loans.{GrantLoan, is_static, is_initialized, initialized}
+use Rattle.iox2_machine.specs.machine.Sends.{SendResult, Delivered_to, Blocked_send, Send_error}
+use Rattle.iox2_machine.specs.machine.Receives.{ReceiveResult, Got_sample, No_sample, Receive_error}
+use Rattle.iox2_machine.specs.declared.service_config.ServiceConfig.{ServiceConfig}
+use Rattle.iox2_machine.specs.declared.allocation.AllocationStrategy.{AllocationStrategy}
+use Rattle.iox2_machine.specs.declared.backpressure.BackpressureStrategy.{BackpressureStrategy}
+use Rattle.iox2_machine.specs.declared.backpressure.BackpressureAction.{BackpressureAction}
+use Rattle.iox2_machine.specs.declared.degradation.DegradationAction.{DegradationAction}
+use Rattle.iox2_machine.specs.declared.errors.ConnectionFailure.{ConnectionFailure}
+use Rattle.iox2_machine.specs.declared.errors.LoanError.{LoanError}
+use Rattle.iox2_machine.specs.declared.errors.SendError.TheVariants.{ConnectionBrokenSinceSenderNoLongerExists, ConnectionCorrupted, LoanError as NotLoaned, ConnectionError, UnableToDeliver, InternalError}
+use Rattle.iox2_machine.specs.declared.errors.PublisherCreateError.{PublisherCreateError}
+use Rattle.iox2_machine.specs.declared.errors.SubscriberCreateError.{SubscriberCreateError}
 use Rattle.iox2_laws.proofs.Cases.{by_option}
-use Rattle.iox2_store.specs.machine.Environments.{ample_memory}
+use Rattle.iox2_machine.specs.machine.Environments.{ample_memory}
 use Rattle.iox2_commands.specs.Isolation.{IsIndependent, HasBorrowedNothing, makes_independent_publisher, never_waits}
 use Rattle.iox2_commands.specs.Outcomes.{Handle, Subscriber_handle, Outcome, replied, done, skipped}
 use Rattle.iox2_commands.specs.Step.{Step, after_publisher, after_subscriber, after_loan, after_send, after_retry, after_receive, after_update, after_question, publisher_settings, unblocked_at, subscriber_at, loan_at, unwritten_at, written_at, with_cell_at, sendable_at, blocked_at, sample_at, if_single_units, if_fixed_size, if_dynamic}

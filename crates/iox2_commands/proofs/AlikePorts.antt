@@ -4,25 +4,25 @@ use Rattle.std.specs.Prelude.{nat_lt}
 use Rattle.std.specs.Option.{option_map, option_map_or}
 use Rattle.std.specs.List.{filter, list_all}
 use Rattle.std.proofs.lemmas.Bool.{eqb-true}
-use Rattle.iox2_store.specs.machine.Limits.{last_number, buffer_limit}
-use Rattle.iox2_store.specs.machine.Numbers.{put_at}
-use Rattle.iox2_store.specs.machine.Places.{occupant, is_port, vacated, set_place, free_place, places_kept}
-use Rattle.iox2_store.specs.machine.Mailbox.{has_numbers, has_borrows, waiting_dropped, with_released}
-use Rattle.iox2_store.specs.machine.Records.{Publisher, Subscriber, PublisherSettings, SubscriberSettings}
-use Rattle.iox2_store.specs.machine.State.{State, connected_publishers, subscribers_due}
-use Rattle.iox2_store.specs.machine.PublisherUpdate.{UpdatePublisher}
-use Rattle.iox2_store.specs.machine.SubscriberUpdate.{UpdateSubscriber}
-use Rattle.iox2_store.specs.machine.Releases.{released, pruned, unborrowed, subscriber_pruned, is_unused, place_freed, freed_if_unused}
-use Rattle.iox2_store.specs.machine.Ports.{new_publisher, new_subscriber, with_new_publisher, with_new_subscriber, with_failure_warning, MakePublisher, CreatePublisher, MakeSubscriber, CreateSubscriber, first_segment_fits, buffer_for, publisher_gone, subscribers_pruned, publisher_closed, mailbox_after_publisher, mailbox_after_subscriber, subscriber_shut, subscriber_closed, slots_for}
-use Rattle.iox2_store.specs.declared.service_config.ServiceConfig.{ServiceConfig}
-use Rattle.iox2_store.specs.declared.warning.Warning.{Warning}
-use Rattle.iox2_store.specs.declared.errors.ConnectionFailure.{ConnectionFailure}
-use Rattle.iox2_store.specs.declared.errors.PublisherCreateError.{PublisherCreateError}
-use Rattle.iox2_store.specs.declared.errors.PublisherCreateError.TheVariants.{UnableToCreatePortTag as NoPublisherTag, ExceedsMaxSupportedPublishers, UnableToCreateDataSegment}
-use Rattle.iox2_store.specs.declared.errors.SubscriberCreateError.{SubscriberCreateError}
-use Rattle.iox2_store.specs.declared.errors.SubscriberCreateError.TheVariants.{UnableToCreatePortTag as NoSubscriberTag, BufferSizeExceedsMaxSupportedBufferSizeOfService, ExceedsMaxSupportedSubscribers}
+use Rattle.iox2_machine.specs.machine.Limits.{last_number, buffer_limit}
+use Rattle.iox2_machine.specs.machine.Numbers.{put_at}
+use Rattle.iox2_machine.specs.machine.Places.{occupant, is_port, vacated, set_place, free_place, places_kept}
+use Rattle.iox2_machine.specs.machine.Mailbox.{has_numbers, has_borrows, waiting_dropped, with_released}
+use Rattle.iox2_machine.specs.machine.Records.{Publisher, Subscriber, PublisherSettings, SubscriberSettings}
+use Rattle.iox2_machine.specs.machine.State.{State, connected_publishers, subscribers_due}
+use Rattle.iox2_machine.specs.machine.PublisherUpdate.{UpdatePublisher}
+use Rattle.iox2_machine.specs.machine.SubscriberUpdate.{UpdateSubscriber}
+use Rattle.iox2_machine.specs.machine.Releases.{released, pruned, unborrowed, subscriber_pruned, is_unused, place_freed, freed_if_unused}
+use Rattle.iox2_machine.specs.machine.Ports.{new_publisher, new_subscriber, with_new_publisher, with_new_subscriber, with_failure_warning, MakePublisher, CreatePublisher, MakeSubscriber, CreateSubscriber, first_segment_fits, buffer_for, publisher_gone, subscribers_pruned, publisher_closed, mailbox_after_publisher, mailbox_after_subscriber, subscriber_shut, subscriber_closed, slots_for}
+use Rattle.iox2_machine.specs.declared.service_config.ServiceConfig.{ServiceConfig}
+use Rattle.iox2_machine.specs.declared.warning.Warning.{Warning}
+use Rattle.iox2_machine.specs.declared.errors.ConnectionFailure.{ConnectionFailure}
+use Rattle.iox2_machine.specs.declared.errors.PublisherCreateError.{PublisherCreateError}
+use Rattle.iox2_machine.specs.declared.errors.PublisherCreateError.TheVariants.{UnableToCreatePortTag as NoPublisherTag, ExceedsMaxSupportedPublishers, UnableToCreateDataSegment}
+use Rattle.iox2_machine.specs.declared.errors.SubscriberCreateError.{SubscriberCreateError}
+use Rattle.iox2_machine.specs.declared.errors.SubscriberCreateError.TheVariants.{UnableToCreatePortTag as NoSubscriberTag, BufferSizeExceedsMaxSupportedBufferSizeOfService, ExceedsMaxSupportedSubscribers}
 use Rattle.iox2_laws.proofs.Cases.{by_options, by_bools}
-use Rattle.iox2_store.specs.machine.Environments.{ample_memory}
+use Rattle.iox2_machine.specs.machine.Environments.{ample_memory}
 use Rattle.iox2_commands.specs.Views.{public_part}
 use Rattle.iox2_commands.proofs.AlikeViews.{View, view_of, others_put, others_same, row_put, cell_put, sender_reset_view, sender_reset_seen, receiver_reset_view, receiver_reset_seen}
 use Rattle.iox2_commands.proofs.AlikeUpdates.{update_publisher_alike}

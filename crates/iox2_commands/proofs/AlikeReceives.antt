@@ -1,17 +1,17 @@
 -- A subscriber's own update and receive from two states that look alike to it.
 use Rattle.std.proofs.Common.{◌≡◌, ℕ, Bool, false, List, [], ◌∷◌, ◌++◌, refl, sym, ap, subst, ◌∙◌, Option, None, Some, eqb}
-use Rattle.iox2_store.specs.machine.Limits.{expired_limit}
-use Rattle.iox2_store.specs.machine.Numbers.{put_at}
-use Rattle.iox2_store.specs.machine.Mailbox.{Mailbox, BorrowsFirst}
-use Rattle.iox2_store.specs.machine.Records.{Subscriber}
-use Rattle.iox2_store.specs.machine.State.{State, has_sender_end, with_mailbox, no_warnings, receiver_channels_reset}
-use Rattle.iox2_store.specs.machine.SubscriberUpdate.{ReceiverSide, UpdateReceiverSide, UpdateSubscriber, receiver_side, with_receiver_side}
-use Rattle.iox2_store.specs.machine.Receives.{Receive, TakeSample, ReceiveResult, Got_sample, No_sample, Receive_error}
-use Rattle.iox2_store.specs.declared.errors.ConnectionFailure.{ConnectionFailure}
-use Rattle.iox2_store.specs.declared.errors.ReceiveError.TheVariants.{ConnectionFailure as CouldNotConnect}
+use Rattle.iox2_machine.specs.machine.Limits.{expired_limit}
+use Rattle.iox2_machine.specs.machine.Numbers.{put_at}
+use Rattle.iox2_machine.specs.machine.Mailbox.{Mailbox, BorrowsFirst}
+use Rattle.iox2_machine.specs.machine.Records.{Subscriber}
+use Rattle.iox2_machine.specs.machine.State.{State, has_sender_end, with_mailbox, no_warnings, receiver_channels_reset}
+use Rattle.iox2_machine.specs.machine.SubscriberUpdate.{ReceiverSide, UpdateReceiverSide, UpdateSubscriber, receiver_side, with_receiver_side}
+use Rattle.iox2_machine.specs.machine.Receives.{Receive, TakeSample, ReceiveResult, Got_sample, No_sample, Receive_error}
+use Rattle.iox2_machine.specs.declared.errors.ConnectionFailure.{ConnectionFailure}
+use Rattle.iox2_machine.specs.declared.errors.ReceiveError.TheVariants.{ConnectionFailure as CouldNotConnect}
 use Rattle.iox2_laws.proofs.Cases.{by_options, by_bools}
 use Rattle.iox2_laws.proofs.Puts.{put_at-same}
-use Rattle.iox2_store.specs.machine.Environments.{ample_memory}
+use Rattle.iox2_machine.specs.machine.Environments.{ample_memory}
 use Rattle.iox2_commands.specs.Views.{public_part, seen_handle}
 use Rattle.iox2_commands.specs.Outcomes.{Event, No_event, Message_sent, Message_received, Outcome, Sample_handle}
 use Rattle.iox2_commands.specs.Step.{after_receive, after_update, after_question}

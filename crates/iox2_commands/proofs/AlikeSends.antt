@@ -4,23 +4,23 @@ use Rattle.std.specs.Option.{option_map}
 use Rattle.std.specs.declared.time.Duration.{Duration}
 use Rattle.std.proofs.lemmas.Bool.{eqb-true, true≢false}
 use Rattle.std.proofs.lemmas.Option.{same_Some}
-use Rattle.iox2_store.specs.machine.Numbers.{put_at, without, last_n}
-use Rattle.iox2_store.specs.machine.Mailbox.{Mailbox, has_room, with_appended}
-use Rattle.iox2_store.specs.machine.Records.{Loan, Publisher, Handler, Fixed, Custom, Environment}
-use Rattle.iox2_store.specs.machine.State.{State, channel_buffer, with_loan}
-use Rattle.iox2_store.specs.machine.Delivery.{PutResult, Accepted, Skipped, Failed, Would_block, by_action, by_strategy, accepted_count, is_failed, is_blocking, DeliveryEnd, Complete, Decides, Put, Deliver, no_time}
-use Rattle.iox2_store.specs.machine.Loans.{loan_discarded, entry_of}
-use Rattle.iox2_store.specs.machine.Sends.{SendResult, Delivered_to, Send_error, published, send_ended, ConcludeSend, with_mailboxes, DeliverAndConclude, Publish, Send}
-use Rattle.iox2_store.specs.declared.service_config.ServiceConfig.{ServiceConfig}
-use Rattle.iox2_store.specs.declared.backpressure.BackpressureStrategy.{BackpressureStrategy}
-use Rattle.iox2_store.specs.declared.backpressure.BackpressureAction.{BackpressureAction}
-use Rattle.iox2_store.specs.declared.backpressure.BackpressureInfo.{BackpressureInfo}
-use Rattle.iox2_store.specs.declared.errors.SendError.TheVariants.{ConnectionBrokenSinceSenderNoLongerExists, ConnectionError}
+use Rattle.iox2_machine.specs.machine.Numbers.{put_at, without, last_n}
+use Rattle.iox2_machine.specs.machine.Mailbox.{Mailbox, has_room, with_appended}
+use Rattle.iox2_machine.specs.machine.Records.{Loan, Publisher, Handler, Fixed, Custom, Environment}
+use Rattle.iox2_machine.specs.machine.State.{State, channel_buffer, with_loan}
+use Rattle.iox2_machine.specs.machine.Delivery.{PutResult, Accepted, Skipped, Failed, Would_block, by_action, by_strategy, accepted_count, is_failed, is_blocking, DeliveryEnd, Complete, Decides, Put, Deliver, no_time}
+use Rattle.iox2_machine.specs.machine.Loans.{loan_discarded, entry_of}
+use Rattle.iox2_machine.specs.machine.Sends.{SendResult, Delivered_to, Send_error, published, send_ended, ConcludeSend, with_mailboxes, DeliverAndConclude, Publish, Send}
+use Rattle.iox2_machine.specs.declared.service_config.ServiceConfig.{ServiceConfig}
+use Rattle.iox2_machine.specs.declared.backpressure.BackpressureStrategy.{BackpressureStrategy}
+use Rattle.iox2_machine.specs.declared.backpressure.BackpressureAction.{BackpressureAction}
+use Rattle.iox2_machine.specs.declared.backpressure.BackpressureInfo.{BackpressureInfo}
+use Rattle.iox2_machine.specs.declared.errors.SendError.TheVariants.{ConnectionBrokenSinceSenderNoLongerExists, ConnectionError}
 use Rattle.iox2_laws.specs.Laws.{Advances}
 use Rattle.iox2_laws.proofs.Cases.{by_option, by_bool, by_options}
 use Rattle.iox2_laws.proofs.Puts.{put_at-same}
 use Rattle.iox2_laws.proofs.PublisherUpdates.{update_publisher_changes, update_publisher_advances}
-use Rattle.iox2_store.specs.machine.Environments.{ample_memory}
+use Rattle.iox2_machine.specs.machine.Environments.{ample_memory}
 use Rattle.iox2_commands.specs.Isolation.{is_skipped, is_discarding, never_waits, IsIndependentPublisher}
 use Rattle.iox2_commands.specs.Step.{after_send}
 use Rattle.iox2_commands.proofs.AlikeViews.{View, view_of, row_put, own_buffer, own_buffer_seen}

@@ -4,24 +4,24 @@ use Rattle.std.specs.Prelude.{slice_get, map}
 use Rattle.std.specs.Option.{MatchOption, option_and_then, option_map}
 use Rattle.std.proofs.lemmas.Bool.{eqb-true, eq-eqb, true≢false}
 use Rattle.std.proofs.lemmas.Option.{none-some, same_Some}
-use Rattle.iox2_store.specs.machine.Limits.{buffer_limit}
-use Rattle.iox2_store.specs.machine.Numbers.{put_at}
-use Rattle.iox2_store.specs.machine.Mailbox.{is_borrowed}
-use Rattle.iox2_store.specs.machine.Records.{Loan, Publisher, Subscriber, BlockedSend, PublisherSettings, SubscriberSettings, Fixed}
-use Rattle.iox2_store.specs.machine.State.{State, Messages, with_loan}
-use Rattle.iox2_store.specs.machine.SubscriberUpdate.{UpdateSubscriber}
-use Rattle.iox2_store.specs.machine.Loans.{GrantLoan, written, with_cell, is_initialized, initialized, entry_of}
-use Rattle.iox2_store.specs.machine.Sends.{Send, SendResult}
-use Rattle.iox2_store.specs.machine.Releases.{released}
-use Rattle.iox2_store.specs.machine.Ports.{CreatePublisher, CreateSubscriber, subscriber_closed}
-use Rattle.iox2_store.specs.declared.service_config.ServiceConfig.{ServiceConfig}
-use Rattle.iox2_store.specs.declared.errors.ConnectionFailure.{ConnectionFailure}
-use Rattle.iox2_store.specs.declared.errors.LoanError.{LoanError}
-use Rattle.iox2_store.specs.declared.errors.SendError.TheVariants.{LoanError as NotLoaned}
-use Rattle.iox2_store.specs.declared.errors.PublisherCreateError.{PublisherCreateError}
-use Rattle.iox2_store.specs.declared.errors.SubscriberCreateError.{SubscriberCreateError}
+use Rattle.iox2_machine.specs.machine.Limits.{buffer_limit}
+use Rattle.iox2_machine.specs.machine.Numbers.{put_at}
+use Rattle.iox2_machine.specs.machine.Mailbox.{is_borrowed}
+use Rattle.iox2_machine.specs.machine.Records.{Loan, Publisher, Subscriber, BlockedSend, PublisherSettings, SubscriberSettings, Fixed}
+use Rattle.iox2_machine.specs.machine.State.{State, Messages, with_loan}
+use Rattle.iox2_machine.specs.machine.SubscriberUpdate.{UpdateSubscriber}
+use Rattle.iox2_machine.specs.machine.Loans.{GrantLoan, written, with_cell, is_initialized, initialized, entry_of}
+use Rattle.iox2_machine.specs.machine.Sends.{Send, SendResult}
+use Rattle.iox2_machine.specs.machine.Releases.{released}
+use Rattle.iox2_machine.specs.machine.Ports.{CreatePublisher, CreateSubscriber, subscriber_closed}
+use Rattle.iox2_machine.specs.declared.service_config.ServiceConfig.{ServiceConfig}
+use Rattle.iox2_machine.specs.declared.errors.ConnectionFailure.{ConnectionFailure}
+use Rattle.iox2_machine.specs.declared.errors.LoanError.{LoanError}
+use Rattle.iox2_machine.specs.declared.errors.SendError.TheVariants.{LoanError as NotLoaned}
+use Rattle.iox2_machine.specs.declared.errors.PublisherCreateError.{PublisherCreateError}
+use Rattle.iox2_machine.specs.declared.errors.SubscriberCreateError.{SubscriberCreateError}
 use Rattle.iox2_laws.proofs.Cases.{by_option, by_options}
-use Rattle.iox2_store.specs.machine.Environments.{ample_memory}
+use Rattle.iox2_machine.specs.machine.Environments.{ample_memory}
 use Rattle.iox2_commands.specs.Views.{seen_handle}
 use Rattle.iox2_commands.specs.Isolation.{IsIndependent, IsIndependentPublisher, HasBorrowedNothing, ClosesUnborrowed, reads_at}
 use Rattle.iox2_commands.specs.Outcomes.{Handle, Publisher_handle, Subscriber_handle, Loan_handle, Sample_handle, Outcome, replied, done, skipped}
@@ -39,7 +39,7 @@ use Rattle.iox2_commands.proofs.AlikePorts.{create_publisher_alike, create_subsc
 use Rattle.iox2_commands.proofs.AlikeNamed.{names_subscriber, names_sample, named-subscriber, named-sample, same_sample, subscriber_handle_at, subscriber_apart, own_at, own_sample_at, no_sample_at, looked_up, subscriber_id_same, names_subscriber_same, names_sample_same, unblocked_at_same, loan_at_same, unwritten_at_same, written_at_same, sendable_at_same, single_same, fixed_size_same, dynamic_same}
 use Rattle.iox2_commands.proofs.AlikeCloses.{subscriber_closed_alike}
 use Rattle.iox2_commands.proofs.AlikeIndependent.{StaysOpen, grant_written_loan_open}
-use Rattle.iox2_store.specs.machine.Receives.{Receive as Receives}
+use Rattle.iox2_machine.specs.machine.Receives.{Receive as Receives}
 use Rattle.iox2_commands.proofs.ApartCalls.{read_quiet, read_header_quiet, read_user_header_quiet, receive_of_other, question_of_other, update_of_other, release_of_other}
 
 -- a subscriber that is named under its own id

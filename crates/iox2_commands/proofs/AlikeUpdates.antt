@@ -1,19 +1,19 @@
 -- Updates from two states that look alike to a subscriber end in states that do.
 use Rattle.std.proofs.Common.{◌≡◌, ℕ, ◌+◌, Bool, true, false, cond, List, [], ◌∷◌, refl, sym, ap, subst, ◌∙◌, Option, None, Some, eqb, ⊎_elim}
 use Rattle.std.proofs.lemmas.Bool.{eqb-true}
-use Rattle.iox2_store.specs.machine.Numbers.{put_at, last_n}
-use Rattle.iox2_store.specs.machine.Places.{occupant, set_place}
-use Rattle.iox2_store.specs.machine.Channel.{is_closed}
-use Rattle.iox2_store.specs.machine.Mailbox.{Mailbox, waiting_dropped, with_waiting}
-use Rattle.iox2_store.specs.machine.Records.{Publisher, Handler}
-use Rattle.iox2_store.specs.machine.State.{State, receiving_buffer, has_receiver_end, no_warnings, sender_channels_reset}
-use Rattle.iox2_store.specs.machine.Connections.{ForEachPlace, first_failure, expired_buffer_full}
-use Rattle.iox2_store.specs.machine.PublisherUpdate.{SenderSide, SenderAction, Keep_end, Drop_waiting, Disconnect, Connect, sender_action, dropped, disconnected, connected, Performs, UpdateSenderPlace, UpdatePublisher, sender_side, with_sender_side, history_for}
-use Rattle.iox2_store.specs.machine.SubscriberUpdate.{ReceiverSide, Retirement, Keep_expired, Evict, Discard_data, Refuse, retirement_of, after_retirement, is_refused, with_end, ConnectReceiver, Retire, ConnectAtPlace, DisconnectAtPlace, UpdateReceiverSide}
-use Rattle.iox2_store.specs.declared.degradation.DegradationAction.{DegradationAction}
-use Rattle.iox2_store.specs.declared.errors.ConnectionFailure.{ConnectionFailure}
+use Rattle.iox2_machine.specs.machine.Numbers.{put_at, last_n}
+use Rattle.iox2_machine.specs.machine.Places.{occupant, set_place}
+use Rattle.iox2_machine.specs.machine.Channel.{is_closed}
+use Rattle.iox2_machine.specs.machine.Mailbox.{Mailbox, waiting_dropped, with_waiting}
+use Rattle.iox2_machine.specs.machine.Records.{Publisher, Handler}
+use Rattle.iox2_machine.specs.machine.State.{State, receiving_buffer, has_receiver_end, no_warnings, sender_channels_reset}
+use Rattle.iox2_machine.specs.machine.Connections.{ForEachPlace, first_failure, expired_buffer_full}
+use Rattle.iox2_machine.specs.machine.PublisherUpdate.{SenderSide, SenderAction, Keep_end, Drop_waiting, Disconnect, Connect, sender_action, dropped, disconnected, connected, Performs, UpdateSenderPlace, UpdatePublisher, sender_side, with_sender_side, history_for}
+use Rattle.iox2_machine.specs.machine.SubscriberUpdate.{ReceiverSide, Retirement, Keep_expired, Evict, Discard_data, Refuse, retirement_of, after_retirement, is_refused, with_end, ConnectReceiver, Retire, ConnectAtPlace, DisconnectAtPlace, UpdateReceiverSide}
+use Rattle.iox2_machine.specs.declared.degradation.DegradationAction.{DegradationAction}
+use Rattle.iox2_machine.specs.declared.errors.ConnectionFailure.{ConnectionFailure}
 use Rattle.iox2_laws.proofs.Cases.{by_options, by_bools}
-use Rattle.iox2_store.specs.machine.Environments.{ample_memory}
+use Rattle.iox2_machine.specs.machine.Environments.{ample_memory}
 use Rattle.iox2_commands.proofs.AlikeViews.{View, view_of, row_put, same_buffers, sender_reset_view, sender_reset_seen}
 
 -- two walks over the same places, each step of which keeps what is alike, keep it

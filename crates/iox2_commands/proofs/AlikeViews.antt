@@ -2,13 +2,13 @@
 use Rattle.std.proofs.Common.{◌≡◌, ℕ, Bool, true, false, cond, ◌||◌, List, refl, sym, ap, ◌∙◌, Option, None, Some, eqb}
 use Rattle.std.proofs.Math.Path.{fun_ext}
 use Rattle.std.specs.Option.{option_and_then, option_map_or}
-use Rattle.iox2_store.specs.machine.Numbers.{put_at, contains}
-use Rattle.iox2_store.specs.machine.Places.{occupants}
-use Rattle.iox2_store.specs.machine.Channel.{Channel, new_channels, is_closed}
-use Rattle.iox2_store.specs.machine.Mailbox.{Mailbox}
-use Rattle.iox2_store.specs.machine.Records.{Loan, Publisher, Subscriber}
-use Rattle.iox2_store.specs.machine.State.{State, receiving_buffer, channel_buffer, connected_publishers, channels_if_linked, sender_channels_reset, receiver_channels_reset}
-use Rattle.iox2_store.specs.declared.service_config.ServiceConfig.{ServiceConfig}
+use Rattle.iox2_machine.specs.machine.Numbers.{put_at, contains}
+use Rattle.iox2_machine.specs.machine.Places.{occupants}
+use Rattle.iox2_machine.specs.machine.Channel.{Channel, new_channels, is_closed}
+use Rattle.iox2_machine.specs.machine.Mailbox.{Mailbox}
+use Rattle.iox2_machine.specs.machine.Records.{Loan, Publisher, Subscriber}
+use Rattle.iox2_machine.specs.machine.State.{State, receiving_buffer, channel_buffer, connected_publishers, channels_if_linked, sender_channels_reset, receiver_channels_reset}
+use Rattle.iox2_machine.specs.declared.service_config.ServiceConfig.{ServiceConfig}
 use Rattle.std.proofs.lemmas.Bool.{eqb-true}
 use Rattle.iox2_laws.proofs.Puts.{put_at-same, put_at-other, at_each}
 use Rattle.iox2_commands.specs.Views.{PublicPart, public_part}

@@ -4,12 +4,12 @@ use Rattle.std.specs.Prelude.{slice_get}
 use Rattle.std.specs.Option.{MatchOption}
 use Rattle.std.proofs.lemmas.Bool.{eqb-false, ne_eqb}
 use Rattle.std.proofs.lemmas.Option.{none-some, same_Some}
-use Rattle.iox2_store.specs.machine.Records.{Subscriber}
-use Rattle.iox2_store.specs.machine.State.{State, Messages}
-use Rattle.iox2_store.specs.machine.Receives.{ReceiveResult, Got_sample, No_sample, Receive_error}
-use Rattle.iox2_store.specs.declared.errors.ConnectionFailure.{ConnectionFailure}
+use Rattle.iox2_machine.specs.machine.Records.{Subscriber}
+use Rattle.iox2_machine.specs.machine.State.{State, Messages}
+use Rattle.iox2_machine.specs.machine.Receives.{ReceiveResult, Got_sample, No_sample, Receive_error}
+use Rattle.iox2_machine.specs.declared.errors.ConnectionFailure.{ConnectionFailure}
 use Rattle.iox2_laws.proofs.Cases.{by_option}
-use Rattle.iox2_store.specs.machine.Environments.{ample_memory}
+use Rattle.iox2_machine.specs.machine.Environments.{ample_memory}
 use Rattle.iox2_commands.specs.Isolation.{is_of_others, subscriber_call}
 use Rattle.iox2_commands.specs.Outcomes.{Handle, No_handle, Sample_handle, Outcome, done, skipped}
 use Rattle.iox2_commands.specs.Step.{Step, after_receive, after_update, after_question, unblocked_at, subscriber_at, sample_at, loan_at, with_cell_at, if_single_units}
@@ -19,7 +19,7 @@ use Rattle.iox2_commands.proofs.Named.{in_single_units}
 use Rattle.iox2_commands.proofs.AlikeViews.{view_of}
 use Rattle.iox2_commands.proofs.AlikeReceives.{IsAlike, alike_equal}
 use Rattle.iox2_commands.proofs.AlikeNamed.{names_subscriber, names_sample, others_no_subscriber, others_no_sample, no_publisher_at, subscriber_apart, sample_apart}
-use Rattle.iox2_store.specs.machine.SubscriberUpdate.{UpdateSubscriber}
+use Rattle.iox2_machine.specs.machine.SubscriberUpdate.{UpdateSubscriber}
 use Rattle.iox2_commands.proofs.ApartSteps.{AllOpen, update_apart, receive_apart, released_apart}
 
 module _ {T U : Type 0} (q : ℕ) where

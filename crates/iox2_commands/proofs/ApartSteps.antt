@@ -4,13 +4,13 @@ use Rattle.std.specs.Prelude.{◌≢◌}
 use Rattle.std.specs.List.{list_all}
 use Rattle.std.proofs.lemmas.Bool.{eq-eqb, true≢false}
 use Rattle.std.specs.Option.{option_map, option_map_or}
-use Rattle.iox2_store.specs.machine.Mailbox.{Mailbox, has_borrows}
-use Rattle.iox2_store.specs.machine.Records.{Subscriber, Environment}
-use Rattle.iox2_store.specs.machine.State.{State, with_mailbox, connected_publishers, subscriber_changed, receiver_channels_reset}
-use Rattle.iox2_store.specs.machine.SubscriberUpdate.{ReceiverSide, UpdateSubscriber, with_receiver_side}
-use Rattle.iox2_store.specs.machine.Receives.{Receive, TakeSample, ReceiveResult, Got_sample, No_sample, Receive_error}
-use Rattle.iox2_store.specs.machine.Releases.{released, is_unused, pruned, unborrowed, subscriber_pruned, place_freed}
-use Rattle.iox2_store.specs.declared.errors.ConnectionFailure.{ConnectionFailure}
+use Rattle.iox2_machine.specs.machine.Mailbox.{Mailbox, has_borrows}
+use Rattle.iox2_machine.specs.machine.Records.{Subscriber, Environment}
+use Rattle.iox2_machine.specs.machine.State.{State, with_mailbox, connected_publishers, subscriber_changed, receiver_channels_reset}
+use Rattle.iox2_machine.specs.machine.SubscriberUpdate.{ReceiverSide, UpdateSubscriber, with_receiver_side}
+use Rattle.iox2_machine.specs.machine.Receives.{Receive, TakeSample, ReceiveResult, Got_sample, No_sample, Receive_error}
+use Rattle.iox2_machine.specs.machine.Releases.{released, is_unused, pruned, unborrowed, subscriber_pruned, place_freed}
+use Rattle.iox2_machine.specs.declared.errors.ConnectionFailure.{ConnectionFailure}
 use Rattle.iox2_laws.proofs.Cases.{by_option, by_bool}
 use Rattle.iox2_laws.proofs.Puts.{put_at-other, at_each, found_mapped}
 use Rattle.iox2_commands.specs.Views.{public_part}

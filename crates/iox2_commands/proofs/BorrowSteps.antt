@@ -4,16 +4,16 @@ use Rattle.std.specs.Prelude.{MatchOption, slice_get}
 use Rattle.std.specs.declared.time.Duration.{Duration}
 use Rattle.std.proofs.lemmas.Bool.{true≢false, cases_eq}
 use Rattle.std.proofs.lemmas.Option.{none-some, same_Some}
-use Rattle.iox2_store.specs.machine.Mailbox.{is_borrowed}
-use Rattle.iox2_store.specs.machine.Records.{Loan, Environment}
-use Rattle.iox2_store.specs.machine.State.{State, Messages, channel_buffer}
-use Rattle.iox2_store.specs.machine.Delivery.{DeliveryEnd, Complete, Suspended}
-use Rattle.iox2_store.specs.machine.Loans.{is_initialized, initialized}
-use Rattle.iox2_store.specs.machine.Sends.{Send, Publish, DeliverAndConclude, ConcludeSend, SendResult, with_mailboxes, published}
-use Rattle.iox2_store.specs.machine.Receives.{Receive as Receives, ReceiveResult, Got_sample, No_sample, Receive_error}
-use Rattle.iox2_store.specs.machine.Releases.{released}
-use Rattle.iox2_store.specs.machine.SingleCalls.{GrantWrittenLoan}
-use Rattle.iox2_store.specs.declared.errors.LoanError.{LoanError}
+use Rattle.iox2_machine.specs.machine.Mailbox.{is_borrowed}
+use Rattle.iox2_machine.specs.machine.Records.{Loan, Environment}
+use Rattle.iox2_machine.specs.machine.State.{State, Messages, channel_buffer}
+use Rattle.iox2_machine.specs.machine.Delivery.{DeliveryEnd, Complete, Suspended}
+use Rattle.iox2_machine.specs.machine.Loans.{is_initialized, initialized}
+use Rattle.iox2_machine.specs.machine.Sends.{Send, Publish, DeliverAndConclude, ConcludeSend, SendResult, with_mailboxes, published}
+use Rattle.iox2_machine.specs.machine.Receives.{Receive as Receives, ReceiveResult, Got_sample, No_sample, Receive_error}
+use Rattle.iox2_machine.specs.machine.Releases.{released}
+use Rattle.iox2_machine.specs.machine.SingleCalls.{GrantWrittenLoan}
+use Rattle.iox2_machine.specs.declared.errors.LoanError.{LoanError}
 use Rattle.iox2_laws.proofs.Cases.{by_option}
 use Rattle.iox2_laws.proofs.MailboxLemmas.{borrowed-appended}
 use Rattle.iox2_laws.proofs.MailboxWalks.{deliver_keeps}

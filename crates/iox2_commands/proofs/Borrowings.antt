@@ -4,11 +4,11 @@ use Rattle.std.specs.Prelude.{slice_get}
 use Rattle.std.proofs.lemmas.Bool.{true≢false, false_from_ne_true, cases_eq}
 use Rattle.std.proofs.lemmas.List.{length-append}
 use Rattle.std.proofs.lemmas.Option.{none-some, same_Some}
-use Rattle.iox2_store.specs.machine.Numbers.{is_nil, contains}
-use Rattle.iox2_store.specs.machine.Mailbox.{Mailbox, is_borrowed, has_borrows}
-use Rattle.iox2_store.specs.machine.State.{State, Messages, fresh}
-use Rattle.iox2_store.specs.machine.Environments.{ample_memory}
-use Rattle.iox2_store.specs.declared.service_config.ServiceConfig.{ServiceConfig}
+use Rattle.iox2_machine.specs.machine.Numbers.{is_nil, contains}
+use Rattle.iox2_machine.specs.machine.Mailbox.{Mailbox, is_borrowed, has_borrows}
+use Rattle.iox2_machine.specs.machine.State.{State, Messages, fresh}
+use Rattle.iox2_machine.specs.machine.Environments.{ample_memory}
+use Rattle.iox2_machine.specs.declared.service_config.ServiceConfig.{ServiceConfig}
 use Rattle.iox2_laws.proofs.NumberLemmas.{contains_first}
 use Rattle.iox2_commands.specs.Isolation.{HasBorrowedNothing, HasReleased}
 use Rattle.iox2_commands.specs.Outcomes.{Handle, Subscriber_handle, Sample_handle, Outcome}

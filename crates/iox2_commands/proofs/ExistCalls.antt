@@ -8,39 +8,39 @@ use Rattle.std.proofs.lemmas.Bool.{true≢false, eqb-false, eqb-true, or_from, a
 use Rattle.std.proofs.lemmas.Nat.{mul-le}
 use Rattle.std.proofs.lemmas.Option.{none-some}
 use Rattle.std.proofs.lemmas.List.Folds.{list_any-append}
-use Rattle.iox2_store.specs.machine.Limits.{last_number, segment_fits, buffer_limit}
-use Rattle.iox2_store.specs.machine.Numbers.{put_at, contains, size, without, last_n}
-use Rattle.iox2_store.specs.machine.Places.{occupants, free_place}
-use Rattle.iox2_store.specs.machine.Mailbox.{Mailbox, can_receive, has_data, BorrowsFirst}
-use Rattle.iox2_store.specs.machine.Records.{Loan, Publisher, Subscriber, PublisherSettings, SubscriberSettings}
-use Rattle.iox2_store.specs.machine.State.{State, held, channel_buffer, connected_publishers, with_mailbox, with_loan, publisher_changed, receiver_channels_reset}
-use Rattle.iox2_store.specs.machine.Delivery.{DeliveryEnd, Complete, Suspended, no_time, DeliverIn}
-use Rattle.iox2_store.specs.machine.PublisherUpdate.{UpdatePublisher}
-use Rattle.iox2_store.specs.machine.SubscriberUpdate.{UpdateSubscriber}
-use Rattle.iox2_store.specs.machine.Loans.{GrantLoan, StaticLoan, DynamicLoan, IsGuaranteed, NoSegmentFits, known_length, loan_granted, limit_error, is_static, loan_discarded, written}
-use Rattle.iox2_store.specs.machine.SingleCalls.{GrantWrittenLoan}
-use Rattle.iox2_store.specs.machine.Sends.{Send, Publish, DeliverAndConclude, ConcludeSend, SendResult, Delivered_to, Blocked_send, Send_error, with_mailboxes, published, send_ended, send_blocked}
-use Rattle.iox2_store.specs.machine.Receives.{Receive, HasSamples, TakeSample, ReceiveResult, Got_sample, No_sample, Receive_error, has_any_data, can_receive_of}
-use Rattle.iox2_store.specs.machine.Releases.{released, freed_if_unused, subscriber_pruned, is_unused, place_freed, unborrowed}
-use Rattle.iox2_store.specs.machine.Ports.{CreatePublisher, CreateSubscriber, with_new_publisher, with_new_subscriber, new_publisher, new_subscriber, with_failure_warning, first_segment_fits, buffer_for, publisher_closed, subscriber_closed, subscriber_shut}
-use Rattle.iox2_store.specs.declared.service_config.ServiceConfig.{ServiceConfig}
-use Rattle.iox2_store.specs.declared.allocation.AllocationStrategy.{AllocationStrategy}
-use Rattle.iox2_store.specs.declared.allocation.AllocationStrategy.TheVariants.{Static, BestFit, PowerOfTwo}
-use Rattle.iox2_store.specs.declared.warning.Warning.{Warning}
-use Rattle.iox2_store.specs.declared.warning.Warning.TheVariants.{PublisherPartlyConnected, SubscriberPartlyConnected}
-use Rattle.iox2_store.specs.declared.errors.ConnectionFailure.{ConnectionFailure}
-use Rattle.iox2_store.specs.declared.errors.LoanError.{LoanError}
-use Rattle.iox2_store.specs.declared.errors.LoanError.TheVariants.{OutOfMemory, InternalFailure}
-use Rattle.iox2_store.specs.declared.errors.ReceiveError.TheVariants.{ExceedsMaxBorrows, ConnectionFailure as CouldNotConnect}
-use Rattle.iox2_store.specs.declared.errors.SendError.TheVariants.{ConnectionBrokenSinceSenderNoLongerExists, ConnectionError, UnableToDeliver}
-use Rattle.iox2_store.specs.declared.errors.PublisherCreateError.{PublisherCreateError}
-use Rattle.iox2_store.specs.declared.errors.PublisherCreateError.TheVariants.{UnableToCreatePortTag as NoPublisherTag, ExceedsMaxSupportedPublishers, UnableToCreateDataSegment}
-use Rattle.iox2_store.specs.declared.errors.SubscriberCreateError.{SubscriberCreateError}
-use Rattle.iox2_store.specs.declared.errors.SubscriberCreateError.TheVariants.{UnableToCreatePortTag as NoSubscriberTag, BufferSizeExceedsMaxSupportedBufferSizeOfService, ExceedsMaxSupportedSubscribers}
+use Rattle.iox2_machine.specs.machine.Limits.{last_number, segment_fits, buffer_limit}
+use Rattle.iox2_machine.specs.machine.Numbers.{put_at, contains, size, without, last_n}
+use Rattle.iox2_machine.specs.machine.Places.{occupants, free_place}
+use Rattle.iox2_machine.specs.machine.Mailbox.{Mailbox, can_receive, has_data, BorrowsFirst}
+use Rattle.iox2_machine.specs.machine.Records.{Loan, Publisher, Subscriber, PublisherSettings, SubscriberSettings}
+use Rattle.iox2_machine.specs.machine.State.{State, held, channel_buffer, connected_publishers, with_mailbox, with_loan, publisher_changed, receiver_channels_reset}
+use Rattle.iox2_machine.specs.machine.Delivery.{DeliveryEnd, Complete, Suspended, no_time, DeliverIn}
+use Rattle.iox2_machine.specs.machine.PublisherUpdate.{UpdatePublisher}
+use Rattle.iox2_machine.specs.machine.SubscriberUpdate.{UpdateSubscriber}
+use Rattle.iox2_machine.specs.machine.Loans.{GrantLoan, StaticLoan, DynamicLoan, IsGuaranteed, NoSegmentFits, known_length, loan_granted, limit_error, is_static, loan_discarded, written}
+use Rattle.iox2_machine.specs.machine.SingleCalls.{GrantWrittenLoan}
+use Rattle.iox2_machine.specs.machine.Sends.{Send, Publish, DeliverAndConclude, ConcludeSend, SendResult, Delivered_to, Blocked_send, Send_error, with_mailboxes, published, send_ended, send_blocked}
+use Rattle.iox2_machine.specs.machine.Receives.{Receive, HasSamples, TakeSample, ReceiveResult, Got_sample, No_sample, Receive_error, has_any_data, can_receive_of}
+use Rattle.iox2_machine.specs.machine.Releases.{released, freed_if_unused, subscriber_pruned, is_unused, place_freed, unborrowed}
+use Rattle.iox2_machine.specs.machine.Ports.{CreatePublisher, CreateSubscriber, with_new_publisher, with_new_subscriber, new_publisher, new_subscriber, with_failure_warning, first_segment_fits, buffer_for, publisher_closed, subscriber_closed, subscriber_shut}
+use Rattle.iox2_machine.specs.declared.service_config.ServiceConfig.{ServiceConfig}
+use Rattle.iox2_machine.specs.declared.allocation.AllocationStrategy.{AllocationStrategy}
+use Rattle.iox2_machine.specs.declared.allocation.AllocationStrategy.TheVariants.{Static, BestFit, PowerOfTwo}
+use Rattle.iox2_machine.specs.declared.warning.Warning.{Warning}
+use Rattle.iox2_machine.specs.declared.warning.Warning.TheVariants.{PublisherPartlyConnected, SubscriberPartlyConnected}
+use Rattle.iox2_machine.specs.declared.errors.ConnectionFailure.{ConnectionFailure}
+use Rattle.iox2_machine.specs.declared.errors.LoanError.{LoanError}
+use Rattle.iox2_machine.specs.declared.errors.LoanError.TheVariants.{OutOfMemory, InternalFailure}
+use Rattle.iox2_machine.specs.declared.errors.ReceiveError.TheVariants.{ExceedsMaxBorrows, ConnectionFailure as CouldNotConnect}
+use Rattle.iox2_machine.specs.declared.errors.SendError.TheVariants.{ConnectionBrokenSinceSenderNoLongerExists, ConnectionError, UnableToDeliver}
+use Rattle.iox2_machine.specs.declared.errors.PublisherCreateError.{PublisherCreateError}
+use Rattle.iox2_machine.specs.declared.errors.PublisherCreateError.TheVariants.{UnableToCreatePortTag as NoPublisherTag, ExceedsMaxSupportedPublishers, UnableToCreateDataSegment}
+use Rattle.iox2_machine.specs.declared.errors.SubscriberCreateError.{SubscriberCreateError}
+use Rattle.iox2_machine.specs.declared.errors.SubscriberCreateError.TheVariants.{UnableToCreatePortTag as NoSubscriberTag, BufferSizeExceedsMaxSupportedBufferSizeOfService, ExceedsMaxSupportedSubscribers}
 use Rattle.iox2_laws.proofs.Cases.{by_option, by_bool, match_some}
 use Rattle.iox2_laws.proofs.Puts.{at_each, found_put, found_removed, found_mapped, put_at-same}
 use Rattle.iox2_laws.proofs.PublisherUpdates.{update_publisher_changes}
-use Rattle.iox2_store.specs.machine.Environments.{ample_memory}
+use Rattle.iox2_machine.specs.machine.Environments.{ample_memory}
 use Rattle.iox2_commands.proofs.ExistUpdates.{ComesWith, anything, comes_option, comes_bool, is_fixed, AllFixed, deliver_comes, update_publisher_comes, update_subscriber_comes}
 use Rattle.iox2_laws.proofs.WaitingReceives.{passes_at}
 

@@ -4,24 +4,24 @@ use Rattle.std.specs.Prelude.{MatchOption, slice_get, nat_lt}
 use Rattle.std.specs.Option.{option_map}
 use Rattle.std.proofs.lemmas.Bool.{true≢false, ltb-true}
 use Rattle.std.proofs.lemmas.Option.{none-some, same_Some, slice_get_cases}
-use Rattle.iox2_store.specs.machine.Mailbox.{is_borrowed, numbers_in, Mailbox, other_numbers}
-use Rattle.iox2_store.specs.machine.Numbers.{contains}
-use Rattle.iox2_store.specs.machine.Records.{Entry, Loan, Publisher, Handler, Fixed}
-use Rattle.iox2_store.specs.machine.State.{State, Messages, fresh, no_messages, with_loan}
-use Rattle.iox2_store.specs.machine.Loans.{GrantLoan, is_initialized, initialized, entry_of, written, with_cell, loan_discarded}
-use Rattle.iox2_store.specs.machine.SingleCalls.{GrantWrittenLoan}
-use Rattle.iox2_store.specs.machine.Sends.{Send, SendResult}
-use Rattle.iox2_store.specs.machine.Receives.{HasSamples as Asks}
-use Rattle.iox2_store.specs.declared.service_config.ServiceConfig.{ServiceConfig}
-use Rattle.iox2_store.specs.declared.backpressure.BackpressureAction.{BackpressureAction}
-use Rattle.iox2_store.specs.declared.errors.ConnectionFailure.{ConnectionFailure}
-use Rattle.iox2_store.specs.declared.errors.LoanError.{LoanError}
-use Rattle.iox2_store.specs.declared.errors.SendError.TheVariants.{LoanError as NotLoaned}
+use Rattle.iox2_machine.specs.machine.Mailbox.{is_borrowed, numbers_in, Mailbox, other_numbers}
+use Rattle.iox2_machine.specs.machine.Numbers.{contains}
+use Rattle.iox2_machine.specs.machine.Records.{Entry, Loan, Publisher, Handler, Fixed}
+use Rattle.iox2_machine.specs.machine.State.{State, Messages, fresh, no_messages, with_loan}
+use Rattle.iox2_machine.specs.machine.Loans.{GrantLoan, is_initialized, initialized, entry_of, written, with_cell, loan_discarded}
+use Rattle.iox2_machine.specs.machine.SingleCalls.{GrantWrittenLoan}
+use Rattle.iox2_machine.specs.machine.Sends.{Send, SendResult}
+use Rattle.iox2_machine.specs.machine.Receives.{HasSamples as Asks}
+use Rattle.iox2_machine.specs.declared.service_config.ServiceConfig.{ServiceConfig}
+use Rattle.iox2_machine.specs.declared.backpressure.BackpressureAction.{BackpressureAction}
+use Rattle.iox2_machine.specs.declared.errors.ConnectionFailure.{ConnectionFailure}
+use Rattle.iox2_machine.specs.declared.errors.LoanError.{LoanError}
+use Rattle.iox2_machine.specs.declared.errors.SendError.TheVariants.{LoanError as NotLoaned}
 use Rattle.iox2_laws.proofs.Enough.{fresh_is_well_formed}
 use Rattle.iox2_laws.proofs.NumberLemmas.{contains_right}
 use Rattle.iox2_commands.specs.Outcomes.{Handle, Sample_handle, Event, Outcome, replied, done, skipped, messages_after}
 use Rattle.iox2_commands.specs.Step.{Step, after_publisher, after_subscriber, after_loan, after_send, after_retry, after_receive, after_update, after_question, unblocked_at, subscriber_at, loan_at, unwritten_at, written_at, with_cell_at, sendable_at, blocked_at, sample_at, if_single_units, if_fixed_size, if_dynamic}
-use Rattle.iox2_store.specs.machine.Environments.{ample_memory}
+use Rattle.iox2_machine.specs.machine.Environments.{ample_memory}
 use Rattle.iox2_commands.specs.Runs.{RunFrom, only_defaults}
 use Rattle.iox2_commands.specs.Existence.{EveryListRuns}
 use Rattle.iox2_commands.specs.declared.command.Command.{Command}

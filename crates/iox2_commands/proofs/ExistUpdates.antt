@@ -4,22 +4,22 @@ use Rattle.std.specs.Prelude.{MatchOption, ◌||◌}
 use Rattle.std.specs.Bool.{MatchBool}
 use Rattle.std.specs.declared.time.Duration.{Duration}
 use Rattle.std.proofs.lemmas.Bool.{true≢false}
-use Rattle.iox2_store.specs.machine.Limits.{expired_limit}
-use Rattle.iox2_store.specs.machine.Numbers.{put_at}
-use Rattle.iox2_store.specs.machine.Places.{occupant}
-use Rattle.iox2_store.specs.machine.Mailbox.{Mailbox, has_room_in, with_appended_in}
-use Rattle.iox2_store.specs.machine.Records.{Publisher, Subscriber, Handler, Fixed, Custom}
-use Rattle.iox2_store.specs.machine.State.{State, receiving_buffer, has_receiver_end, has_sender_end, sender_channels_reset, receiver_channels_reset}
-use Rattle.iox2_store.specs.machine.Connections.{ForEachPlace, first_failure, expired_buffer_full}
-use Rattle.iox2_store.specs.machine.Delivery.{PutResult, Accepted, Skipped, Failed, Would_block, DeliveryEnd, Complete, by_strategy, by_action, Decides, no_time, info_of, PutIn, PutAtEndIn, DeliverIn}
-use Rattle.iox2_store.specs.machine.PublisherUpdate.{SenderSide, SenderAction, Keep_end, Drop_waiting, Disconnect, Connect, sender_action, dropped, disconnected, connected, Performs, UpdateSenderPlace, sender_side, with_sender_side, history_for, UpdatePublisher}
-use Rattle.iox2_store.specs.machine.SubscriberUpdate.{ReceiverSide, retirement_of, is_refused, after_retirement, with_end, ConnectReceiver, Retire, ConnectAtPlace, DisconnectAtPlace, UpdateReceiverSide, receiver_side, with_receiver_side, UpdateSubscriber}
-use Rattle.iox2_store.specs.declared.service_config.ServiceConfig.{ServiceConfig}
-use Rattle.iox2_store.specs.declared.backpressure.BackpressureStrategy.{BackpressureStrategy}
-use Rattle.iox2_store.specs.declared.backpressure.BackpressureAction.{BackpressureAction}
-use Rattle.iox2_store.specs.declared.backpressure.BackpressureInfo.{BackpressureInfo}
-use Rattle.iox2_store.specs.declared.errors.ConnectionFailure.{ConnectionFailure}
-use Rattle.iox2_store.specs.machine.Environments.{ample_memory}
+use Rattle.iox2_machine.specs.machine.Limits.{expired_limit}
+use Rattle.iox2_machine.specs.machine.Numbers.{put_at}
+use Rattle.iox2_machine.specs.machine.Places.{occupant}
+use Rattle.iox2_machine.specs.machine.Mailbox.{Mailbox, has_room_in, with_appended_in}
+use Rattle.iox2_machine.specs.machine.Records.{Publisher, Subscriber, Handler, Fixed, Custom}
+use Rattle.iox2_machine.specs.machine.State.{State, receiving_buffer, has_receiver_end, has_sender_end, sender_channels_reset, receiver_channels_reset}
+use Rattle.iox2_machine.specs.machine.Connections.{ForEachPlace, first_failure, expired_buffer_full}
+use Rattle.iox2_machine.specs.machine.Delivery.{PutResult, Accepted, Skipped, Failed, Would_block, DeliveryEnd, Complete, by_strategy, by_action, Decides, no_time, info_of, PutIn, PutAtEndIn, DeliverIn}
+use Rattle.iox2_machine.specs.machine.PublisherUpdate.{SenderSide, SenderAction, Keep_end, Drop_waiting, Disconnect, Connect, sender_action, dropped, disconnected, connected, Performs, UpdateSenderPlace, sender_side, with_sender_side, history_for, UpdatePublisher}
+use Rattle.iox2_machine.specs.machine.SubscriberUpdate.{ReceiverSide, retirement_of, is_refused, after_retirement, with_end, ConnectReceiver, Retire, ConnectAtPlace, DisconnectAtPlace, UpdateReceiverSide, receiver_side, with_receiver_side, UpdateSubscriber}
+use Rattle.iox2_machine.specs.declared.service_config.ServiceConfig.{ServiceConfig}
+use Rattle.iox2_machine.specs.declared.backpressure.BackpressureStrategy.{BackpressureStrategy}
+use Rattle.iox2_machine.specs.declared.backpressure.BackpressureAction.{BackpressureAction}
+use Rattle.iox2_machine.specs.declared.backpressure.BackpressureInfo.{BackpressureInfo}
+use Rattle.iox2_machine.specs.declared.errors.ConnectionFailure.{ConnectionFailure}
+use Rattle.iox2_machine.specs.machine.Environments.{ample_memory}
 use Rattle.iox2_laws.proofs.Cases.{match_some}
 
 -- A result of a relation between two, of which something holds.

@@ -1,8 +1,8 @@
 -- Every run from a well-formed state is faithful.
 use Rattle.std.proofs.Common.{List}
-use Rattle.iox2_store.specs.machine.Records.{Environment}
-use Rattle.iox2_store.specs.machine.State.{State, Messages}
-use Rattle.iox2_store.specs.machine.WellFormed.{IsWellFormed}
+use Rattle.iox2_machine.specs.machine.Records.{Environment}
+use Rattle.iox2_machine.specs.machine.State.{State, Messages}
+use Rattle.iox2_machine.specs.machine.WellFormed.{IsWellFormed}
 use Rattle.iox2_commands.specs.Outcomes.{Event}
 use Rattle.iox2_commands.specs.Runs.{Defaults, Run}
 use Rattle.iox2_commands.specs.RunLaws.{IsFaithful}

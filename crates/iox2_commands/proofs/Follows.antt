@@ -5,26 +5,26 @@ use Rattle.std.specs.Option.{option_map, option_map_or}
 use Rattle.std.specs.declared.time.Duration.{Duration}
 use Rattle.std.proofs.lemmas.Bool.{cond_both, true≢false, ne_eqb}
 use Rattle.std.proofs.lemmas.Option.{none-some, same_Some}
-use Rattle.iox2_store.specs.machine.Numbers.{put_at, contains, without, last_n}
-use Rattle.iox2_store.specs.machine.Places.{occupant, is_port}
-use Rattle.iox2_store.specs.machine.Mailbox.{Mailbox, numbers_in, is_borrowed, waiting_dropped, with_released}
-use Rattle.iox2_store.specs.machine.Records.{Loan, Publisher, Subscriber, Environment, BlockedSend, PublisherSettings, SubscriberSettings}
-use Rattle.iox2_store.specs.machine.State.{State, receiving_buffer, channel_buffer, has_receiver_end, has_sender_end, is_present, with_mailbox, with_loan, publishers_due}
-use Rattle.iox2_store.specs.machine.Delivery.{DeliveryEnd, Complete, Suspended, no_time}
-use Rattle.iox2_store.specs.machine.PublisherUpdate.{sender_side, UpdatePublisher, history_for}
-use Rattle.iox2_store.specs.machine.SubscriberUpdate.{receiver_side, UpdateSubscriber}
-use Rattle.iox2_store.specs.machine.Loans.{GrantLoan, loan_granted, loan_discarded, written}
-use Rattle.iox2_store.specs.machine.Sends.{Retry, GiveUp, Publish, DeliverAndConclude, ConcludeSend, SendResult, with_mailboxes, published, more_retries}
-use Rattle.iox2_store.specs.machine.Receives.{Receive, TakeSample, ReceiveResult, Got_sample, No_sample, Receive_error}
-use Rattle.iox2_store.specs.machine.Releases.{released, unborrowed, subscriber_pruned, freed_if_unused, place_freed, is_unused}
-use Rattle.iox2_store.specs.machine.Ports.{FirstPublisherUpdate, FirstSubscriberUpdate, CreatePublisher, CreateSubscriber, with_new_publisher, with_new_subscriber, with_failure_warning, publisher_closed, subscriber_closed, subscriber_shut, mailbox_after_publisher, mailbox_after_subscriber, new_publisher}
-use Rattle.iox2_store.specs.machine.SingleCalls.{GrantWrittenLoan}
-use Rattle.iox2_store.specs.declared.errors.ConnectionFailure.{ConnectionFailure}
-use Rattle.iox2_store.specs.declared.errors.LoanError.{LoanError}
-use Rattle.iox2_store.specs.declared.errors.PublisherCreateError.{PublisherCreateError}
-use Rattle.iox2_store.specs.declared.errors.SubscriberCreateError.{SubscriberCreateError}
-use Rattle.iox2_store.specs.declared.warning.Warning.{Warning}
-use Rattle.iox2_store.specs.declared.warning.Warning.TheVariants.{PublisherPartlyConnected, SubscriberPartlyConnected}
+use Rattle.iox2_machine.specs.machine.Numbers.{put_at, contains, without, last_n}
+use Rattle.iox2_machine.specs.machine.Places.{occupant, is_port}
+use Rattle.iox2_machine.specs.machine.Mailbox.{Mailbox, numbers_in, is_borrowed, waiting_dropped, with_released}
+use Rattle.iox2_machine.specs.machine.Records.{Loan, Publisher, Subscriber, Environment, BlockedSend, PublisherSettings, SubscriberSettings}
+use Rattle.iox2_machine.specs.machine.State.{State, receiving_buffer, channel_buffer, has_receiver_end, has_sender_end, is_present, with_mailbox, with_loan, publishers_due}
+use Rattle.iox2_machine.specs.machine.Delivery.{DeliveryEnd, Complete, Suspended, no_time}
+use Rattle.iox2_machine.specs.machine.PublisherUpdate.{sender_side, UpdatePublisher, history_for}
+use Rattle.iox2_machine.specs.machine.SubscriberUpdate.{receiver_side, UpdateSubscriber}
+use Rattle.iox2_machine.specs.machine.Loans.{GrantLoan, loan_granted, loan_discarded, written}
+use Rattle.iox2_machine.specs.machine.Sends.{Retry, GiveUp, Publish, DeliverAndConclude, ConcludeSend, SendResult, with_mailboxes, published, more_retries}
+use Rattle.iox2_machine.specs.machine.Receives.{Receive, TakeSample, ReceiveResult, Got_sample, No_sample, Receive_error}
+use Rattle.iox2_machine.specs.machine.Releases.{released, unborrowed, subscriber_pruned, freed_if_unused, place_freed, is_unused}
+use Rattle.iox2_machine.specs.machine.Ports.{FirstPublisherUpdate, FirstSubscriberUpdate, CreatePublisher, CreateSubscriber, with_new_publisher, with_new_subscriber, with_failure_warning, publisher_closed, subscriber_closed, subscriber_shut, mailbox_after_publisher, mailbox_after_subscriber, new_publisher}
+use Rattle.iox2_machine.specs.machine.SingleCalls.{GrantWrittenLoan}
+use Rattle.iox2_machine.specs.declared.errors.ConnectionFailure.{ConnectionFailure}
+use Rattle.iox2_machine.specs.declared.errors.LoanError.{LoanError}
+use Rattle.iox2_machine.specs.declared.errors.PublisherCreateError.{PublisherCreateError}
+use Rattle.iox2_machine.specs.declared.errors.SubscriberCreateError.{SubscriberCreateError}
+use Rattle.iox2_machine.specs.declared.warning.Warning.{Warning}
+use Rattle.iox2_machine.specs.declared.warning.Warning.TheVariants.{PublisherPartlyConnected, SubscriberPartlyConnected}
 use Rattle.iox2_laws.proofs.Cases.{by_option, by_bool}
 use Rattle.iox2_laws.proofs.CallCases.{grant_cases, publisher_cases, subscriber_cases}
 use Rattle.iox2_laws.proofs.Puts.{at_each, found_put, found_removed, found_mapped, put_at-same}

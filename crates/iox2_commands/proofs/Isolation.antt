@@ -6,14 +6,14 @@ use Rattle.std.proofs.Math.Path.{fun_ext}
 use Rattle.std.proofs.lemmas.Bool.{true≢false}
 use Rattle.std.proofs.lemmas.Option.{none-some, same_Some}
 use Rattle.std.proofs.lemmas.List.{append-nil, map-append, length-append, length-map, take-append-drop}
-use Rattle.iox2_store.specs.machine.Records.{Subscriber}
-use Rattle.iox2_store.specs.machine.State.{State, Messages, fresh, no_messages}
-use Rattle.iox2_store.specs.machine.WellFormed.{IsWellFormed}
-use Rattle.iox2_store.specs.declared.service_config.ServiceConfig.{ServiceConfig}
+use Rattle.iox2_machine.specs.machine.Records.{Subscriber}
+use Rattle.iox2_machine.specs.machine.State.{State, Messages, fresh, no_messages}
+use Rattle.iox2_machine.specs.machine.WellFormed.{IsWellFormed}
+use Rattle.iox2_machine.specs.declared.service_config.ServiceConfig.{ServiceConfig}
 use Rattle.iox2_laws.proofs.Enough.{fresh_is_well_formed}
 use Rattle.iox2_commands.specs.Outcomes.{Handle, Subscriber_handle, Sample_handle, Event, No_event, Message_sent, Message_received, Outcome, done, messages_after}
 use Rattle.iox2_commands.specs.Step.{Step}
-use Rattle.iox2_store.specs.machine.Environments.{ample_memory}
+use Rattle.iox2_machine.specs.machine.Environments.{ample_memory}
 use Rattle.iox2_commands.specs.Runs.{RunTo, only_defaults}
 use Rattle.iox2_commands.specs.Views.{PublicPart, public_part, seen_handle, SameView, may_be_omitted, OmitsOthersFrom}
 use Rattle.iox2_commands.specs.Isolation.{IsIndependent, makes_independent_publisher, AreIndependent, is_of_others, subscriber_call, SameViewAfter, ViewsStayAlike, HasReleased, ClosesUnborrowed, CallsLeaveOthersViews, AlikeStatesStayAlike, SubscribersAreIsolated, IsIndependentPublisher, reads_at}

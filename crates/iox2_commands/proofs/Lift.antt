@@ -3,12 +3,12 @@ use Rattle.std.proofs.Common.{◌≡◌, ◌⊎◌, ℕ, ◌≤◌, ◌<◌, tru
 use Rattle.std.specs.Option.{MatchOption}
 use Rattle.std.proofs.lemmas.Bool.{eqb-true, eq-eqb, ne_eqb}
 use Rattle.std.proofs.lemmas.Option.{none-some}
-use Rattle.iox2_store.specs.machine.Records.{Entry, Loan, Environment}
-use Rattle.iox2_store.specs.machine.State.{State, Messages}
+use Rattle.iox2_machine.specs.machine.Records.{Entry, Loan, Environment}
+use Rattle.iox2_machine.specs.machine.State.{State, Messages}
 use Rattle.iox2_laws.proofs.LoanKeeping.{LoansFollow}
 use Rattle.iox2_commands.specs.Outcomes.{Handle, Outcome, Event, No_event, Message_sent, Message_received, messages_after}
 use Rattle.iox2_commands.specs.Step.{Step, sample_at}
-use Rattle.iox2_store.specs.Stored.{Stored, StoredShows}
+use Rattle.iox2_machine.specs.Stored.{Stored, StoredShows}
 use Rattle.iox2_commands.specs.StoredSteps.{StoredStep, IsNewEntry}
 use Rattle.iox2_commands.specs.declared.command.Command.{Command}
 use Rattle.iox2_commands.specs.declared.command.Command.TheVariants.{Read, ReadHeader, ReadUserHeader}

@@ -3,10 +3,10 @@ use Rattle.std.proofs.Common.{◌≡◌, ℕ, Bool, true, false, cond, List, ref
 use Rattle.std.specs.Prelude.{slice_get, ◌==◌}
 use Rattle.std.specs.Option.{option_and_then, option_map, option_map_or}
 use Rattle.std.proofs.lemmas.Option.{none-some, same_Some}
-use Rattle.iox2_store.specs.machine.Records.{Loan, Publisher, Subscriber, BlockedSend}
-use Rattle.iox2_store.specs.machine.State.{State, is_blocked}
-use Rattle.iox2_store.specs.declared.service_config.TypeVariant.{TypeVariant}
-use Rattle.iox2_store.specs.declared.service_config.TypeVariant.TheVariants.{FixedSize, Dynamic}
+use Rattle.iox2_machine.specs.machine.Records.{Loan, Publisher, Subscriber, BlockedSend}
+use Rattle.iox2_machine.specs.machine.State.{State, is_blocked}
+use Rattle.iox2_machine.specs.declared.service_config.TypeVariant.{TypeVariant}
+use Rattle.iox2_machine.specs.declared.service_config.TypeVariant.TheVariants.{FixedSize, Dynamic}
 use Rattle.iox2_commands.specs.Outcomes.{Handle, Publisher_handle, Subscriber_handle, Loan_handle, Blocked_handle}
 use Rattle.iox2_commands.specs.Step.{publisher_at, unblocked_at, subscriber_at, loan_at, unwritten_at, written_at, sendable_at, blocked_at, if_single_units, if_fixed_size, if_dynamic}
 

@@ -1,7 +1,7 @@
 -- Where there is one default value, a run uses that one throughout.
 use Rattle.std.proofs.Common.{List, [], ◌∷◌, ◌++◌}
-use Rattle.iox2_store.specs.machine.Records.{Environment}
-use Rattle.iox2_store.specs.machine.State.{State, Messages}
+use Rattle.iox2_machine.specs.machine.Records.{Environment}
+use Rattle.iox2_machine.specs.machine.State.{State, Messages}
 use Rattle.iox2_commands.specs.Outcomes.{Handle, Event, messages_after}
 use Rattle.iox2_commands.specs.Runs.{Defaults, only_defaults, RunTo}
 use Rattle.iox2_commands.specs.OneDefault.{HasOneDefault}

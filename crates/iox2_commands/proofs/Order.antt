@@ -3,16 +3,16 @@ use Rattle.std.proofs.Common.{◌≡◌, ℕ, ◌<◌, true, false, cond, ◌&&�
 use Rattle.std.proofs.lemmas.Bool.{true≢false, eqb-true, eq-eqb, ne_eqb, ltb-true, ltb-false}
 use Rattle.std.proofs.lemmas.List.{append-nil}
 use Rattle.std.proofs.lemmas.Option.{none-some}
-use Rattle.iox2_store.specs.machine.Numbers.{put_at, IsOnce}
-use Rattle.iox2_store.specs.machine.Mailbox.{Mailbox, has_numbers}
-use Rattle.iox2_store.specs.machine.Records.{Environment}
-use Rattle.iox2_store.specs.machine.State.{State, Messages}
-use Rattle.iox2_store.specs.machine.WellFormed.{IsWellFormed}
+use Rattle.iox2_machine.specs.machine.Numbers.{put_at, IsOnce}
+use Rattle.iox2_machine.specs.machine.Mailbox.{Mailbox, has_numbers}
+use Rattle.iox2_machine.specs.machine.Records.{Environment}
+use Rattle.iox2_machine.specs.machine.State.{State, Messages}
+use Rattle.iox2_machine.specs.machine.WellFormed.{IsWellFormed}
 use Rattle.iox2_laws.proofs.MailboxLemmas.{nothing_anywhere}
 use Rattle.iox2_laws.proofs.NumberLemmas.{false_from}
 use Rattle.iox2_commands.specs.Outcomes.{Event, No_event, Message_sent, Message_received, Outcome, messages_after}
 use Rattle.iox2_commands.specs.Step.{Step}
-use Rattle.iox2_store.specs.machine.Environments.{fixed_handlers, ample_memory}
+use Rattle.iox2_machine.specs.machine.Environments.{fixed_handlers, ample_memory}
 use Rattle.iox2_commands.specs.Runs.{Defaults, any_defaults, Run, sent, received, IsSubsequence}
 use Rattle.iox2_commands.specs.RunLaws.{ReceivesInOrder}
 use Rattle.iox2_commands.specs.declared.command.Command.{Command}

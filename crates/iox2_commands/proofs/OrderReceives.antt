@@ -1,12 +1,12 @@
 -- A message is received before what waits behind it.
 use Rattle.std.proofs.Common.{◌≡◌, ℕ, ◌≤◌, ◌<◌, true, false, cond, List, [], ◌∷◌, ◌++◌, refl, sym, subst, arith, eqb, Some}
 use Rattle.std.proofs.lemmas.Bool.{eqb-true}
-use Rattle.iox2_store.specs.machine.Numbers.{put_at}
-use Rattle.iox2_store.specs.machine.Mailbox.{Mailbox, BorrowsFirst, has_numbers}
-use Rattle.iox2_store.specs.machine.Records.{Subscriber, Environment}
-use Rattle.iox2_store.specs.machine.State.{State, with_mailbox}
-use Rattle.iox2_store.specs.machine.Receives.{TakeSample, Receive, ReceiveResult, Got_sample, No_sample, Receive_error}
-use Rattle.iox2_store.specs.machine.WellFormed.{LeadsTo, IsWellFormed}
+use Rattle.iox2_machine.specs.machine.Numbers.{put_at}
+use Rattle.iox2_machine.specs.machine.Mailbox.{Mailbox, BorrowsFirst, has_numbers}
+use Rattle.iox2_machine.specs.machine.Records.{Subscriber, Environment}
+use Rattle.iox2_machine.specs.machine.State.{State, with_mailbox}
+use Rattle.iox2_machine.specs.machine.Receives.{TakeSample, Receive, ReceiveResult, Got_sample, No_sample, Receive_error}
+use Rattle.iox2_machine.specs.machine.WellFormed.{LeadsTo, IsWellFormed}
 use Rattle.iox2_laws.proofs.Cases.{by_option}
 use Rattle.iox2_laws.proofs.MailboxLemmas.{has_numbers-borrowed}
 use Rattle.iox2_commands.specs.Runs.{IsSubsequence}

@@ -3,14 +3,14 @@ use Rattle.std.proofs.Common.{◌≡◌, ℕ, zero, suc, ◌≤◌, ◌+◌, Boo
 use Rattle.std.specs.declared.time.Duration.{Duration}
 use Rattle.std.proofs.lemmas.Bool.{cond_both, true≢false}
 use Rattle.std.proofs.lemmas.List.{append_assoc}
-use Rattle.iox2_store.specs.machine.Numbers.{put_at}
-use Rattle.iox2_store.specs.machine.Mailbox.{Mailbox, with_appended, with_appended_in, has_room_in}
-use Rattle.iox2_store.specs.machine.Records.{Handler, Environment}
-use Rattle.iox2_store.specs.machine.Delivery.{PutResult, accepted_count, is_failed, is_blocking, DeliveryEnd, Complete, Suspended, no_time, PutIn, PutAtEndIn, DeliverIn}
-use Rattle.iox2_store.specs.machine.WellFormed.{LeadsTo, IsInjective}
-use Rattle.iox2_store.specs.declared.service_config.ServiceConfig.{ServiceConfig}
-use Rattle.iox2_store.specs.declared.backpressure.BackpressureStrategy.{BackpressureStrategy}
-use Rattle.iox2_store.specs.declared.backpressure.BackpressureAction.{BackpressureAction}
+use Rattle.iox2_machine.specs.machine.Numbers.{put_at}
+use Rattle.iox2_machine.specs.machine.Mailbox.{Mailbox, with_appended, with_appended_in, has_room_in}
+use Rattle.iox2_machine.specs.machine.Records.{Handler, Environment}
+use Rattle.iox2_machine.specs.machine.Delivery.{PutResult, accepted_count, is_failed, is_blocking, DeliveryEnd, Complete, Suspended, no_time, PutIn, PutAtEndIn, DeliverIn}
+use Rattle.iox2_machine.specs.machine.WellFormed.{LeadsTo, IsInjective}
+use Rattle.iox2_machine.specs.declared.service_config.ServiceConfig.{ServiceConfig}
+use Rattle.iox2_machine.specs.declared.backpressure.BackpressureStrategy.{BackpressureStrategy}
+use Rattle.iox2_machine.specs.declared.backpressure.BackpressureAction.{BackpressureAction}
 use Rattle.iox2_laws.proofs.Cases.{by_bool}
 use Rattle.iox2_laws.proofs.Puts.{at_each}
 use Rattle.iox2_laws.proofs.PlaceLemmas.{injective_rest}

@@ -4,13 +4,13 @@ use Rattle.std.specs.Option.{option_map}
 use Rattle.std.specs.declared.time.Duration.{Duration}
 use Rattle.std.proofs.lemmas.Bool.{eqb-true, eqb-false}
 use Rattle.std.proofs.lemmas.Option.{none-some, same_Some}
-use Rattle.iox2_store.specs.machine.Numbers.{put_at, contains, last_n, without, IsOnce}
-use Rattle.iox2_store.specs.machine.Mailbox.{Mailbox}
-use Rattle.iox2_store.specs.machine.Records.{Loan, Publisher, Subscriber, Environment, BlockedSend}
-use Rattle.iox2_store.specs.machine.State.{State, is_open, channel_buffer, with_loan}
-use Rattle.iox2_store.specs.machine.Delivery.{DeliveryEnd, Complete, Suspended, no_time}
-use Rattle.iox2_store.specs.machine.Sends.{SendResult, published, send_ended, send_blocked, with_mailboxes, ConcludeSend, DeliverAndConclude, Publish, Retry, GiveUp, more_retries}
-use Rattle.iox2_store.specs.machine.WellFormed.{LeadsTo, IsInjective, IsWellFormed, BlockedIsWellFormed}
+use Rattle.iox2_machine.specs.machine.Numbers.{put_at, contains, last_n, without, IsOnce}
+use Rattle.iox2_machine.specs.machine.Mailbox.{Mailbox}
+use Rattle.iox2_machine.specs.machine.Records.{Loan, Publisher, Subscriber, Environment, BlockedSend}
+use Rattle.iox2_machine.specs.machine.State.{State, is_open, channel_buffer, with_loan}
+use Rattle.iox2_machine.specs.machine.Delivery.{DeliveryEnd, Complete, Suspended, no_time}
+use Rattle.iox2_machine.specs.machine.Sends.{SendResult, published, send_ended, send_blocked, with_mailboxes, ConcludeSend, DeliverAndConclude, Publish, Retry, GiveUp, more_retries}
+use Rattle.iox2_machine.specs.machine.WellFormed.{LeadsTo, IsInjective, IsWellFormed, BlockedIsWellFormed}
 use Rattle.iox2_laws.proofs.SendLaws.{injective_take, injective_drop}
 use Rattle.iox2_laws.proofs.Cases.{by_option}
 use Rattle.iox2_laws.proofs.Puts.{at_each, found_put, found_removed, put_at-same, put_at-other}

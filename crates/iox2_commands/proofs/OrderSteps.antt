@@ -2,22 +2,22 @@
 use Rattle.std.proofs.Common.{◌≡◌, ℕ, ◌≤◌, Bool, true, false, cond, List, refl, sym, ap, subst, ◌∙◌, arith, inl, inr, Option, None, Some, is_some}
 use Rattle.std.specs.Option.{option_map, option_and_then}
 use Rattle.std.proofs.lemmas.Bool.{cond_both, true≢false}
-use Rattle.iox2_store.specs.machine.Numbers.{put_at, without}
-use Rattle.iox2_store.specs.machine.Mailbox.{Mailbox, waiting_dropped, with_released}
-use Rattle.iox2_store.specs.machine.Records.{Loan, Publisher, Subscriber, Environment}
-use Rattle.iox2_store.specs.machine.State.{State, with_loan, with_mailbox, subscriber_changed, receiver_channels_reset, subscribers_due, sender_channels_reset}
-use Rattle.iox2_store.specs.machine.Loans.{GrantLoan, loan_granted, loan_discarded, written}
-use Rattle.iox2_store.specs.machine.SingleCalls.{GrantWrittenLoan}
-use Rattle.iox2_store.specs.machine.Releases.{released, unborrowed, subscriber_pruned, pruned, freed_if_unused, place_freed, is_unused}
-use Rattle.iox2_store.specs.machine.Ports.{publisher_closed, publisher_gone, subscribers_pruned, mailbox_after_publisher, subscriber_closed, subscriber_shut, mailbox_after_subscriber}
-use Rattle.iox2_store.specs.declared.errors.LoanError.{LoanError}
+use Rattle.iox2_machine.specs.machine.Numbers.{put_at, without}
+use Rattle.iox2_machine.specs.machine.Mailbox.{Mailbox, waiting_dropped, with_released}
+use Rattle.iox2_machine.specs.machine.Records.{Loan, Publisher, Subscriber, Environment}
+use Rattle.iox2_machine.specs.machine.State.{State, with_loan, with_mailbox, subscriber_changed, receiver_channels_reset, subscribers_due, sender_channels_reset}
+use Rattle.iox2_machine.specs.machine.Loans.{GrantLoan, loan_granted, loan_discarded, written}
+use Rattle.iox2_machine.specs.machine.SingleCalls.{GrantWrittenLoan}
+use Rattle.iox2_machine.specs.machine.Releases.{released, unborrowed, subscriber_pruned, pruned, freed_if_unused, place_freed, is_unused}
+use Rattle.iox2_machine.specs.machine.Ports.{publisher_closed, publisher_gone, subscribers_pruned, mailbox_after_publisher, subscriber_closed, subscriber_shut, mailbox_after_subscriber}
+use Rattle.iox2_machine.specs.declared.errors.LoanError.{LoanError}
 use Rattle.iox2_laws.proofs.Cases.{by_option}
 use Rattle.iox2_laws.proofs.CallCases.{grant_cases}
 use Rattle.iox2_laws.proofs.Puts.{at_each, found_put, found_removed, found_mapped}
 use Rattle.iox2_commands.specs.Runs.{IsSubsequence}
 use Rattle.iox2_commands.proofs.Subsequences.{IsSubsequence-nil, IsSubsequence-refl}
 use Rattle.iox2_commands.proofs.Ordered.{Ordered, quiet_keeps, Quiet, WasPublisher, WasLoan, WasOpen, Waited, same_publisher, alike_publisher, same_loan, same_waiting}
-use Rattle.iox2_store.specs.machine.Channel.{Channel}
+use Rattle.iox2_machine.specs.machine.Channel.{Channel}
 
 -- ---- records that are found
 

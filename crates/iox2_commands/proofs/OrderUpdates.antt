@@ -3,22 +3,22 @@ use Rattle.std.proofs.Common.{◌≡◌, ℕ, ◌≤◌, Bool, true, false, cond
 use Rattle.std.specs.Option.{option_and_then}
 use Rattle.std.proofs.lemmas.Bool.{true≢false, cond_both}
 use Rattle.std.proofs.lemmas.Option.{none-some, same_Some, option_and_then_some}
-use Rattle.iox2_store.specs.machine.Limits.{expired_limit}
-use Rattle.iox2_store.specs.machine.Numbers.{last_n}
-use Rattle.iox2_store.specs.machine.Places.{occupant, is_port}
-use Rattle.iox2_store.specs.machine.Mailbox.{Mailbox, waiting_dropped, with_waiting}
-use Rattle.iox2_store.specs.machine.Records.{Publisher, Subscriber, Handler, Environment, PublisherSettings, SubscriberSettings}
-use Rattle.iox2_store.specs.machine.State.{State, receiving_buffer, has_receiver_end, has_sender_end, with_warning, sender_channels_reset, receiver_channels_reset}
-use Rattle.iox2_store.specs.machine.Connections.{ForEachPlace}
-use Rattle.iox2_store.specs.machine.PublisherUpdate.{SenderSide, SenderAction, Keep_end, Drop_waiting, Disconnect, Connect, sender_action, dropped, disconnected, connected, Performs, UpdateSenderPlace, sender_side, with_sender_side, history_for, UpdatePublisher}
-use Rattle.iox2_store.specs.machine.SubscriberUpdate.{ReceiverSide, Retirement, Keep_expired, Evict, Discard_data, Refuse, data_discarded, after_retirement, is_refused, retirement_of, with_end, ConnectReceiver, Retire, ConnectAtPlace, DisconnectAtPlace, UpdateReceiverSide, receiver_side, with_receiver_side, UpdateSubscriber}
-use Rattle.iox2_store.specs.machine.Ports.{FirstPublisherUpdate, FirstSubscriberUpdate, with_new_publisher, new_publisher, with_new_subscriber, new_subscriber, with_failure_warning, CreatePublisher, CreateSubscriber}
-use Rattle.iox2_store.specs.machine.WellFormed.{LeadsTo, IsInjective, IsWellFormed}
-use Rattle.iox2_store.specs.declared.degradation.DegradationAction.{DegradationAction}
-use Rattle.iox2_store.specs.declared.errors.ConnectionFailure.{ConnectionFailure}
-use Rattle.iox2_store.specs.declared.errors.PublisherCreateError.{PublisherCreateError}
-use Rattle.iox2_store.specs.declared.errors.SubscriberCreateError.{SubscriberCreateError}
-use Rattle.iox2_store.specs.declared.warning.Warning.{Warning}
+use Rattle.iox2_machine.specs.machine.Limits.{expired_limit}
+use Rattle.iox2_machine.specs.machine.Numbers.{last_n}
+use Rattle.iox2_machine.specs.machine.Places.{occupant, is_port}
+use Rattle.iox2_machine.specs.machine.Mailbox.{Mailbox, waiting_dropped, with_waiting}
+use Rattle.iox2_machine.specs.machine.Records.{Publisher, Subscriber, Handler, Environment, PublisherSettings, SubscriberSettings}
+use Rattle.iox2_machine.specs.machine.State.{State, receiving_buffer, has_receiver_end, has_sender_end, with_warning, sender_channels_reset, receiver_channels_reset}
+use Rattle.iox2_machine.specs.machine.Connections.{ForEachPlace}
+use Rattle.iox2_machine.specs.machine.PublisherUpdate.{SenderSide, SenderAction, Keep_end, Drop_waiting, Disconnect, Connect, sender_action, dropped, disconnected, connected, Performs, UpdateSenderPlace, sender_side, with_sender_side, history_for, UpdatePublisher}
+use Rattle.iox2_machine.specs.machine.SubscriberUpdate.{ReceiverSide, Retirement, Keep_expired, Evict, Discard_data, Refuse, data_discarded, after_retirement, is_refused, retirement_of, with_end, ConnectReceiver, Retire, ConnectAtPlace, DisconnectAtPlace, UpdateReceiverSide, receiver_side, with_receiver_side, UpdateSubscriber}
+use Rattle.iox2_machine.specs.machine.Ports.{FirstPublisherUpdate, FirstSubscriberUpdate, with_new_publisher, new_publisher, with_new_subscriber, new_subscriber, with_failure_warning, CreatePublisher, CreateSubscriber}
+use Rattle.iox2_machine.specs.machine.WellFormed.{LeadsTo, IsInjective, IsWellFormed}
+use Rattle.iox2_machine.specs.declared.degradation.DegradationAction.{DegradationAction}
+use Rattle.iox2_machine.specs.declared.errors.ConnectionFailure.{ConnectionFailure}
+use Rattle.iox2_machine.specs.declared.errors.PublisherCreateError.{PublisherCreateError}
+use Rattle.iox2_machine.specs.declared.errors.SubscriberCreateError.{SubscriberCreateError}
+use Rattle.iox2_machine.specs.declared.warning.Warning.{Warning}
 use Rattle.iox2_laws.proofs.Cases.{by_option, by_bool}
 use Rattle.iox2_laws.proofs.CallCases.{publisher_cases, subscriber_cases}
 use Rattle.iox2_laws.proofs.Puts.{at_each, found_put, put_at-same}
@@ -29,7 +29,7 @@ use Rattle.iox2_commands.proofs.Subsequences.{IsSubsequence-nil, IsSubsequence-r
 use Rattle.iox2_commands.proofs.Ordered.{Ordered, quiet_keeps, Quiet, WasPublisher, WasOpen, Waited, same_publisher, same_loan, same_waiting}
 use Rattle.iox2_commands.proofs.OrderSteps.{quiet_refl, due_publisher, opened_mapped}
 use Rattle.iox2_laws.proofs.SenderSides.{end_stays, nothing_after}
-use Rattle.iox2_store.specs.machine.Channel.{is_closed}
+use Rattle.iox2_machine.specs.machine.Channel.{is_closed}
 
 -- something is there
 there : {A : Type 0} (o : Option A) → is_some o ≡ true → (a : A) × (o ≡ Some a)

@@ -1,11 +1,11 @@
 -- What was sent and what was received so far, against what waits in a state of a run.
 use Rattle.std.proofs.Common.{◌≡◌, ℕ, ◌≤◌, ◌<◌, true, false, List, [], ◌∷◌, ◌++◌, refl, sym, ap, subst, ◌∙◌, arith, ◌⊎◌, inl, ⊎_elim, None, Some}
 use Rattle.std.proofs.lemmas.Option.{none-some, same_Some}
-use Rattle.iox2_store.specs.machine.Numbers.{contains, IsOnce}
-use Rattle.iox2_store.specs.machine.Mailbox.{Mailbox}
-use Rattle.iox2_store.specs.machine.Records.{Loan, Publisher, BlockedSend}
-use Rattle.iox2_store.specs.machine.State.{State, is_open}
-use Rattle.iox2_store.specs.machine.WellFormed.{LeadsTo}
+use Rattle.iox2_machine.specs.machine.Numbers.{contains, IsOnce}
+use Rattle.iox2_machine.specs.machine.Mailbox.{Mailbox}
+use Rattle.iox2_machine.specs.machine.Records.{Loan, Publisher, BlockedSend}
+use Rattle.iox2_machine.specs.machine.State.{State, is_open}
+use Rattle.iox2_machine.specs.machine.WellFormed.{LeadsTo}
 use Rattle.iox2_laws.proofs.NumberLemmas.{absent_from}
 use Rattle.iox2_commands.specs.Runs.{IsSubsequence}
 use Rattle.iox2_commands.proofs.Subsequences.{IsSubsequence-nil, IsSubsequence-refl, IsSubsequence-trans, IsSubsequence-behind, nil_part, nil_front}

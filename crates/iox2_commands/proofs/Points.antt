@@ -2,9 +2,9 @@
 use Rattle.std.proofs.Common.{◌≡◌, ℕ, zero, suc, ◌<◌, List, [], ◌∷◌, ◌++◌, take, drop, refl, sym, ap, subst, ◌∙◌, Some, arith}
 use Rattle.std.specs.Prelude.{slice_get}
 use Rattle.std.proofs.lemmas.Option.{none-some, same_Some}
-use Rattle.iox2_store.specs.machine.Records.{Environment, Publisher}
-use Rattle.iox2_store.specs.machine.State.{State, Messages}
-use Rattle.iox2_store.specs.machine.WellFormed.{IsWellFormed}
+use Rattle.iox2_machine.specs.machine.Records.{Environment, Publisher}
+use Rattle.iox2_machine.specs.machine.State.{State, Messages}
+use Rattle.iox2_machine.specs.machine.WellFormed.{IsWellFormed}
 use Rattle.iox2_commands.specs.Outcomes.{Handle, Event, Outcome, messages_after}
 use Rattle.iox2_commands.specs.Step.{Step, unblocked_at}
 use Rattle.iox2_commands.specs.Points.{PointOf, GrantsLoans, HasLoanToGive, AsksPermittedLoan}

@@ -1,6 +1,6 @@
 -- The laws of what is read, as they are stated.
 use Rattle.std.specs.Prelude.{cond}
-use Rattle.iox2_store.specs.machine.Environments.{fixed_handlers, ample_memory}
+use Rattle.iox2_machine.specs.machine.Environments.{fixed_handlers, ample_memory}
 use Rattle.iox2_commands.specs.Runs.{any_defaults}
 use Rattle.iox2_commands.specs.RunLaws.{ReceivesInOrder, SamplesNameTheirPublisher, ReadsGiveWhatWasSent}
 use Rattle.iox2_commands.proofs.ReadRuns.{samples_name_their_publisher, reads_give_what_was_sent}

@@ -2,17 +2,17 @@
 use Rattle.std.proofs.Common.{◌≡◌, ℕ, ◌+◌, Bool, true, false, List, [], ◌∷◌, refl, ap, subst, ◌∙◌, arith, Option, None, Some, inl, ⊎_elim}
 use Rattle.std.specs.Prelude.{MatchOption, ◌==◌, min}
 use Rattle.std.specs.Bool.{MatchBool}
-use Rattle.iox2_store.specs.machine.Limits.{refusal_limit, expired_limit}
-use Rattle.iox2_store.specs.machine.Places.{occupant}
-use Rattle.iox2_store.specs.machine.Records.{Publisher, Subscriber, Handler, Environment}
-use Rattle.iox2_store.specs.machine.State.{State, Warnings, receiving_buffer, has_receiver_end, has_sender_end, sender_channels_reset, receiver_channels_reset}
-use Rattle.iox2_store.specs.machine.Connections.{ForEachPlace, warnings_after}
-use Rattle.iox2_store.specs.machine.PublisherUpdate.{SenderSide, SenderAction, Keep_end, Drop_waiting, Disconnect, Connect, sender_action, disconnected, ConnectSender, Performs, UpdateSenderPlace, UpdatePublisher, sender_side, with_sender_side, history_for}
-use Rattle.iox2_store.specs.machine.SubscriberUpdate.{ReceiverSide, Retirement, Keep_expired, Evict, Discard_data, Refuse, retirement_of, after_retirement, is_refused, with_end, ConnectReceiver, Retire, ConnectAtPlace, DisconnectAtPlace, UpdateReceiverSide, UpdateSubscriber, receiver_side, with_receiver_side}
-use Rattle.iox2_store.specs.machine.Environments.{fixed_handlers, ample_memory}
-use Rattle.iox2_store.specs.declared.degradation.DegradationAction.{DegradationAction}
-use Rattle.iox2_store.specs.declared.degradation.DegradationAction.TheVariants.{Ignore, Warn, DegradeAndFail}
-use Rattle.iox2_store.specs.declared.errors.ConnectionFailure.{ConnectionFailure}
+use Rattle.iox2_machine.specs.machine.Limits.{refusal_limit, expired_limit}
+use Rattle.iox2_machine.specs.machine.Places.{occupant}
+use Rattle.iox2_machine.specs.machine.Records.{Publisher, Subscriber, Handler, Environment}
+use Rattle.iox2_machine.specs.machine.State.{State, Warnings, receiving_buffer, has_receiver_end, has_sender_end, sender_channels_reset, receiver_channels_reset}
+use Rattle.iox2_machine.specs.machine.Connections.{ForEachPlace, warnings_after}
+use Rattle.iox2_machine.specs.machine.PublisherUpdate.{SenderSide, SenderAction, Keep_end, Drop_waiting, Disconnect, Connect, sender_action, disconnected, ConnectSender, Performs, UpdateSenderPlace, UpdatePublisher, sender_side, with_sender_side, history_for}
+use Rattle.iox2_machine.specs.machine.SubscriberUpdate.{ReceiverSide, Retirement, Keep_expired, Evict, Discard_data, Refuse, retirement_of, after_retirement, is_refused, with_end, ConnectReceiver, Retire, ConnectAtPlace, DisconnectAtPlace, UpdateReceiverSide, UpdateSubscriber, receiver_side, with_receiver_side}
+use Rattle.iox2_machine.specs.machine.Environments.{fixed_handlers, ample_memory}
+use Rattle.iox2_machine.specs.declared.degradation.DegradationAction.{DegradationAction}
+use Rattle.iox2_machine.specs.declared.degradation.DegradationAction.TheVariants.{Ignore, Warn, DegradeAndFail}
+use Rattle.iox2_machine.specs.declared.errors.ConnectionFailure.{ConnectionFailure}
 use Rattle.iox2_laws.proofs.Cases.{by_option, by_bool}
 use Rattle.iox2_commands.specs.Refusals.{TellNoRefusal}
 

@@ -1,8 +1,8 @@
 -- What holds at the start of a run and is kept by each of its steps holds at its end.
 use Rattle.std.proofs.Common.{◌≡◌, List, [], ◌∷◌, ◌++◌, sym, ap, subst, ◌∙◌}
 use Rattle.std.proofs.lemmas.List.{append_assoc, append-nil}
-use Rattle.iox2_store.specs.machine.Records.{Environment}
-use Rattle.iox2_store.specs.machine.State.{State, Messages}
+use Rattle.iox2_machine.specs.machine.Records.{Environment}
+use Rattle.iox2_machine.specs.machine.State.{State, Messages}
 use Rattle.iox2_commands.specs.Outcomes.{Handle, Event, Outcome, messages_after}
 use Rattle.iox2_commands.specs.Step.{Step}
 use Rattle.iox2_commands.specs.Runs.{Defaults, RunFrom}

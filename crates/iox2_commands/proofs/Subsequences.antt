@@ -2,7 +2,7 @@
 use Rattle.std.proofs.Common.{◌≡◌, ℕ, zero, suc, ◌-◌, true, List, [], ◌∷◌, ◌++◌, drop, length, refl, sym, subst, ◌∙◌, eqb, ⊎_elim}
 use Rattle.std.proofs.lemmas.Bool.{true≢false, or_cases, or_left, or_right}
 use Rattle.std.proofs.lemmas.List.{append_assoc}
-use Rattle.iox2_store.specs.machine.Numbers.{contains, last_n, IsOnce}
+use Rattle.iox2_machine.specs.machine.Numbers.{contains, last_n, IsOnce}
 use Rattle.iox2_laws.proofs.NumberLemmas.{false_from}
 use Rattle.iox2_commands.specs.Runs.{IsSubsequence, Empty, Left_out, Taken}
 

@@ -1,18 +1,18 @@
 -- What is in a run's mailboxes and histories was sent in that run, and what is borrowed stays so.
 use Rattle.std.proofs.Common.{◌≡◌, ℕ, Bool, true, List, [], ◌∷◌, ◌++◌, sym, subst, ◌∙◌, Option, ⊎_elim, ap}
 use Rattle.std.specs.declared.time.Duration.{Duration}
-use Rattle.iox2_store.specs.machine.Numbers.{contains, last_n}
-use Rattle.iox2_store.specs.machine.Mailbox.{Mailbox, numbers_in, is_borrowed, with_waiting, waiting_dropped, BorrowsFirst, with_appended_in, other_numbers}
-use Rattle.iox2_store.specs.machine.Records.{Handler, Environment, BlockedSend}
-use Rattle.iox2_store.specs.machine.Delivery.{DeliveryEnd, Suspended, DeliverIn}
-use Rattle.iox2_store.specs.machine.Connections.{ForEachPlace}
-use Rattle.iox2_store.specs.machine.PublisherUpdate.{SenderSide, UpdateSenderPlace}
-use Rattle.iox2_store.specs.machine.SubscriberUpdate.{ReceiverSide, UpdateReceiverSide}
-use Rattle.iox2_store.specs.declared.service_config.ServiceConfig.{ServiceConfig}
-use Rattle.iox2_store.specs.declared.backpressure.BackpressureStrategy.{BackpressureStrategy}
-use Rattle.iox2_store.specs.declared.backpressure.BackpressureAction.{BackpressureAction}
-use Rattle.iox2_store.specs.declared.degradation.DegradationAction.{DegradationAction}
-use Rattle.iox2_store.specs.declared.errors.ConnectionFailure.{ConnectionFailure}
+use Rattle.iox2_machine.specs.machine.Numbers.{contains, last_n}
+use Rattle.iox2_machine.specs.machine.Mailbox.{Mailbox, numbers_in, is_borrowed, with_waiting, waiting_dropped, BorrowsFirst, with_appended_in, other_numbers}
+use Rattle.iox2_machine.specs.machine.Records.{Handler, Environment, BlockedSend}
+use Rattle.iox2_machine.specs.machine.Delivery.{DeliveryEnd, Suspended, DeliverIn}
+use Rattle.iox2_machine.specs.machine.Connections.{ForEachPlace}
+use Rattle.iox2_machine.specs.machine.PublisherUpdate.{SenderSide, UpdateSenderPlace}
+use Rattle.iox2_machine.specs.machine.SubscriberUpdate.{ReceiverSide, UpdateReceiverSide}
+use Rattle.iox2_machine.specs.declared.service_config.ServiceConfig.{ServiceConfig}
+use Rattle.iox2_machine.specs.declared.backpressure.BackpressureStrategy.{BackpressureStrategy}
+use Rattle.iox2_machine.specs.declared.backpressure.BackpressureAction.{BackpressureAction}
+use Rattle.iox2_machine.specs.declared.degradation.DegradationAction.{DegradationAction}
+use Rattle.iox2_machine.specs.declared.errors.ConnectionFailure.{ConnectionFailure}
 use Rattle.iox2_laws.proofs.NumberLemmas.{contains_in_append, contains_left, contains_right, contains_in_last_n}
 use Rattle.iox2_laws.proofs.MailboxLemmas.{contains_in_dropped, contains_in_appended, contains_in_borrowed, borrowed-appended}
 use Rattle.iox2_laws.proofs.MailboxWalks.{sender_side_keeps, receiver_side_keeps, deliver_keeps}

@@ -1,17 +1,17 @@
 -- Worked runs: requests for memory that are refused.
 use Rattle.std.proofs.Common.{◌≡◌, ℕ, false, List, [], ◌∷◌, refl, inl, inr, None, Some}
-use Rattle.iox2_store.specs.machine.State.{State, Messages, fresh, no_messages}
-use Rattle.iox2_store.specs.machine.Delivery.{Accepted, Complete}
-use Rattle.iox2_store.specs.machine.Sends.{Delivered_to}
-use Rattle.iox2_store.specs.machine.Receives.{Got_sample, No_sample}
-use Rattle.iox2_store.specs.declared.allocation.AllocationStrategy.TheVariants.{Static}
-use Rattle.iox2_store.specs.declared.backpressure.BackpressureStrategy.TheVariants.{DiscardData}
-use Rattle.iox2_store.specs.declared.degradation.DegradationAction.TheVariants.{Warn, DegradeAndFail}
-use Rattle.iox2_store.specs.declared.errors.ConnectionFailure.TheVariants.{FailedToEstablishConnection}
-use Rattle.iox2_store.specs.declared.errors.ZeroCopyCreationError.TheVariants.{OutOfMemory}
-use Rattle.iox2_store.specs.declared.warning.Warning.TheVariants.{ConnectionNotMade, PublisherPartlyConnected}
+use Rattle.iox2_machine.specs.machine.State.{State, Messages, fresh, no_messages}
+use Rattle.iox2_machine.specs.machine.Delivery.{Accepted, Complete}
+use Rattle.iox2_machine.specs.machine.Sends.{Delivered_to}
+use Rattle.iox2_machine.specs.machine.Receives.{Got_sample, No_sample}
+use Rattle.iox2_machine.specs.declared.allocation.AllocationStrategy.TheVariants.{Static}
+use Rattle.iox2_machine.specs.declared.backpressure.BackpressureStrategy.TheVariants.{DiscardData}
+use Rattle.iox2_machine.specs.declared.degradation.DegradationAction.TheVariants.{Warn, DegradeAndFail}
+use Rattle.iox2_machine.specs.declared.errors.ConnectionFailure.TheVariants.{FailedToEstablishConnection}
+use Rattle.iox2_machine.specs.declared.errors.ZeroCopyCreationError.TheVariants.{OutOfMemory}
+use Rattle.iox2_machine.specs.declared.warning.Warning.TheVariants.{ConnectionNotMade, PublisherPartlyConnected}
 use Rattle.iox2_commands.specs.Outcomes.{Event}
-use Rattle.iox2_store.specs.machine.Environments.{fixed_handlers}
+use Rattle.iox2_machine.specs.machine.Environments.{fixed_handlers}
 use Rattle.iox2_commands.specs.Runs.{Run, only_defaults}
 use Rattle.iox2_commands.specs.declared.command.Command.TheVariants.{CreatePublisher, CreateSubscriber, SendCopy, Receive, Read}
 use Rattle.iox2_commands.specs.declared.reply.Reply.TheVariants.{PublisherMade, SubscriberMade, Delivered, Sample, NoSample, Cell}

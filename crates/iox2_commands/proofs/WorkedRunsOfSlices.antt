@@ -1,16 +1,16 @@
 -- Worked runs: slices of a publisher that grows.
 use Rattle.std.proofs.Common.{◌≡◌, ℕ, false, List, [], ◌∷◌, ◌<◌, ◌≤◌, refl, inl, inr, None, Some, arith}
-use Rattle.iox2_store.specs.machine.State.{State, Messages, fresh, no_messages}
-use Rattle.iox2_store.specs.machine.Delivery.{Accepted, Complete}
-use Rattle.iox2_store.specs.machine.Sends.{Delivered_to}
-use Rattle.iox2_store.specs.machine.Receives.{Got_sample}
-use Rattle.iox2_store.specs.declared.allocation.AllocationStrategy.TheVariants.{BestFit}
-use Rattle.iox2_store.specs.declared.backpressure.BackpressureStrategy.TheVariants.{DiscardData}
-use Rattle.iox2_store.specs.declared.degradation.DegradationAction.TheVariants.{Warn}
-use Rattle.iox2_store.specs.declared.errors.LoanError.TheVariants.{ExceedsMaxLoans, InternalFailure}
-use Rattle.iox2_store.specs.declared.warning.Warning.TheVariants.{ExpiredBufferRaised}
+use Rattle.iox2_machine.specs.machine.State.{State, Messages, fresh, no_messages}
+use Rattle.iox2_machine.specs.machine.Delivery.{Accepted, Complete}
+use Rattle.iox2_machine.specs.machine.Sends.{Delivered_to}
+use Rattle.iox2_machine.specs.machine.Receives.{Got_sample}
+use Rattle.iox2_machine.specs.declared.allocation.AllocationStrategy.TheVariants.{BestFit}
+use Rattle.iox2_machine.specs.declared.backpressure.BackpressureStrategy.TheVariants.{DiscardData}
+use Rattle.iox2_machine.specs.declared.degradation.DegradationAction.TheVariants.{Warn}
+use Rattle.iox2_machine.specs.declared.errors.LoanError.TheVariants.{ExceedsMaxLoans, InternalFailure}
+use Rattle.iox2_machine.specs.declared.warning.Warning.TheVariants.{ExpiredBufferRaised}
 use Rattle.iox2_commands.specs.Outcomes.{Event}
-use Rattle.iox2_store.specs.machine.Environments.{ample_memory}
+use Rattle.iox2_machine.specs.machine.Environments.{ample_memory}
 use Rattle.iox2_commands.specs.Runs.{Run, only_defaults}
 use Rattle.iox2_commands.specs.declared.command.Command.TheVariants.{CreatePublisher, CreateSubscriber, LoanSlice, WriteAll, Send}
 use Rattle.iox2_commands.specs.declared.command.Command.TheVariants.{Receive, Read}

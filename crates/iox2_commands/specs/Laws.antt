@@ -1,17 +1,17 @@
 -- The laws of steps.
 use Rattle.std.specs.Prelude.{ℕ, Bool, List, ◌≡◌, IsTrue}
-use Rattle.iox2_store.specs.machine.Records.{Environment}
-use Rattle.iox2_store.specs.machine.State.{State, Messages}
-use Rattle.iox2_store.specs.machine.WellFormed.{IsWellFormed}
-use Rattle.iox2_store.specs.declared.backpressure.BackpressureAction.{BackpressureAction}
-use Rattle.iox2_store.specs.declared.backpressure.BackpressureInfo.{BackpressureInfo}
-use Rattle.iox2_store.specs.declared.degradation.DegradationAction.{DegradationAction}
-use Rattle.iox2_store.specs.declared.degradation.DegradationCause.{DegradationCause}
-use Rattle.iox2_store.specs.declared.degradation.DegradationInfo.{DegradationInfo}
+use Rattle.iox2_machine.specs.machine.Records.{Environment}
+use Rattle.iox2_machine.specs.machine.State.{State, Messages}
+use Rattle.iox2_machine.specs.machine.WellFormed.{IsWellFormed}
+use Rattle.iox2_machine.specs.declared.backpressure.BackpressureAction.{BackpressureAction}
+use Rattle.iox2_machine.specs.declared.backpressure.BackpressureInfo.{BackpressureInfo}
+use Rattle.iox2_machine.specs.declared.degradation.DegradationAction.{DegradationAction}
+use Rattle.iox2_machine.specs.declared.degradation.DegradationCause.{DegradationCause}
+use Rattle.iox2_machine.specs.declared.degradation.DegradationInfo.{DegradationInfo}
 use Rattle.iox2_laws.specs.Laws.{Advances}
 use Rattle.iox2_commands.specs.Outcomes.{Handle, Outcome, messages_after}
 use Rattle.iox2_commands.specs.Step.{Step}
-use Rattle.iox2_store.specs.Stored.{Stored, StoredShows}
+use Rattle.iox2_machine.specs.Stored.{Stored, StoredShows}
 use Rattle.iox2_commands.specs.StoredSteps.{StoredStep}
 use Rattle.iox2_commands.specs.declared.command.Command.{Command}
 

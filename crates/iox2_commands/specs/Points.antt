@@ -1,12 +1,12 @@
 -- A run, looked at between two of its commands; and the loans that a run has to grant.
 use Rattle.std.specs.Prelude.{ℕ, true, List, [], length, take, drop, ◌≡◌, ◌<◌, ◌≤◌, slice_get}
 use Rattle.std.specs.declared.option.Option.TheVariants.{Some}
-use Rattle.iox2_store.specs.machine.Limits.{worst_case, last_number}
-use Rattle.iox2_store.specs.machine.Loans.{is_static}
-use Rattle.iox2_store.specs.machine.Records.{Environment, Publisher}
-use Rattle.iox2_store.specs.machine.State.{State, Messages}
-use Rattle.iox2_store.specs.declared.service_config.ServiceConfig.{ServiceConfig}
-use Rattle.iox2_store.specs.declared.service_config.TypeVariant.TheVariants.{FixedSize, Dynamic}
+use Rattle.iox2_machine.specs.machine.Limits.{worst_case, last_number}
+use Rattle.iox2_machine.specs.machine.Loans.{is_static}
+use Rattle.iox2_machine.specs.machine.Records.{Environment, Publisher}
+use Rattle.iox2_machine.specs.machine.State.{State, Messages}
+use Rattle.iox2_machine.specs.declared.service_config.ServiceConfig.{ServiceConfig}
+use Rattle.iox2_machine.specs.declared.service_config.TypeVariant.TheVariants.{FixedSize, Dynamic}
 use Rattle.iox2_commands.specs.Outcomes.{Handle, Event}
 use Rattle.iox2_commands.specs.Step.{unblocked_at}
 use Rattle.iox2_commands.specs.Runs.{Defaults, RunFrom, RunTo}

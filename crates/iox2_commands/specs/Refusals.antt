@@ -2,13 +2,13 @@
 use Rattle.std.specs.Prelude.{ℕ, true, List, [], ◌∷◌, ◌++◌, ◌≡◌, slice_get}
 use Rattle.std.specs.List.{All}
 use Rattle.std.specs.declared.option.Option.TheVariants.{Some}
-use Rattle.iox2_store.specs.machine.Ports.{first_segment_fits}
-use Rattle.iox2_store.specs.machine.State.{State, Warnings, Messages, fresh, no_messages}
-use Rattle.iox2_store.specs.machine.Environments.{fixed_handlers, ample_memory}
-use Rattle.iox2_store.specs.declared.allocation.AllocationStrategy.TheVariants.{Static}
-use Rattle.iox2_store.specs.declared.errors.PublisherCreateError.TheVariants.{UnableToCreateDataSegment, FailedToDeployThreadsafetyPolicy as NoPublisherState}
-use Rattle.iox2_store.specs.declared.errors.SubscriberCreateError.TheVariants.{FailedToDeployThreadsafetyPolicy as NoSubscriberState}
-use Rattle.iox2_store.specs.declared.service_config.ServiceConfig.{ServiceConfig}
+use Rattle.iox2_machine.specs.machine.Ports.{first_segment_fits}
+use Rattle.iox2_machine.specs.machine.State.{State, Warnings, Messages, fresh, no_messages}
+use Rattle.iox2_machine.specs.machine.Environments.{fixed_handlers, ample_memory}
+use Rattle.iox2_machine.specs.declared.allocation.AllocationStrategy.TheVariants.{Static}
+use Rattle.iox2_machine.specs.declared.errors.PublisherCreateError.TheVariants.{UnableToCreateDataSegment, FailedToDeployThreadsafetyPolicy as NoPublisherState}
+use Rattle.iox2_machine.specs.declared.errors.SubscriberCreateError.TheVariants.{FailedToDeployThreadsafetyPolicy as NoSubscriberState}
+use Rattle.iox2_machine.specs.declared.service_config.ServiceConfig.{ServiceConfig}
 use Rattle.iox2_commands.specs.Outcomes.{Handle, Event}
 use Rattle.iox2_commands.specs.Points.{PointOf}
 use Rattle.iox2_commands.specs.Runs.{RunTo, only_defaults}

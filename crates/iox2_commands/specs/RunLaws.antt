@@ -3,23 +3,23 @@ use Rattle.std.specs.Prelude.{ℕ, Bool, true, cond, List, length, take, ◌≡�
 use Rattle.std.specs.Option.{option_map_or}
 use Rattle.std.specs.declared.option.Option.{Option}
 use Rattle.std.specs.declared.option.Option.TheVariants.{None, Some}
-use Rattle.iox2_store.specs.machine.Limits.{worst_case, last_number}
-use Rattle.iox2_store.specs.machine.Numbers.{IsOnce}
-use Rattle.iox2_store.specs.machine.Records.{Entry, Publisher}
-use Rattle.iox2_store.specs.machine.State.{State, Messages, fresh, no_messages}
-use Rattle.iox2_store.specs.machine.Loans.{GrantLoan, is_static, loan_granted}
-use Rattle.iox2_store.specs.machine.WellFormed.{IsWellFormed, HoldsAtMostWorstCase}
-use Rattle.iox2_store.specs.declared.service_config.ServiceConfig.{ServiceConfig}
-use Rattle.iox2_store.specs.declared.service_config.TypeVariant.TheVariants.{FixedSize, Dynamic}
-use Rattle.iox2_store.specs.declared.backpressure.BackpressureAction.{BackpressureAction}
-use Rattle.iox2_store.specs.declared.backpressure.BackpressureInfo.{BackpressureInfo}
-use Rattle.iox2_store.specs.declared.degradation.DegradationAction.{DegradationAction}
-use Rattle.iox2_store.specs.declared.degradation.DegradationCause.{DegradationCause}
-use Rattle.iox2_store.specs.declared.degradation.DegradationInfo.{DegradationInfo}
-use Rattle.iox2_store.specs.declared.errors.LoanError.{LoanError}
+use Rattle.iox2_machine.specs.machine.Limits.{worst_case, last_number}
+use Rattle.iox2_machine.specs.machine.Numbers.{IsOnce}
+use Rattle.iox2_machine.specs.machine.Records.{Entry, Publisher}
+use Rattle.iox2_machine.specs.machine.State.{State, Messages, fresh, no_messages}
+use Rattle.iox2_machine.specs.machine.Loans.{GrantLoan, is_static, loan_granted}
+use Rattle.iox2_machine.specs.machine.WellFormed.{IsWellFormed, HoldsAtMostWorstCase}
+use Rattle.iox2_machine.specs.declared.service_config.ServiceConfig.{ServiceConfig}
+use Rattle.iox2_machine.specs.declared.service_config.TypeVariant.TheVariants.{FixedSize, Dynamic}
+use Rattle.iox2_machine.specs.declared.backpressure.BackpressureAction.{BackpressureAction}
+use Rattle.iox2_machine.specs.declared.backpressure.BackpressureInfo.{BackpressureInfo}
+use Rattle.iox2_machine.specs.declared.degradation.DegradationAction.{DegradationAction}
+use Rattle.iox2_machine.specs.declared.degradation.DegradationCause.{DegradationCause}
+use Rattle.iox2_machine.specs.declared.degradation.DegradationInfo.{DegradationInfo}
+use Rattle.iox2_machine.specs.declared.errors.LoanError.{LoanError}
 use Rattle.iox2_commands.specs.Outcomes.{Handle, Event, Message_sent, Message_received, Outcome}
 use Rattle.iox2_commands.specs.Step.{Step, unblocked_at}
-use Rattle.iox2_store.specs.machine.Environments.{fixed_handlers, ample_memory}
+use Rattle.iox2_machine.specs.machine.Environments.{fixed_handlers, ample_memory}
 use Rattle.iox2_commands.specs.Runs.{Run, any_defaults, sent, received, IsSubsequence}
 use Rattle.iox2_commands.specs.Laws.{tested_environment}
 use Rattle.iox2_commands.specs.declared.command.Command.{Command}

@@ -1,7 +1,7 @@
 -- Whole runs: lists of commands with their replies.
 use Rattle.std.specs.Prelude.{ℕ, cond, ◌&&◌, List, [], ◌∷◌, ◌++◌, ◌≡◌, ◌==◌}
-use Rattle.iox2_store.specs.machine.Records.{Environment}
-use Rattle.iox2_store.specs.machine.State.{State, Messages}
+use Rattle.iox2_machine.specs.machine.Records.{Environment}
+use Rattle.iox2_machine.specs.machine.State.{State, Messages}
 use Rattle.iox2_commands.specs.Outcomes.{Handle, Event, No_event, Message_sent, Message_received, Outcome, messages_after}
 use Rattle.iox2_commands.specs.Step.{Step}
 use Rattle.iox2_commands.specs.declared.command.Command.{Command}

@@ -4,29 +4,29 @@ use Rattle.std.specs.Option.{option_and_then, option_map}
 use Rattle.std.specs.declared.option.Option.{Option}
 use Rattle.std.specs.declared.option.Option.TheVariants.{None, Some}
 use Rattle.std.specs.declared.time.Duration.{Duration}
-use Rattle.iox2_store.specs.machine.Limits.{buffer_limit}
-use Rattle.iox2_store.specs.machine.Mailbox.{is_borrowed}
-use Rattle.iox2_store.specs.machine.Records.{Entry, Loan, Publisher, Subscriber, PublisherSettings, Environment, BlockedSend, Handler, Fixed}
-use Rattle.iox2_store.specs.machine.State.{State, Messages, with_loan, is_blocked}
-use Rattle.iox2_store.specs.machine.PublisherUpdate.{UpdatePublisher}
-use Rattle.iox2_store.specs.machine.SubscriberUpdate.{UpdateSubscriber}
-use Rattle.iox2_store.specs.machine.Loans.{GrantLoan, written, with_cell, is_initialized, initialized, loan_discarded, entry_of}
-use Rattle.iox2_store.specs.machine.Sends.{Send, Retry, GiveUp, SendResult, Delivered_to, Blocked_send, Send_error}
-use Rattle.iox2_store.specs.machine.Receives.{Receive, HasSamples, ReceiveResult, Got_sample, No_sample, Receive_error}
-use Rattle.iox2_store.specs.machine.Releases.{released}
-use Rattle.iox2_store.specs.machine.Ports.{CreatePublisher, CreateSubscriber, publisher_closed, subscriber_closed}
-use Rattle.iox2_store.specs.machine.SingleCalls.{GrantWrittenLoan}
-use Rattle.iox2_store.specs.declared.service_config.TypeVariant.{TypeVariant}
-use Rattle.iox2_store.specs.declared.service_config.TypeVariant.TheVariants.{FixedSize, Dynamic}
-use Rattle.iox2_store.specs.declared.allocation.AllocationStrategy.{AllocationStrategy}
-use Rattle.iox2_store.specs.declared.backpressure.BackpressureAction.{BackpressureAction}
-use Rattle.iox2_store.specs.declared.backpressure.BackpressureStrategy.{BackpressureStrategy}
-use Rattle.iox2_store.specs.declared.degradation.DegradationAction.{DegradationAction}
-use Rattle.iox2_store.specs.declared.errors.ConnectionFailure.{ConnectionFailure}
-use Rattle.iox2_store.specs.declared.errors.LoanError.{LoanError}
-use Rattle.iox2_store.specs.declared.errors.SendError.TheVariants.{LoanError as NotLoaned, UnableToDeliver}
-use Rattle.iox2_store.specs.declared.errors.PublisherCreateError.{PublisherCreateError}
-use Rattle.iox2_store.specs.declared.errors.SubscriberCreateError.{SubscriberCreateError}
+use Rattle.iox2_machine.specs.machine.Limits.{buffer_limit}
+use Rattle.iox2_machine.specs.machine.Mailbox.{is_borrowed}
+use Rattle.iox2_machine.specs.machine.Records.{Entry, Loan, Publisher, Subscriber, PublisherSettings, Environment, BlockedSend, Handler, Fixed}
+use Rattle.iox2_machine.specs.machine.State.{State, Messages, with_loan, is_blocked}
+use Rattle.iox2_machine.specs.machine.PublisherUpdate.{UpdatePublisher}
+use Rattle.iox2_machine.specs.machine.SubscriberUpdate.{UpdateSubscriber}
+use Rattle.iox2_machine.specs.machine.Loans.{GrantLoan, written, with_cell, is_initialized, initialized, loan_discarded, entry_of}
+use Rattle.iox2_machine.specs.machine.Sends.{Send, Retry, GiveUp, SendResult, Delivered_to, Blocked_send, Send_error}
+use Rattle.iox2_machine.specs.machine.Receives.{Receive, HasSamples, ReceiveResult, Got_sample, No_sample, Receive_error}
+use Rattle.iox2_machine.specs.machine.Releases.{released}
+use Rattle.iox2_machine.specs.machine.Ports.{CreatePublisher, CreateSubscriber, publisher_closed, subscriber_closed}
+use Rattle.iox2_machine.specs.machine.SingleCalls.{GrantWrittenLoan}
+use Rattle.iox2_machine.specs.declared.service_config.TypeVariant.{TypeVariant}
+use Rattle.iox2_machine.specs.declared.service_config.TypeVariant.TheVariants.{FixedSize, Dynamic}
+use Rattle.iox2_machine.specs.declared.allocation.AllocationStrategy.{AllocationStrategy}
+use Rattle.iox2_machine.specs.declared.backpressure.BackpressureAction.{BackpressureAction}
+use Rattle.iox2_machine.specs.declared.backpressure.BackpressureStrategy.{BackpressureStrategy}
+use Rattle.iox2_machine.specs.declared.degradation.DegradationAction.{DegradationAction}
+use Rattle.iox2_machine.specs.declared.errors.ConnectionFailure.{ConnectionFailure}
+use Rattle.iox2_machine.specs.declared.errors.LoanError.{LoanError}
+use Rattle.iox2_machine.specs.declared.errors.SendError.TheVariants.{LoanError as NotLoaned, UnableToDeliver}
+use Rattle.iox2_machine.specs.declared.errors.PublisherCreateError.{PublisherCreateError}
+use Rattle.iox2_machine.specs.declared.errors.SubscriberCreateError.{SubscriberCreateError}
 use Rattle.iox2_commands.specs.Outcomes.{Handle, No_handle, Publisher_handle, Subscriber_handle, Loan_handle, Blocked_handle, Sample_handle, Message_sent, Message_received, Outcome, outcome, replied, done, skipped}
 use Rattle.iox2_commands.specs.declared.command.Command.{Command}
 use Rattle.iox2_commands.specs.declared.command.Command.TheVariants.{Nothing, CreatePublisher as PublisherCommand, CreateSubscriber as SubscriberCommand, LoanUninit, Loan as LoanDefault, LoanSlice, WriteCell, WriteAll, AssumeInit, WriteHeader, SetPayload, Send as SendLoan, SendCopy, Discard, Retry as RetrySend, GiveUp as GiveUpSend, Update, Receive as ReceiveSample, HasSamples as AskForSamples, Read, ReadHeader, ReadUserHeader, Release, Close}

@@ -1,8 +1,8 @@
 -- What one call has to show of what is kept.
 use Rattle.std.specs.Prelude.{ℕ, List, ◌≡◌, ◌⊎◌}
 use Rattle.std.specs.declared.option.Option.TheVariants.{Some}
-use Rattle.iox2_store.specs.machine.Records.{Entry, Environment}
-use Rattle.iox2_store.specs.Stored.{Stored, StoredKeepsEntries}
+use Rattle.iox2_machine.specs.machine.Records.{Entry, Environment}
+use Rattle.iox2_machine.specs.Stored.{Stored, StoredKeepsEntries}
 use Rattle.iox2_commands.specs.Outcomes.{Handle, Event, No_event, Message_sent, Message_received, Outcome}
 use Rattle.iox2_commands.specs.Step.{Step}
 use Rattle.iox2_commands.specs.declared.command.Command.{Command}

@@ -1,6 +1,8 @@
 ghost use Rattle.std.specs.Prelude.{◌≡◌, ⊤};
 
-use iox2_store::{AllocationStrategy, BackpressureAction, BackpressureStrategy, DegradationAction};
+use iox2_machine::{
+    AllocationStrategy, BackpressureAction, BackpressureStrategy, DegradationAction,
+};
 use std::alloc::AllocError;
 use std::time::Duration;
 

@@ -1,6 +1,6 @@
 ghost use Rattle.std.specs.Prelude.{◌≡◌, ⊤};
 
-use iox2_store::{
+use iox2_machine::{
     ConnectionFailure, Header, LoanError, PublisherCreateError, ReceiveError, SendError,
     SubscriberCreateError, UniquePublisherId, UniqueSubscriberId,
 };

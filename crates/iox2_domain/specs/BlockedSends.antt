@@ -5,9 +5,9 @@ use Rattle.std.specs.declared.option.Option.TheVariants.{None, Some}
 use Rattle.std.specs.declared.time.Duration.{Duration}
 use Rattle.slab.specs.Slab.{get, with_value}
 use Rattle.iox2_slots.specs.SlotBook.{Book}
-use Rattle.iox2_store.specs.machine.Numbers.{without}
-use Rattle.iox2_store.specs.machine.Records.{Entry, Environment, BlockedSend}
-use Rattle.iox2_store.specs.machine.Sends.{Retry, GiveUp, SendResult, DeliverAndConclude}
+use Rattle.iox2_machine.specs.machine.Numbers.{without}
+use Rattle.iox2_machine.specs.machine.Records.{Entry, Environment, BlockedSend}
+use Rattle.iox2_machine.specs.machine.Sends.{Retry, GiveUp, SendResult, DeliverAndConclude}
 use Rattle.iox2_ends.specs.Counters.{with_counters, one_holder_less}
 use Rattle.iox2_ends.specs.Mailboxes.{sender_ends}
 use Rattle.iox2_ends.specs.declared.sender.Progress.{Progress}

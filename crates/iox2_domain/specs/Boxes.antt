@@ -4,14 +4,14 @@ use Rattle.std.specs.List.{find}
 use Rattle.std.specs.declared.option.Option.{Option}
 use Rattle.std.specs.declared.option.Option.TheVariants.{None, Some}
 use Rattle.std.specs.Option.{option_map, option_and_then}
-use Rattle.iox2_store.specs.machine.Records.{Environment}
-use Rattle.iox2_store.specs.declared.backpressure.BackpressureAction.{BackpressureAction}
-use Rattle.iox2_store.specs.declared.backpressure.BackpressureAction.TheVariants.{FollowBackpressureyStrategy}
-use Rattle.iox2_store.specs.declared.backpressure.BackpressureInfo.{BackpressureInfo}
-use Rattle.iox2_store.specs.declared.degradation.DegradationAction.{DegradationAction}
-use Rattle.iox2_store.specs.declared.degradation.DegradationAction.TheVariants.{Warn}
-use Rattle.iox2_store.specs.declared.degradation.DegradationCause.{DegradationCause}
-use Rattle.iox2_store.specs.declared.degradation.DegradationInfo.{DegradationInfo}
+use Rattle.iox2_machine.specs.machine.Records.{Environment}
+use Rattle.iox2_machine.specs.declared.backpressure.BackpressureAction.{BackpressureAction}
+use Rattle.iox2_machine.specs.declared.backpressure.BackpressureAction.TheVariants.{FollowBackpressureyStrategy}
+use Rattle.iox2_machine.specs.declared.backpressure.BackpressureInfo.{BackpressureInfo}
+use Rattle.iox2_machine.specs.declared.degradation.DegradationAction.{DegradationAction}
+use Rattle.iox2_machine.specs.declared.degradation.DegradationAction.TheVariants.{Warn}
+use Rattle.iox2_machine.specs.declared.degradation.DegradationCause.{DegradationCause}
+use Rattle.iox2_machine.specs.declared.degradation.DegradationInfo.{DegradationInfo}
 use Rattle.iox2_domain.specs.declared.boxes.PortBox.{PortBox}
 use Rattle.iox2_domain.specs.declared.boxes.PortBoxes.{PortBoxes}
 

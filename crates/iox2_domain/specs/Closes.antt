@@ -7,7 +7,7 @@ use Rattle.std.specs.List.{sum_by}
 use Rattle.slab.specs.Slab.{Slab, get, with_value}
 use Rattle.iox2_slots.specs.Link.{Link}
 use Rattle.iox2_slots.specs.SlotBook.{Book}
-use Rattle.iox2_store.specs.machine.Places.{is_port}
+use Rattle.iox2_machine.specs.machine.Places.{is_port}
 use Rattle.iox2_ends.specs.Counters.{times, stands, with_counters}
 use Rattle.iox2_ends.specs.Leaves.{left_link, holds_slots}
 use Rattle.iox2_domain.specs.Ports.{PublisherFields, SubscriberFields}

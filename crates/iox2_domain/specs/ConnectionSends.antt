@@ -3,11 +3,11 @@ use Rattle.std.specs.Prelude.{◌≡◌, ◌≢◌, ◌⊎◌, ℕ, true, slice_
 use Rattle.std.specs.declared.option.Option.TheVariants.{Some}
 use Rattle.slab.specs.Slab.{with_value}
 use Rattle.iox2_slots.specs.SlotBook.{Book}
-use Rattle.iox2_store.specs.machine.Loans.{entry_of}
-use Rattle.iox2_store.specs.machine.Records.{Entry, Environment, Loan}
-use Rattle.iox2_store.specs.machine.Sends.{SendResult, Send_error, SendToConnection}
-use Rattle.iox2_store.specs.declared.errors.SendError.{SendError}
-use Rattle.iox2_store.specs.declared.errors.SendError.TheVariants.{UnableToDeliver}
+use Rattle.iox2_machine.specs.machine.Loans.{entry_of}
+use Rattle.iox2_machine.specs.machine.Records.{Entry, Environment, Loan}
+use Rattle.iox2_machine.specs.machine.Sends.{SendResult, Send_error, SendToConnection}
+use Rattle.iox2_machine.specs.declared.errors.SendError.{SendError}
+use Rattle.iox2_machine.specs.declared.errors.SendError.TheVariants.{UnableToDeliver}
 use Rattle.iox2_ends.specs.Deliveries.{begun}
 use Rattle.iox2_ends.specs.declared.sender.Progress.{Progress}
 use Rattle.iox2_domain.specs.declared.publisher_state.BlockedDelivery.{BlockedDelivery}

@@ -5,11 +5,11 @@ use Rattle.std.specs.declared.option.Option.TheVariants.{None, Some}
 use Rattle.std.specs.Option.{option_map}
 use Rattle.slab.specs.Slab.{get}
 use Rattle.iox2_slots.specs.Link.{Link, load}
-use Rattle.iox2_store.specs.machine.Places.{occupant}
-use Rattle.iox2_store.specs.machine.PublisherUpdate.{SenderSide, UpdateSenderPlace, connected, history_for, sender_side, with_sender_side, UpdatePublisher}
-use Rattle.iox2_store.specs.machine.Records.{Entry, Environment}
-use Rattle.iox2_store.specs.machine.State.{State, receiving_buffer, has_receiver_end}
-use Rattle.iox2_store.specs.declared.errors.ConnectionFailure.{ConnectionFailure}
+use Rattle.iox2_machine.specs.machine.Places.{occupant}
+use Rattle.iox2_machine.specs.machine.PublisherUpdate.{SenderSide, UpdateSenderPlace, connected, history_for, sender_side, with_sender_side, UpdatePublisher}
+use Rattle.iox2_machine.specs.machine.Records.{Entry, Environment}
+use Rattle.iox2_machine.specs.machine.State.{State, receiving_buffer, has_receiver_end}
+use Rattle.iox2_machine.specs.declared.errors.ConnectionFailure.{ConnectionFailure}
 use Rattle.iox2_domain.specs.Ports.{PublisherFields}
 use Rattle.iox2_domain.specs.Kept.{state_of, entries_of}
 use Rattle.iox2_domain.specs.Fields.{Fields, kept_of, publisher_of}

@@ -5,13 +5,13 @@ use Rattle.std.specs.declared.option.Option.TheVariants.{None, Some}
 use Rattle.std.specs.Option.{option_map}
 use Rattle.slab.specs.Slab.{Slab, get, with_value}
 use Rattle.circular_buffer.specs.Buffer.{Buffer, buffer, keep_last}
-use Rattle.iox2_store.specs.machine.Delivery.{DeliverIn, no_time}
+use Rattle.iox2_machine.specs.machine.Delivery.{DeliverIn, no_time}
 use Rattle.iox2_slots.specs.Link.{Link}
-use Rattle.iox2_store.specs.machine.Loans.{entry_of}
-use Rattle.iox2_store.specs.machine.Numbers.{put_at, without}
-use Rattle.iox2_store.specs.machine.Records.{Entry, Loan, Environment}
-use Rattle.iox2_store.specs.machine.Sends.{SendResult, Delivered_to, Blocked_send, Send_error, Publish}
-use Rattle.iox2_store.specs.declared.errors.SendError.TheVariants.{UnableToDeliver}
+use Rattle.iox2_machine.specs.machine.Loans.{entry_of}
+use Rattle.iox2_machine.specs.machine.Numbers.{put_at, without}
+use Rattle.iox2_machine.specs.machine.Records.{Entry, Loan, Environment}
+use Rattle.iox2_machine.specs.machine.Sends.{SendResult, Delivered_to, Blocked_send, Send_error, Publish}
+use Rattle.iox2_machine.specs.declared.errors.SendError.TheVariants.{UnableToDeliver}
 use Rattle.iox2_slots.specs.SlotBook.{Book, holders_at}
 use Rattle.iox2_slots.specs.declared.slots.mark.SlotMark.TheVariants.{Sent}
 use Rattle.iox2_ends.specs.Counters.{HoldsItself, GrowsAlone, times, with_counters, one_holder_less, one_holder_more}

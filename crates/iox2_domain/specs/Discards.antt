@@ -2,8 +2,8 @@
 use Rattle.std.specs.Prelude.{◌≡◌, ℕ, ◌-◌, slice_set}
 use Rattle.std.specs.declared.option.Option.TheVariants.{Some}
 use Rattle.slab.specs.Slab.{with_value}
-use Rattle.iox2_store.specs.machine.Loans.{loan_discarded}
-use Rattle.iox2_store.specs.machine.Records.{Loan}
+use Rattle.iox2_machine.specs.machine.Loans.{loan_discarded}
+use Rattle.iox2_machine.specs.machine.Records.{Loan}
 use Rattle.iox2_slots.specs.SlotBook.{Book, with_holders, holders_at}
 use Rattle.iox2_contents.specs.SlotContents.{with_changed, ended_content}
 use Rattle.iox2_domain.specs.Deliveries.{with_loan_out}

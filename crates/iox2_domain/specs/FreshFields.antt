@@ -1,8 +1,8 @@
 -- The fields of a new domain.
 use Rattle.std.specs.Prelude.{◌≡◌, []}
-use Rattle.iox2_store.specs.machine.Limits.{warning_limit}
-use Rattle.iox2_store.specs.machine.State.{no_warnings}
-use Rattle.iox2_store.specs.declared.service_config.ServiceConfig.{ServiceConfig}
+use Rattle.iox2_machine.specs.machine.Limits.{warning_limit}
+use Rattle.iox2_machine.specs.machine.State.{no_warnings}
+use Rattle.iox2_machine.specs.declared.service_config.ServiceConfig.{ServiceConfig}
 use Rattle.iox2_domain.specs.WarningRing.{warning_ring}
 use Rattle.iox2_domain.specs.Fields.{Fields}
 

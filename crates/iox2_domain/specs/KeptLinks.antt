@@ -5,7 +5,7 @@ use Rattle.slab.specs.Slab.{Slab, get}
 use Rattle.iox2_slots.specs.Link.{Link, channel_at}
 use Rattle.iox2_slots.specs.declared.connection.Home.{Home}
 use Rattle.std.specs.Option.{option_map}
-use Rattle.iox2_store.specs.machine.Channel.{Channel, new_channels}
+use Rattle.iox2_machine.specs.machine.Channel.{Channel, new_channels}
 
 -- A connection stands there between the same ports, with the same channels.
 pub record HasLink (connections : Slab Link) (d : Link) : Type 0 where

@@ -1,8 +1,8 @@
 -- A step midway, at which ports may leave.
 use Rattle.std.specs.Prelude.{◌≡◌, ℕ}
 use Rattle.std.specs.declared.option.Option.TheVariants.{Some}
-use Rattle.iox2_store.specs.machine.Records.{Entry}
-use Rattle.iox2_store.specs.machine.State.{State}
+use Rattle.iox2_machine.specs.machine.Records.{Entry}
+use Rattle.iox2_machine.specs.machine.State.{State}
 use Rattle.slab.specs.Slab.{get}
 use Rattle.iox2_slots.specs.Link.{Link}
 use Rattle.iox2_domain.specs.Kept.{state_of, entries_of}

@@ -2,11 +2,11 @@
 use Rattle.std.specs.Prelude.{ℕ, Bool, true, max, List, []}
 use Rattle.std.specs.declared.option.Option.{Option}
 use Rattle.circular_buffer.specs.Buffer.{Buffer}
-use Rattle.iox2_store.specs.machine.Records.{Handler}
-use Rattle.iox2_store.specs.declared.allocation.AllocationStrategy.{AllocationStrategy}
-use Rattle.iox2_store.specs.declared.backpressure.BackpressureAction.{BackpressureAction}
-use Rattle.iox2_store.specs.declared.backpressure.BackpressureStrategy.{BackpressureStrategy}
-use Rattle.iox2_store.specs.declared.degradation.DegradationAction.{DegradationAction}
+use Rattle.iox2_machine.specs.machine.Records.{Handler}
+use Rattle.iox2_machine.specs.declared.allocation.AllocationStrategy.{AllocationStrategy}
+use Rattle.iox2_machine.specs.declared.backpressure.BackpressureAction.{BackpressureAction}
+use Rattle.iox2_machine.specs.declared.backpressure.BackpressureStrategy.{BackpressureStrategy}
+use Rattle.iox2_machine.specs.declared.degradation.DegradationAction.{DegradationAction}
 use Rattle.iox2_domain.specs.declared.publisher_state.BlockedDelivery.{BlockedDelivery}
 
 pub record PublisherFields : Type 0 where

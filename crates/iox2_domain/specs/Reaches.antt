@@ -1,8 +1,8 @@
 -- What a step on the fields of a domain comes to.
 use Rattle.std.specs.Prelude.{◌≡◌, ℕ}
 use Rattle.std.specs.declared.option.Option.TheVariants.{Some}
-use Rattle.iox2_store.specs.machine.Records.{Entry}
-use Rattle.iox2_store.specs.machine.State.{State}
+use Rattle.iox2_machine.specs.machine.Records.{Entry}
+use Rattle.iox2_machine.specs.machine.State.{State}
 use Rattle.iox2_domain.specs.Kept.{state_of, entries_of}
 use Rattle.iox2_domain.specs.Fields.{Fields, kept_of}
 use Rattle.iox2_domain.specs.Invariant.{IsDomain, IsDomainBut}

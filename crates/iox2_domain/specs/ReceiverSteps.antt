@@ -6,14 +6,14 @@ use Rattle.std.specs.Option.{option_map}
 use Rattle.slab.specs.Slab.{get, with_value}
 use Rattle.iox2_slots.specs.Link.{Link}
 use Rattle.iox2_slots.specs.SlotBook.{Book}
-use Rattle.iox2_store.specs.machine.Limits.{warning_limit, expired_limit}
-use Rattle.iox2_store.specs.machine.Numbers.{without}
-use Rattle.iox2_store.specs.machine.Places.{occupant, set_place}
-use Rattle.iox2_store.specs.machine.Records.{Entry, Subscriber, Environment, Handler}
-use Rattle.iox2_store.specs.machine.State.{State, warned, has_sender_end}
-use Rattle.iox2_store.specs.machine.SubscriberUpdate.{ReceiverSide, Retirement, Refuse, retirement_of, after_retirement, is_refused, with_end, with_receiver_side, ConnectReceiver, ConnectAtPlace, DisconnectAtPlace, UpdateSubscriber}
-use Rattle.iox2_store.specs.declared.errors.ConnectionFailure.{ConnectionFailure}
-use Rattle.iox2_store.specs.declared.warning.Warning.TheVariants.{ExpiredDataDiscarded}
+use Rattle.iox2_machine.specs.machine.Limits.{warning_limit, expired_limit}
+use Rattle.iox2_machine.specs.machine.Numbers.{without}
+use Rattle.iox2_machine.specs.machine.Places.{occupant, set_place}
+use Rattle.iox2_machine.specs.machine.Records.{Entry, Subscriber, Environment, Handler}
+use Rattle.iox2_machine.specs.machine.State.{State, warned, has_sender_end}
+use Rattle.iox2_machine.specs.machine.SubscriberUpdate.{ReceiverSide, Retirement, Refuse, retirement_of, after_retirement, is_refused, with_end, with_receiver_side, ConnectReceiver, ConnectAtPlace, DisconnectAtPlace, UpdateSubscriber}
+use Rattle.iox2_machine.specs.declared.errors.ConnectionFailure.{ConnectionFailure}
+use Rattle.iox2_machine.specs.declared.warning.Warning.TheVariants.{ExpiredDataDiscarded}
 use Rattle.iox2_ends.specs.Counters.{with_counters}
 use Rattle.iox2_ends.specs.Drops.{RemovesDropped}
 use Rattle.iox2_domain.specs.WarningRing.{warning_ring}
@@ -24,7 +24,7 @@ use Rattle.iox2_domain.specs.Invariant.{IsDomain}
 use Rattle.iox2_domain.specs.KeptLinks.{ChannelsFollow}
 use Rattle.iox2_domain.specs.Midway.{with_channels_of}
 use Rattle.iox2_domain.specs.Updates.{publisher_but_room}
-use Rattle.iox2_store.specs.declared.degradation.DegradationAction.{DegradationAction}
+use Rattle.iox2_machine.specs.declared.degradation.DegradationAction.{DegradationAction}
 
 -- The subscriber, with the key from a publisher's place among the expired ones.
 abbrev pub with_expired : (place key : ℕ) → SubscriberFields → SubscriberFields

@@ -3,7 +3,7 @@ use Rattle.std.specs.Prelude.{◌≡◌, ◌≢◌, ℕ, true, map, slice_index,
 use Rattle.std.specs.declared.option.Option.TheVariants.{Some}
 use Rattle.slab.specs.Slab.{get}
 use Rattle.iox2_slots.specs.Link.{Link}
-use Rattle.iox2_store.specs.machine.Numbers.{contains}
+use Rattle.iox2_machine.specs.machine.Numbers.{contains}
 use Rattle.iox2_slots.specs.SlotBook.{Book}
 use Rattle.iox2_domain.specs.Fields.{Fields, numbers_of}
 use Rattle.iox2_domain.specs.declared.message_slots.MessageSlot.{MessageSlot}

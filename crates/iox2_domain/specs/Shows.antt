@@ -1,6 +1,6 @@
 -- Which states and messages a domain shows.
-use Rattle.iox2_store.specs.machine.State.{State, Messages}
-use Rattle.iox2_store.specs.Stored.{Stored, StoredKeepsEntries, StoredShows}
+use Rattle.iox2_machine.specs.machine.State.{State, Messages}
+use Rattle.iox2_machine.specs.Stored.{Stored, StoredKeepsEntries, StoredShows}
 use Rattle.iox2_domain.specs.Kept.{Kept, state_of, entries_of}
 
 module _ {T U F G : Type 0} where

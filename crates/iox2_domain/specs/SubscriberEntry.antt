@@ -2,11 +2,11 @@
 use Rattle.std.specs.Prelude.{ℕ, cond, nat_lt, ◌==◌}
 use Rattle.std.specs.declared.result.Result.{Result}
 use Rattle.std.specs.declared.result.Result.TheVariants.{Ok, Err}
-use Rattle.iox2_store.specs.machine.Limits.{buffer_limit, last_number}
-use Rattle.iox2_store.specs.machine.Ports.{buffer_for}
-use Rattle.iox2_store.specs.machine.Records.{SubscriberSettings}
-use Rattle.iox2_store.specs.declared.errors.SubscriberCreateError.{SubscriberCreateError}
-use Rattle.iox2_store.specs.declared.errors.SubscriberCreateError.TheVariants.{UnableToCreatePortTag, BufferSizeExceedsMaxSupportedBufferSizeOfService, ExceedsMaxSupportedSubscribers}
+use Rattle.iox2_machine.specs.machine.Limits.{buffer_limit, last_number}
+use Rattle.iox2_machine.specs.machine.Ports.{buffer_for}
+use Rattle.iox2_machine.specs.machine.Records.{SubscriberSettings}
+use Rattle.iox2_machine.specs.declared.errors.SubscriberCreateError.{SubscriberCreateError}
+use Rattle.iox2_machine.specs.declared.errors.SubscriberCreateError.TheVariants.{UnableToCreatePortTag, BufferSizeExceedsMaxSupportedBufferSizeOfService, ExceedsMaxSupportedSubscribers}
 use Rattle.iox2_domain.specs.Handlers.{handler_of}
 use Rattle.iox2_domain.specs.declared.options.SubscriberOptions.{SubscriberOptions}
 use Rattle.iox2_domain.specs.Fields.{Fields}

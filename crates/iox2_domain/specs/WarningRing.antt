@@ -1,6 +1,6 @@
 -- The warnings of a domain as they are kept: in a ring.
 use Rattle.std.specs.Prelude.{ℕ}
-use Rattle.iox2_store.specs.machine.State.{Warnings}
+use Rattle.iox2_machine.specs.machine.State.{Warnings}
 
 -- What is kept, and so many of the last warnings have room.
 pub record WarningRing : Type 0 where

@@ -1,11 +1,11 @@
 //! What a port answers where it can't make a connection.
-ghost use Rattle.iox2_store.specs.machine.Connections.{DegradationAnswers};
+ghost use Rattle.iox2_machine.specs.machine.Connections.{DegradationAnswers};
 ghost use Rattle.iox2_domain.specs.Boxes.{answers_of};
 ghost use Rattle.iox2_domain.specs.Handlers.{handler_of};
 
 use crate::boxes::Boxes;
 use crate::handlers::HandlerMark;
-use iox2_store::{
+use iox2_machine::{
     BackpressureFn, DegradationAction, DegradationCause, DegradationFn, DegradationInfo,
 };
 

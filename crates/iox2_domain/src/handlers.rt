@@ -2,7 +2,7 @@
 ghost use Rattle.iox2_domain.specs.Boxes.{BoxAnswers, box_of};
 
 use crate::boxes::Boxes;
-use iox2_store::{BackpressureAction, BackpressureFn, BackpressureInfo};
+use iox2_machine::{BackpressureAction, BackpressureFn, BackpressureInfo};
 
 /// What a port has for a handler. A box isn't in the port itself, but among the boxes of its domain.
 ///

@@ -5,8 +5,8 @@ ghost use Rattle.iox2_domain.specs.LoanSlots.{IsLoanSlot, IsInNoSlot, HasNoLoan}
 
 use crate::message_slots::MessageSlot;
 use crate::state::DomainState;
+use iox2_machine::UniquePublisherId;
 use iox2_slots::{SlotBook, SlotMark};
-use iox2_store::UniquePublisherId;
 
 /// Names a loan, and says where it is looked for first.
 #[derive(Drop)]
@@ -24,7 +24,7 @@ pub struct LoanAt {
 }
 
 impl<T: Drop, U: Default + Drop> DomainState<T, U> {
-    ghost use Rattle.iox2_store.specs.machine.SingleCalls.{HoldsLoan};
+    ghost use Rattle.iox2_machine.specs.machine.SingleCalls.{HoldsLoan};
     ghost use Rattle.iox2_domain.specs.Kept.{state_of};
     ghost use Rattle.iox2_domain.specs.Fields.{kept_of};
     ghost use Rattle.iox2_domain.specs.Invariant.{IsDomain};

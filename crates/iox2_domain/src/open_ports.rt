@@ -1,9 +1,9 @@
 //! The ports of a domain that weren't closed.
 ghost use Rattle.std.specs.Prelude.{◌↔◌, IsTrue};
-ghost use Rattle.iox2_store.specs.machine.SingleCalls.{HoldsPublisher, HoldsSubscriber};
+ghost use Rattle.iox2_machine.specs.machine.SingleCalls.{HoldsPublisher, HoldsSubscriber};
 
 use crate::state::DomainState;
-use iox2_store::{UniquePublisherId, UniqueSubscriberId};
+use iox2_machine::{UniquePublisherId, UniqueSubscriberId};
 
 impl<T: Drop, U: Default + Drop> DomainState<T, U> {
     ghost use Rattle.iox2_domain.specs.Kept.{state_of};

@@ -1,7 +1,7 @@
 //! What a port is made with.
 
 use crate::handlers::HandlerMark;
-use iox2_store::{BackpressureStrategy, DegradationAction};
+use iox2_machine::{BackpressureStrategy, DegradationAction};
 
 /// What a publisher is made with, beside the handler that answers for it at a full buffer.
 #[derive(Clone, Copy)]

@@ -5,7 +5,7 @@ ghost use Rattle.iox2_domain.specs.Placed.{placed, lowest_empty};
 
 use crate::ports::Port;
 use crate::state::DomainState;
-use iox2_store::{UniquePublisherId, UniqueSubscriberId};
+use iox2_machine::{UniquePublisherId, UniqueSubscriberId};
 use std::alloc::AllocError;
 
 /// The lowest place at which nothing stands, where it is below the limit.

@@ -5,7 +5,7 @@ ghost use Rattle.iox2_domain.specs.Handlers.{handler_of};
 ghost use Rattle.iox2_domain.specs.Updates.{changed_at, is_due_at, key_at, room_at};
 
 use crate::handlers::HandlerMark;
-use iox2_store::DegradationAction;
+use iox2_machine::DegradationAction;
 use std::alloc::AllocError;
 
 /// Names a port, and says where it is looked for first.
@@ -21,8 +21,8 @@ pub struct PortAt<I> {
 /// places of the other side's ports. It may be due for an update.
 pub trait Port {
     ghost use Rattle.std.specs.declared.option.Option.{Option};
-    ghost use Rattle.iox2_store.specs.machine.Records.{Handler};
-    ghost use Rattle.iox2_store.specs.declared.degradation.DegradationAction.{DegradationAction};
+    ghost use Rattle.iox2_machine.specs.machine.Records.{Handler};
+    ghost use Rattle.iox2_machine.specs.declared.degradation.DegradationAction.{DegradationAction};
 
     ghost number: { Self → ℕ };
 

@@ -10,11 +10,11 @@ use crate::ports::Port;
 use circular_buffer::HeapCircularBuffer;
 use iox2_ends::receiver::key_in;
 use iox2_ends::sender::Progress;
-use iox2_slots::take_slot;
-use iox2_store::{
+use iox2_machine::{
     AllocationStrategy, BackpressureAction, BackpressureHandler, BackpressureStrategy,
     DegradationAction, ServiceConfig, UniquePublisherId,
 };
+use iox2_slots::take_slot;
 use std::alloc::{AllocError, Global};
 use std::marker::Model;
 
@@ -106,7 +106,7 @@ impl PublisherState {
     ghost use Rattle.circular_buffer.specs.Buffer.{buffer};
     ghost use Rattle.iox2_domain.specs.Invariant.{HasPublisherRoom};
     ghost use Rattle.std.specs.Prelude.{true};
-    ghost use Rattle.iox2_store.specs.machine.Limits.{segment_fits};
+    ghost use Rattle.iox2_machine.specs.machine.Limits.{segment_fits};
     ghost use Rattle.iox2_domain.specs.Handlers.{handler_if_any};
     ghost use Rattle.iox2_domain.specs.NewPublisher.{entering_publisher, growing_publisher};
 

@@ -4,8 +4,8 @@ ghost use Rattle.iox2_domain.specs.SampleSlots.{HasNoneNumbered, IsNumberedSlot}
 
 use crate::message_slots::MessageSlot;
 use crate::state::DomainState;
+use iox2_machine::{UniquePublisherId, UniqueSubscriberId};
 use iox2_slots::{Connection, SlotBook};
-use iox2_store::{UniquePublisherId, UniqueSubscriberId};
 
 /// Names a message that a subscriber has borrowed, and says where it is looked for first.
 #[derive(Drop)]
@@ -82,7 +82,7 @@ fn is_last_numbered(connection: &Connection, book: &SlotBook, slot: usize, numbe
 }
 
 impl<T: Drop, U: Default + Drop> DomainState<T, U> {
-    ghost use Rattle.iox2_store.specs.machine.SingleCalls.{HoldsSample};
+    ghost use Rattle.iox2_machine.specs.machine.SingleCalls.{HoldsSample};
     ghost use Rattle.iox2_domain.specs.Kept.{state_of};
     ghost use Rattle.iox2_domain.specs.Fields.{kept_of};
     ghost use Rattle.iox2_domain.specs.Invariant.{HasNumber, IsDomain};

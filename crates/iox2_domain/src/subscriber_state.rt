@@ -1,7 +1,7 @@
 //! What a domain has of a subscriber.
 ghost use Rattle.std.specs.Prelude.{◌≡◌, ◌<◌, ◌≤◌, ℕ, None, Some, length, slice_index_or, vec_capacity, OnOk};
-ghost use Rattle.iox2_store.specs.machine.Numbers.{without};
-ghost use Rattle.iox2_store.specs.machine.Places.{vacated};
+ghost use Rattle.iox2_machine.specs.machine.Numbers.{without};
+ghost use Rattle.iox2_machine.specs.machine.Places.{vacated};
 ghost use Rattle.iox2_domain.specs.Departures.{key_forgotten};
 ghost use Rattle.iox2_domain.specs.Ports.{SubscriberFields};
 ghost use Rattle.iox2_domain.specs.ReceiverSteps.{with_expired, replacing_expired};
@@ -12,7 +12,7 @@ use crate::places::{clear_in, put_at_place, reserve_place};
 use crate::ports::Port;
 use iox2_ends::receiver::key_in;
 use iox2_ends::sender::{Receiver, ReceiverDetails};
-use iox2_store::{DegradationAction, UniqueSubscriberId};
+use iox2_machine::{DegradationAction, UniqueSubscriberId};
 use std::alloc::{AllocError, Global};
 use std::marker::Model;
 

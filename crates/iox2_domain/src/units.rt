@@ -1,9 +1,9 @@
 //! The units of elements.
 ghost use Rattle.std.specs.Prelude.{◌≡◌, ◌*◌, ◌^◌, ◌<◌, IsTrue, SomeIff};
-ghost use Rattle.iox2_store.specs.machine.Limits.{fits};
+ghost use Rattle.iox2_machine.specs.machine.Limits.{fits};
 ghost use Rattle.iox2_domain.specs.Invariant.{lists_wanted};
 
-use iox2_store::ServiceConfig;
+use iox2_machine::ServiceConfig;
 
 /// How many units so many elements have.
 #[inline(always)]

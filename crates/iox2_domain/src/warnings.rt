@@ -1,12 +1,12 @@
 //! The warnings of a domain.
 ghost use Rattle.std.specs.Prelude.{◌≡◌, IfOk};
 ghost use Rattle.circular_buffer.specs.Buffer.{buffer};
-ghost use Rattle.iox2_store.specs.machine.Limits.{warning_limit};
-ghost use Rattle.iox2_store.specs.machine.State.{no_warnings, refusal_counted, warned};
+ghost use Rattle.iox2_machine.specs.machine.Limits.{warning_limit};
+ghost use Rattle.iox2_machine.specs.machine.State.{no_warnings, refusal_counted, warned};
 ghost use Rattle.iox2_domain.specs.WarningRing.{warning_ring};
 
 use circular_buffer::HeapCircularBuffer;
-use iox2_store::Warning;
+use iox2_machine::Warning;
 use std::alloc::{AllocError, Global};
 use std::marker::Model;
 

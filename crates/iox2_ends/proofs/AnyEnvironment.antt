@@ -2,13 +2,13 @@
 use Rattle.std.proofs.Common.{ℕ, ◌+◌, ◌||◌, Bool, true, false, List, [], ◌∷◌, Option, None, Some}
 use Rattle.std.specs.Bool.{MatchBool}
 use Rattle.std.specs.declared.time.Duration.{Duration}
-use Rattle.iox2_store.specs.machine.Mailbox.{Mailbox, has_room_in}
-use Rattle.iox2_store.specs.machine.Records.{Handler, Fixed, Custom, Environment}
-use Rattle.iox2_store.specs.machine.Delivery.{PutResult, DeliveryEnd, is_blocking, is_failed, accepted_count, no_time, Decides, PutIn, PutAtEndIn, DeliverIn}
-use Rattle.iox2_store.specs.declared.service_config.ServiceConfig.{ServiceConfig}
-use Rattle.iox2_store.specs.declared.backpressure.BackpressureAction.{BackpressureAction}
-use Rattle.iox2_store.specs.declared.backpressure.BackpressureInfo.{BackpressureInfo}
-use Rattle.iox2_store.specs.declared.backpressure.BackpressureStrategy.{BackpressureStrategy}
+use Rattle.iox2_machine.specs.machine.Mailbox.{Mailbox, has_room_in}
+use Rattle.iox2_machine.specs.machine.Records.{Handler, Fixed, Custom, Environment}
+use Rattle.iox2_machine.specs.machine.Delivery.{PutResult, DeliveryEnd, is_blocking, is_failed, accepted_count, no_time, Decides, PutIn, PutAtEndIn, DeliverIn}
+use Rattle.iox2_machine.specs.declared.service_config.ServiceConfig.{ServiceConfig}
+use Rattle.iox2_machine.specs.declared.backpressure.BackpressureAction.{BackpressureAction}
+use Rattle.iox2_machine.specs.declared.backpressure.BackpressureInfo.{BackpressureInfo}
+use Rattle.iox2_machine.specs.declared.backpressure.BackpressureStrategy.{BackpressureStrategy}
 
 -- Where a handler is a box, it may answer in the one environment as in the other.
 abbrev pub AllowsAsMuch : Environment → Environment → (p : ℕ) → Option (Handler BackpressureAction) → Type 0

@@ -7,15 +7,15 @@ use Rattle.std.specs.Option.{option_map, option_and_then}
 use Rattle.std.specs.Prelude.{IsSomeAnd}
 use Rattle.slab.specs.Slab.{Slab, get, with_value, ContainsKey}
 use Rattle.iox2_slots.specs.Link.{Link, slots_in, with_slots_in, is_shut_in, IsPut}
-use Rattle.iox2_store.specs.machine.Channel.{Channel, is_closed}
-use Rattle.iox2_store.specs.machine.Mailbox.{Mailbox, waiting_in, with_waiting_in, has_room_in}
-use Rattle.iox2_store.specs.machine.Records.{Environment}
-use Rattle.iox2_store.specs.machine.Delivery.{PutResult, Skipped, DeliveryEnd, PutIn, is_blocking, is_failed, accepted_count}
-use Rattle.iox2_store.specs.declared.service_config.ServiceConfig.{ServiceConfig}
+use Rattle.iox2_machine.specs.machine.Channel.{Channel, is_closed}
+use Rattle.iox2_machine.specs.machine.Mailbox.{Mailbox, waiting_in, with_waiting_in, has_room_in}
+use Rattle.iox2_machine.specs.machine.Records.{Environment}
+use Rattle.iox2_machine.specs.machine.Delivery.{PutResult, Skipped, DeliveryEnd, PutIn, is_blocking, is_failed, accepted_count}
+use Rattle.iox2_machine.specs.declared.service_config.ServiceConfig.{ServiceConfig}
 use Rattle.iox2_slots.specs.declared.connection.Home.{Home}
 use Rattle.iox2_slots.specs.declared.connection.PutOutcome.{PutOutcome}
 use Rattle.iox2_slots.specs.declared.connection.PutOutcome.TheVariants.{Taken, Overwrote, Full}
-use Rattle.iox2_store.specs.declared.backpressure_handler.BackpressureHandler.{BackpressureHandler}
+use Rattle.iox2_machine.specs.declared.backpressure_handler.BackpressureHandler.{BackpressureHandler}
 use Rattle.iox2_ends.specs.declared.sender.ReceiverDetails.{ReceiverDetails}
 use Rattle.iox2_ends.specs.declared.sender.Delivery.{Delivery}
 use Rattle.iox2_ends.specs.declared.sender.Reception.{Reception}

@@ -5,7 +5,7 @@ use Rattle.std.specs.Prelude.{IsSomeAnd}
 use Rattle.slab.specs.Slab.{Slab, ContainsKey, get, Updates, with_value}
 use Rattle.iox2_slots.specs.SlotBook.{Book}
 use Rattle.iox2_slots.specs.Link.{Link, other_slots, IsDropped, IsOtherDropped, borrowed_alone}
-use Rattle.iox2_store.specs.machine.Mailbox.{Mailbox, ChannelNumber, waiting_dropped}
+use Rattle.iox2_machine.specs.machine.Mailbox.{Mailbox, ChannelNumber, waiting_dropped}
 use Rattle.iox2_ends.specs.Mailboxes.{mailbox_of, mailboxes_of, with_box}
 use Rattle.iox2_ends.specs.Homes.{IsApart, fixed_of}
 use Rattle.iox2_ends.specs.Counters.{times, stands_in, one_holder_less, with_counters}

@@ -7,7 +7,7 @@ use Rattle.circular_buffer.proofs.Places.{slice_get-some}
 use Rattle.std.specs.declared.option.Option.TheVariants.{None, Some}
 use Rattle.iox2_slots.specs.Link.{Link}
 use Rattle.iox2_slots.specs.SlotBook.{Book, holders_at}
-use Rattle.iox2_store.specs.machine.Numbers.{last_n}
+use Rattle.iox2_machine.specs.machine.Numbers.{last_n}
 use Rattle.iox2_ends.specs.Counters.{times, with_counters, one_holder_more}
 use Rattle.iox2_ends.proofs.Counts.{one_if, one_if_same, in_range, get_or-one_holder_more}
 use Rattle.iox2_ends.proofs.SplitLists.{split-at, times-split}

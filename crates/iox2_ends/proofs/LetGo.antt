@@ -4,8 +4,8 @@ use Rattle.std.proofs.lemmas.List.{length-set}
 use Rattle.std.specs.Prelude.{IsSomeAnd}
 use Rattle.slab.specs.Slab.{Slab, get, with_value}
 use Rattle.iox2_slots.specs.Link.{Link, without_borrowed}
-use Rattle.iox2_store.specs.machine.Mailbox.{Mailbox, with_released}
-use Rattle.iox2_store.specs.machine.Numbers.{contains, IsOnce}
+use Rattle.iox2_machine.specs.machine.Mailbox.{Mailbox, with_released}
+use Rattle.iox2_machine.specs.machine.Numbers.{contains, IsOnce}
 use Rattle.iox2_ends.specs.Counters.{one_holder_less}
 use Rattle.iox2_ends.specs.Homes.{IsApart}
 use Rattle.iox2_ends.specs.Mailboxes.{mailbox_of, mailboxes_of, with_box}

@@ -5,8 +5,8 @@ use Rattle.std.proofs.lemmas.List.{get_or-set_same, get_or-set_other, get_or_pas
 use Rattle.std.specs.Option.{option_map}
 use Rattle.slab.specs.Slab.{Slab, get, Updates, with_value}
 use Rattle.iox2_slots.specs.Link.{Link, channel_at}
-use Rattle.iox2_store.specs.machine.Channel.{Channel}
-use Rattle.iox2_store.specs.machine.Numbers.{put_at}
+use Rattle.iox2_machine.specs.machine.Channel.{Channel}
+use Rattle.iox2_machine.specs.machine.Numbers.{put_at}
 use Rattle.iox2_slots.specs.declared.connection.Home.{Home}
 use Rattle.iox2_ends.specs.LookUp.{look_up}
 use Rattle.iox2_ends.specs.Mailboxes.{is_between, mailbox_of, mailbox_if_any, mailboxes_of, channels_if_any, channels_in, with_box}

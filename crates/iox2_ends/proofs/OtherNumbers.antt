@@ -4,7 +4,7 @@ use Rattle.std.proofs.lemmas.List.{map-append}
 use Rattle.std.proofs.lemmas.List.Sums.{sum_by-append, sum_by-cons}
 use Rattle.std.specs.List.{filter}
 use Rattle.iox2_slots.specs.Link.{Link, slots_in, with_slots_in}
-use Rattle.iox2_store.specs.machine.Mailbox.{Mailbox, ChannelNumber, with_numbers_of, waiting_in, with_waiting_in}
+use Rattle.iox2_machine.specs.machine.Mailbox.{Mailbox, ChannelNumber, with_numbers_of, waiting_in, with_waiting_in}
 use Rattle.iox2_ends.specs.Mailboxes.{numbered, mailbox_of}
 use Rattle.iox2_ends.specs.Counters.{times, stands_in}
 

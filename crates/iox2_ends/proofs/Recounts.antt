@@ -3,7 +3,7 @@ use Rattle.std.proofs.Common.{◌≡◌, ℕ, ◌+◌, ◌<◌, ◌≤◌, List,
 use Rattle.std.proofs.lemmas.Bool.{cases_eq}
 use Rattle.slab.specs.Slab.{Slab, get, Updates, with_value}
 use Rattle.iox2_slots.specs.Link.{Link, IsPut}
-use Rattle.iox2_store.specs.machine.Channel.{Channel}
+use Rattle.iox2_machine.specs.machine.Channel.{Channel}
 use Rattle.iox2_slots.specs.declared.connection.Home.{Home}
 use Rattle.iox2_slots.specs.declared.connection.PutOutcome.{PutOutcome}
 use Rattle.iox2_slots.specs.declared.connection.PutOutcome.TheVariants.{Taken, Overwrote, Full}

@@ -1,9 +1,9 @@
 -- A slot that is taken out of a list in which it stands once, and its number.
 use Rattle.std.proofs.Common.{◌≡◌, ℕ, ◌+◌, Bool, true, false, List, [], ◌∷◌, map, refl, sym, ap, ◌∙◌, arith, eqb, ⊎_elim}
 use Rattle.std.proofs.lemmas.Bool.{eqb-true, eq-eqb, true≢false, false_from_ne_true, or_cases, or_left, or_right, ne_eqb}
-use Rattle.iox2_store.specs.machine.Numbers.{contains, without, IsOnce}
+use Rattle.iox2_machine.specs.machine.Numbers.{contains, without, IsOnce}
 use Rattle.iox2_slots.specs.Link.{Link, with_returned}
-use Rattle.iox2_store.specs.machine.Mailbox.{Mailbox, with_released}
+use Rattle.iox2_machine.specs.machine.Mailbox.{Mailbox, with_released}
 use Rattle.iox2_slots.proofs.LinkLemmas.{without-absent}
 use Rattle.iox2_ends.specs.Mailboxes.{numbered, mailbox_of}
 use Rattle.iox2_ends.specs.Counters.{times, stands_in}

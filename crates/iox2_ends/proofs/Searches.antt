@@ -9,11 +9,11 @@ use Rattle.std.specs.List.{list_any}
 use Rattle.std.specs.Option.{ForSome}
 use Rattle.slab.specs.Slab.{Slab, get}
 use Rattle.iox2_slots.specs.Link.{Link, has_slots, can_borrow}
-use Rattle.iox2_store.specs.machine.Numbers.{is_nil, contains}
-use Rattle.iox2_store.specs.machine.Places.{occupants}
-use Rattle.iox2_store.specs.machine.Mailbox.{Mailbox, has_data, can_receive}
-use Rattle.iox2_store.specs.machine.Records.{Subscriber}
-use Rattle.iox2_store.specs.machine.Receives.{can_receive_of}
+use Rattle.iox2_machine.specs.machine.Numbers.{is_nil, contains}
+use Rattle.iox2_machine.specs.machine.Places.{occupants}
+use Rattle.iox2_machine.specs.machine.Mailbox.{Mailbox, has_data, can_receive}
+use Rattle.iox2_machine.specs.machine.Records.{Subscriber}
+use Rattle.iox2_machine.specs.machine.Receives.{can_receive_of}
 use Rattle.iox2_ends.specs.Mailboxes.{mailbox_of, mailboxes_of, receiver_ends}
 use Rattle.iox2_ends.specs.Homes.{IsApart}
 use Rattle.iox2_ends.specs.Finds.{is_something, offer_of, offer_at, first_found, search, IsReceivers, IsReceiverLinked, FindsFor, Finds}

@@ -4,16 +4,16 @@ use Rattle.std.specs.declared.option.Option.{Option}
 use Rattle.std.specs.declared.time.Duration.{Duration}
 use Rattle.slab.specs.Slab.{Slab}
 use Rattle.iox2_slots.specs.Link.{Link}
-use Rattle.iox2_store.specs.machine.Mailbox.{Mailbox}
-use Rattle.iox2_store.specs.machine.Records.{Environment}
-use Rattle.iox2_store.specs.machine.Delivery.{PutResult, Accepted, Skipped, Failed, Would_block, DeliveryEnd, Complete, Suspended, Decides, no_time, PutAtEndIn, DeliverIn}
-use Rattle.iox2_store.specs.declared.service_config.ServiceConfig.{ServiceConfig}
+use Rattle.iox2_machine.specs.machine.Mailbox.{Mailbox}
+use Rattle.iox2_machine.specs.machine.Records.{Environment}
+use Rattle.iox2_machine.specs.machine.Delivery.{PutResult, Accepted, Skipped, Failed, Would_block, DeliveryEnd, Complete, Suspended, Decides, no_time, PutAtEndIn, DeliverIn}
+use Rattle.iox2_machine.specs.declared.service_config.ServiceConfig.{ServiceConfig}
 use Rattle.iox2_slots.specs.declared.connection.PutOutcome.{PutOutcome}
 use Rattle.iox2_slots.specs.declared.connection.PutOutcome.TheVariants.{Taken, Overwrote, Full}
 use Rattle.iox2_ends.specs.Handlers.{marks_of}
 use Rattle.iox2_ends.specs.Mailboxes.{mailboxes_of, subscriber_of_key, sender_ends}
 use Rattle.iox2_ends.specs.Receivers.{taking_buffers}
-use Rattle.iox2_store.specs.declared.backpressure_handler.BackpressureHandler.{BackpressureHandler}
+use Rattle.iox2_machine.specs.declared.backpressure_handler.BackpressureHandler.{BackpressureHandler}
 use Rattle.iox2_ends.specs.declared.sender.ReceiverDetails.{ReceiverDetails}
 use Rattle.iox2_ends.specs.declared.sender.Progress.{Progress}
 use Rattle.iox2_ends.specs.declared.sender.Delivery.{Delivery}

@@ -3,7 +3,7 @@ use Rattle.std.specs.Prelude.{◌≡◌, ℕ, ◌+◌, ◌≤◌, List, [], leng
 use Rattle.std.specs.declared.option.Option.TheVariants.{None, Some}
 use Rattle.slab.specs.Slab.{Slab, Updates, get, with_value}
 use Rattle.iox2_slots.specs.Link.{Link, borrowed_alone}
-use Rattle.iox2_store.specs.machine.Mailbox.{waiting_dropped}
+use Rattle.iox2_machine.specs.machine.Mailbox.{waiting_dropped}
 use Rattle.iox2_ends.specs.Mailboxes.{mailboxes_of, with_box}
 use Rattle.iox2_ends.specs.Counters.{stands_in}
 use Rattle.iox2_ends.specs.Recounts.{Recounts}

@@ -4,11 +4,11 @@ use Rattle.std.specs.declared.option.Option.{Option}
 use Rattle.std.specs.declared.option.Option.TheVariants.{None, Some}
 use Rattle.slab.specs.Slab.{Slab, get, ContainsKey}
 use Rattle.iox2_slots.specs.Link.{Link, has_slots, can_borrow}
-use Rattle.iox2_store.specs.machine.Places.{occupants}
-use Rattle.iox2_store.specs.machine.Mailbox.{Mailbox}
-use Rattle.iox2_store.specs.machine.Records.{Subscriber}
-use Rattle.iox2_store.specs.machine.State.{connected_publishers}
-use Rattle.iox2_store.specs.machine.Receives.{has_any_data, can_receive_of, MayReceiveFrom}
+use Rattle.iox2_machine.specs.machine.Places.{occupants}
+use Rattle.iox2_machine.specs.machine.Mailbox.{Mailbox}
+use Rattle.iox2_machine.specs.machine.Records.{Subscriber}
+use Rattle.iox2_machine.specs.machine.State.{connected_publishers}
+use Rattle.iox2_machine.specs.machine.Receives.{has_any_data, can_receive_of, MayReceiveFrom}
 use Rattle.iox2_ends.specs.Mailboxes.{mailboxes_of, receiver_ends}
 use Rattle.iox2_ends.specs.Homes.{IsApart}
 use Rattle.iox2_ends.specs.declared.receiver.Found.{Found}

@@ -2,13 +2,13 @@
 use Rattle.std.specs.declared.option.Option.{Option}
 use Rattle.std.specs.Option.{option_map}
 use Rattle.std.specs.declared.option.Option.TheVariants.{None, Some}
-use Rattle.iox2_store.specs.machine.Records.{Handler, Environment}
-use Rattle.iox2_store.specs.machine.Records as machine
-use Rattle.iox2_store.specs.BackpressureHandlers.{MayAnswer}
-use Rattle.iox2_store.specs.declared.backpressure.BackpressureAction.{BackpressureAction}
-use Rattle.iox2_store.specs.declared.backpressure.BackpressureInfo.{BackpressureInfo}
-use Rattle.iox2_store.specs.declared.backpressure_handler.BackpressureHandler.{BackpressureHandler}
-use Rattle.iox2_store.specs.declared.backpressure_handler.BackpressureHandler.TheVariants.{Fixed, Custom}
+use Rattle.iox2_machine.specs.machine.Records.{Handler, Environment}
+use Rattle.iox2_machine.specs.machine.Records as machine
+use Rattle.iox2_machine.specs.BackpressureHandlers.{MayAnswer}
+use Rattle.iox2_machine.specs.declared.backpressure.BackpressureAction.{BackpressureAction}
+use Rattle.iox2_machine.specs.declared.backpressure.BackpressureInfo.{BackpressureInfo}
+use Rattle.iox2_machine.specs.declared.backpressure_handler.BackpressureHandler.{BackpressureHandler}
+use Rattle.iox2_machine.specs.declared.backpressure_handler.BackpressureHandler.TheVariants.{Fixed, Custom}
 
 module _ {F : Type 0} where
   -- The machine's mark of a handler.

@@ -1,7 +1,7 @@
 -- A publisher that leaves lets go of its slots.
 use Rattle.std.specs.Prelude.{◌≡◌, ℕ, Bool, cond, not, ◌+◌, ◌&&◌, List, [], length, slice_index}
 use Rattle.iox2_slots.specs.Link.{Link, other_slots}
-use Rattle.iox2_store.specs.machine.Numbers.{is_nil}
+use Rattle.iox2_machine.specs.machine.Numbers.{is_nil}
 use Rattle.iox2_ends.specs.Counters.{times, stands_in}
 
 -- The connection, in which what waits is lost but where it is awaited, and what was given back is reclaimed.

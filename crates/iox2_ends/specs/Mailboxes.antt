@@ -5,9 +5,9 @@ use Rattle.std.specs.declared.option.Option.TheVariants.{None, Some}
 use Rattle.std.specs.Option.{option_map, option_and_then}
 use Rattle.slab.specs.Slab.{Slab, get}
 use Rattle.iox2_slots.specs.Link.{Link, channel_at}
-use Rattle.iox2_store.specs.machine.Channel.{Channel, new_channels}
-use Rattle.iox2_store.specs.machine.Mailbox.{Mailbox, ChannelNumber, empty_mailbox}
-use Rattle.iox2_store.specs.machine.Numbers.{put_at}
+use Rattle.iox2_machine.specs.machine.Channel.{Channel, new_channels}
+use Rattle.iox2_machine.specs.machine.Mailbox.{Mailbox, ChannelNumber, empty_mailbox}
+use Rattle.iox2_machine.specs.machine.Numbers.{put_at}
 use Rattle.iox2_ends.specs.LookUp.{look_up}
 
 -- The connection stands between these two ports.

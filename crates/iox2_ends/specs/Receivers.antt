@@ -5,7 +5,7 @@ use Rattle.std.specs.declared.option.Option.TheVariants.{None, Some}
 use Rattle.std.specs.Option.{option_and_then}
 use Rattle.slab.specs.Slab.{Slab, get}
 use Rattle.iox2_slots.specs.Link.{Link, is_shut_in}
-use Rattle.iox2_store.specs.machine.Channel.{is_closed}
+use Rattle.iox2_machine.specs.machine.Channel.{is_closed}
 use Rattle.iox2_ends.specs.LookUp.{look_up, IsOnly}
 use Rattle.iox2_ends.specs.Mailboxes.{channels_in}
 use Rattle.iox2_ends.specs.Homes.{IsApart, IsSenderLinked}

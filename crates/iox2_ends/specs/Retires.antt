@@ -4,7 +4,7 @@ use Rattle.std.specs.declared.option.Option.{Option}
 use Rattle.std.specs.declared.option.Option.TheVariants.{None, Some}
 use Rattle.slab.specs.Slab.{Slab, get}
 use Rattle.iox2_slots.specs.Link.{Link}
-use Rattle.iox2_store.specs.machine.Numbers.{is_nil}
+use Rattle.iox2_machine.specs.machine.Numbers.{is_nil}
 use Rattle.iox2_ends.specs.declared.retirement.Retirement.{Retirement}
 use Rattle.iox2_ends.specs.declared.retirement.Retirement.TheVariants.{KeepExpired, Evict, DiscardData, Refuse}
 

@@ -3,7 +3,7 @@ ghost use Rattle.std.specs.Prelude.{◌≡◌, None, Some, map, slice_index_or, 
 ghost use Rattle.std.specs.Option.{ForSome};
 ghost use Rattle.slab.specs.Slab.{get, ContainsKey};
 ghost use Rattle.iox2_slots.specs.Link.{can_borrow, with_returned, without_borrowed};
-ghost use Rattle.iox2_store.specs.machine.Numbers.{IsOnce};
+ghost use Rattle.iox2_machine.specs.machine.Numbers.{IsOnce};
 ghost use Rattle.iox2_slots.specs.SlotBook.{IsInUse};
 ghost use Rattle.iox2_ends.specs.Counters.{one_holder_less, with_counters};
 ghost use Rattle.iox2_ends.specs.Recounts.{Recounts};
@@ -12,8 +12,8 @@ ghost use Rattle.iox2_ends.specs.Finds.{offer_at, offer_of, search, is_something
 ghost use Rattle.iox2_ends.specs.declared.receiver.Found.{Found};
 ghost use Rattle.iox2_ends.specs.Takes.{KeepsOtherKeys, KeepsReturned, SameStands, BorrowsSlot, ReceivesSlot, ReleasesSlot};
 
+use iox2_machine::ReceiveError;
 use iox2_slots::{Connection, Home, SlotBook};
-use iox2_store::ReceiveError;
 use slab::Slab;
 
 /// A message that was taken from a connection.

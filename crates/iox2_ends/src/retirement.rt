@@ -1,7 +1,7 @@
 //! What becomes of a departed publisher's connection, whose place at a subscriber is needed.
 ghost use Rattle.std.specs.Prelude.{◌≡◌, ℕ, true};
 ghost use Rattle.slab.specs.Slab.{get, ContainsKey};
-ghost use Rattle.iox2_store.specs.machine.Numbers.{contains};
+ghost use Rattle.iox2_machine.specs.machine.Numbers.{contains};
 ghost use Rattle.iox2_ends.specs.Retires.{has_borrowed, first_unborrowed, chosen};
 
 use iox2_slots::Connection;

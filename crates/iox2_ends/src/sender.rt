@@ -2,10 +2,10 @@
 ghost use Rattle.std.specs.Prelude.{◌≡◌, ℕ, ◌+◌, ◌≤◌, ◌<◌, ◌^◌, [], ◌∷◌, ◌++◌, true, None, Some, length, slice_index_or, IsSomeAnd, map};
 ghost use Rattle.std.specs.Option.{option_map};
 ghost use Rattle.iox2_slots.specs.Link.{load, IsBounded};
-ghost use Rattle.iox2_store.specs.declared.backpressure.BackpressureAction.{BackpressureAction};
+ghost use Rattle.iox2_machine.specs.declared.backpressure.BackpressureAction.{BackpressureAction};
 ghost use Rattle.iox2_slots.specs.SlotBook.{holders_at, IsInUse};
-ghost use Rattle.iox2_store.specs.machine.Numbers.{last_n};
-ghost use Rattle.iox2_store.specs.machine.Delivery.{by_action, is_blocking, is_failed, accepted_count};
+ghost use Rattle.iox2_machine.specs.machine.Numbers.{last_n};
+ghost use Rattle.iox2_machine.specs.machine.Delivery.{by_action, is_blocking, is_failed, accepted_count};
 ghost use Rattle.slab.specs.Slab.{get};
 ghost use Rattle.iox2_ends.specs.Homes.{IsApart, IsSenderLinked};
 ghost use Rattle.iox2_ends.specs.Receivers.{is_open_at, takes_at, HasReclaimed, HaveChannel, IsReadyToDeliver};
@@ -18,11 +18,11 @@ ghost use Rattle.iox2_ends.specs.Deliveries.{result_of, Answers, ComesTo, PutsSl
 
 use crate::drops;
 use circular_buffer::HeapCircularBuffer;
-use iox2_slots::{Connection, PutOutcome, SlotBook};
-use iox2_store::{
+use iox2_machine::{
     BackpressureAction, BackpressureFn, BackpressureHandler, BackpressureInfo,
     BackpressureStrategy, ServiceConfig,
 };
+use iox2_slots::{Connection, PutOutcome, SlotBook};
 use slab::Slab;
 use std::time::Duration;
 

@@ -9,7 +9,7 @@ use Rattle.std.specs.Prelude.{◌↔◌, IsSome, IsNone, IsSomeAnd}
 use Rattle.slab.specs.Slab.{Slab, get, Updates}
 use Rattle.iox2_slots.specs.Link.{Link, empty_link}
 use Rattle.iox2_slots.specs.declared.connection.Home.{Home}
-use Rattle.iox2_store.specs.machine.Channel.{Channel}
+use Rattle.iox2_machine.specs.machine.Channel.{Channel}
 use Rattle.iox2_ends.specs.Counters.{stands, IsCovered, HoldsItself}
 use Rattle.iox2_ends.specs.Homes.{SameHomes, fixed_of}
 

@@ -2,10 +2,10 @@ use iox2_ends::receiver::{has_samples, receive, release};
 use iox2_ends::sender::{
     Delivery, DeliveryOutcome, Progress, ReceiverDetails, deliver, drop_all, reclaim_all,
 };
-use iox2_slots::{Connection, Home, SlotBook};
-use iox2_store::{
+use iox2_machine::{
     BackpressureHandler, BackpressureStrategy, ServiceConfig, UniqueNodeId, UniquePublisherId,
 };
+use iox2_slots::{Connection, Home, SlotBook};
 use slab::Slab;
 use std::test::Fail;
 use std::time::Duration;

@@ -5,11 +5,11 @@ ghost use Rattle.iox2_ends.specs.Deliveries.{begun};
 
 use iox2_ends::sender::{Delivery, DeliveryOutcome, Progress, ReceiverDetails, deliver};
 use iox2_handler_fixtures::Patience;
-use iox2_slots::{Connection, Home, SlotBook};
-use iox2_store::{
+use iox2_machine::{
     BackpressureAction, BackpressureFn, BackpressureHandler, BackpressureStrategy, ServiceConfig,
     UniqueNodeId, UniquePublisherId,
 };
+use iox2_slots::{Connection, Home, SlotBook};
 use slab::Slab;
 use std::alloc::{AllocError, Global};
 use std::test::Fail;

@@ -2,15 +2,15 @@
 #![tactic(auto)]
 
 ghost use Rattle.std.specs.Prelude.{◌≡◌, IsTrue, None, false};
-ghost use Rattle.iox2_store.specs.Defaults.{default_config};
-ghost use Rattle.iox2_store.specs.declared.degradation.DegradationAction.TheVariants.{Warn};
-ghost use Rattle.iox2_store.specs.machine.Records.{Fixed};
-ghost use Rattle.iox2_store.specs.declared.service_config.TypeVariant.TheVariants.{Dynamic};
+ghost use Rattle.iox2_machine.specs.Defaults.{default_config};
+ghost use Rattle.iox2_machine.specs.declared.degradation.DegradationAction.TheVariants.{Warn};
+ghost use Rattle.iox2_machine.specs.machine.Records.{Fixed};
+ghost use Rattle.iox2_machine.specs.declared.service_config.TypeVariant.TheVariants.{Dynamic};
 ghost use Rattle.iox2_pubsub.specs.Live.{IsLivePublisher, IsLiveSubscriber, IsReadyPublisher, IsSingleValued, Stays};
 ghost use Rattle.iox2_pubsub.specs.Slices.{HoldsSlices, IsSliced};
 
+use iox2_machine::{BackpressureStrategy, Key, ReceiveError, ServiceConfig, TypeVariant};
 use iox2_pubsub::{Domain, PortFactoryPublisher, Publisher, SendOutcome, Subscriber, slice};
-use iox2_store::{BackpressureStrategy, Key, ReceiveError, ServiceConfig, TypeVariant};
 use std::io;
 use std::time::{CpuClock, Duration};
 

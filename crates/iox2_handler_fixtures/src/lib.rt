@@ -2,9 +2,9 @@
 #![tactic(auto)]
 
 ghost use Rattle.std.specs.Prelude.{◌≡◌, cond, nat_lt};
-ghost use Rattle.iox2_store.specs.declared.backpressure.BackpressureAction.TheVariants.{Retry};
+ghost use Rattle.iox2_machine.specs.declared.backpressure.BackpressureAction.TheVariants.{Retry};
 
-use iox2_store::{
+use iox2_machine::{
     BackpressureAction, BackpressureFn, BackpressureInfo, DegradationAction, DegradationCause,
     DegradationFn, DegradationInfo,
 };

@@ -3,11 +3,11 @@ use Rattle.std.proofs.Common.{◌≡◌, ℕ, le_refl, ◌≤◌, ◌<◌, true,
 use Rattle.std.specs.Option.{MatchOption, option_map}
 use Rattle.std.proofs.lemmas.Bool.{eqb-true, ne_eqb}
 use Rattle.std.proofs.lemmas.Option.{none-some, same_Some}
-use Rattle.iox2_store.specs.machine.Numbers.{put_at, contains}
-use Rattle.iox2_store.specs.machine.Mailbox.{Mailbox, numbers_in, has_numbers, has_borrows}
-use Rattle.iox2_store.specs.machine.Records.{Loan, Publisher}
-use Rattle.iox2_store.specs.machine.State.{State}
-use Rattle.iox2_store.specs.machine.WellFormed.{LeadsTo, publisher_place, PublisherIsWellFormed, MailboxIsWellFormed, LoanIsWellFormed, IsWellFormed}
+use Rattle.iox2_machine.specs.machine.Numbers.{put_at, contains}
+use Rattle.iox2_machine.specs.machine.Mailbox.{Mailbox, numbers_in, has_numbers, has_borrows}
+use Rattle.iox2_machine.specs.machine.Records.{Loan, Publisher}
+use Rattle.iox2_machine.specs.machine.State.{State}
+use Rattle.iox2_machine.specs.machine.WellFormed.{LeadsTo, publisher_place, PublisherIsWellFormed, MailboxIsWellFormed, LoanIsWellFormed, IsWellFormed}
 use Rattle.iox2_laws.proofs.NumberLemmas.{contains_in_append, contains_left, contains_right}
 use Rattle.iox2_laws.proofs.PortChanges.{FewerNumbers, publisher_in, subscriber_in, mailbox_in, loan_in}
 use Rattle.iox2_laws.proofs.Puts.{put_at-same, put_at-other, at_each, found_put}

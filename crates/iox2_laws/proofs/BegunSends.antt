@@ -2,15 +2,15 @@
 use Rattle.std.proofs.Common.{◌≡◌, ◌<◌, ◌≤◌, ℕ, false, drop, take, refl, sym, ap, subst, ◌∙◌, arith, inl, Option, None, Some}
 use Rattle.std.specs.Option.{option_map}
 use Rattle.std.proofs.lemmas.Option.{same_Some}
-use Rattle.iox2_store.specs.machine.Limits.{channel_count}
-use Rattle.iox2_store.specs.machine.Numbers.{put_at, without}
-use Rattle.iox2_store.specs.machine.Places.{occupant}
-use Rattle.iox2_store.specs.machine.Mailbox.{Mailbox}
-use Rattle.iox2_store.specs.machine.Records.{Loan, Publisher, BlockedSend, Environment}
-use Rattle.iox2_store.specs.machine.State.{State, channel_buffer, with_loan}
-use Rattle.iox2_store.specs.machine.Delivery.{DeliverIn, DeliveryEnd, Complete, Suspended, no_time}
-use Rattle.iox2_store.specs.machine.Sends.{SendResult, ConcludeSend, send_blocked, with_mailboxes, DeliverAndConclude, SendToConnection}
-use Rattle.iox2_store.specs.machine.WellFormed.{IsWellFormed}
+use Rattle.iox2_machine.specs.machine.Limits.{channel_count}
+use Rattle.iox2_machine.specs.machine.Numbers.{put_at, without}
+use Rattle.iox2_machine.specs.machine.Places.{occupant}
+use Rattle.iox2_machine.specs.machine.Mailbox.{Mailbox}
+use Rattle.iox2_machine.specs.machine.Records.{Loan, Publisher, BlockedSend, Environment}
+use Rattle.iox2_machine.specs.machine.State.{State, channel_buffer, with_loan}
+use Rattle.iox2_machine.specs.machine.Delivery.{DeliverIn, DeliveryEnd, Complete, Suspended, no_time}
+use Rattle.iox2_machine.specs.machine.Sends.{SendResult, ConcludeSend, send_blocked, with_mailboxes, DeliverAndConclude, SendToConnection}
+use Rattle.iox2_machine.specs.machine.WellFormed.{IsWellFormed}
 use Rattle.iox2_laws.proofs.Cases.{by_option, match_some}
 use Rattle.iox2_laws.proofs.Puts.{put_at-own, put_at-same, put_at-twice}
 use Rattle.iox2_laws.proofs.DeliveryLaws.{Delivered, blocked_keeps}

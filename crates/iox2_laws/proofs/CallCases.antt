@@ -3,17 +3,17 @@ use Rattle.std.proofs.Common.{◌≡◌, ℕ, ◌+◌, ◌<◌, Bool, true, fals
 use Rattle.std.specs.Prelude.{◌==◌, nat_lt, nat_le}
 use Rattle.std.proofs.lemmas.Bool.{true≢false, leb-false}
 use Rattle.std.proofs.lemmas.Option.{none-some}
-use Rattle.iox2_store.specs.machine.Limits.{last_number, segment_limit, buffer_limit}
-use Rattle.iox2_store.specs.machine.Numbers.{size}
-use Rattle.iox2_store.specs.machine.Places.{free_place}
-use Rattle.iox2_store.specs.machine.Records.{Publisher, Environment, PublisherSettings, SubscriberSettings}
-use Rattle.iox2_store.specs.machine.State.{State, held}
-use Rattle.iox2_store.specs.machine.Loans.{is_static, limit_error, loan_granted, DynamicLoan, GrantLoan}
-use Rattle.iox2_store.specs.machine.Ports.{CreatePublisher, CreateSubscriber, FirstPublisherUpdate, FirstSubscriberUpdate, MakePublisher, MakeSubscriber, with_new_publisher, with_new_subscriber, first_segment_fits, buffer_for}
-use Rattle.iox2_store.specs.declared.errors.LoanError.{LoanError}
-use Rattle.iox2_store.specs.declared.errors.LoanError.TheVariants.{OutOfMemory, ExceedsMaxLoans, ExceedsMaxLoanSize, InternalFailure}
-use Rattle.iox2_store.specs.declared.errors.PublisherCreateError.{PublisherCreateError}
-use Rattle.iox2_store.specs.declared.errors.SubscriberCreateError.{SubscriberCreateError}
+use Rattle.iox2_machine.specs.machine.Limits.{last_number, segment_limit, buffer_limit}
+use Rattle.iox2_machine.specs.machine.Numbers.{size}
+use Rattle.iox2_machine.specs.machine.Places.{free_place}
+use Rattle.iox2_machine.specs.machine.Records.{Publisher, Environment, PublisherSettings, SubscriberSettings}
+use Rattle.iox2_machine.specs.machine.State.{State, held}
+use Rattle.iox2_machine.specs.machine.Loans.{is_static, limit_error, loan_granted, DynamicLoan, GrantLoan}
+use Rattle.iox2_machine.specs.machine.Ports.{CreatePublisher, CreateSubscriber, FirstPublisherUpdate, FirstSubscriberUpdate, MakePublisher, MakeSubscriber, with_new_publisher, with_new_subscriber, first_segment_fits, buffer_for}
+use Rattle.iox2_machine.specs.declared.errors.LoanError.{LoanError}
+use Rattle.iox2_machine.specs.declared.errors.LoanError.TheVariants.{OutOfMemory, ExceedsMaxLoans, ExceedsMaxLoanSize, InternalFailure}
+use Rattle.iox2_machine.specs.declared.errors.PublisherCreateError.{PublisherCreateError}
+use Rattle.iox2_machine.specs.declared.errors.SubscriberCreateError.{SubscriberCreateError}
 use Rattle.iox2_laws.proofs.Cases.{by_option, by_bool}
 
 -- no limit was met

@@ -6,17 +6,17 @@ use Rattle.std.specs.List.{filter}
 use Rattle.std.specs.Option.{MatchOption, option_map, option_map_or}
 use Rattle.std.proofs.lemmas.Bool.{true≢false, eqb-true, or_right, and_parts}
 use Rattle.std.proofs.lemmas.Option.{none-some, same_Some}
-use Rattle.iox2_store.specs.machine.Limits.{buffer_limit, channel_count}
-use Rattle.iox2_store.specs.machine.Numbers.{contains, put_at}
-use Rattle.iox2_store.specs.machine.Places.{occupant, vacated, places_kept, is_port}
-use Rattle.iox2_store.specs.machine.Mailbox.{Mailbox, numbers_in, has_numbers, has_borrows, has_waiting, waiting_count, waiting_dropped, IsWithin, OthersWithin}
-use Rattle.iox2_store.specs.machine.Records.{Publisher, Subscriber}
-use Rattle.iox2_store.specs.machine.State.{State, publishers_due, subscribers_due}
-use Rattle.iox2_store.specs.machine.Releases.{is_connected, pruned, subscriber_pruned, freed_if_unused}
-use Rattle.iox2_store.specs.machine.Ports.{mailbox_after_publisher, publisher_gone, subscribers_pruned, publisher_closed, mailbox_after_subscriber, subscriber_shut}
-use Rattle.iox2_store.specs.machine.Ports.{subscriber_closed}
-use Rattle.iox2_store.specs.machine.WellFormed.{LeadsTo, PlacesAgree, subscriber_place, PublisherIsWellFormed, SubscriberIsWellFormed, MailboxIsWellFormed}
-use Rattle.iox2_store.specs.machine.WellFormed.{IsWellFormed}
+use Rattle.iox2_machine.specs.machine.Limits.{buffer_limit, channel_count}
+use Rattle.iox2_machine.specs.machine.Numbers.{contains, put_at}
+use Rattle.iox2_machine.specs.machine.Places.{occupant, vacated, places_kept, is_port}
+use Rattle.iox2_machine.specs.machine.Mailbox.{Mailbox, numbers_in, has_numbers, has_borrows, has_waiting, waiting_count, waiting_dropped, IsWithin, OthersWithin}
+use Rattle.iox2_machine.specs.machine.Records.{Publisher, Subscriber}
+use Rattle.iox2_machine.specs.machine.State.{State, publishers_due, subscribers_due}
+use Rattle.iox2_machine.specs.machine.Releases.{is_connected, pruned, subscriber_pruned, freed_if_unused}
+use Rattle.iox2_machine.specs.machine.Ports.{mailbox_after_publisher, publisher_gone, subscribers_pruned, publisher_closed, mailbox_after_subscriber, subscriber_shut}
+use Rattle.iox2_machine.specs.machine.Ports.{subscriber_closed}
+use Rattle.iox2_machine.specs.machine.WellFormed.{LeadsTo, PlacesAgree, subscriber_place, PublisherIsWellFormed, SubscriberIsWellFormed, MailboxIsWellFormed}
+use Rattle.iox2_machine.specs.machine.WellFormed.{IsWellFormed}
 use Rattle.iox2_laws.specs.Laws.{Advances}
 use Rattle.iox2_laws.proofs.Puts.{put_at-same, put_at-other, found_put, found_removed, found_mapped}
 use Rattle.iox2_laws.proofs.FilterLemmas.{contains_in_filter, contains-filter, IsOnce-filter, length-filter_le}

@@ -2,14 +2,14 @@
 use Rattle.std.proofs.Common.{◌≡◌, ◌<◌, ℕ, le_refl, ◌+◌, List, false, drop, take, refl, sym, ap, subst, ◌∙◌, arith, ⊎_elim, inl, Option, None, Some}
 use Rattle.std.specs.Option.{option_map}
 use Rattle.std.proofs.lemmas.Option.{none-some, same_Some}
-use Rattle.iox2_store.specs.machine.Limits.{channel_count}
-use Rattle.iox2_store.specs.machine.Numbers.{put_at, contains, without}
-use Rattle.iox2_store.specs.machine.Mailbox.{Mailbox, numbers_in}
-use Rattle.iox2_store.specs.machine.Records.{Loan, Publisher, BlockedSend, Environment}
-use Rattle.iox2_store.specs.machine.State.{State, is_blocked, channel_buffer, with_loan}
-use Rattle.iox2_store.specs.machine.Delivery.{DeliveryEnd, Complete, Suspended, no_time}
-use Rattle.iox2_store.specs.machine.Sends.{SendResult, ConcludeSend, with_mailboxes, DeliverAndConclude, SendToConnection}
-use Rattle.iox2_store.specs.machine.WellFormed.{PublisherIsWellFormed, IsWellFormed}
+use Rattle.iox2_machine.specs.machine.Limits.{channel_count}
+use Rattle.iox2_machine.specs.machine.Numbers.{put_at, contains, without}
+use Rattle.iox2_machine.specs.machine.Mailbox.{Mailbox, numbers_in}
+use Rattle.iox2_machine.specs.machine.Records.{Loan, Publisher, BlockedSend, Environment}
+use Rattle.iox2_machine.specs.machine.State.{State, is_blocked, channel_buffer, with_loan}
+use Rattle.iox2_machine.specs.machine.Delivery.{DeliveryEnd, Complete, Suspended, no_time}
+use Rattle.iox2_machine.specs.machine.Sends.{SendResult, ConcludeSend, with_mailboxes, DeliverAndConclude, SendToConnection}
+use Rattle.iox2_machine.specs.machine.WellFormed.{PublisherIsWellFormed, IsWellFormed}
 use Rattle.iox2_laws.specs.Laws.{Advances}
 use Rattle.iox2_laws.proofs.Cases.{by_option}
 use Rattle.iox2_laws.proofs.Puts.{put_at-same, put_at-other}

@@ -1,11 +1,11 @@
 -- What a send to one connection leaves as it was, and what it changes of its loan.
 use Rattle.std.proofs.Common.{◌≡◌, ℕ, List, false, drop, take, refl, sym, ap, ◌∙◌, Option, None}
-use Rattle.iox2_store.specs.machine.Numbers.{put_at}
-use Rattle.iox2_store.specs.machine.Records.{Loan, Publisher, Environment}
-use Rattle.iox2_store.specs.machine.State.{State, with_loan}
-use Rattle.iox2_store.specs.machine.Delivery.{no_time}
-use Rattle.iox2_store.specs.machine.SingleCalls.{HoldsBlocked}
-use Rattle.iox2_store.specs.machine.Sends.{SendResult, Send_error, Blocked_send, SendToConnection}
+use Rattle.iox2_machine.specs.machine.Numbers.{put_at}
+use Rattle.iox2_machine.specs.machine.Records.{Loan, Publisher, Environment}
+use Rattle.iox2_machine.specs.machine.State.{State, with_loan}
+use Rattle.iox2_machine.specs.machine.Delivery.{no_time}
+use Rattle.iox2_machine.specs.machine.SingleCalls.{HoldsBlocked}
+use Rattle.iox2_machine.specs.machine.Sends.{SendResult, Send_error, Blocked_send, SendToConnection}
 use Rattle.iox2_laws.proofs.Cases.{by_option}
 use Rattle.iox2_laws.proofs.OperationWalks.{connection_send_by_steps}
 use Rattle.iox2_laws.proofs.LoanKeeping.{LoansFollow, removed_loans_follow, deliver_and_conclude_loans}

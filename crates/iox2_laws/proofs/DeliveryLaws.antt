@@ -4,18 +4,18 @@ use Rattle.std.specs.List.{flat_map}
 use Rattle.std.specs.declared.time.Duration.{Duration}
 use Rattle.std.proofs.lemmas.Bool.{true≢false, eqb-true, eqb-false, ne_eqb, cond_both}
 use Rattle.std.proofs.lemmas.Option.{none-some, same_Some, cond_some, option_and_then_some}
-use Rattle.iox2_store.specs.machine.Limits.{buffer_limit, channel_count}
-use Rattle.iox2_store.specs.machine.Numbers.{contains, without, size, IsOnce}
-use Rattle.iox2_store.specs.machine.Places.{occupant, occupants}
-use Rattle.iox2_store.specs.machine.Channel.{is_closed}
-use Rattle.iox2_store.specs.machine.Mailbox.{Mailbox, numbers_in, has_borrows, waiting_count, has_room_in, with_appended_in, IsWithin, OthersWithin}
-use Rattle.iox2_store.specs.machine.Records.{Loan, Handler, Environment, Publisher, Subscriber, BlockedSend}
-use Rattle.iox2_store.specs.machine.State.{State, held, receiving_buffer, channel_buffer}
-use Rattle.iox2_store.specs.machine.Delivery.{PutIn, PutAtEndIn, DeliverIn, PutResult, Accepted, Skipped, Failed, Would_block, accepted_count, is_failed, is_blocking, DeliveryEnd, Complete, Suspended, no_time}
-use Rattle.iox2_store.specs.machine.WellFormed.{LeadsTo, IsInjective, BlockedIsWellFormed, PublisherIsWellFormed, SubscriberIsWellFormed, MailboxIsWellFormed, LoanIsWellFormed, IsWellFormed}
-use Rattle.iox2_store.specs.declared.service_config.ServiceConfig.{ServiceConfig}
-use Rattle.iox2_store.specs.declared.backpressure.BackpressureStrategy.{BackpressureStrategy}
-use Rattle.iox2_store.specs.declared.backpressure.BackpressureAction.{BackpressureAction}
+use Rattle.iox2_machine.specs.machine.Limits.{buffer_limit, channel_count}
+use Rattle.iox2_machine.specs.machine.Numbers.{contains, without, size, IsOnce}
+use Rattle.iox2_machine.specs.machine.Places.{occupant, occupants}
+use Rattle.iox2_machine.specs.machine.Channel.{is_closed}
+use Rattle.iox2_machine.specs.machine.Mailbox.{Mailbox, numbers_in, has_borrows, waiting_count, has_room_in, with_appended_in, IsWithin, OthersWithin}
+use Rattle.iox2_machine.specs.machine.Records.{Loan, Handler, Environment, Publisher, Subscriber, BlockedSend}
+use Rattle.iox2_machine.specs.machine.State.{State, held, receiving_buffer, channel_buffer}
+use Rattle.iox2_machine.specs.machine.Delivery.{PutIn, PutAtEndIn, DeliverIn, PutResult, Accepted, Skipped, Failed, Would_block, accepted_count, is_failed, is_blocking, DeliveryEnd, Complete, Suspended, no_time}
+use Rattle.iox2_machine.specs.machine.WellFormed.{LeadsTo, IsInjective, BlockedIsWellFormed, PublisherIsWellFormed, SubscriberIsWellFormed, MailboxIsWellFormed, LoanIsWellFormed, IsWellFormed}
+use Rattle.iox2_machine.specs.declared.service_config.ServiceConfig.{ServiceConfig}
+use Rattle.iox2_machine.specs.declared.backpressure.BackpressureStrategy.{BackpressureStrategy}
+use Rattle.iox2_machine.specs.declared.backpressure.BackpressureAction.{BackpressureAction}
 use Rattle.iox2_laws.proofs.Cases.{by_option, by_bool}
 use Rattle.iox2_laws.proofs.Puts.{at_each}
 use Rattle.iox2_laws.proofs.NumberLemmas.{absent_from, IsOnce-without, contains_in_without, contains-without_same, contains-without_other, length-without_le, size_le, contains_in_flat_map, contains-flat_map}

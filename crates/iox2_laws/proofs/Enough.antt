@@ -4,12 +4,12 @@ use Rattle.std.specs.List.{flat_map}
 use Rattle.std.proofs.lemmas.Bool.{true≢false}
 use Rattle.std.proofs.lemmas.List.{length-append}
 use Rattle.std.proofs.lemmas.Option.{none-some}
-use Rattle.iox2_store.specs.machine.Limits.{buffer_limit, channel_count}
-use Rattle.iox2_store.specs.machine.Places.{occupants}
-use Rattle.iox2_store.specs.machine.Mailbox.{numbers_in, empty_mailbox}
-use Rattle.iox2_store.specs.machine.State.{State, fresh, held}
-use Rattle.iox2_store.specs.machine.WellFormed.{PlacesAgree, PublisherIsWellFormed, MailboxIsWellFormed, IsWellFormed, HoldsAtMostWorstCase}
-use Rattle.iox2_store.specs.declared.service_config.ServiceConfig.{ServiceConfig}
+use Rattle.iox2_machine.specs.machine.Limits.{buffer_limit, channel_count}
+use Rattle.iox2_machine.specs.machine.Places.{occupants}
+use Rattle.iox2_machine.specs.machine.Mailbox.{numbers_in, empty_mailbox}
+use Rattle.iox2_machine.specs.machine.State.{State, fresh, held}
+use Rattle.iox2_machine.specs.machine.WellFormed.{PlacesAgree, PublisherIsWellFormed, MailboxIsWellFormed, IsWellFormed, HoldsAtMostWorstCase}
+use Rattle.iox2_machine.specs.declared.service_config.ServiceConfig.{ServiceConfig}
 use Rattle.iox2_laws.proofs.NumberLemmas.{size_le_length, length-flat_map}
 use Rattle.iox2_laws.proofs.PlaceLemmas.{length-occupants_le}
 use Rattle.iox2_laws.proofs.MailboxLemmas.{IsWithin-empty, OthersWithin-none, length-numbers_in}

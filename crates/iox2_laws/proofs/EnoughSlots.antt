@@ -4,14 +4,14 @@ use Rattle.std.specs.Prelude.{nat_lt, nat_le, cond, max, ◌==◌, ◌&&◌, Mat
 use Rattle.std.specs.Bool.{MatchBool}
 use Rattle.std.proofs.lemmas.Bool.{true≢false, ne_eqb, le-ltb, lt-leb}
 use Rattle.std.proofs.lemmas.Option.{none-some}
-use Rattle.iox2_store.specs.machine.Limits.{buffer_limit, channel_count, worst_case, last_number}
-use Rattle.iox2_store.specs.machine.Numbers.{size}
-use Rattle.iox2_store.specs.machine.Records.{Publisher, Environment}
-use Rattle.iox2_store.specs.machine.State.{State, held}
-use Rattle.iox2_store.specs.machine.Loans.{GrantLoan, loan_granted, StaticLoan, DynamicLoan, IsGuaranteed, NoSegmentFits, limit_error, is_static}
-use Rattle.iox2_store.specs.machine.WellFormed.{IsWellFormed}
-use Rattle.iox2_store.specs.declared.errors.LoanError.{LoanError}
-use Rattle.iox2_store.specs.declared.errors.LoanError.TheVariants.{OutOfMemory, ExceedsMaxLoans, ExceedsMaxLoanSize, InternalFailure}
+use Rattle.iox2_machine.specs.machine.Limits.{buffer_limit, channel_count, worst_case, last_number}
+use Rattle.iox2_machine.specs.machine.Numbers.{size}
+use Rattle.iox2_machine.specs.machine.Records.{Publisher, Environment}
+use Rattle.iox2_machine.specs.machine.State.{State, held}
+use Rattle.iox2_machine.specs.machine.Loans.{GrantLoan, loan_granted, StaticLoan, DynamicLoan, IsGuaranteed, NoSegmentFits, limit_error, is_static}
+use Rattle.iox2_machine.specs.machine.WellFormed.{IsWellFormed}
+use Rattle.iox2_machine.specs.declared.errors.LoanError.{LoanError}
+use Rattle.iox2_machine.specs.declared.errors.LoanError.TheVariants.{OutOfMemory, ExceedsMaxLoans, ExceedsMaxLoanSize, InternalFailure}
 use Rattle.iox2_laws.proofs.Cases.{by_option, by_bool}
 use Rattle.iox2_laws.proofs.Enough.{holds_at_most_worst_case}
 

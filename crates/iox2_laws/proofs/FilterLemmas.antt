@@ -3,7 +3,7 @@ use Rattle.std.proofs.Common.{◌≡◌, ℕ, suc, ◌≤◌, Bool, true, false,
 use Rattle.std.specs.List.{filter, list_all}
 use Rattle.std.proofs.lemmas.Bool.{true≢false, or_left, or_right, or_cases, eqb-true, and_parts}
 use Rattle.iox2_laws.proofs.NumberLemmas.{absent_from}
-use Rattle.iox2_store.specs.machine.Numbers.{contains, IsOnce}
+use Rattle.iox2_machine.specs.machine.Numbers.{contains, IsOnce}
 
 -- What is left by a filter stood there before, and passes.
 pub contains_in_filter : (test : ℕ → Bool) (ns : List ℕ) (n : ℕ) → contains (filter test ns) n ≡ true → (contains ns n ≡ true) × (test n ≡ true)

@@ -10,14 +10,14 @@ use Rattle.iox2_laws.proofs.FilterLemmas.{passes_all, some_fails}
 use Rattle.iox2_laws.proofs.PlaceLemmas.{occupant-vacated, vacated_keeps, length-vacated, contains-occupants}
 use Rattle.iox2_laws.proofs.PortChanges.{publisher_in, subscriber_in, subscriber_marked, mailbox_in, loan_kept, RestIsWellFormed, IsNearlyWellFormed, with_rest, publishers_due_keeps}
 use Rattle.iox2_laws.specs.Laws.{Advances}
-use Rattle.iox2_store.specs.machine.Numbers.{put_at, contains}
-use Rattle.iox2_store.specs.machine.Places.{occupant, occupants, vacated}
-use Rattle.iox2_store.specs.machine.Mailbox.{has_borrows, has_waiting, waiting_count, OthersWithin}
-use Rattle.iox2_store.specs.machine.Records.{Publisher, Subscriber}
-use Rattle.iox2_store.specs.machine.State.{State, connected_publishers}
-use Rattle.iox2_store.specs.machine.Releases.{is_unused, place_freed, freed_if_unused}
-use Rattle.iox2_store.specs.machine.WellFormed.{LeadsTo, PlacesAgree, PublisherIsWellFormed, SubscriberIsWellFormed, MailboxIsWellFormed, IsWellFormed}
-use Rattle.iox2_store.specs.machine.Limits.{channel_count}
+use Rattle.iox2_machine.specs.machine.Numbers.{put_at, contains}
+use Rattle.iox2_machine.specs.machine.Places.{occupant, occupants, vacated}
+use Rattle.iox2_machine.specs.machine.Mailbox.{has_borrows, has_waiting, waiting_count, OthersWithin}
+use Rattle.iox2_machine.specs.machine.Records.{Publisher, Subscriber}
+use Rattle.iox2_machine.specs.machine.State.{State, connected_publishers}
+use Rattle.iox2_machine.specs.machine.Releases.{is_unused, place_freed, freed_if_unused}
+use Rattle.iox2_machine.specs.machine.WellFormed.{LeadsTo, PlacesAgree, PublisherIsWellFormed, SubscriberIsWellFormed, MailboxIsWellFormed, IsWellFormed}
+use Rattle.iox2_machine.specs.machine.Limits.{channel_count}
 
 module _ {T U : Type 0} where
   removed_places : (s : State T U) → RestIsWellFormed s → (q : ℕ)

@@ -2,22 +2,22 @@
 use Rattle.std.proofs.Common.{◌≡◌, ◌⊎◌, inl, inr, ℕ, ◌+◌, ◌≤◌, Bool, false, List, drop, refl, sym, ap, subst, ◌∙◌, le_refl, le_trans, ⊎_elim, Option, None, Some}
 use Rattle.std.specs.declared.time.Duration.{Duration}
 use Rattle.std.proofs.lemmas.Bool.{cond_both}
-use Rattle.iox2_store.specs.machine.Numbers.{put_at}
-use Rattle.iox2_store.specs.machine.Records.{Loan, Publisher, Subscriber, PublisherSettings, SubscriberSettings, Environment, BlockedSend}
-use Rattle.iox2_store.specs.machine.State.{State, with_loan}
-use Rattle.iox2_store.specs.machine.Delivery.{no_time}
-use Rattle.iox2_store.specs.machine.PublisherUpdate.{UpdatePublisher}
-use Rattle.iox2_store.specs.machine.SubscriberUpdate.{UpdateSubscriber}
-use Rattle.iox2_store.specs.machine.Loans.{loan_granted, GrantLoan, written, loan_discarded}
-use Rattle.iox2_store.specs.machine.SingleCalls.{GrantWrittenLoan}
-use Rattle.iox2_store.specs.machine.Sends.{SendResult, published, more_retries, DeliverAndConclude, Send, Retry, GiveUp}
-use Rattle.iox2_store.specs.machine.Receives.{ReceiveResult, Receive, HasSamples}
-use Rattle.iox2_store.specs.machine.Releases.{is_unused, place_freed, freed_if_unused, subscriber_pruned, unborrowed, released}
-use Rattle.iox2_store.specs.machine.Ports.{CreatePublisher, CreateSubscriber, subscriber_shut, publisher_closed, subscriber_closed}
-use Rattle.iox2_store.specs.declared.errors.ConnectionFailure.{ConnectionFailure}
-use Rattle.iox2_store.specs.declared.errors.LoanError.{LoanError}
-use Rattle.iox2_store.specs.declared.errors.PublisherCreateError.{PublisherCreateError}
-use Rattle.iox2_store.specs.declared.errors.SubscriberCreateError.{SubscriberCreateError}
+use Rattle.iox2_machine.specs.machine.Numbers.{put_at}
+use Rattle.iox2_machine.specs.machine.Records.{Loan, Publisher, Subscriber, PublisherSettings, SubscriberSettings, Environment, BlockedSend}
+use Rattle.iox2_machine.specs.machine.State.{State, with_loan}
+use Rattle.iox2_machine.specs.machine.Delivery.{no_time}
+use Rattle.iox2_machine.specs.machine.PublisherUpdate.{UpdatePublisher}
+use Rattle.iox2_machine.specs.machine.SubscriberUpdate.{UpdateSubscriber}
+use Rattle.iox2_machine.specs.machine.Loans.{loan_granted, GrantLoan, written, loan_discarded}
+use Rattle.iox2_machine.specs.machine.SingleCalls.{GrantWrittenLoan}
+use Rattle.iox2_machine.specs.machine.Sends.{SendResult, published, more_retries, DeliverAndConclude, Send, Retry, GiveUp}
+use Rattle.iox2_machine.specs.machine.Receives.{ReceiveResult, Receive, HasSamples}
+use Rattle.iox2_machine.specs.machine.Releases.{is_unused, place_freed, freed_if_unused, subscriber_pruned, unborrowed, released}
+use Rattle.iox2_machine.specs.machine.Ports.{CreatePublisher, CreateSubscriber, subscriber_shut, publisher_closed, subscriber_closed}
+use Rattle.iox2_machine.specs.declared.errors.ConnectionFailure.{ConnectionFailure}
+use Rattle.iox2_machine.specs.declared.errors.LoanError.{LoanError}
+use Rattle.iox2_machine.specs.declared.errors.PublisherCreateError.{PublisherCreateError}
+use Rattle.iox2_machine.specs.declared.errors.SubscriberCreateError.{SubscriberCreateError}
 use Rattle.iox2_laws.specs.Laws.{Advances}
 use Rattle.iox2_laws.proofs.Cases.{by_option}
 use Rattle.iox2_laws.proofs.CallCases.{grant_cases}

@@ -6,17 +6,17 @@ use Rattle.std.specs.List.{flat_map, list_all}
 use Rattle.std.proofs.lemmas.Bool.{true≢false, eqb-true, eqb-false, eq-eqb, ne_eqb, and_parts, and_from, or_left}
 use Rattle.std.proofs.lemmas.List.{length-append, length-replicate, length-set}
 use Rattle.std.proofs.lemmas.Option.{none-some, same_Some}
-use Rattle.iox2_store.specs.machine.Limits.{segment_limit}
-use Rattle.iox2_store.specs.machine.Numbers.{put_at, contains, without, size}
-use Rattle.iox2_store.specs.machine.Places.{occupants}
-use Rattle.iox2_store.specs.machine.Mailbox.{numbers_in}
-use Rattle.iox2_store.specs.machine.Records.{Loan, Publisher, Environment}
-use Rattle.iox2_store.specs.machine.State.{State, held, with_loan, is_blocked}
-use Rattle.iox2_store.specs.machine.Loans.{is_static, loan_granted, GrantLoan, written, with_cell, is_initialized, initialized, loan_discarded}
-use Rattle.iox2_store.specs.machine.SingleCalls.{GrantWrittenLoan}
-use Rattle.iox2_store.specs.machine.WellFormed.{BlockedIsWellFormed, PublisherIsWellFormed, LoanIsWellFormed, IsWellFormed}
-use Rattle.iox2_store.specs.declared.header.Header.{Header}
-use Rattle.iox2_store.specs.declared.errors.LoanError.{LoanError}
+use Rattle.iox2_machine.specs.machine.Limits.{segment_limit}
+use Rattle.iox2_machine.specs.machine.Numbers.{put_at, contains, without, size}
+use Rattle.iox2_machine.specs.machine.Places.{occupants}
+use Rattle.iox2_machine.specs.machine.Mailbox.{numbers_in}
+use Rattle.iox2_machine.specs.machine.Records.{Loan, Publisher, Environment}
+use Rattle.iox2_machine.specs.machine.State.{State, held, with_loan, is_blocked}
+use Rattle.iox2_machine.specs.machine.Loans.{is_static, loan_granted, GrantLoan, written, with_cell, is_initialized, initialized, loan_discarded}
+use Rattle.iox2_machine.specs.machine.SingleCalls.{GrantWrittenLoan}
+use Rattle.iox2_machine.specs.machine.WellFormed.{BlockedIsWellFormed, PublisherIsWellFormed, LoanIsWellFormed, IsWellFormed}
+use Rattle.iox2_machine.specs.declared.header.Header.{Header}
+use Rattle.iox2_machine.specs.declared.errors.LoanError.{LoanError}
 use Rattle.iox2_laws.specs.Laws.{Advances}
 use Rattle.iox2_laws.proofs.Cases.{by_option}
 use Rattle.iox2_laws.proofs.CallCases.{grant_cases}

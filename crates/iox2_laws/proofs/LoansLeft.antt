@@ -5,29 +5,29 @@ use Rattle.std.specs.Option.{option_map}
 use Rattle.std.proofs.lemmas.Bool.{ne_eqb}
 use Rattle.std.proofs.lemmas.List.{length-append}
 use Rattle.std.proofs.lemmas.Option.{none-some, same_Some}
-use Rattle.iox2_store.specs.machine.Limits.{worst_case}
-use Rattle.iox2_store.specs.machine.Numbers.{put_at, contains, without, last_n}
-use Rattle.iox2_store.specs.machine.Mailbox.{Mailbox}
-use Rattle.iox2_store.specs.machine.Records.{Loan, Publisher, Subscriber, Environment, BlockedSend, PublisherSettings, SubscriberSettings}
-use Rattle.iox2_store.specs.machine.State.{State, with_loan, publisher_changed, receiver_channels_reset, with_warning}
-use Rattle.iox2_store.specs.machine.PublisherUpdate.{UpdatePublisher}
-use Rattle.iox2_store.specs.machine.SubscriberUpdate.{UpdateSubscriber}
-use Rattle.iox2_store.specs.machine.Loans.{GrantLoan, is_static, loan_granted, loan_discarded}
-use Rattle.iox2_store.specs.machine.LoansLeft.{CanLend, LendsValues}
-use Rattle.iox2_store.specs.machine.Ports.{CreatePublisher, CreateSubscriber, FirstPublisherUpdate, with_new_publisher, with_new_subscriber, new_publisher, slots_for, publisher_closed, subscriber_shut, subscriber_closed}
-use Rattle.iox2_store.specs.machine.Receives.{ReceiveResult, Receive}
-use Rattle.iox2_store.specs.machine.Releases.{place_freed, unborrowed, subscriber_pruned, freed_if_unused, released}
+use Rattle.iox2_machine.specs.machine.Limits.{worst_case}
+use Rattle.iox2_machine.specs.machine.Numbers.{put_at, contains, without, last_n}
+use Rattle.iox2_machine.specs.machine.Mailbox.{Mailbox}
+use Rattle.iox2_machine.specs.machine.Records.{Loan, Publisher, Subscriber, Environment, BlockedSend, PublisherSettings, SubscriberSettings}
+use Rattle.iox2_machine.specs.machine.State.{State, with_loan, publisher_changed, receiver_channels_reset, with_warning}
+use Rattle.iox2_machine.specs.machine.PublisherUpdate.{UpdatePublisher}
+use Rattle.iox2_machine.specs.machine.SubscriberUpdate.{UpdateSubscriber}
+use Rattle.iox2_machine.specs.machine.Loans.{GrantLoan, is_static, loan_granted, loan_discarded}
+use Rattle.iox2_machine.specs.machine.LoansLeft.{CanLend, LendsValues}
+use Rattle.iox2_machine.specs.machine.Ports.{CreatePublisher, CreateSubscriber, FirstPublisherUpdate, with_new_publisher, with_new_subscriber, new_publisher, slots_for, publisher_closed, subscriber_shut, subscriber_closed}
+use Rattle.iox2_machine.specs.machine.Receives.{ReceiveResult, Receive}
+use Rattle.iox2_machine.specs.machine.Releases.{place_freed, unborrowed, subscriber_pruned, freed_if_unused, released}
 use Rattle.std.specs.declared.time.Duration.{Duration}
-use Rattle.iox2_store.specs.machine.Sends.{Send, Retry, GiveUp, SendResult, Blocked_send, Send_error, published, with_mailboxes, send_ended}
-use Rattle.iox2_store.specs.declared.errors.SendError.{SendError}
-use Rattle.iox2_store.specs.machine.WellFormed.{IsWellFormed}
-use Rattle.iox2_store.specs.declared.errors.ConnectionFailure.{ConnectionFailure}
-use Rattle.iox2_store.specs.declared.errors.PublisherCreateError.{PublisherCreateError}
-use Rattle.iox2_store.specs.declared.errors.SubscriberCreateError.{SubscriberCreateError}
-use Rattle.iox2_store.specs.declared.warning.Warning.{Warning}
-use Rattle.iox2_store.specs.declared.warning.Warning.TheVariants.{PublisherPartlyConnected}
-use Rattle.iox2_store.specs.declared.service_config.ServiceConfig.{ServiceConfig}
-use Rattle.iox2_store.specs.declared.service_config.TypeVariant.TheVariants.{FixedSize}
+use Rattle.iox2_machine.specs.machine.Sends.{Send, Retry, GiveUp, SendResult, Blocked_send, Send_error, published, with_mailboxes, send_ended}
+use Rattle.iox2_machine.specs.declared.errors.SendError.{SendError}
+use Rattle.iox2_machine.specs.machine.WellFormed.{IsWellFormed}
+use Rattle.iox2_machine.specs.declared.errors.ConnectionFailure.{ConnectionFailure}
+use Rattle.iox2_machine.specs.declared.errors.PublisherCreateError.{PublisherCreateError}
+use Rattle.iox2_machine.specs.declared.errors.SubscriberCreateError.{SubscriberCreateError}
+use Rattle.iox2_machine.specs.declared.warning.Warning.{Warning}
+use Rattle.iox2_machine.specs.declared.warning.Warning.TheVariants.{PublisherPartlyConnected}
+use Rattle.iox2_machine.specs.declared.service_config.ServiceConfig.{ServiceConfig}
+use Rattle.iox2_machine.specs.declared.service_config.TypeVariant.TheVariants.{FixedSize}
 use Rattle.iox2_laws.proofs.OperationWalks.{IsPreorder, DeliverySteps, publisher_update_by_steps, subscriber_update_by_steps, first_update_by_steps, create_publisher_by_steps, create_subscriber_by_steps, receive_by_steps, forgotten_by_steps, retry_by_steps, give_up_by_steps, send_by_steps}
 use Rattle.iox2_laws.proofs.CallCases.{grant_cases, publisher_cases}
 use Rattle.iox2_laws.proofs.NumberLemmas.{length-without}

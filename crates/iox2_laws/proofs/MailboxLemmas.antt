@@ -4,9 +4,9 @@ use Rattle.std.proofs.lemmas.Bool.{true≢false, cond_both, ltb-true, and_parts,
 use Rattle.std.proofs.lemmas.List.{length-append, length-drop, append_assoc}
 use Rattle.iox2_laws.proofs.NumberLemmas.{contains_in_append, contains_left, contains_right, absent_left, absent_right, contains_one, contains_later, contains_in_drop, contains_in_last_n, contains_in_without, absent_from}
 use Rattle.iox2_laws.proofs.NumberLemmas.{length-last_n, length-without_le, IsOnce-drop, IsOnce-last_n, IsOnce-push, IsOnce-left, IsOnce-right, IsOnce-apart, IsOnce-append, IsOnce-without}
-use Rattle.iox2_store.specs.machine.Numbers.{contains, without, is_nil, last_n, IsOnce}
+use Rattle.iox2_machine.specs.machine.Numbers.{contains, without, is_nil, last_n, IsOnce}
 use Rattle.iox2_laws.proofs.ChannelNumbers.{numbers, numbers_of-same, numbers_of-other, contains_in_part, IsOnce-part, contains_in_replaced, IsOnce-replaced, length-part_le, length-numbers, length-channels}
-use Rattle.iox2_store.specs.machine.Mailbox.{ChannelNumber, numbers_of, with_numbers_of, other_numbers, waiting_in, with_waiting_in, has_room_in, with_appended_in, other_room, OthersWithin, Mailbox, empty_mailbox, numbers_in, has_numbers, has_borrows, is_borrowed, has_waiting, has_data, can_receive, waiting_count, with_waiting, waiting_dropped, BorrowsFirst, with_released, IsWithin}
+use Rattle.iox2_machine.specs.machine.Mailbox.{ChannelNumber, numbers_of, with_numbers_of, other_numbers, waiting_in, with_waiting_in, has_room_in, with_appended_in, other_room, OthersWithin, Mailbox, empty_mailbox, numbers_in, has_numbers, has_borrows, is_borrowed, has_waiting, has_data, can_receive, waiting_count, with_waiting, waiting_dropped, BorrowsFirst, with_released, IsWithin}
 
 -- ---- numbers and their presence
 

@@ -2,10 +2,10 @@
 use Rattle.std.proofs.Common.{◌≡◌, ℕ, ◌+◌, ◌<◌, Bool, false, refl, sym, subst, None, Some, arith}
 use Rattle.std.proofs.lemmas.Bool.{ne_eqb}
 use Rattle.std.proofs.lemmas.Option.{none-some}
-use Rattle.iox2_store.specs.machine.Records.{Loan, Publisher, Environment}
-use Rattle.iox2_store.specs.machine.State.{State}
-use Rattle.iox2_store.specs.machine.Loans.{GrantLoan, loan_granted}
-use Rattle.iox2_store.specs.declared.errors.LoanError.{LoanError}
+use Rattle.iox2_machine.specs.machine.Records.{Loan, Publisher, Environment}
+use Rattle.iox2_machine.specs.machine.State.{State}
+use Rattle.iox2_machine.specs.machine.Loans.{GrantLoan, loan_granted}
+use Rattle.iox2_machine.specs.declared.errors.LoanError.{LoanError}
 use Rattle.iox2_laws.proofs.CallCases.{grant_cases}
 use Rattle.iox2_laws.proofs.Puts.{put_at-same, put_at-other}
 

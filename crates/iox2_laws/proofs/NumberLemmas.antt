@@ -4,7 +4,7 @@ use Rattle.std.proofs.lemmas.Bool.{eqb-true, eqb-false, eq-eqb, true≢false, or
 use Rattle.std.proofs.lemmas.List.{length-append, length-drop}
 use Rattle.std.proofs.lemmas.List.Folds.{list_any-append}
 use Rattle.std.specs.List.{flat_map, list_all}
-use Rattle.iox2_store.specs.machine.Numbers.{contains, without, last_n, size, distinct, IsOnce}
+use Rattle.iox2_machine.specs.machine.Numbers.{contains, without, last_n, size, distinct, IsOnce}
 
 -- a number stands in a list that was joined just where it stands in one of the two
 pub contains-append : (xs ys : List ℕ) (n : ℕ) → contains (xs ++ ys) n ≡ (contains xs n || contains ys n)

@@ -2,27 +2,27 @@
 use Rattle.std.proofs.Common.{◌≡◌, ℕ, ◌+◌, Bool, true, false, cond, List, take, drop, refl, sym, subst, ◌∙◌, le_refl, le_trans, Option, None, Some}
 use Rattle.std.specs.declared.time.Duration.{Duration}
 use Rattle.std.proofs.lemmas.Bool.{cond_both}
-use Rattle.iox2_store.specs.machine.Mailbox.{Mailbox}
-use Rattle.iox2_store.specs.machine.Records.{Loan, Publisher, Subscriber, Environment, BlockedSend, PublisherSettings, SubscriberSettings}
-use Rattle.iox2_store.specs.machine.Limits.{expired_limit}
-use Rattle.iox2_store.specs.machine.State.{State, receiving_buffer, channel_buffer, has_sender_end, has_receiver_end, with_loan, with_mailbox, with_warning, sender_channels_reset, receiver_channels_reset}
-use Rattle.iox2_store.specs.machine.Connections.{ForEachPlace}
-use Rattle.iox2_store.specs.machine.Delivery.{DeliverIn, DeliveryEnd, Complete, Suspended, no_time}
-use Rattle.iox2_store.specs.machine.PublisherUpdate.{SenderSide, sender_side, with_sender_side, history_for, UpdateSenderPlace, UpdatePublisher}
-use Rattle.iox2_store.specs.machine.SubscriberUpdate.{ReceiverSide, receiver_side, with_receiver_side, UpdateReceiverSide, UpdateSubscriber}
-use Rattle.iox2_store.specs.machine.Loans.{GrantLoan, loan_granted, loan_discarded}
-use Rattle.iox2_store.specs.machine.Sends.{Send, SendToConnection, Retry, GiveUp, DeliverAndConclude, ConcludeSend, SendResult, Blocked_send, Delivered_to, Send_error, send_ended, send_blocked, with_mailboxes, published, more_retries}
-use Rattle.iox2_store.specs.machine.Ports.{CreatePublisher, CreateSubscriber, with_new_publisher, with_new_subscriber, with_failure_warning}
-use Rattle.iox2_store.specs.machine.Receives.{Receive, TakeSample, ReceiveResult, Got_sample, No_sample, Receive_error}
-use Rattle.iox2_store.specs.machine.Releases.{subscriber_pruned, freed_if_unused, place_freed, is_unused}
-use Rattle.iox2_store.specs.declared.errors.ConnectionFailure.{ConnectionFailure}
-use Rattle.iox2_store.specs.declared.errors.LoanError.{LoanError}
-use Rattle.iox2_store.specs.declared.errors.SendError.{SendError}
-use Rattle.iox2_store.specs.declared.errors.SendError.TheVariants.{UnableToDeliver}
-use Rattle.iox2_store.specs.declared.errors.PublisherCreateError.{PublisherCreateError}
-use Rattle.iox2_store.specs.declared.errors.SubscriberCreateError.{SubscriberCreateError}
-use Rattle.iox2_store.specs.declared.warning.Warning.{Warning}
-use Rattle.iox2_store.specs.declared.warning.Warning.TheVariants.{PublisherPartlyConnected, SubscriberPartlyConnected}
+use Rattle.iox2_machine.specs.machine.Mailbox.{Mailbox}
+use Rattle.iox2_machine.specs.machine.Records.{Loan, Publisher, Subscriber, Environment, BlockedSend, PublisherSettings, SubscriberSettings}
+use Rattle.iox2_machine.specs.machine.Limits.{expired_limit}
+use Rattle.iox2_machine.specs.machine.State.{State, receiving_buffer, channel_buffer, has_sender_end, has_receiver_end, with_loan, with_mailbox, with_warning, sender_channels_reset, receiver_channels_reset}
+use Rattle.iox2_machine.specs.machine.Connections.{ForEachPlace}
+use Rattle.iox2_machine.specs.machine.Delivery.{DeliverIn, DeliveryEnd, Complete, Suspended, no_time}
+use Rattle.iox2_machine.specs.machine.PublisherUpdate.{SenderSide, sender_side, with_sender_side, history_for, UpdateSenderPlace, UpdatePublisher}
+use Rattle.iox2_machine.specs.machine.SubscriberUpdate.{ReceiverSide, receiver_side, with_receiver_side, UpdateReceiverSide, UpdateSubscriber}
+use Rattle.iox2_machine.specs.machine.Loans.{GrantLoan, loan_granted, loan_discarded}
+use Rattle.iox2_machine.specs.machine.Sends.{Send, SendToConnection, Retry, GiveUp, DeliverAndConclude, ConcludeSend, SendResult, Blocked_send, Delivered_to, Send_error, send_ended, send_blocked, with_mailboxes, published, more_retries}
+use Rattle.iox2_machine.specs.machine.Ports.{CreatePublisher, CreateSubscriber, with_new_publisher, with_new_subscriber, with_failure_warning}
+use Rattle.iox2_machine.specs.machine.Receives.{Receive, TakeSample, ReceiveResult, Got_sample, No_sample, Receive_error}
+use Rattle.iox2_machine.specs.machine.Releases.{subscriber_pruned, freed_if_unused, place_freed, is_unused}
+use Rattle.iox2_machine.specs.declared.errors.ConnectionFailure.{ConnectionFailure}
+use Rattle.iox2_machine.specs.declared.errors.LoanError.{LoanError}
+use Rattle.iox2_machine.specs.declared.errors.SendError.{SendError}
+use Rattle.iox2_machine.specs.declared.errors.SendError.TheVariants.{UnableToDeliver}
+use Rattle.iox2_machine.specs.declared.errors.PublisherCreateError.{PublisherCreateError}
+use Rattle.iox2_machine.specs.declared.errors.SubscriberCreateError.{SubscriberCreateError}
+use Rattle.iox2_machine.specs.declared.warning.Warning.{Warning}
+use Rattle.iox2_machine.specs.declared.warning.Warning.TheVariants.{PublisherPartlyConnected, SubscriberPartlyConnected}
 use Rattle.iox2_laws.specs.Laws.{Advances}
 use Rattle.iox2_laws.proofs.Cases.{by_option, by_bool}
 use Rattle.iox2_laws.proofs.CallCases.{grant_cases, publisher_cases, subscriber_cases}

@@ -5,9 +5,9 @@ use Rattle.std.proofs.lemmas.Bool.{eqb-true, eqb-false, eq-eqb, ltb-true, true�
 use Rattle.std.proofs.lemmas.Option.{none-some, same_Some, cond_some}
 use Rattle.std.proofs.lemmas.List.{length-map}
 use Rattle.iox2_laws.proofs.NumberLemmas.{absent_from, contains_in_cons, contains_later}
-use Rattle.iox2_store.specs.machine.Numbers.{contains, IsOnce}
-use Rattle.iox2_store.specs.machine.Places.{occupant, occupants, is_port, lowest_free, free_place, set_place, vacated, places_kept}
-use Rattle.iox2_store.specs.machine.WellFormed.{LeadsTo, IsInjective}
+use Rattle.iox2_machine.specs.machine.Numbers.{contains, IsOnce}
+use Rattle.iox2_machine.specs.machine.Places.{occupant, occupants, is_port, lowest_free, free_place, set_place, vacated, places_kept}
+use Rattle.iox2_machine.specs.machine.WellFormed.{LeadsTo, IsInjective}
 
 -- after a place was set, that place has the new value and each other its old one
 pub occupant-set_place : (xs : List (Option ℕ)) (place : ℕ) (x : Option ℕ) (i : ℕ) → occupant (set_place xs place x) i ≡ cond (eqb i place) x (occupant xs i)

@@ -4,17 +4,17 @@ use Rattle.std.specs.List.{flat_map}
 use Rattle.std.specs.Option.{MatchOption, option_map}
 use Rattle.std.proofs.lemmas.Bool.{true≢false}
 use Rattle.std.proofs.lemmas.Option.{none-some, same_Some}
-use Rattle.iox2_store.specs.machine.Numbers.{contains, size}
-use Rattle.iox2_store.specs.machine.Places.{occupant, occupants}
-use Rattle.iox2_store.specs.machine.Channel.{Channel}
-use Rattle.iox2_store.specs.machine.Mailbox.{Mailbox, numbers_in, has_numbers, has_borrows, has_waiting, waiting_count, IsWithin, OthersWithin}
-use Rattle.iox2_store.specs.machine.Records.{BlockedSend, Loan, Publisher, Subscriber}
-use Rattle.iox2_store.specs.machine.State.{State, Warnings, publishers_due, subscribers_due, sender_channels_reset, receiver_channels_reset}
-use Rattle.iox2_store.specs.machine.WellFormed.{LeadsTo, PlacesAgree, publisher_place, subscriber_place, BlockedIsWellFormed, PublisherIsWellFormed}
-use Rattle.iox2_store.specs.machine.WellFormed.{SubscriberIsWellFormed, MailboxIsWellFormed, LoanIsWellFormed, IsWellFormed}
+use Rattle.iox2_machine.specs.machine.Numbers.{contains, size}
+use Rattle.iox2_machine.specs.machine.Places.{occupant, occupants}
+use Rattle.iox2_machine.specs.machine.Channel.{Channel}
+use Rattle.iox2_machine.specs.machine.Mailbox.{Mailbox, numbers_in, has_numbers, has_borrows, has_waiting, waiting_count, IsWithin, OthersWithin}
+use Rattle.iox2_machine.specs.machine.Records.{BlockedSend, Loan, Publisher, Subscriber}
+use Rattle.iox2_machine.specs.machine.State.{State, Warnings, publishers_due, subscribers_due, sender_channels_reset, receiver_channels_reset}
+use Rattle.iox2_machine.specs.machine.WellFormed.{LeadsTo, PlacesAgree, publisher_place, subscriber_place, BlockedIsWellFormed, PublisherIsWellFormed}
+use Rattle.iox2_machine.specs.machine.WellFormed.{SubscriberIsWellFormed, MailboxIsWellFormed, LoanIsWellFormed, IsWellFormed}
 use Rattle.iox2_laws.proofs.Puts.{found_mapped}
 use Rattle.iox2_laws.proofs.NumberLemmas.{contains_in_append, contains_left, contains_right, contains_in_flat_map, contains-flat_map, size_le, absent_from}
-use Rattle.iox2_store.specs.machine.Limits.{buffer_limit, channel_count}
+use Rattle.iox2_machine.specs.machine.Limits.{buffer_limit, channel_count}
 
 -- ---- places
 

@@ -4,21 +4,21 @@ use Rattle.std.proofs.Common.{None, Some, ◌⊎◌, ⊎_elim}
 use Rattle.std.proofs.lemmas.Bool.{eq-eqb, true≢false, ne_eqb, ltb-false, false_from_ne_true}
 use Rattle.std.proofs.lemmas.Option.{none-some, same_Some}
 use Rattle.iox2_laws.proofs.OperationWalks.{advance, create_publisher_by_steps, create_subscriber_by_steps}
-use Rattle.iox2_store.specs.machine.Limits.{buffer_limit, channel_count}
-use Rattle.iox2_store.specs.machine.Numbers.{contains, put_at}
-use Rattle.iox2_store.specs.machine.Places.{occupant, set_place}
-use Rattle.iox2_store.specs.machine.Mailbox.{Mailbox, has_numbers, waiting_count, OthersWithin}
-use Rattle.iox2_store.specs.machine.Records.{Publisher, Subscriber, PublisherSettings, SubscriberSettings, Environment}
-use Rattle.iox2_store.specs.machine.State.{State, is_blocked, with_warning}
-use Rattle.iox2_store.specs.machine.Ports.{buffer_for, new_publisher, new_subscriber, with_new_publisher, with_new_subscriber, FirstPublisherUpdate, FirstSubscriberUpdate}
-use Rattle.iox2_store.specs.machine.Ports.{with_buffer_warning, with_failure_warning, CreatePublisher, CreateSubscriber}
-use Rattle.iox2_store.specs.machine.WellFormed.{LeadsTo, PlacesAgree, publisher_place, subscriber_place, PublisherIsWellFormed, SubscriberIsWellFormed}
-use Rattle.iox2_store.specs.machine.WellFormed.{MailboxIsWellFormed, IsWellFormed}
-use Rattle.iox2_store.specs.declared.errors.ConnectionFailure.{ConnectionFailure}
-use Rattle.iox2_store.specs.declared.errors.PublisherCreateError.{PublisherCreateError}
-use Rattle.iox2_store.specs.declared.errors.SubscriberCreateError.{SubscriberCreateError}
-use Rattle.iox2_store.specs.declared.warning.Warning.{Warning}
-use Rattle.iox2_store.specs.declared.warning.Warning.TheVariants.{PublisherPartlyConnected, SubscriberPartlyConnected}
+use Rattle.iox2_machine.specs.machine.Limits.{buffer_limit, channel_count}
+use Rattle.iox2_machine.specs.machine.Numbers.{contains, put_at}
+use Rattle.iox2_machine.specs.machine.Places.{occupant, set_place}
+use Rattle.iox2_machine.specs.machine.Mailbox.{Mailbox, has_numbers, waiting_count, OthersWithin}
+use Rattle.iox2_machine.specs.machine.Records.{Publisher, Subscriber, PublisherSettings, SubscriberSettings, Environment}
+use Rattle.iox2_machine.specs.machine.State.{State, is_blocked, with_warning}
+use Rattle.iox2_machine.specs.machine.Ports.{buffer_for, new_publisher, new_subscriber, with_new_publisher, with_new_subscriber, FirstPublisherUpdate, FirstSubscriberUpdate}
+use Rattle.iox2_machine.specs.machine.Ports.{with_buffer_warning, with_failure_warning, CreatePublisher, CreateSubscriber}
+use Rattle.iox2_machine.specs.machine.WellFormed.{LeadsTo, PlacesAgree, publisher_place, subscriber_place, PublisherIsWellFormed, SubscriberIsWellFormed}
+use Rattle.iox2_machine.specs.machine.WellFormed.{MailboxIsWellFormed, IsWellFormed}
+use Rattle.iox2_machine.specs.declared.errors.ConnectionFailure.{ConnectionFailure}
+use Rattle.iox2_machine.specs.declared.errors.PublisherCreateError.{PublisherCreateError}
+use Rattle.iox2_machine.specs.declared.errors.SubscriberCreateError.{SubscriberCreateError}
+use Rattle.iox2_machine.specs.declared.warning.Warning.{Warning}
+use Rattle.iox2_machine.specs.declared.warning.Warning.TheVariants.{PublisherPartlyConnected, SubscriberPartlyConnected}
 use Rattle.iox2_laws.specs.Laws.{Advances}
 use Rattle.iox2_laws.proofs.CallCases.{publisher_cases, subscriber_cases}
 use Rattle.iox2_laws.proofs.Puts.{put_at-other, at_each, found_put}

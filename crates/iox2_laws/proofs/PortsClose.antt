@@ -4,11 +4,11 @@ use Rattle.std.specs.Prelude.{◌≢◌}
 use Rattle.std.specs.Option.{option_map}
 use Rattle.std.proofs.lemmas.Bool.{ne_eqb, cond_both}
 use Rattle.std.proofs.lemmas.Option.{none-some, same_Some}
-use Rattle.iox2_store.specs.machine.Mailbox.{Mailbox, waiting_dropped}
-use Rattle.iox2_store.specs.machine.Records.{Publisher, Subscriber}
-use Rattle.iox2_store.specs.machine.State.{State, receiver_channels_reset}
-use Rattle.iox2_store.specs.machine.Ports.{publisher_gone, mailbox_after_publisher, publisher_closed, mailbox_after_subscriber, subscriber_shut, subscriber_closed}
-use Rattle.iox2_store.specs.machine.Releases.{subscriber_pruned, place_freed, is_unused, pruned}
+use Rattle.iox2_machine.specs.machine.Mailbox.{Mailbox, waiting_dropped}
+use Rattle.iox2_machine.specs.machine.Records.{Publisher, Subscriber}
+use Rattle.iox2_machine.specs.machine.State.{State, receiver_channels_reset}
+use Rattle.iox2_machine.specs.machine.Ports.{publisher_gone, mailbox_after_publisher, publisher_closed, mailbox_after_subscriber, subscriber_shut, subscriber_closed}
+use Rattle.iox2_machine.specs.machine.Releases.{subscriber_pruned, place_freed, is_unused, pruned}
 use Rattle.iox2_laws.proofs.Puts.{put_at-same, put_at-other, at_each}
 
 module _ {T U : Type 0} (s : State T U) (p : ℕ) (x : Publisher) where

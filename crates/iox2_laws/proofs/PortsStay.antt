@@ -3,21 +3,21 @@ use Rattle.std.proofs.Common.{◌≡◌, ℕ, Bool, true, false, [], ◌∷◌, 
 use Rattle.std.specs.Prelude.{max}
 use Rattle.std.specs.Option.{option_map}
 use Rattle.std.proofs.lemmas.Option.{same_Some}
-use Rattle.iox2_store.specs.machine.Limits.{expired_limit}
-use Rattle.iox2_store.specs.machine.Numbers.{put_at, without, last_n}
-use Rattle.iox2_store.specs.machine.Mailbox.{Mailbox}
-use Rattle.iox2_store.specs.machine.Records.{Loan, Publisher, Subscriber, Environment, PublisherSettings, SubscriberSettings}
-use Rattle.iox2_store.specs.machine.State.{State, receiving_buffer, channel_buffer, has_receiver_end, has_sender_end, with_loan, with_warning, publisher_changed}
-use Rattle.iox2_store.specs.machine.PublisherUpdate.{sender_side, history_for, UpdatePublisher}
-use Rattle.iox2_store.specs.machine.SubscriberUpdate.{receiver_side, UpdateSubscriber}
-use Rattle.iox2_store.specs.machine.Loans.{GrantLoan, loan_granted, loan_discarded}
-use Rattle.iox2_store.specs.machine.Sends.{Send, SendResult, Blocked_send, with_mailboxes, published}
-use Rattle.iox2_store.specs.machine.Ports.{CreatePublisher, CreateSubscriber, with_new_publisher, with_new_subscriber, new_publisher, new_subscriber, with_failure_warning}
-use Rattle.iox2_store.specs.declared.errors.ConnectionFailure.{ConnectionFailure}
-use Rattle.iox2_store.specs.declared.errors.LoanError.{LoanError}
-use Rattle.iox2_store.specs.declared.errors.PublisherCreateError.{PublisherCreateError}
-use Rattle.iox2_store.specs.declared.errors.SubscriberCreateError.{SubscriberCreateError}
-use Rattle.iox2_store.specs.declared.warning.Warning.{Warning}
+use Rattle.iox2_machine.specs.machine.Limits.{expired_limit}
+use Rattle.iox2_machine.specs.machine.Numbers.{put_at, without, last_n}
+use Rattle.iox2_machine.specs.machine.Mailbox.{Mailbox}
+use Rattle.iox2_machine.specs.machine.Records.{Loan, Publisher, Subscriber, Environment, PublisherSettings, SubscriberSettings}
+use Rattle.iox2_machine.specs.machine.State.{State, receiving_buffer, channel_buffer, has_receiver_end, has_sender_end, with_loan, with_warning, publisher_changed}
+use Rattle.iox2_machine.specs.machine.PublisherUpdate.{sender_side, history_for, UpdatePublisher}
+use Rattle.iox2_machine.specs.machine.SubscriberUpdate.{receiver_side, UpdateSubscriber}
+use Rattle.iox2_machine.specs.machine.Loans.{GrantLoan, loan_granted, loan_discarded}
+use Rattle.iox2_machine.specs.machine.Sends.{Send, SendResult, Blocked_send, with_mailboxes, published}
+use Rattle.iox2_machine.specs.machine.Ports.{CreatePublisher, CreateSubscriber, with_new_publisher, with_new_subscriber, new_publisher, new_subscriber, with_failure_warning}
+use Rattle.iox2_machine.specs.declared.errors.ConnectionFailure.{ConnectionFailure}
+use Rattle.iox2_machine.specs.declared.errors.LoanError.{LoanError}
+use Rattle.iox2_machine.specs.declared.errors.PublisherCreateError.{PublisherCreateError}
+use Rattle.iox2_machine.specs.declared.errors.SubscriberCreateError.{SubscriberCreateError}
+use Rattle.iox2_machine.specs.declared.warning.Warning.{Warning}
 use Rattle.iox2_laws.proofs.OperationWalks.{IsPreorder, DeliveryPoint, Delivers, DeliverySteps, publisher_update_by_steps, subscriber_update_by_steps, warning_by_steps, create_publisher_by_steps, create_subscriber_by_steps, grant_by_steps, send_by_steps}
 use Rattle.iox2_laws.proofs.Puts.{at_each}
 use Rattle.iox2_laws.proofs.MailboxWalks.{sender_side_keeps, receiver_side_keeps, deliver_keeps}

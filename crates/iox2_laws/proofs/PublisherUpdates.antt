@@ -4,14 +4,14 @@ use Rattle.std.specs.List.{flat_map}
 use Rattle.std.specs.Option.{option_map, is_some, MatchOption}
 use Rattle.std.proofs.lemmas.Bool.{true≢false, ne_eqb}
 use Rattle.std.proofs.lemmas.Option.{none-some, same_Some}
-use Rattle.iox2_store.specs.machine.Numbers.{put_at, contains, size}
-use Rattle.iox2_store.specs.machine.Places.{occupants}
-use Rattle.iox2_store.specs.machine.Mailbox.{Mailbox, numbers_in, has_numbers, has_borrows, has_waiting}
-use Rattle.iox2_store.specs.machine.Records.{Publisher, Subscriber, BlockedSend, Loan, Environment}
-use Rattle.iox2_store.specs.machine.State.{State, held, is_blocked}
-use Rattle.iox2_store.specs.machine.PublisherUpdate.{SenderSide, with_sender_side, UpdatePublisher}
-use Rattle.iox2_store.specs.machine.WellFormed.{LeadsTo, publisher_place, IsWellFormed, PublisherIsWellFormed, SubscriberIsWellFormed, MailboxIsWellFormed, LoanIsWellFormed}
-use Rattle.iox2_store.specs.declared.errors.ConnectionFailure.{ConnectionFailure}
+use Rattle.iox2_machine.specs.machine.Numbers.{put_at, contains, size}
+use Rattle.iox2_machine.specs.machine.Places.{occupants}
+use Rattle.iox2_machine.specs.machine.Mailbox.{Mailbox, numbers_in, has_numbers, has_borrows, has_waiting}
+use Rattle.iox2_machine.specs.machine.Records.{Publisher, Subscriber, BlockedSend, Loan, Environment}
+use Rattle.iox2_machine.specs.machine.State.{State, held, is_blocked}
+use Rattle.iox2_machine.specs.machine.PublisherUpdate.{SenderSide, with_sender_side, UpdatePublisher}
+use Rattle.iox2_machine.specs.machine.WellFormed.{LeadsTo, publisher_place, IsWellFormed, PublisherIsWellFormed, SubscriberIsWellFormed, MailboxIsWellFormed, LoanIsWellFormed}
+use Rattle.iox2_machine.specs.declared.errors.ConnectionFailure.{ConnectionFailure}
 use Rattle.iox2_laws.specs.Laws.{Advances}
 use Rattle.iox2_laws.proofs.Cases.{by_option, by_bool}
 use Rattle.iox2_laws.proofs.OperationWalks.{advance, publisher_update_by_steps}

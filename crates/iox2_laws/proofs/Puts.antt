@@ -4,7 +4,7 @@ use mathlib.Core.Path.{fun_ext}
 use Rattle.std.specs.Option.{option_map}
 use Rattle.std.proofs.lemmas.Bool.{eqb-true, eq-eqb}
 use Rattle.std.proofs.lemmas.Option.{none-some, same_Some}
-use Rattle.iox2_store.specs.machine.Numbers.{put_at}
+use Rattle.iox2_machine.specs.machine.Numbers.{put_at}
 
 pub put_at-same : {X : Type 0} (f : ℕ → X) (k : ℕ) (x : X) → put_at f k x k ≡ x
 put_at-same f k x = rw (eq-eqb k k refl) refl

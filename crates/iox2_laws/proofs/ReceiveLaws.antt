@@ -7,14 +7,14 @@ use Rattle.iox2_laws.proofs.PlaceLemmas.{leads_to}
 use Rattle.iox2_laws.proofs.ReleaseLaws.{Shrinks, shrinks_same, with_receivers, ReceiversAgree, receivers_keep, subscriber_keeps, at_each_mailbox}
 use Rattle.iox2_laws.proofs.SubscriberUpdates.{update_subscriber_keeps, update_subscriber_advances}
 use Rattle.iox2_laws.specs.Laws.{Advances}
-use Rattle.iox2_store.specs.machine.Limits.{buffer_limit}
-use Rattle.iox2_store.specs.machine.Numbers.{put_at, contains}
-use Rattle.iox2_store.specs.machine.Mailbox.{Mailbox, has_numbers, has_borrows, has_waiting, BorrowsFirst}
-use Rattle.iox2_store.specs.machine.Records.{Subscriber, Environment}
-use Rattle.iox2_store.specs.machine.State.{State}
-use Rattle.iox2_store.specs.machine.Receives.{ReceiveResult, Got_sample, No_sample, Receive_error, can_receive_of, MayReceiveFrom, TakeSample, Receive, HasSamples}
-use Rattle.iox2_store.specs.machine.WellFormed.{LeadsTo, SubscriberIsWellFormed, IsWellFormed}
-use Rattle.iox2_store.specs.declared.errors.ConnectionFailure.{ConnectionFailure}
+use Rattle.iox2_machine.specs.machine.Limits.{buffer_limit}
+use Rattle.iox2_machine.specs.machine.Numbers.{put_at, contains}
+use Rattle.iox2_machine.specs.machine.Mailbox.{Mailbox, has_numbers, has_borrows, has_waiting, BorrowsFirst}
+use Rattle.iox2_machine.specs.machine.Records.{Subscriber, Environment}
+use Rattle.iox2_machine.specs.machine.State.{State}
+use Rattle.iox2_machine.specs.machine.Receives.{ReceiveResult, Got_sample, No_sample, Receive_error, can_receive_of, MayReceiveFrom, TakeSample, Receive, HasSamples}
+use Rattle.iox2_machine.specs.machine.WellFormed.{LeadsTo, SubscriberIsWellFormed, IsWellFormed}
+use Rattle.iox2_machine.specs.declared.errors.ConnectionFailure.{ConnectionFailure}
 
 -- Whom a message may be received from is a departed publisher that is kept, or one at an end.
 received_from : (borrow_limit : ℕ) (y : Subscriber) (boxes : ℕ → Mailbox) (p : ℕ) → MayReceiveFrom borrow_limit y boxes p

@@ -10,18 +10,18 @@ use Rattle.iox2_laws.proofs.Puts.{put_at-other, at_each}
 use Rattle.iox2_laws.proofs.NumberLemmas.{contains_in_append, contains_left, contains_right, contains_one, absent_from, IsOnce-push, IsOnce-without, contains_in_without, contains-without_same, contains-without_other, length-without}
 use Rattle.iox2_laws.proofs.PlaceLemmas.{occupant-set_place, length-set_place_le, occupied_within, injective_removed, injective_set, found_set}
 use Rattle.iox2_laws.proofs.ReleaseLaws.{stands_with}
-use Rattle.iox2_store.specs.machine.Limits.{expired_limit}
-use Rattle.iox2_store.specs.machine.Numbers.{put_at, contains, without, IsOnce}
-use Rattle.iox2_store.specs.machine.Places.{occupant, set_place}
-use Rattle.iox2_store.specs.machine.Mailbox.{Mailbox, has_numbers, has_borrows, has_waiting, waiting_dropped}
-use Rattle.iox2_store.specs.machine.Records.{Publisher, Subscriber, Handler, Environment}
-use Rattle.iox2_store.specs.machine.State.{State, Warnings, warned}
-use Rattle.iox2_store.specs.machine.Connections.{expired_buffer_full}
-use Rattle.iox2_store.specs.machine.SubscriberUpdate.{ReceiverSide, Retirement, Keep_expired, Evict, Discard_data, Refuse, first_without_borrows, evict_or_refuse, retirement_of, after_retirement, is_refused, with_end, ConnectReceiver, Retire, ConnectAtPlace, DisconnectAtPlace, receiver_side}
-use Rattle.iox2_store.specs.machine.WellFormed.{LeadsTo, IsInjective, SubscriberIsWellFormed, IsWellFormed}
-use Rattle.iox2_store.specs.declared.degradation.DegradationAction.{DegradationAction}
-use Rattle.iox2_store.specs.declared.errors.ConnectionFailure.{ConnectionFailure}
-use Rattle.iox2_store.specs.declared.warning.Warning.TheVariants.{ExpiredDataDiscarded}
+use Rattle.iox2_machine.specs.machine.Limits.{expired_limit}
+use Rattle.iox2_machine.specs.machine.Numbers.{put_at, contains, without, IsOnce}
+use Rattle.iox2_machine.specs.machine.Places.{occupant, set_place}
+use Rattle.iox2_machine.specs.machine.Mailbox.{Mailbox, has_numbers, has_borrows, has_waiting, waiting_dropped}
+use Rattle.iox2_machine.specs.machine.Records.{Publisher, Subscriber, Handler, Environment}
+use Rattle.iox2_machine.specs.machine.State.{State, Warnings, warned}
+use Rattle.iox2_machine.specs.machine.Connections.{expired_buffer_full}
+use Rattle.iox2_machine.specs.machine.SubscriberUpdate.{ReceiverSide, Retirement, Keep_expired, Evict, Discard_data, Refuse, first_without_borrows, evict_or_refuse, retirement_of, after_retirement, is_refused, with_end, ConnectReceiver, Retire, ConnectAtPlace, DisconnectAtPlace, receiver_side}
+use Rattle.iox2_machine.specs.machine.WellFormed.{LeadsTo, IsInjective, SubscriberIsWellFormed, IsWellFormed}
+use Rattle.iox2_machine.specs.declared.degradation.DegradationAction.{DegradationAction}
+use Rattle.iox2_machine.specs.declared.errors.ConnectionFailure.{ConnectionFailure}
+use Rattle.iox2_machine.specs.declared.warning.Warning.TheVariants.{ExpiredDataDiscarded}
 
 -- ---- ends
 

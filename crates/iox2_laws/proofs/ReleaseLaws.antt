@@ -11,14 +11,14 @@ use Rattle.iox2_laws.proofs.FilterLemmas.{contains_in_filter, contains-filter, I
 use Rattle.iox2_laws.proofs.PlaceLemmas.{occupant-places_kept, places_kept_keeps, length-places_kept, injective_places_kept}
 use Rattle.iox2_laws.proofs.MailboxLemmas.{has_numbers-borrows, has_numbers-waiting, IsWithin-released, contains_in_released, has_borrows_before_release, has_numbers_before_release}
 use Rattle.iox2_laws.specs.Laws.{Advances}
-use Rattle.iox2_store.specs.machine.Limits.{buffer_limit, channel_count, expired_limit}
-use Rattle.iox2_store.specs.machine.Numbers.{put_at, contains}
-use Rattle.iox2_store.specs.machine.Places.{occupant}
-use Rattle.iox2_store.specs.machine.Mailbox.{Mailbox, numbers_in, has_numbers, has_borrows, has_waiting, waiting_count, with_released, IsWithin, OthersWithin}
-use Rattle.iox2_store.specs.machine.Records.{Publisher, Subscriber}
-use Rattle.iox2_store.specs.machine.State.{State, Warnings, is_present}
-use Rattle.iox2_store.specs.machine.Releases.{is_connected, pruned, unborrowed, subscriber_pruned, released, freed_if_unused}
-use Rattle.iox2_store.specs.machine.WellFormed.{LeadsTo, subscriber_place, PublisherIsWellFormed, SubscriberIsWellFormed, MailboxIsWellFormed, IsWellFormed}
+use Rattle.iox2_machine.specs.machine.Limits.{buffer_limit, channel_count, expired_limit}
+use Rattle.iox2_machine.specs.machine.Numbers.{put_at, contains}
+use Rattle.iox2_machine.specs.machine.Places.{occupant}
+use Rattle.iox2_machine.specs.machine.Mailbox.{Mailbox, numbers_in, has_numbers, has_borrows, has_waiting, waiting_count, with_released, IsWithin, OthersWithin}
+use Rattle.iox2_machine.specs.machine.Records.{Publisher, Subscriber}
+use Rattle.iox2_machine.specs.machine.State.{State, Warnings, is_present}
+use Rattle.iox2_machine.specs.machine.Releases.{is_connected, pruned, unborrowed, subscriber_pruned, released, freed_if_unused}
+use Rattle.iox2_machine.specs.machine.WellFormed.{LeadsTo, subscriber_place, PublisherIsWellFormed, SubscriberIsWellFormed, MailboxIsWellFormed, IsWellFormed}
 
 -- ---- less in the mailboxes
 

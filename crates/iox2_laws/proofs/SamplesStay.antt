@@ -4,12 +4,12 @@ use Rattle.std.specs.Prelude.{◌||◌, ◌&&◌, not, ◌≢◌}
 use Rattle.std.specs.Option.{option_map, option_map_or}
 use Rattle.std.specs.List.{list_all}
 use Rattle.std.proofs.lemmas.Bool.{ne_eqb, true≢false, cases_eq, cond_both}
-use Rattle.iox2_store.specs.machine.Numbers.{contains, without, put_at}
-use Rattle.iox2_store.specs.machine.Mailbox.{Mailbox, is_borrowed, has_borrows, BorrowsFirst, with_released}
-use Rattle.iox2_store.specs.machine.Records.{Publisher, Subscriber, Environment}
-use Rattle.iox2_store.specs.machine.State.{State, with_mailbox, connected_publishers, receiver_channels_reset}
-use Rattle.iox2_store.specs.machine.Receives.{Receive, TakeSample, ReceiveResult, Got_sample, No_sample, Receive_error}
-use Rattle.iox2_store.specs.machine.Releases.{released, unborrowed, subscriber_pruned, freed_if_unused, place_freed, is_unused, pruned}
+use Rattle.iox2_machine.specs.machine.Numbers.{contains, without, put_at}
+use Rattle.iox2_machine.specs.machine.Mailbox.{Mailbox, is_borrowed, has_borrows, BorrowsFirst, with_released}
+use Rattle.iox2_machine.specs.machine.Records.{Publisher, Subscriber, Environment}
+use Rattle.iox2_machine.specs.machine.State.{State, with_mailbox, connected_publishers, receiver_channels_reset}
+use Rattle.iox2_machine.specs.machine.Receives.{Receive, TakeSample, ReceiveResult, Got_sample, No_sample, Receive_error}
+use Rattle.iox2_machine.specs.machine.Releases.{released, unborrowed, subscriber_pruned, freed_if_unused, place_freed, is_unused, pruned}
 use Rattle.iox2_laws.proofs.LoanKeeping.{update_subscriber_loans}
 use Rattle.iox2_laws.proofs.Cases.{by_option}
 use Rattle.iox2_laws.proofs.Puts.{put_at-same, put_at-other, at_each}

@@ -4,14 +4,14 @@ use Rattle.std.specs.Option.{option_map}
 use Rattle.std.specs.declared.time.Duration.{Duration}
 use Rattle.std.proofs.lemmas.Bool.{eqb-false}
 use Rattle.std.proofs.lemmas.Option.{none-some, same_Some}
-use Rattle.iox2_store.specs.machine.Numbers.{put_at, contains, without, last_n}
-use Rattle.iox2_store.specs.machine.Places.{occupant}
-use Rattle.iox2_store.specs.machine.Mailbox.{Mailbox, numbers_in}
-use Rattle.iox2_store.specs.machine.Records.{Loan, Publisher, BlockedSend, Environment}
-use Rattle.iox2_store.specs.machine.State.{State, is_blocked, channel_buffer, publisher_changed}
-use Rattle.iox2_store.specs.machine.Delivery.{DeliveryEnd, Complete, Suspended, no_time}
-use Rattle.iox2_store.specs.machine.Sends.{SendResult, more_retries, published, send_ended, send_blocked, ConcludeSend, with_mailboxes, DeliverAndConclude, Publish, Send, Retry, GiveUp}
-use Rattle.iox2_store.specs.machine.WellFormed.{LeadsTo, IsInjective, BlockedIsWellFormed, PublisherIsWellFormed, IsWellFormed}
+use Rattle.iox2_machine.specs.machine.Numbers.{put_at, contains, without, last_n}
+use Rattle.iox2_machine.specs.machine.Places.{occupant}
+use Rattle.iox2_machine.specs.machine.Mailbox.{Mailbox, numbers_in}
+use Rattle.iox2_machine.specs.machine.Records.{Loan, Publisher, BlockedSend, Environment}
+use Rattle.iox2_machine.specs.machine.State.{State, is_blocked, channel_buffer, publisher_changed}
+use Rattle.iox2_machine.specs.machine.Delivery.{DeliveryEnd, Complete, Suspended, no_time}
+use Rattle.iox2_machine.specs.machine.Sends.{SendResult, more_retries, published, send_ended, send_blocked, ConcludeSend, with_mailboxes, DeliverAndConclude, Publish, Send, Retry, GiveUp}
+use Rattle.iox2_machine.specs.machine.WellFormed.{LeadsTo, IsInjective, BlockedIsWellFormed, PublisherIsWellFormed, IsWellFormed}
 use Rattle.iox2_laws.specs.Laws.{Advances}
 use Rattle.iox2_laws.proofs.Cases.{by_option}
 use Rattle.iox2_laws.proofs.OperationWalks.{advance, DeliverySteps, delivery_by_steps, send_by_steps}
@@ -22,7 +22,7 @@ use Rattle.iox2_laws.proofs.PublisherUpdates.{update_publisher_keeps, update_pub
 use Rattle.iox2_laws.proofs.Altered.{same_state, altered}
 use Rattle.iox2_laws.proofs.LoanLaws.{loan_lost_keeps, loan_discarded_keeps}
 use Rattle.iox2_laws.proofs.DeliveryLaws.{Delivered, deliver_is, IsUnderway, ended_keeps, blocked_keeps, AreFrom, rest_of}
-use Rattle.iox2_store.specs.machine.Limits.{channel_count}
+use Rattle.iox2_machine.specs.machine.Limits.{channel_count}
 
 -- all ends but the first lead where the ends do
 later_ends : (ends : List (Option ℕ)) (q : ℕ) → LeadsTo (drop 1 ends) q → LeadsTo ends q

@@ -2,17 +2,17 @@
 use Rattle.std.proofs.Common.{◌≡◌, ℕ, ◌≤◌, ◌<◌, Bool, true, false, cond, List, [], length, refl, sym, ap, subst, ◌∙◌, arith, eqb, Option, None, Some, ◌⊎◌, inl, inr, ⊎_elim}
 use Rattle.std.proofs.lemmas.Bool.{true≢false, eqb-false, eq-eqb, ne_eqb, cond_both}
 use Rattle.std.proofs.lemmas.Option.{none-some, same_Some, cond_some, option_and_then_some}
-use Rattle.iox2_store.specs.machine.Limits.{buffer_limit, channel_count}
-use Rattle.iox2_store.specs.machine.Numbers.{put_at, contains, last_n, IsOnce}
-use Rattle.iox2_store.specs.machine.Places.{occupant, set_place, is_port}
-use Rattle.iox2_store.specs.machine.Channel.{is_closed}
-use Rattle.iox2_store.specs.machine.Mailbox.{Mailbox, numbers_in, has_numbers, has_borrows, waiting_count, waiting_dropped, with_waiting, IsWithin, OthersWithin}
-use Rattle.iox2_store.specs.machine.Records.{Publisher, Subscriber, Environment}
-use Rattle.iox2_store.specs.machine.State.{State, receiving_buffer, has_receiver_end}
-use Rattle.iox2_store.specs.machine.Connections.{ForEachPlace}
-use Rattle.iox2_store.specs.machine.PublisherUpdate.{SenderSide, SenderAction, Keep_end, Drop_waiting, Disconnect, Connect, sender_action, dropped, disconnected, connected, Performs, UpdateSenderPlace, sender_side, history_for}
-use Rattle.iox2_store.specs.machine.WellFormed.{LeadsTo, IsInjective, subscriber_place, IsWellFormed, PublisherIsWellFormed, SubscriberIsWellFormed}
-use Rattle.iox2_store.specs.declared.errors.ConnectionFailure.{ConnectionFailure}
+use Rattle.iox2_machine.specs.machine.Limits.{buffer_limit, channel_count}
+use Rattle.iox2_machine.specs.machine.Numbers.{put_at, contains, last_n, IsOnce}
+use Rattle.iox2_machine.specs.machine.Places.{occupant, set_place, is_port}
+use Rattle.iox2_machine.specs.machine.Channel.{is_closed}
+use Rattle.iox2_machine.specs.machine.Mailbox.{Mailbox, numbers_in, has_numbers, has_borrows, waiting_count, waiting_dropped, with_waiting, IsWithin, OthersWithin}
+use Rattle.iox2_machine.specs.machine.Records.{Publisher, Subscriber, Environment}
+use Rattle.iox2_machine.specs.machine.State.{State, receiving_buffer, has_receiver_end}
+use Rattle.iox2_machine.specs.machine.Connections.{ForEachPlace}
+use Rattle.iox2_machine.specs.machine.PublisherUpdate.{SenderSide, SenderAction, Keep_end, Drop_waiting, Disconnect, Connect, sender_action, dropped, disconnected, connected, Performs, UpdateSenderPlace, sender_side, history_for}
+use Rattle.iox2_machine.specs.machine.WellFormed.{LeadsTo, IsInjective, subscriber_place, IsWellFormed, PublisherIsWellFormed, SubscriberIsWellFormed}
+use Rattle.iox2_machine.specs.declared.errors.ConnectionFailure.{ConnectionFailure}
 use Rattle.iox2_laws.proofs.Puts.{at_each}
 use Rattle.iox2_laws.proofs.NumberLemmas.{false_from}
 use Rattle.iox2_laws.proofs.PlaceLemmas.{length-set_place_le, occupant-set_place, is_port-true, is_port-false, injective_removed, injective_set, found_set}

@@ -1,6 +1,6 @@
 -- How many different numbers a list has.
 use Rattle.std.proofs.Common.{◌≡◌, ℕ, ◌≤◌, List, length, true, sym, ◌∙◌, arith}
-use Rattle.iox2_store.specs.machine.Numbers.{contains, size, distinct, IsOnce}
+use Rattle.iox2_machine.specs.machine.Numbers.{contains, size, distinct, IsOnce}
 use Rattle.iox2_laws.proofs.NumberLemmas.{contains-distinct, IsOnce-distinct, length_le}
 
 -- there are no more different numbers than in a list that has them all

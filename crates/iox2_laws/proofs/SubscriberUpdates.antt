@@ -11,15 +11,15 @@ use Rattle.iox2_laws.proofs.ReleaseLaws.{Shrinks, shrinks_same, ReceiversAgree, 
 use Rattle.iox2_laws.proofs.ReceiverSides.{ReceiverSideIsWellFormed, receiver_side_begins, connect_at_place_keeps, disconnect_at_place_keeps}
 use Rattle.iox2_laws.proofs.Walks.{for_each_place_keeps}
 use Rattle.iox2_laws.specs.Laws.{Advances}
-use Rattle.iox2_store.specs.machine.Limits.{buffer_limit, expired_limit}
-use Rattle.iox2_store.specs.machine.Numbers.{put_at, contains}
-use Rattle.iox2_store.specs.machine.Mailbox.{Mailbox, has_numbers, has_borrows, has_waiting, waiting_dropped, IsWithin}
-use Rattle.iox2_store.specs.machine.Records.{Subscriber, Handler, Environment}
-use Rattle.iox2_store.specs.machine.State.{State, has_sender_end}
-use Rattle.iox2_store.specs.machine.SubscriberUpdate.{ReceiverSide, ConnectAtPlace, DisconnectAtPlace, UpdateReceiverSide, receiver_side, with_receiver_side, UpdateSubscriber}
-use Rattle.iox2_store.specs.machine.WellFormed.{LeadsTo, subscriber_place, SubscriberIsWellFormed, IsWellFormed}
-use Rattle.iox2_store.specs.declared.degradation.DegradationAction.{DegradationAction}
-use Rattle.iox2_store.specs.declared.errors.ConnectionFailure.{ConnectionFailure}
+use Rattle.iox2_machine.specs.machine.Limits.{buffer_limit, expired_limit}
+use Rattle.iox2_machine.specs.machine.Numbers.{put_at, contains}
+use Rattle.iox2_machine.specs.machine.Mailbox.{Mailbox, has_numbers, has_borrows, has_waiting, waiting_dropped, IsWithin}
+use Rattle.iox2_machine.specs.machine.Records.{Subscriber, Handler, Environment}
+use Rattle.iox2_machine.specs.machine.State.{State, has_sender_end}
+use Rattle.iox2_machine.specs.machine.SubscriberUpdate.{ReceiverSide, ConnectAtPlace, DisconnectAtPlace, UpdateReceiverSide, receiver_side, with_receiver_side, UpdateSubscriber}
+use Rattle.iox2_machine.specs.machine.WellFormed.{LeadsTo, subscriber_place, SubscriberIsWellFormed, IsWellFormed}
+use Rattle.iox2_machine.specs.declared.degradation.DegradationAction.{DegradationAction}
+use Rattle.iox2_machine.specs.declared.errors.ConnectionFailure.{ConnectionFailure}
 use Rattle.iox2_laws.proofs.PortChanges.{receiver_reset_keeps}
 
 -- A mailbox whose waiting messages are lost has nothing new.

@@ -5,22 +5,22 @@ use Rattle.std.specs.declared.time.Duration.{Duration}
 use Rattle.std.specs.Option.{option_map, option_map_or}
 use Rattle.std.proofs.lemmas.Bool.{true≢false, cases_eq, ne_eqb}
 use Rattle.std.proofs.lemmas.Option.{same_Some}
-use Rattle.iox2_store.specs.machine.Mailbox.{has_borrows}
-use Rattle.iox2_store.specs.machine.Records.{Loan, Subscriber, BlockedSend, Environment, SubscriberSettings}
-use Rattle.iox2_store.specs.machine.State.{State, connected_publishers}
-use Rattle.iox2_store.specs.machine.PublisherUpdate.{UpdatePublisher}
-use Rattle.iox2_store.specs.machine.SubscriberUpdate.{UpdateSubscriber}
-use Rattle.iox2_store.specs.machine.Loans.{GrantLoan}
-use Rattle.iox2_store.specs.machine.Ports.{CreateSubscriber, FirstSubscriberUpdate, with_new_subscriber, new_subscriber, with_failure_warning}
-use Rattle.iox2_store.specs.machine.Receives.{ReceiveResult, Got_sample, No_sample, Receive_error, TakeSample, Receive}
-use Rattle.iox2_store.specs.machine.Releases.{pruned, is_unused, place_freed, unborrowed, subscriber_pruned, released}
-use Rattle.iox2_store.specs.machine.Sends.{Send, Retry, GiveUp, DeliverAndConclude, SendResult}
-use Rattle.iox2_store.specs.machine.WellFormed.{IsWellFormed}
-use Rattle.iox2_store.specs.declared.errors.ConnectionFailure.{ConnectionFailure}
-use Rattle.iox2_store.specs.declared.errors.LoanError.{LoanError}
-use Rattle.iox2_store.specs.declared.errors.ReceiveError.{ReceiveError}
-use Rattle.iox2_store.specs.declared.errors.SubscriberCreateError.{SubscriberCreateError}
-use Rattle.iox2_store.specs.declared.warning.Warning.TheVariants.{SubscriberPartlyConnected}
+use Rattle.iox2_machine.specs.machine.Mailbox.{has_borrows}
+use Rattle.iox2_machine.specs.machine.Records.{Loan, Subscriber, BlockedSend, Environment, SubscriberSettings}
+use Rattle.iox2_machine.specs.machine.State.{State, connected_publishers}
+use Rattle.iox2_machine.specs.machine.PublisherUpdate.{UpdatePublisher}
+use Rattle.iox2_machine.specs.machine.SubscriberUpdate.{UpdateSubscriber}
+use Rattle.iox2_machine.specs.machine.Loans.{GrantLoan}
+use Rattle.iox2_machine.specs.machine.Ports.{CreateSubscriber, FirstSubscriberUpdate, with_new_subscriber, new_subscriber, with_failure_warning}
+use Rattle.iox2_machine.specs.machine.Receives.{ReceiveResult, Got_sample, No_sample, Receive_error, TakeSample, Receive}
+use Rattle.iox2_machine.specs.machine.Releases.{pruned, is_unused, place_freed, unborrowed, subscriber_pruned, released}
+use Rattle.iox2_machine.specs.machine.Sends.{Send, Retry, GiveUp, DeliverAndConclude, SendResult}
+use Rattle.iox2_machine.specs.machine.WellFormed.{IsWellFormed}
+use Rattle.iox2_machine.specs.declared.errors.ConnectionFailure.{ConnectionFailure}
+use Rattle.iox2_machine.specs.declared.errors.LoanError.{LoanError}
+use Rattle.iox2_machine.specs.declared.errors.ReceiveError.{ReceiveError}
+use Rattle.iox2_machine.specs.declared.errors.SubscriberCreateError.{SubscriberCreateError}
+use Rattle.iox2_machine.specs.declared.warning.Warning.TheVariants.{SubscriberPartlyConnected}
 use Rattle.iox2_laws.proofs.OperationWalks.{IsPreorder, unchanged, DeliverySteps, grant_by_steps, publisher_update_by_steps, receive_by_steps, delivery_by_steps, retry_by_steps, give_up_by_steps, send_by_steps}
 use Rattle.iox2_laws.proofs.Cases.{by_option, by_bool}
 use Rattle.iox2_laws.proofs.CallCases.{subscriber_cases}

@@ -4,15 +4,15 @@ use Rattle.std.specs.Prelude.{◌≢◌, MatchOption}
 use Rattle.std.specs.Option.{option_map, option_map_or}
 use Rattle.std.proofs.lemmas.Bool.{ne_eqb, true≢false}
 use Rattle.std.proofs.lemmas.Option.{none-some}
-use Rattle.iox2_store.specs.machine.Mailbox.{Mailbox, waiting_dropped, has_numbers}
-use Rattle.iox2_store.specs.machine.Numbers.{contains}
-use Rattle.iox2_store.specs.machine.Places.{occupant, occupants, is_port}
-use Rattle.iox2_store.specs.machine.Ports.{publisher_gone, mailbox_after_publisher, publisher_closed, mailbox_after_subscriber, subscriber_shut, subscriber_closed}
-use Rattle.iox2_store.specs.machine.Records.{Publisher, Subscriber}
-use Rattle.iox2_store.specs.machine.Releases.{subscriber_pruned, pruned}
-use Rattle.iox2_store.specs.machine.State.{State, connected_publishers}
-use Rattle.iox2_store.specs.machine.Waiting.{waiting_from, waiting_for}
-use Rattle.iox2_store.specs.machine.WellFormed.{IsWellFormed}
+use Rattle.iox2_machine.specs.machine.Mailbox.{Mailbox, waiting_dropped, has_numbers}
+use Rattle.iox2_machine.specs.machine.Numbers.{contains}
+use Rattle.iox2_machine.specs.machine.Places.{occupant, occupants, is_port}
+use Rattle.iox2_machine.specs.machine.Ports.{publisher_gone, mailbox_after_publisher, publisher_closed, mailbox_after_subscriber, subscriber_shut, subscriber_closed}
+use Rattle.iox2_machine.specs.machine.Records.{Publisher, Subscriber}
+use Rattle.iox2_machine.specs.machine.Releases.{subscriber_pruned, pruned}
+use Rattle.iox2_machine.specs.machine.State.{State, connected_publishers}
+use Rattle.iox2_machine.specs.machine.Waiting.{waiting_from, waiting_for}
+use Rattle.iox2_machine.specs.machine.WellFormed.{IsWellFormed}
 use Rattle.iox2_laws.proofs.NumberLemmas.{contains_in_append}
 use Rattle.iox2_laws.proofs.PlaceLemmas.{is_port-false, leads_to}
 use Rattle.iox2_laws.proofs.PortsClose.{subscriber_closed_shut, subscriber_closed_others, either}

@@ -1,9 +1,9 @@
 -- A loan that is granted, changed or given back leaves what waits.
 use Rattle.std.proofs.Common.{◌≡◌, ℕ, Bool, refl, sym, subst, Option}
-use Rattle.iox2_store.specs.machine.Records.{Loan, Publisher, Environment}
-use Rattle.iox2_store.specs.machine.State.{State, with_loan}
-use Rattle.iox2_store.specs.machine.Loans.{GrantLoan, loan_granted, loan_discarded}
-use Rattle.iox2_store.specs.declared.errors.LoanError.{LoanError}
+use Rattle.iox2_machine.specs.machine.Records.{Loan, Publisher, Environment}
+use Rattle.iox2_machine.specs.machine.State.{State, with_loan}
+use Rattle.iox2_machine.specs.machine.Loans.{GrantLoan, loan_granted, loan_discarded}
+use Rattle.iox2_machine.specs.declared.errors.LoanError.{LoanError}
 use Rattle.iox2_laws.proofs.CallCases.{grant_cases}
 use Rattle.iox2_laws.proofs.WaitingCounts.{SameWaits, same_itself}
 

@@ -3,16 +3,16 @@ use Rattle.std.proofs.Common.{◌≡◌, ℕ, suc, ◌+◌, ◌≤◌, ◌<◌, 
 use Rattle.std.specs.Prelude.{not, ◌≢◌}
 use Rattle.std.proofs.lemmas.Bool.{cases_eq, ne_eqb}
 use Rattle.std.proofs.lemmas.Option.{none-some}
-use Rattle.iox2_store.specs.machine.Numbers.{is_nil}
-use Rattle.iox2_store.specs.machine.Mailbox.{Mailbox, has_numbers, waiting_count}
-use Rattle.iox2_store.specs.machine.Records.{Environment, SubscriberSettings}
-use Rattle.iox2_store.specs.machine.State.{State}
-use Rattle.iox2_store.specs.machine.Ports.{CreateSubscriber, FirstSubscriberUpdate, with_new_subscriber, new_subscriber, with_failure_warning}
-use Rattle.iox2_store.specs.machine.Waiting.{waiting_from}
-use Rattle.iox2_store.specs.machine.WellFormed.{IsWellFormed}
-use Rattle.iox2_store.specs.declared.errors.ConnectionFailure.{ConnectionFailure}
-use Rattle.iox2_store.specs.declared.errors.SubscriberCreateError.{SubscriberCreateError}
-use Rattle.iox2_store.specs.declared.warning.Warning.TheVariants.{SubscriberPartlyConnected}
+use Rattle.iox2_machine.specs.machine.Numbers.{is_nil}
+use Rattle.iox2_machine.specs.machine.Mailbox.{Mailbox, has_numbers, waiting_count}
+use Rattle.iox2_machine.specs.machine.Records.{Environment, SubscriberSettings}
+use Rattle.iox2_machine.specs.machine.State.{State}
+use Rattle.iox2_machine.specs.machine.Ports.{CreateSubscriber, FirstSubscriberUpdate, with_new_subscriber, new_subscriber, with_failure_warning}
+use Rattle.iox2_machine.specs.machine.Waiting.{waiting_from}
+use Rattle.iox2_machine.specs.machine.WellFormed.{IsWellFormed}
+use Rattle.iox2_machine.specs.declared.errors.ConnectionFailure.{ConnectionFailure}
+use Rattle.iox2_machine.specs.declared.errors.SubscriberCreateError.{SubscriberCreateError}
+use Rattle.iox2_machine.specs.declared.warning.Warning.TheVariants.{SubscriberPartlyConnected}
 use Rattle.iox2_laws.proofs.CallCases.{subscriber_cases}
 use Rattle.iox2_laws.proofs.Puts.{put_at-other}
 use Rattle.iox2_laws.proofs.WaitingCounts.{SameWaits, same_itself, cond_le, same_from}

@@ -4,16 +4,16 @@ use Rattle.std.specs.Prelude.{◌≢◌}
 use Rattle.std.specs.Option.{option_map, option_map_or}
 use Rattle.std.proofs.lemmas.Bool.{ne_eqb}
 use Rattle.std.proofs.lemmas.Option.{none-some}
-use Rattle.iox2_store.specs.machine.Numbers.{contains}
-use Rattle.iox2_store.specs.machine.Mailbox.{Mailbox}
-use Rattle.iox2_store.specs.machine.Records.{Subscriber, Environment, PublisherSettings}
-use Rattle.iox2_store.specs.machine.State.{State, connected_publishers}
-use Rattle.iox2_store.specs.machine.PublisherUpdate.{UpdatePublisher}
-use Rattle.iox2_store.specs.machine.Ports.{CreatePublisher, FirstPublisherUpdate, with_new_publisher, with_failure_warning}
-use Rattle.iox2_store.specs.machine.Waiting.{sum_below, receives_from, waiting_from, waiting_for}
-use Rattle.iox2_store.specs.declared.errors.ConnectionFailure.{ConnectionFailure}
-use Rattle.iox2_store.specs.declared.errors.PublisherCreateError.{PublisherCreateError}
-use Rattle.iox2_store.specs.declared.warning.Warning.TheVariants.{PublisherPartlyConnected}
+use Rattle.iox2_machine.specs.machine.Numbers.{contains}
+use Rattle.iox2_machine.specs.machine.Mailbox.{Mailbox}
+use Rattle.iox2_machine.specs.machine.Records.{Subscriber, Environment, PublisherSettings}
+use Rattle.iox2_machine.specs.machine.State.{State, connected_publishers}
+use Rattle.iox2_machine.specs.machine.PublisherUpdate.{UpdatePublisher}
+use Rattle.iox2_machine.specs.machine.Ports.{CreatePublisher, FirstPublisherUpdate, with_new_publisher, with_failure_warning}
+use Rattle.iox2_machine.specs.machine.Waiting.{sum_below, receives_from, waiting_from, waiting_for}
+use Rattle.iox2_machine.specs.declared.errors.ConnectionFailure.{ConnectionFailure}
+use Rattle.iox2_machine.specs.declared.errors.PublisherCreateError.{PublisherCreateError}
+use Rattle.iox2_machine.specs.declared.warning.Warning.TheVariants.{PublisherPartlyConnected}
 use Rattle.iox2_laws.proofs.Cases.{by_option, by_bool}
 use Rattle.iox2_laws.proofs.CallCases.{publisher_cases}
 use Rattle.iox2_laws.proofs.Puts.{put_at-other}

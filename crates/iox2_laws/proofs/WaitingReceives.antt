@@ -5,20 +5,20 @@ use Rattle.std.specs.List.{list_any, list_all, filter}
 use Rattle.std.specs.Option.{option_map, option_map_or}
 use Rattle.std.proofs.lemmas.Bool.{true≢false, ne_eqb, or_parts, and_parts}
 use Rattle.std.proofs.lemmas.Option.{none-some, same_Some}
-use Rattle.iox2_store.specs.machine.Limits.{expired_limit}
-use Rattle.iox2_store.specs.machine.Numbers.{put_at, contains, is_nil}
-use Rattle.iox2_store.specs.machine.Places.{occupant, occupants, places_kept}
-use Rattle.iox2_store.specs.machine.Mailbox.{Mailbox, has_data, has_numbers, has_borrows, waiting_count, with_released}
-use Rattle.iox2_store.specs.machine.Records.{Subscriber, Handler, Environment}
-use Rattle.iox2_store.specs.machine.State.{State, connected_publishers, has_sender_end, with_mailbox, receiver_channels_reset}
-use Rattle.iox2_store.specs.machine.Connections.{ForEachPlace, first_failure, expired_buffer_full}
-use Rattle.iox2_store.specs.machine.SubscriberUpdate.{ReceiverSide, Retirement, Keep_expired, Evict, Discard_data, Refuse, retirement_of, is_refused, after_retirement, with_end, ConnectReceiver, Retire, ConnectAtPlace, DisconnectAtPlace, UpdateReceiverSide, receiver_side, UpdateSubscriber, with_receiver_side}
-use Rattle.iox2_store.specs.machine.Receives.{ReceiveResult, Got_sample, No_sample, Receive_error, has_any_data, can_receive_of, MayReceiveFrom, TakeSample, Receive, HasSamples}
-use Rattle.iox2_store.specs.machine.Releases.{is_connected, pruned, is_unused, place_freed, freed_if_unused, unborrowed, subscriber_pruned, released}
-use Rattle.iox2_store.specs.machine.Waiting.{sum_below, receives_from, waiting_from, waiting_for}
-use Rattle.iox2_store.specs.machine.WellFormed.{IsWellFormed}
-use Rattle.iox2_store.specs.declared.degradation.DegradationAction.{DegradationAction}
-use Rattle.iox2_store.specs.declared.errors.ConnectionFailure.{ConnectionFailure}
+use Rattle.iox2_machine.specs.machine.Limits.{expired_limit}
+use Rattle.iox2_machine.specs.machine.Numbers.{put_at, contains, is_nil}
+use Rattle.iox2_machine.specs.machine.Places.{occupant, occupants, places_kept}
+use Rattle.iox2_machine.specs.machine.Mailbox.{Mailbox, has_data, has_numbers, has_borrows, waiting_count, with_released}
+use Rattle.iox2_machine.specs.machine.Records.{Subscriber, Handler, Environment}
+use Rattle.iox2_machine.specs.machine.State.{State, connected_publishers, has_sender_end, with_mailbox, receiver_channels_reset}
+use Rattle.iox2_machine.specs.machine.Connections.{ForEachPlace, first_failure, expired_buffer_full}
+use Rattle.iox2_machine.specs.machine.SubscriberUpdate.{ReceiverSide, Retirement, Keep_expired, Evict, Discard_data, Refuse, retirement_of, is_refused, after_retirement, with_end, ConnectReceiver, Retire, ConnectAtPlace, DisconnectAtPlace, UpdateReceiverSide, receiver_side, UpdateSubscriber, with_receiver_side}
+use Rattle.iox2_machine.specs.machine.Receives.{ReceiveResult, Got_sample, No_sample, Receive_error, has_any_data, can_receive_of, MayReceiveFrom, TakeSample, Receive, HasSamples}
+use Rattle.iox2_machine.specs.machine.Releases.{is_connected, pruned, is_unused, place_freed, freed_if_unused, unborrowed, subscriber_pruned, released}
+use Rattle.iox2_machine.specs.machine.Waiting.{sum_below, receives_from, waiting_from, waiting_for}
+use Rattle.iox2_machine.specs.machine.WellFormed.{IsWellFormed}
+use Rattle.iox2_machine.specs.declared.degradation.DegradationAction.{DegradationAction}
+use Rattle.iox2_machine.specs.declared.errors.ConnectionFailure.{ConnectionFailure}
 use Rattle.iox2_laws.proofs.Cases.{by_option, by_bool}
 use Rattle.iox2_laws.proofs.Puts.{put_at-same, put_at-other, at_each}
 use Rattle.iox2_laws.proofs.FilterLemmas.{contains_in_filter, contains-filter}

@@ -4,21 +4,21 @@ use Rattle.std.proofs.lemmas.Bool.{ne_eqb, eq-eqb, eqb-true, cond_both, true≢f
 use Rattle.std.proofs.lemmas.List.{length-append, length-drop}
 use Rattle.std.specs.declared.time.Duration.{Duration}
 use Rattle.std.specs.Option.{option_map, option_map_or}
-use Rattle.iox2_store.specs.machine.Numbers.{put_at, contains, without, last_n, IsOnce}
-use Rattle.iox2_store.specs.machine.Places.{occupants}
-use Rattle.iox2_store.specs.machine.Mailbox.{Mailbox, has_room, waiting_count, with_appended_in, has_room_in}
-use Rattle.iox2_store.specs.machine.Records.{Loan, Publisher, Subscriber, BlockedSend, Handler, Environment}
-use Rattle.iox2_store.specs.machine.State.{State, receiving_buffer, channel_buffer, has_receiver_end, with_loan}
-use Rattle.iox2_store.specs.machine.Delivery.{PutResult, DeliveryEnd, Complete, Suspended, no_time, is_blocking, accepted_count, is_failed, PutIn, DeliverIn}
-use Rattle.iox2_store.specs.machine.Connections.{ForEachPlace}
-use Rattle.iox2_store.specs.machine.PublisherUpdate.{SenderSide, sender_side, history_for, UpdateSenderPlace, UpdatePublisher}
-use Rattle.iox2_store.specs.machine.Sends.{Send, SendToConnection, Retry, GiveUp, Publish, DeliverAndConclude, ConcludeSend, SendResult, more_retries, with_mailboxes, published}
-use Rattle.iox2_store.specs.machine.Waiting.{receives_from, waiting_from, waiting_for}
-use Rattle.iox2_store.specs.machine.WellFormed.{IsWellFormed}
-use Rattle.iox2_store.specs.declared.service_config.ServiceConfig.{ServiceConfig}
-use Rattle.iox2_store.specs.declared.backpressure.BackpressureStrategy.{BackpressureStrategy}
-use Rattle.iox2_store.specs.declared.backpressure.BackpressureAction.{BackpressureAction}
-use Rattle.iox2_store.specs.declared.errors.ConnectionFailure.{ConnectionFailure}
+use Rattle.iox2_machine.specs.machine.Numbers.{put_at, contains, without, last_n, IsOnce}
+use Rattle.iox2_machine.specs.machine.Places.{occupants}
+use Rattle.iox2_machine.specs.machine.Mailbox.{Mailbox, has_room, waiting_count, with_appended_in, has_room_in}
+use Rattle.iox2_machine.specs.machine.Records.{Loan, Publisher, Subscriber, BlockedSend, Handler, Environment}
+use Rattle.iox2_machine.specs.machine.State.{State, receiving_buffer, channel_buffer, has_receiver_end, with_loan}
+use Rattle.iox2_machine.specs.machine.Delivery.{PutResult, DeliveryEnd, Complete, Suspended, no_time, is_blocking, accepted_count, is_failed, PutIn, DeliverIn}
+use Rattle.iox2_machine.specs.machine.Connections.{ForEachPlace}
+use Rattle.iox2_machine.specs.machine.PublisherUpdate.{SenderSide, sender_side, history_for, UpdateSenderPlace, UpdatePublisher}
+use Rattle.iox2_machine.specs.machine.Sends.{Send, SendToConnection, Retry, GiveUp, Publish, DeliverAndConclude, ConcludeSend, SendResult, more_retries, with_mailboxes, published}
+use Rattle.iox2_machine.specs.machine.Waiting.{receives_from, waiting_from, waiting_for}
+use Rattle.iox2_machine.specs.machine.WellFormed.{IsWellFormed}
+use Rattle.iox2_machine.specs.declared.service_config.ServiceConfig.{ServiceConfig}
+use Rattle.iox2_machine.specs.declared.backpressure.BackpressureStrategy.{BackpressureStrategy}
+use Rattle.iox2_machine.specs.declared.backpressure.BackpressureAction.{BackpressureAction}
+use Rattle.iox2_machine.specs.declared.errors.ConnectionFailure.{ConnectionFailure}
 use Rattle.iox2_laws.proofs.Cases.{by_option, by_bool}
 use Rattle.iox2_laws.proofs.SenderSides.{in_history_for, length-history_for_le}
 use Rattle.iox2_laws.proofs.Puts.{put_at-same, put_at-other, at_each}

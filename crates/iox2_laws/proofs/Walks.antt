@@ -1,8 +1,8 @@
 -- A walk over places keeps what each of its steps keeps.
 use Rattle.std.proofs.Common.{◌≡◌, ℕ, suc, ◌+◌, ◌<◌, List, [], ◌∷◌, length, sym, subst, arith, Option}
-use Rattle.iox2_store.specs.machine.Places.{occupant}
-use Rattle.iox2_store.specs.machine.Connections.{ForEachPlace}
-use Rattle.iox2_store.specs.declared.errors.ConnectionFailure.{ConnectionFailure}
+use Rattle.iox2_machine.specs.machine.Places.{occupant}
+use Rattle.iox2_machine.specs.machine.Connections.{ForEachPlace}
+use Rattle.iox2_machine.specs.declared.errors.ConnectionFailure.{ConnectionFailure}
 
 module _ {Side : Type 0} (AtPlace : ℕ → Option ℕ → Side → Side → Option ConnectionFailure → Type 0) (Keeps : Side → Type 0) where
   -- the same for the places from some place on

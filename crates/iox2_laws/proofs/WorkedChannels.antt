@@ -1,16 +1,16 @@
 -- Numbers in channels other than 0, worked out by computing: subscriber 1 and publisher 2, which are connected.
 use Rattle.std.proofs.Common.{◌≡◌, ℕ, true, false, [], ◌∷◌, take, drop, refl, None, Some}
-use Rattle.iox2_store.specs.machine.Numbers.{put_at}
-use Rattle.iox2_store.specs.machine.Mailbox.{Mailbox, ChannelNumber, empty_mailbox, with_appended_in, can_receive, has_numbers, waiting_dropped}
-use Rattle.iox2_store.specs.machine.Delivery.{Complete, Accepted, Skipped, no_time}
-use Rattle.iox2_store.specs.machine.Sends.{DeliverAndConclude, Delivered_to, send_ended, with_mailboxes}
-use Rattle.iox2_store.specs.machine.Environments.{ample_memory}
-use Rattle.iox2_store.specs.machine.Records.{Publisher, Subscriber, Fixed}
-use Rattle.iox2_store.specs.machine.State.{State, fresh}
-use Rattle.iox2_store.specs.Defaults.{default_config}
-use Rattle.iox2_store.specs.declared.allocation.AllocationStrategy.TheVariants.{Static}
-use Rattle.iox2_store.specs.declared.backpressure.BackpressureStrategy.TheVariants.{DiscardData}
-use Rattle.iox2_store.specs.declared.degradation.DegradationAction.TheVariants.{Warn}
+use Rattle.iox2_machine.specs.machine.Numbers.{put_at}
+use Rattle.iox2_machine.specs.machine.Mailbox.{Mailbox, ChannelNumber, empty_mailbox, with_appended_in, can_receive, has_numbers, waiting_dropped}
+use Rattle.iox2_machine.specs.machine.Delivery.{Complete, Accepted, Skipped, no_time}
+use Rattle.iox2_machine.specs.machine.Sends.{DeliverAndConclude, Delivered_to, send_ended, with_mailboxes}
+use Rattle.iox2_machine.specs.machine.Environments.{ample_memory}
+use Rattle.iox2_machine.specs.machine.Records.{Publisher, Subscriber, Fixed}
+use Rattle.iox2_machine.specs.machine.State.{State, fresh}
+use Rattle.iox2_machine.specs.Defaults.{default_config}
+use Rattle.iox2_machine.specs.declared.allocation.AllocationStrategy.TheVariants.{Static}
+use Rattle.iox2_machine.specs.declared.backpressure.BackpressureStrategy.TheVariants.{DiscardData}
+use Rattle.iox2_machine.specs.declared.degradation.DegradationAction.TheVariants.{Warn}
 
 -- the subscriber, with an end to the publisher
 abbrev reader : Subscriber

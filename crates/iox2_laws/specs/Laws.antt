@@ -1,9 +1,9 @@
 -- Laws of single states of the machine, and what no operation lowers.
 use Rattle.std.specs.Prelude.{ℕ, List, length, ◌≡◌, ◌≤◌}
-use Rattle.iox2_store.specs.machine.Numbers.{contains, size, IsOnce}
-use Rattle.iox2_store.specs.machine.State.{State, fresh}
-use Rattle.iox2_store.specs.machine.WellFormed.{IsWellFormed, HoldsAtMostWorstCase}
-use Rattle.iox2_store.specs.declared.service_config.ServiceConfig.{ServiceConfig}
+use Rattle.iox2_machine.specs.machine.Numbers.{contains, size, IsOnce}
+use Rattle.iox2_machine.specs.machine.State.{State, fresh}
+use Rattle.iox2_machine.specs.machine.WellFormed.{IsWellFormed, HoldsAtMostWorstCase}
+use Rattle.iox2_machine.specs.declared.service_config.ServiceConfig.{ServiceConfig}
 
 -- A new domain's state is well-formed.
 abbrev pub FreshIsWellFormed : Type 0 → Type 0 → Type 0

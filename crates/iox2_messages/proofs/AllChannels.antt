@@ -7,11 +7,11 @@ use Rattle.std.proofs.lemmas.List.{drop_all, drop_more}
 use Rattle.std.proofs.lemmas.List.Folds.{list_all-append}
 use Rattle.slab.specs.Slab.{Slab, get}
 use Rattle.iox2_slots.specs.Link.{Link, channel_at}
-use Rattle.iox2_store.specs.machine.Channel.{Channel, is_in_state}
-use Rattle.iox2_store.specs.machine.ChannelCalls.{senders_of}
-use Rattle.iox2_store.specs.machine.Places.{occupants}
-use Rattle.iox2_store.specs.machine.Records.{Subscriber}
-use Rattle.iox2_store.specs.machine.State.{State, connected_publishers}
+use Rattle.iox2_machine.specs.machine.Channel.{Channel, is_in_state}
+use Rattle.iox2_machine.specs.machine.ChannelCalls.{senders_of}
+use Rattle.iox2_machine.specs.machine.Places.{occupants}
+use Rattle.iox2_machine.specs.machine.Records.{Subscriber}
+use Rattle.iox2_machine.specs.machine.State.{State, connected_publishers}
 use Rattle.iox2_ends.specs.Finds.{IsReceivers, IsReceiverLinked}
 use Rattle.iox2_ends.specs.Homes.{IsApart}
 use Rattle.iox2_ends.specs.Mailboxes.{channels_in, receiver_ends}

@@ -7,11 +7,11 @@ use Rattle.std.proofs.lemmas.List.{drop_all, drop_more, get_or_read}
 use Rattle.std.proofs.lemmas.List.Folds.{list_any-append}
 use Rattle.slab.specs.Slab.{Slab, get}
 use Rattle.iox2_slots.specs.Link.{Link, channel_at}
-use Rattle.iox2_store.specs.machine.Channel.{Channel, is_in_state}
-use Rattle.iox2_store.specs.machine.ChannelCalls.{connection_place, place_from, some_channel_has_state}
-use Rattle.iox2_store.specs.machine.Places.{is_port, occupant, occupants}
-use Rattle.iox2_store.specs.machine.Records.{Publisher, Subscriber}
-use Rattle.iox2_store.specs.machine.State.{connected_publishers}
+use Rattle.iox2_machine.specs.machine.Channel.{Channel, is_in_state}
+use Rattle.iox2_machine.specs.machine.ChannelCalls.{connection_place, place_from, some_channel_has_state}
+use Rattle.iox2_machine.specs.machine.Places.{is_port, occupant, occupants}
+use Rattle.iox2_machine.specs.machine.Records.{Publisher, Subscriber}
+use Rattle.iox2_machine.specs.machine.State.{connected_publishers}
 use Rattle.iox2_ends.specs.Finds.{IsReceivers, IsReceiverLinked}
 use Rattle.iox2_ends.specs.Homes.{IsApart, IsSenders}
 use Rattle.iox2_ends.specs.Mailboxes.{channels_in, receiver_ends, sender_ends, subscriber_of_key}

@@ -7,9 +7,9 @@ use Rattle.slab.specs.Slab.{Slab, get}
 use Rattle.iox2_slots.specs.Link.{Link}
 use Rattle.iox2_slots.proofs.ChannelLists.{changed-reads}
 use Rattle.iox2_slots.specs.declared.connection.Home.{Home}
-use Rattle.iox2_store.specs.machine.Channel.{Channel, changed_if}
-use Rattle.iox2_store.specs.machine.Limits.{channel_count}
-use Rattle.iox2_store.specs.machine.State.{State}
+use Rattle.iox2_machine.specs.machine.Channel.{Channel, changed_if}
+use Rattle.iox2_machine.specs.machine.Limits.{channel_count}
+use Rattle.iox2_machine.specs.machine.State.{State}
 use Rattle.iox2_ends.specs.Homes.{IsApart}
 use Rattle.iox2_ends.specs.LookUp.{look_up}
 use Rattle.iox2_ends.specs.Mailboxes.{is_between, channels_if_any, channels_in}

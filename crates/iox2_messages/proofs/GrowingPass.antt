@@ -3,14 +3,14 @@ use Rattle.std.proofs.Common.{◌≡◌, ◌<◌, ◌≤◌, ℕ, ◌+◌, Bool,
 use Rattle.std.specs.Bool.{MatchBool}
 use Rattle.std.specs.Prelude.{IsTrue, ◌↔◌}
 use Rattle.slab.specs.Slab.{get}
-use Rattle.iox2_store.specs.declared.errors.LoanError.{LoanError}
-use Rattle.iox2_store.specs.declared.errors.LoanError.TheVariants.{OutOfMemory, ExceedsMaxLoans, InternalFailure}
-use Rattle.iox2_store.specs.machine.Limits.{last_number, segment_fits, segment_limit}
-use Rattle.iox2_store.specs.machine.Loans.{is_static, GrantLoan, loan_granted}
-use Rattle.iox2_store.specs.machine.Records.{Publisher}
-use Rattle.iox2_store.specs.machine.State.{State}
+use Rattle.iox2_machine.specs.declared.errors.LoanError.{LoanError}
+use Rattle.iox2_machine.specs.declared.errors.LoanError.TheVariants.{OutOfMemory, ExceedsMaxLoans, InternalFailure}
+use Rattle.iox2_machine.specs.machine.Limits.{last_number, segment_fits, segment_limit}
+use Rattle.iox2_machine.specs.machine.Loans.{is_static, GrantLoan, loan_granted}
+use Rattle.iox2_machine.specs.machine.Records.{Publisher}
+use Rattle.iox2_machine.specs.machine.State.{State}
 use Rattle.iox2_slots.specs.SlotBook.{Book, with_more_slots}
-use Rattle.iox2_store.specs.declared.service_config.ServiceConfig.{ServiceConfig}
+use Rattle.iox2_machine.specs.declared.service_config.ServiceConfig.{ServiceConfig}
 use Rattle.std.proofs.lemmas.List.{get_or-drop, get_or_past, length-drop}
 use Rattle.iox2_ends.specs.Receivers.{HasReclaimed}
 use Rattle.iox2_domain.specs.Fields.{Fields, kept_of, publisher_of}

@@ -7,8 +7,8 @@ use Rattle.std.specs.List.{All}
 use Rattle.slab.specs.Slab.{get, with_value}
 use Rattle.iox2_contents.specs.SlotContents.{ContentState, lists_for}
 use Rattle.iox2_slots.specs.SlotBook.{Book, with_more_slots}
-use Rattle.iox2_store.specs.SingleValues.{is_single_valued}
-use Rattle.iox2_store.specs.machine.Limits.{segment_fits, segment_limit}
+use Rattle.iox2_machine.specs.SingleValues.{is_single_valued}
+use Rattle.iox2_machine.specs.machine.Limits.{segment_fits, segment_limit}
 use Rattle.iox2_domain.specs.Fields.{Fields, publisher_of}
 use Rattle.iox2_domain.specs.Growth.{Grows, GrowsContents, with_segment}
 use Rattle.iox2_domain.specs.Invariant.{IsDomain, lists_wanted}

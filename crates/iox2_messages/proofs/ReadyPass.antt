@@ -1,9 +1,9 @@
 -- A loan from fields in which the publisher may have another segment.
 use Rattle.std.proofs.Common.{◌≡◌, ◌≤◌, ℕ, Bool, false, None, Some, Ok, get_or, ap, sym, subst, ◌∙◌}
-use Rattle.iox2_store.specs.declared.service_config.TypeVariant.TheVariants.{FixedSize}
-use Rattle.iox2_store.specs.machine.Loans.{is_static, GrantLoan, loan_granted}
-use Rattle.iox2_store.specs.machine.Records.{Publisher}
-use Rattle.iox2_store.specs.machine.State.{State}
+use Rattle.iox2_machine.specs.declared.service_config.TypeVariant.TheVariants.{FixedSize}
+use Rattle.iox2_machine.specs.machine.Loans.{is_static, GrantLoan, loan_granted}
+use Rattle.iox2_machine.specs.machine.Records.{Publisher}
+use Rattle.iox2_machine.specs.machine.State.{State}
 use Rattle.iox2_domain.specs.Fields.{Fields, kept_of, publisher_of}
 use Rattle.iox2_domain.specs.Invariant.{IsDomain}
 use Rattle.iox2_domain.specs.Kept.{state_of}

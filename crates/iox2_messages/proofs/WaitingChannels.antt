@@ -4,7 +4,7 @@ use Rattle.std.specs.declared.option.Option.TheVariants.{None, Some}
 use Rattle.std.specs.Option.{option_map}
 use Rattle.slab.specs.Slab.{Slab}
 use Rattle.iox2_slots.specs.Link.{Link}
-use Rattle.iox2_store.specs.machine.Limits.{channel_count}
+use Rattle.iox2_machine.specs.machine.Limits.{channel_count}
 use Rattle.iox2_ends.specs.Mailboxes.{sender_ends}
 use Rattle.iox2_ends.specs.Receivers.{HaveChannel}
 use Rattle.iox2_domain.specs.BlockedSends.{waiting_send}

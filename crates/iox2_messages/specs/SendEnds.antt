@@ -1,6 +1,6 @@
 -- How a send ended.
-use Rattle.iox2_store.specs.machine.Sends.{SendResult, Delivered_to, Blocked_send, Send_error}
-use Rattle.iox2_store.specs.declared.errors.SendError.TheVariants.{ConnectionBrokenSinceSenderNoLongerExists, ConnectionError, UnableToDeliver}
+use Rattle.iox2_machine.specs.machine.Sends.{SendResult, Delivered_to, Blocked_send, Send_error}
+use Rattle.iox2_machine.specs.declared.errors.SendError.TheVariants.{ConnectionBrokenSinceSenderNoLongerExists, ConnectionError, UnableToDeliver}
 use Rattle.iox2_messages.specs.declared.send_end.SendEnd.{SendEnd}
 use Rattle.iox2_messages.specs.declared.send_end.SendEnd.TheVariants.{Delivered, Undelivered, Blocked, Lost, Unconnected}
 

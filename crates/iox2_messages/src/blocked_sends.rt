@@ -1,9 +1,9 @@
 //! A blocked send is tried again, or given up.
 ghost use Rattle.std.specs.Prelude.{◌≡◌, ◌≤◌, ◌<◌, ◌+◌, ◌↔◌, IsTrue, None, Some, length, slice_index_or, is_some};
 ghost use Rattle.iox2_slots.specs.SlotBook.{IsInUse};
-ghost use Rattle.iox2_store.specs.machine.Sends.{more_retries};
-ghost use Rattle.iox2_store.specs.machine.SingleCalls.{HoldsBlocked};
-ghost use Rattle.iox2_store.specs.machine.State.{is_blocked};
+ghost use Rattle.iox2_machine.specs.machine.Sends.{more_retries};
+ghost use Rattle.iox2_machine.specs.machine.SingleCalls.{HoldsBlocked};
+ghost use Rattle.iox2_machine.specs.machine.State.{is_blocked};
 ghost use Rattle.iox2_ends.specs.Counters.{times, with_counters};
 ghost use Rattle.iox2_ends.specs.Receivers.{HasReclaimed};
 ghost use Rattle.iox2_domain.specs.Boxes.{answers_of};
@@ -19,8 +19,8 @@ use crate::reclaims::reclaim;
 use crate::send_end::SendEnd;
 use iox2_domain::{BlockedDelivery, Boxes, DomainState, PublisherState};
 use iox2_ends::sender::{Delivery, DeliveryOutcome, Progress, deliver};
+use iox2_machine::{BackpressureFn, DegradationFn, UniquePublisherId};
 use iox2_slots::SlotBook;
-use iox2_store::{BackpressureFn, DegradationFn, UniquePublisherId};
 use std::time::Duration;
 
 // One retry more; the greatest number stays.

@@ -2,8 +2,8 @@
 //! taken.
 ghost use Rattle.std.specs.Prelude.{◌≡◌, ◌<◌, ℕ, None, Some, map, slice_index_or};
 ghost use Rattle.slab.specs.Slab.{ContainsKey};
-ghost use Rattle.iox2_store.specs.machine.ChannelCalls.{received_changed, sent_closed};
-ghost use Rattle.iox2_store.specs.machine.Limits.{channel_count};
+ghost use Rattle.iox2_machine.specs.machine.ChannelCalls.{received_changed, sent_closed};
+ghost use Rattle.iox2_machine.specs.machine.Limits.{channel_count};
 ghost use Rattle.iox2_slots.specs.Link.{IsBounded};
 ghost use Rattle.iox2_ends.specs.Finds.{HasConnections};
 ghost use Rattle.iox2_domain.specs.ChannelChanges.{ChangesLinks};

@@ -1,9 +1,9 @@
 //! What ports are told of the channels of their connections. Nothing changes by it.
 ghost use Rattle.std.specs.Prelude.{◌≡◌, None, Some, map, slice_index_or};
 ghost use Rattle.std.specs.List.{list_all};
-ghost use Rattle.iox2_store.specs.machine.Channel.{is_in_state as is_channel_in};
-ghost use Rattle.iox2_store.specs.machine.ChannelCalls.{connection_place, has_channel_state, has_disconnect_hint, place_from, senders_of, some_channel_has_state};
-ghost use Rattle.iox2_store.specs.machine.Places.{is_port};
+ghost use Rattle.iox2_machine.specs.machine.Channel.{is_in_state as is_channel_in};
+ghost use Rattle.iox2_machine.specs.machine.ChannelCalls.{connection_place, has_channel_state, has_disconnect_hint, place_from, senders_of, some_channel_has_state};
+ghost use Rattle.iox2_machine.specs.machine.Places.{is_port};
 ghost use Rattle.iox2_ends.specs.Mailboxes.{sender_ends, subscriber_of_key};
 ghost use Rattle.iox2_domain.specs.Fields.{kept_of};
 ghost use Rattle.iox2_domain.specs.Invariant.{IsDomain};

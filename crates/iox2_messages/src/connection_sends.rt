@@ -3,8 +3,8 @@ ghost use Rattle.std.specs.Prelude.{◌≡◌, ◌<◌, false, None, Some, lengt
 ghost use Rattle.std.specs.Option.{is_some};
 ghost use Rattle.slab.specs.Slab.{get};
 ghost use Rattle.iox2_slots.specs.SlotBook.{Book};
-ghost use Rattle.iox2_store.specs.machine.Limits.{channel_count};
-ghost use Rattle.iox2_store.specs.machine.State.{is_blocked};
+ghost use Rattle.iox2_machine.specs.machine.Limits.{channel_count};
+ghost use Rattle.iox2_machine.specs.machine.State.{is_blocked};
 ghost use Rattle.iox2_domain.specs.Boxes.{answers_of};
 ghost use Rattle.iox2_domain.specs.ConnectionSends.{begun_at, begun_delivery, with_begun, SendsLoanTo};
 ghost use Rattle.iox2_domain.specs.Fields.{kept_of};
@@ -20,8 +20,8 @@ use crate::reclaims::reclaim;
 use crate::send_end::SendEnd;
 use iox2_domain::{BlockedDelivery, Boxes, DomainState, LoanAt, Port};
 use iox2_ends::sender::Progress;
+use iox2_machine::{BackpressureFn, DegradationFn};
 use iox2_slots::SlotMark;
-use iox2_store::{BackpressureFn, DegradationFn};
 use std::time::Duration;
 
 // Whether the publisher at a place has a connection at that place of its own.

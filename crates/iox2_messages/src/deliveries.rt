@@ -2,7 +2,7 @@
 ghost use Rattle.std.specs.Prelude.{◌≡◌, ℕ, ◌+◌, ◌<◌, ◌≤◌, ◌^◌, None, Some, length, slice_index_or};
 ghost use Rattle.std.specs.Option.{is_some};
 ghost use Rattle.iox2_slots.specs.SlotBook.{IsInUse, holders_at};
-ghost use Rattle.iox2_store.specs.machine.Environments.{fixed_handlers};
+ghost use Rattle.iox2_machine.specs.machine.Environments.{fixed_handlers};
 ghost use Rattle.iox2_ends.specs.Counters.{times};
 ghost use Rattle.iox2_ends.specs.Handlers.{asked, marks_of};
 ghost use Rattle.iox2_domain.specs.Boxes.{answers_of};
@@ -16,8 +16,8 @@ ghost use Rattle.iox2_messages.specs.SendEnds.{IsKept, end_result};
 use crate::send_end::SendEnd;
 use iox2_domain::{AskedBox, BlockedDelivery, Boxes, DomainState, PublisherState};
 use iox2_ends::sender::{Delivery, DeliveryOutcome, Progress, deliver};
+use iox2_machine::{BackpressureFn, BackpressureHandler, DegradationFn};
 use iox2_slots::{SlotBook, SlotMark};
-use iox2_store::{BackpressureFn, BackpressureHandler, DegradationFn};
 use std::time::Duration;
 
 // The message in a slot is sent, and stands last in the history. What leaves the history for it has

@@ -1,8 +1,8 @@
 //! A publisher whose memory grows readies a slot of its current segment before it lends it.
 ghost use Rattle.std.specs.Prelude.{◌≡◌, ◌+◌, ◌<◌, ◌≤◌, false, length, slice_index_or, None, Some};
 ghost use Rattle.std.specs.Bool.{MatchBool};
-ghost use Rattle.iox2_store.specs.machine.Limits.{segment_limit};
-ghost use Rattle.iox2_store.specs.machine.Loans.{is_static};
+ghost use Rattle.iox2_machine.specs.machine.Limits.{segment_limit};
+ghost use Rattle.iox2_machine.specs.machine.Loans.{is_static};
 ghost use Rattle.iox2_domain.specs.Growth.{HasFreeSlot, HasNoSlot};
 ghost use Rattle.iox2_domain.specs.Invariant.{IsDomain};
 ghost use Rattle.iox2_domain.specs.Ports.{PublisherFields};
@@ -11,7 +11,7 @@ ghost use Rattle.iox2_messages.specs.ReadySlots.{Prepares, with_segments};
 use crate::growth::grow;
 use crate::reclaims::reclaim;
 use iox2_domain::DomainState;
-use iox2_store::LoanError;
+use iox2_machine::LoanError;
 
 /// Readies a slot for a loan of a publisher whose memory grows: its current segment then has a free
 /// slot that is long enough. Where need be it first reclaims slots, or makes a further segment and

@@ -1,7 +1,7 @@
 //! A publisher makes a further segment, which becomes its current one.
 ghost use Rattle.std.specs.Prelude.{◌≡◌, ◌*◌, ◌<◌, ◌≤◌, ◌==◌, true, false, length, max, slice_index_or, None, Some, IfSome, IfOk, OnOk, OnErr};
 ghost use Rattle.std.specs.List.{All};
-ghost use Rattle.iox2_store.specs.machine.Limits.{segment_fits};
+ghost use Rattle.iox2_machine.specs.machine.Limits.{segment_fits};
 ghost use Rattle.iox2_contents.specs.SlotContents.{lists_for};
 ghost use Rattle.iox2_slots.specs.SlotBook.{with_more_slots};
 ghost use Rattle.iox2_domain.specs.Growth.{ClearsUnused, GrowsContents, MayGrow};
@@ -10,8 +10,8 @@ ghost use Rattle.iox2_domain.specs.Ports.{PublisherFields, slot_length};
 
 use iox2_contents::Contents;
 use iox2_domain::{DomainState, PublisherState, lists_wanted, segment_size, units_of};
+use iox2_machine::{AllocationStrategy, LoanError, ServiceConfig};
 use iox2_slots::SlotBook;
-use iox2_store::{AllocationStrategy, LoanError, ServiceConfig};
 use std::alloc::{AllocError, Global};
 
 /// So many segments may be made in a publisher's life, the first included.

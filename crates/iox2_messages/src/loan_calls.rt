@@ -1,10 +1,10 @@
 //! Calls on a loan that is out.
 ghost use Rattle.std.specs.Prelude.{◌≡◌, true, false, List, ◌∷◌, [], Some, length, map};
-ghost use Rattle.iox2_store.specs.SingleValues.{is_single_valued};
+ghost use Rattle.iox2_machine.specs.SingleValues.{is_single_valued};
 ghost use Rattle.iox2_contents.specs.SlotCalls.{AnswersInOrder};
-ghost use Rattle.iox2_store.specs.machine.Records.{Loan};
-ghost use Rattle.iox2_store.specs.machine.SingleCalls.{HoldsLoan};
-ghost use Rattle.iox2_store.specs.declared.service_config.TypeVariant.TheVariants.{FixedSize};
+ghost use Rattle.iox2_machine.specs.machine.Records.{Loan};
+ghost use Rattle.iox2_machine.specs.machine.SingleCalls.{HoldsLoan};
+ghost use Rattle.iox2_machine.specs.declared.service_config.TypeVariant.TheVariants.{FixedSize};
 ghost use Rattle.iox2_domain.specs.Kept.{state_of};
 ghost use Rattle.iox2_domain.specs.Fields.{kept_of};
 ghost use Rattle.iox2_domain.specs.Invariant.{IsDomain};
@@ -13,7 +13,7 @@ ghost use Rattle.iox2_domain.specs.LoanSlots.{LiesInSlot};
 
 use crate::contents::{contents_mut, mark_written};
 use iox2_domain::{DomainState, LoanAt, MessageSlot};
-use iox2_store::{Header, UniquePublisherId};
+use iox2_machine::{Header, UniquePublisherId};
 
 /// Writes the value of a publisher's unwritten loan of one element, which counts as written from
 /// then on. Returns the loan.

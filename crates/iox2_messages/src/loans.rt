@@ -1,7 +1,7 @@
 //! A publisher lends the slots of its book.
 ghost use Rattle.std.specs.Prelude.{◌≡◌, ◌≤◌, ◌&&◌, nat_lt, false, slice_index_or, None, Some, IfOk, IsSomeAnd};
-ghost use Rattle.iox2_store.specs.machine.Loans.{is_static};
-ghost use Rattle.iox2_store.specs.declared.service_config.TypeVariant.TheVariants.{FixedSize};
+ghost use Rattle.iox2_machine.specs.machine.Loans.{is_static};
+ghost use Rattle.iox2_machine.specs.declared.service_config.TypeVariant.TheVariants.{FixedSize};
 ghost use Rattle.iox2_domain.specs.Lending.{MayStart, Starts, IsNamed, LoanReaches};
 ghost use Rattle.iox2_domain.specs.LoanSlots.{LiesInSlot};
 ghost use Rattle.iox2_domain.specs.Ports.{PublisherFields};
@@ -12,7 +12,7 @@ use crate::growing_loans::prepare;
 use crate::reclaims::reclaim_if_full;
 use iox2_contents::Contents;
 use iox2_domain::{DomainState, LoanAt, PublisherState, units_of};
-use iox2_store::{AllocationStrategy, LoanError};
+use iox2_machine::{AllocationStrategy, LoanError};
 
 // In the slot, which nobody holds, starts a loan of that length.
 pub(crate) fn start<T: Drop, U: Default + Drop>(

@@ -7,7 +7,7 @@ ghost use Rattle.iox2_domain.specs.Questions.{IsWhetherWaiting, AnswersAs};
 
 use iox2_domain::{Boxes, DomainState};
 use iox2_ends::receiver::has_samples;
-use iox2_store::{BackpressureFn, ConnectionFailure, DegradationFn};
+use iox2_machine::{BackpressureFn, ConnectionFailure, DegradationFn};
 use iox2_updates::update_subscriber;
 
 /// The subscriber at a place is updated, and then asked whether any message waits for it, also one

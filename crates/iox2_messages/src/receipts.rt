@@ -2,9 +2,9 @@
 ghost use Rattle.std.specs.Prelude.{◌≡◌, ◌<◌, ℕ, None, Some, length, slice_index_or, Contains, IsTrue, IsSomeAnd};
 ghost use Rattle.slab.specs.Slab.{get};
 ghost use Rattle.iox2_domain.specs.Boxes.{answers_of};
-ghost use Rattle.iox2_store.specs.machine.Mailbox.{is_borrowed};
-ghost use Rattle.iox2_store.specs.machine.Releases.{released, subscriber_pruned, unborrowed};
-ghost use Rattle.iox2_store.specs.machine.SingleCalls.{HoldsSample};
+ghost use Rattle.iox2_machine.specs.machine.Mailbox.{is_borrowed};
+ghost use Rattle.iox2_machine.specs.machine.Releases.{released, subscriber_pruned, unborrowed};
+ghost use Rattle.iox2_machine.specs.machine.SingleCalls.{HoldsSample};
 ghost use Rattle.iox2_domain.specs.Ports.{SubscriberFields};
 ghost use Rattle.iox2_domain.specs.Kept.{state_of};
 ghost use Rattle.iox2_domain.specs.Fields.{kept_of, numbers_of};
@@ -16,10 +16,10 @@ ghost use Rattle.iox2_domain.specs.SampleSlots.{IsReturnable, LiesAtHint};
 
 use iox2_domain::{Boxes, DomainState, Receipt, SampleAt, SampleSlot, is_due_at, stands_at};
 use iox2_ends::receiver::{Taken, let_go, receive, release};
-use iox2_slots::{Connection, Home, SlotBook};
-use iox2_store::{
+use iox2_machine::{
     BackpressureFn, DegradationFn, ReceiveError, UniquePublisherId, UniqueSubscriberId,
 };
+use iox2_slots::{Connection, Home, SlotBook};
 use iox2_updates::{forget_if_empty, free_book_if_unused, leave_if_unused, update_subscriber};
 use slab::Slab;
 

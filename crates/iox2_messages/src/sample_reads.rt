@@ -1,16 +1,16 @@
 //! What is read of borrowed messages.
 ghost use Rattle.std.specs.Prelude.{◌≡◌, Some, [], ◌∷◌, false};
-ghost use Rattle.iox2_store.specs.SingleValues.{is_single_valued};
-ghost use Rattle.iox2_store.specs.machine.Records.{Entry};
-ghost use Rattle.iox2_store.specs.machine.SingleCalls.{HoldsSample};
-ghost use Rattle.iox2_store.specs.declared.service_config.TypeVariant.TheVariants.{FixedSize};
+ghost use Rattle.iox2_machine.specs.SingleValues.{is_single_valued};
+ghost use Rattle.iox2_machine.specs.machine.Records.{Entry};
+ghost use Rattle.iox2_machine.specs.machine.SingleCalls.{HoldsSample};
+ghost use Rattle.iox2_machine.specs.declared.service_config.TypeVariant.TheVariants.{FixedSize};
 ghost use Rattle.iox2_domain.specs.Kept.{state_of, entries_of};
 ghost use Rattle.iox2_domain.specs.Fields.{kept_of};
 ghost use Rattle.iox2_domain.specs.Invariant.{IsDomain};
 ghost use Rattle.iox2_domain.specs.SampleSlots.{LiesBorrowedInSlot};
 
 use iox2_domain::{DomainState, SampleAt};
-use iox2_store::Header;
+use iox2_machine::Header;
 
 /// The value of a borrowed message.
 pub fn sample_payload<'a, T: Drop, U: Default + Drop>(

@@ -1,14 +1,14 @@
 //! A loan is sent.
 ghost use Rattle.std.specs.Prelude.{◌≡◌, ℕ, IsTrue, MatchOption, MatchResult, false};
-ghost use Rattle.iox2_store.specs.machine.Environments.{fixed_handlers};
-ghost use Rattle.iox2_store.specs.machine.SingleCalls.{HoldsPublisher};
+ghost use Rattle.iox2_machine.specs.machine.Environments.{fixed_handlers};
+ghost use Rattle.iox2_machine.specs.machine.SingleCalls.{HoldsPublisher};
 ghost use Rattle.iox2_domain.specs.Boxes.{answers_of};
 ghost use Rattle.iox2_domain.specs.Kept.{state_of};
 ghost use Rattle.iox2_domain.specs.Fields.{kept_of};
 ghost use Rattle.iox2_domain.specs.Invariant.{IsDomain};
 ghost use Rattle.iox2_domain.specs.LoanCalls.{HoldsWritten};
 ghost use Rattle.iox2_domain.specs.SentLoans.{IsLeftLoan, IsNotUpdated, IsReadyToSend, SendsLoan};
-ghost use Rattle.iox2_store.specs.machine.State.{is_blocked};
+ghost use Rattle.iox2_machine.specs.machine.State.{is_blocked};
 ghost use Rattle.iox2_messages.specs.SendEnds.{IsNotLost, end_result};
 ghost use Rattle.iox2_messages.specs.declared.send_end.SendEnd.{SendEnd};
 
@@ -16,7 +16,7 @@ use crate::deliveries::{has_handler_at, send_ready, send_unasked};
 use crate::discards::discard_loan;
 use crate::send_end::SendEnd;
 use iox2_domain::{Boxes, DomainState, LoanAt};
-use iox2_store::{BackpressureFn, ConnectionFailure, DegradationFn, UniquePublisherId};
+use iox2_machine::{BackpressureFn, ConnectionFailure, DegradationFn, UniquePublisherId};
 use iox2_updates::update_publisher;
 
 // Whether a publisher's written loan lies where its handle says, and its publisher is due for no update:

@@ -6,7 +6,7 @@ use crate::records::{Delivery, Entry, Loan, Put};
 use crate::sender::last;
 use crate::views::Thing;
 use iox2_commands::Reply;
-use iox2_store::SendError;
+use iox2_machine::SendError;
 use std::alloc::Global;
 
 impl Model {

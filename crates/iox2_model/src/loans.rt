@@ -4,7 +4,7 @@ use crate::model::{Model, Outcome};
 use crate::records::Loan;
 use crate::views::Thing;
 use iox2_commands::Reply;
-use iox2_store::{AllocationStrategy, LoanError, SendError, TypeVariant};
+use iox2_machine::{AllocationStrategy, LoanError, SendError, TypeVariant};
 
 impl Model {
     // The publisher of whom a loan may be asked, where messages are of this variant. It waits for no

@@ -4,7 +4,7 @@ use crate::memory::Memory;
 use crate::records::{Delivery, Entry, Loan, Publisher, Subscriber};
 use crate::views::Thing;
 use iox2_commands::Reply;
-use iox2_store::{ConnectionFailure, DegradationAction, ServiceConfig, ZeroCopyCreationError};
+use iox2_machine::{ConnectionFailure, DegradationAction, ServiceConfig, ZeroCopyCreationError};
 use std::alloc::Global;
 
 /// The state of a domain of numbers or slices of numbers, with numbers as user headers.

@@ -5,7 +5,7 @@ use crate::places::{free_place, set_place};
 use crate::records::{Publisher, Put, Subscriber, Wanted};
 use crate::views::Thing;
 use iox2_commands::Reply;
-use iox2_store::{
+use iox2_machine::{
     BackpressureAction, BackpressureStrategy, DegradationAction, PublisherCreateError,
     SubscriberCreateError, TypeVariant, UniquePublisherId, UniqueSubscriberId,
 };

@@ -4,7 +4,7 @@ use crate::model::{Model, Outcome};
 use crate::records::Entry;
 use crate::views::Thing;
 use iox2_commands::Reply;
-use iox2_store::{
+use iox2_machine::{
     ConnectionFailure, Header, ReceiveError, UniqueNodeId, UniquePublisherId, ZeroCopyCreationError,
 };
 

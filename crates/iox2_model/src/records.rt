@@ -1,4 +1,4 @@
-use iox2_store::{AllocationStrategy, DegradationAction};
+use iox2_machine::{AllocationStrategy, DegradationAction};
 use std::alloc::Global;
 
 // A publisher that wasn't closed.

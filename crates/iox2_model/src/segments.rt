@@ -2,7 +2,7 @@
 use crate::error::ModelError;
 use crate::model::Model;
 use crate::records::{Publisher, Segments};
-use iox2_store::{AllocationStrategy, LoanError};
+use iox2_machine::{AllocationStrategy, LoanError};
 
 // How many segments a publisher makes at most, the first included.
 const MOST_SEGMENTS: usize = 255;

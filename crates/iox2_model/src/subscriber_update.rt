@@ -3,7 +3,7 @@
 use crate::error::ModelError;
 use crate::model::Model;
 use crate::places::{occupant, set_place};
-use iox2_store::ConnectionFailure;
+use iox2_machine::ConnectionFailure;
 
 // What becomes of a departed publisher.
 #[derive(Clone, Copy)]

@@ -1,11 +1,11 @@
 //! Sends that find a full receiver. All runs but the last get the same replies from `run`, in the tests
 //! of `pubsub_script` (`blocked_sends.rt`) and of `iox2_run_tests` (`handlers.rt`).
 use iox2_commands::{Command, Reply};
-use iox2_model::{Memory, Model};
-use iox2_store::{
+use iox2_machine::{
     AllocationStrategy, BackpressureAction, BackpressureStrategy, DegradationAction, ReceiveError,
     SendError, ServiceConfig, UniquePublisherId, UniqueSubscriberId,
 };
+use iox2_model::{Memory, Model};
 use std::alloc::Global;
 use std::process::Abort;
 use std::time::Duration;

@@ -1,10 +1,10 @@
 //! Publishers whose memory grows.
 use iox2_commands::{Command, Reply};
-use iox2_model::{Memory, Model};
-use iox2_store::{
+use iox2_machine::{
     AllocationStrategy, BackpressureStrategy, DegradationAction, LoanError, ServiceConfig,
     TypeVariant, UniquePublisherId,
 };
+use iox2_model::{Memory, Model};
 use std::alloc::Global;
 use std::process::Abort;
 

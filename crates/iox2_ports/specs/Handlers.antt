@@ -3,8 +3,8 @@ use Rattle.std.specs.Prelude.{◌<◌, ◌||◌, Bool, IsTrue, length}
 use Rattle.std.specs.Option.{is_some}
 use Rattle.std.specs.declared.option.Option.{Option}
 use Rattle.std.specs.declared.option.Option.TheVariants.{None, Some}
-use Rattle.iox2_store.specs.declared.backpressure_handler.BackpressureHandler.{BackpressureHandler}
-use Rattle.iox2_store.specs.declared.backpressure_handler.BackpressureHandler.TheVariants.{Fixed, Custom}
+use Rattle.iox2_machine.specs.declared.backpressure_handler.BackpressureHandler.{BackpressureHandler}
+use Rattle.iox2_machine.specs.declared.backpressure_handler.BackpressureHandler.TheVariants.{Fixed, Custom}
 use Rattle.iox2_domain.specs.Boxes.{KeptBoxes}
 use Rattle.iox2_domain.specs.declared.boxes.PortBoxes.{PortBoxes}
 

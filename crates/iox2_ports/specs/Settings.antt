@@ -1,7 +1,7 @@
 -- The settings of a publisher that is made.
 use Rattle.std.specs.declared.option.Option.{Option}
-use Rattle.iox2_store.specs.machine.Records.{PublisherSettings, Handler}
-use Rattle.iox2_store.specs.declared.backpressure.BackpressureAction.{BackpressureAction}
+use Rattle.iox2_machine.specs.machine.Records.{PublisherSettings, Handler}
+use Rattle.iox2_machine.specs.declared.backpressure.BackpressureAction.{BackpressureAction}
 use Rattle.iox2_domain.specs.declared.options.PublisherOptions.{PublisherOptions}
 use Rattle.iox2_domain.specs.NewPublisher.{growing_publisher}
 use Rattle.iox2_ports.specs.declared.segments.SegmentOptions.{SegmentOptions}

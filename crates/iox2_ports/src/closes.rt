@@ -1,6 +1,6 @@
 //! Ports close.
 ghost use Rattle.std.specs.Prelude.{◌≡◌, None, Some, slice_index_or, IsSome};
-ghost use Rattle.iox2_store.specs.machine.Ports.{publisher_closed, subscriber_closed};
+ghost use Rattle.iox2_machine.specs.machine.Ports.{publisher_closed, subscriber_closed};
 ghost use Rattle.iox2_domain.specs.Fields.{kept_of, publisher_of, subscriber_of};
 ghost use Rattle.iox2_domain.specs.Invariant.{IsDomain};
 ghost use Rattle.iox2_domain.specs.Kept.{state_of};

@@ -6,7 +6,7 @@ ghost use Rattle.iox2_ends.specs.Handlers.{marks_of};
 ghost use Rattle.iox2_ports.specs.Handlers.{HasRoomForBoxes, custom_box, has_box};
 
 use iox2_domain::{Boxes, HandlerMark, PortBoxes};
-use iox2_store::{BackpressureAction, BackpressureHandler};
+use iox2_machine::{BackpressureAction, BackpressureHandler};
 use std::alloc::AllocError;
 
 /// What stands for the handler in its publisher.

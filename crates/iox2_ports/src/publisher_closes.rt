@@ -2,7 +2,7 @@
 ghost use Rattle.std.specs.Prelude.{◌≡◌, ◌↔◌, ◌<◌, None, Some, length, map, slice_index_or, IsSomeAnd, IsTrue};
 ghost use Rattle.std.specs.Option.{option_map, option_and_then};
 ghost use Rattle.slab.specs.Slab.{get, Updates};
-ghost use Rattle.iox2_store.specs.machine.Ports.{publisher_closed};
+ghost use Rattle.iox2_machine.specs.machine.Ports.{publisher_closed};
 ghost use Rattle.iox2_ends.specs.Counters.{IsCovered, CountersFollow, with_counters};
 ghost use Rattle.iox2_ends.specs.Leaves.{holds_slots};
 ghost use Rattle.iox2_domain.specs.Ports.{PublisherFields};

@@ -1,9 +1,9 @@
 //! A publisher enters a domain.
 ghost use Rattle.std.specs.Prelude.{◌≡◌, ◌≢◌, ◌⊎◌, ℕ, true, None, Some, slice_index_or, IfOk, MatchResult, OnOk};
-ghost use Rattle.iox2_store.specs.machine.Limits.{segment_fits, warning_limit};
-ghost use Rattle.iox2_store.specs.machine.Ports.{CreatePublisher, slots_for, with_new_publisher};
-ghost use Rattle.iox2_store.specs.declared.errors.PublisherCreateError.TheVariants.{UnableToCreateDataSegment, FailedToDeployThreadsafetyPolicy};
-ghost use Rattle.iox2_store.specs.machine.State.{State};
+ghost use Rattle.iox2_machine.specs.machine.Limits.{segment_fits, warning_limit};
+ghost use Rattle.iox2_machine.specs.machine.Ports.{CreatePublisher, slots_for, with_new_publisher};
+ghost use Rattle.iox2_machine.specs.declared.errors.PublisherCreateError.TheVariants.{UnableToCreateDataSegment, FailedToDeployThreadsafetyPolicy};
+ghost use Rattle.iox2_machine.specs.machine.State.{State};
 ghost use Rattle.iox2_domain.specs.Ports.{PublisherFields};
 ghost use Rattle.iox2_domain.specs.Kept.{state_of};
 ghost use Rattle.iox2_domain.specs.Fields.{kept_of};
@@ -12,7 +12,7 @@ ghost use Rattle.iox2_domain.specs.Handlers.{handler_if_any};
 ghost use Rattle.iox2_ends.specs.Handlers.{marks_of};
 ghost use Rattle.iox2_ports.specs.Handlers.{custom_box};
 ghost use Rattle.iox2_ports.specs.Settings.{settings_with};
-ghost use Rattle.iox2_store.specs.declared.warning.Warning.TheVariants.{PublisherPartlyConnected};
+ghost use Rattle.iox2_machine.specs.declared.warning.Warning.TheVariants.{PublisherPartlyConnected};
 ghost use Rattle.iox2_domain.specs.FirstUpdates.{PublisherFirstUpdates, failure_warned};
 ghost use Rattle.iox2_domain.specs.WarningRing.{warning_ring};
 ghost use Rattle.iox2_domain.specs.Invariant.{IsDomain};
@@ -25,7 +25,7 @@ use iox2_domain::{
     Boxes, DomainState, HandlerMark, PortAt, PortBoxes, PublisherOptions, PublisherState, Warnings,
     free_place, lists_wanted, make_all_due, put_at_place,
 };
-use iox2_store::{
+use iox2_machine::{
     BackpressureAction, BackpressureFn, BackpressureHandler, ConnectionFailure, DegradationFn,
     PublisherCreateError, UniqueNodeId, UniquePublisherId, Warning,
 };

@@ -1,8 +1,8 @@
 //! The memory of a publisher: a book of its slots, and their contents at the book's key.
 ghost use Rattle.std.specs.Prelude.{◌≡◌, ◌*◌, ◌<◌, true, None, Some, IfOk, OnOk, OnErr, IsTrue, SomeIff};
 ghost use Rattle.slab.specs.Slab.{Updates, get};
-ghost use Rattle.iox2_store.specs.machine.Limits.{segment_fits};
-ghost use Rattle.iox2_store.specs.machine.Ports.{first_segment_fits, slots_for};
+ghost use Rattle.iox2_machine.specs.machine.Limits.{segment_fits};
+ghost use Rattle.iox2_machine.specs.machine.Ports.{first_segment_fits, slots_for};
 ghost use Rattle.iox2_domain.specs.NewPublisher.{IsNewSegment};
 ghost use Rattle.iox2_domain.specs.Ports.{slot_length};
 ghost use Rattle.iox2_domain.specs.Placed.{placed};
@@ -10,10 +10,10 @@ ghost use Rattle.iox2_ports.specs.Settings.{settings_with};
 
 use iox2_contents::Contents;
 use iox2_domain::{PublisherOptions, put_at_place, reserve_place, segment_size, units_of};
-use iox2_slots::SlotBook;
-use iox2_store::{
+use iox2_machine::{
     AllocationStrategy, ServiceConfig, UniqueNodeId, UniquePublisherId, worst_case_slots,
 };
+use iox2_slots::SlotBook;
 use slab::Slab;
 use std::alloc::{AllocError, Global};
 

@@ -2,7 +2,7 @@
 ghost use Rattle.std.specs.Prelude.{◌≡◌, ◌<◌, ◌↔◌, None, Some, length, map, slice_index_or, IsSome, IsSomeAnd, IsTrue};
 ghost use Rattle.slab.specs.Slab.{get};
 ghost use Rattle.iox2_slots.specs.Link.{Link};
-ghost use Rattle.iox2_store.specs.machine.Ports.{subscriber_closed};
+ghost use Rattle.iox2_machine.specs.machine.Ports.{subscriber_closed};
 ghost use Rattle.iox2_domain.specs.Departures.{KnowsKey};
 ghost use Rattle.iox2_domain.specs.Ports.{SubscriberFields};
 ghost use Rattle.iox2_domain.specs.Kept.{state_of};

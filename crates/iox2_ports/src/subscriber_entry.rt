@@ -1,10 +1,10 @@
 //! A subscriber enters a domain.
 ghost use Rattle.std.specs.Prelude.{◌≡◌, ◌≢◌, ℕ, None, Some, cond, nat_lt, slice_index_or, IfOk, MatchResult};
-ghost use Rattle.iox2_store.specs.machine.Limits.{warning_limit};
-ghost use Rattle.iox2_store.specs.machine.Ports.{with_new_subscriber, CreateSubscriber};
-ghost use Rattle.iox2_store.specs.machine.State.{State, warned};
-ghost use Rattle.iox2_store.specs.declared.errors.SubscriberCreateError.TheVariants.{FailedToDeployThreadsafetyPolicy};
-ghost use Rattle.iox2_store.specs.declared.warning.Warning.TheVariants.{ExpiredBufferRaised, SubscriberPartlyConnected};
+ghost use Rattle.iox2_machine.specs.machine.Limits.{warning_limit};
+ghost use Rattle.iox2_machine.specs.machine.Ports.{with_new_subscriber, CreateSubscriber};
+ghost use Rattle.iox2_machine.specs.machine.State.{State, warned};
+ghost use Rattle.iox2_machine.specs.declared.errors.SubscriberCreateError.TheVariants.{FailedToDeployThreadsafetyPolicy};
+ghost use Rattle.iox2_machine.specs.declared.warning.Warning.TheVariants.{ExpiredBufferRaised, SubscriberPartlyConnected};
 ghost use Rattle.iox2_domain.specs.Boxes.{answers_of, boxes_of, degradation_box_of};
 ghost use Rattle.iox2_domain.specs.Ports.{SubscriberFields};
 ghost use Rattle.iox2_domain.specs.WarningRing.{warning_ring};
@@ -20,7 +20,7 @@ use iox2_domain::{
     Boxes, DomainState, PortAt, PortBoxes, SubscriberOptions, SubscriberState, Warnings,
     free_place, make_all_due, put_at_place,
 };
-use iox2_store::{
+use iox2_machine::{
     BackpressureFn, ConnectionFailure, DegradationFn, ServiceConfig, SubscriberCreateError,
     UniqueSubscriberId, Warning,
 };

@@ -4,7 +4,7 @@ use Rattle.std.proofs.lemmas.Option.{none-some}
 use Rattle.std.specs.declared.option.Option.{Option}
 use Rattle.std.specs.declared.option.Option.TheVariants.{None, Some}
 use Rattle.std.specs.Option.{option_and_then}
-use Rattle.iox2_store.specs.machine.Records.{Loan}
+use Rattle.iox2_machine.specs.machine.Records.{Loan}
 use Rattle.iox2_domain.specs.Kept.{KeptMessage, Lent_message, Sent_message, loan_in, entry_in, message_numbered, state_of, entries_of}
 use Rattle.iox2_domain.specs.Fields.{Fields, kept_of}
 use Rattle.iox2_domain.specs.Invariant.{IsDomain}

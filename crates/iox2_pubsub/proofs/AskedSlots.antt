@@ -2,13 +2,13 @@
 use Rattle.std.proofs.Common.{◌≡◌, ◌∙◌, ◌⊎◌, inl, inr, ℕ, Bool, true, false, ◌&&◌, ◌==◌, refl, ap, subst, Option, None, Some, Result, Ok, Err}
 use Rattle.std.specs.Bool.{MatchBool}
 use Rattle.std.specs.Prelude.{MatchOption, MatchResult}
-use Rattle.iox2_store.specs.machine.Limits.{fits, last_number, segment_fits, worst_case}
-use Rattle.iox2_store.specs.machine.Places.{free_place}
-use Rattle.iox2_store.specs.machine.Ports.{CreatePublisher, MakePublisher, slots_for}
-use Rattle.iox2_store.specs.machine.Records.{Environment, PublisherSettings}
-use Rattle.iox2_store.specs.machine.State.{State}
-use Rattle.iox2_store.specs.declared.errors.PublisherCreateError.{PublisherCreateError}
-use Rattle.iox2_store.specs.declared.errors.PublisherCreateError.TheVariants.{UnableToCreatePortTag, ExceedsMaxSupportedPublishers, UnableToCreateDataSegment}
+use Rattle.iox2_machine.specs.machine.Limits.{fits, last_number, segment_fits, worst_case}
+use Rattle.iox2_machine.specs.machine.Places.{free_place}
+use Rattle.iox2_machine.specs.machine.Ports.{CreatePublisher, MakePublisher, slots_for}
+use Rattle.iox2_machine.specs.machine.Records.{Environment, PublisherSettings}
+use Rattle.iox2_machine.specs.machine.State.{State}
+use Rattle.iox2_machine.specs.declared.errors.PublisherCreateError.{PublisherCreateError}
+use Rattle.iox2_machine.specs.declared.errors.PublisherCreateError.TheVariants.{UnableToCreatePortTag, ExceedsMaxSupportedPublishers, UnableToCreateDataSegment}
 use Rattle.iox2_pubsub.specs.Factories.{AsksFor, with_slots}
 
 both : (b : Bool) → (b ≡ true) ⊎ (b ≡ false)

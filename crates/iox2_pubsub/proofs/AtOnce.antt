@@ -2,10 +2,10 @@
 use Rattle.std.proofs.Common.{◌≡◌, ℕ, ◌+◌, ◌≤◌, ◌<◌, false, is_some, get_or, Option, None, Some, refl, ap, sym, subst, ◌∙◌, arith}
 use Rattle.std.proofs.lemmas.Option.{same_Some}
 use Rattle.std.specs.Option.{option_map}
-use Rattle.iox2_store.specs.machine.Limits.{last_number}
-use Rattle.iox2_store.specs.machine.Records.{BlockedSend, Publisher}
-use Rattle.iox2_store.specs.declared.allocation.AllocationStrategy.TheVariants.{Static}
-use Rattle.iox2_store.specs.declared.key.Key.{Key}
+use Rattle.iox2_machine.specs.machine.Limits.{last_number}
+use Rattle.iox2_machine.specs.machine.Records.{BlockedSend, Publisher}
+use Rattle.iox2_machine.specs.declared.allocation.AllocationStrategy.TheVariants.{Static}
+use Rattle.iox2_machine.specs.declared.key.Key.{Key}
 use Rattle.iox2_ends.specs.Mailboxes.{sender_ends}
 use Rattle.iox2_domain.specs.Boxes.{DomainBoxes}
 use Rattle.iox2_domain.specs.Fields.{Fields, blocked_send, keeping, kept_of, numbers_of, publisher_of, subscriber_of}

@@ -1,12 +1,12 @@
 -- Who awaits whose update, in the words of `Live`.
 use Rattle.std.proofs.Common.{◌≡◌, ℕ, ◌<◌, false, sym, ap, subst, ◌∙◌, Option, None}
-use Rattle.iox2_store.specs.machine.Channel.{is_closed}
-use Rattle.iox2_store.specs.machine.Limits.{refusal_limit}
-use Rattle.iox2_store.specs.machine.Ports.{CreateSubscriber}
-use Rattle.iox2_store.specs.machine.PublisherUpdate.{UpdatePublisher}
-use Rattle.iox2_store.specs.machine.Records.{Environment, SubscriberSettings}
-use Rattle.iox2_store.specs.machine.State.{State, Messages}
-use Rattle.iox2_store.specs.declared.errors.ConnectionFailure.{ConnectionFailure}
+use Rattle.iox2_machine.specs.machine.Channel.{is_closed}
+use Rattle.iox2_machine.specs.machine.Limits.{refusal_limit}
+use Rattle.iox2_machine.specs.machine.Ports.{CreateSubscriber}
+use Rattle.iox2_machine.specs.machine.PublisherUpdate.{UpdatePublisher}
+use Rattle.iox2_machine.specs.machine.Records.{Environment, SubscriberSettings}
+use Rattle.iox2_machine.specs.machine.State.{State, Messages}
+use Rattle.iox2_machine.specs.declared.errors.ConnectionFailure.{ConnectionFailure}
 use Rattle.iox2_domain.specs.Kept.{Kept, state_of}
 use Rattle.iox2_domain.specs.Shows.{Shows}
 use Rattle.iox2_pubsub.specs.ConnectedPorts.{Awaits}

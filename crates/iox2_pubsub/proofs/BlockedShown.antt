@@ -4,11 +4,11 @@ use Rattle.std.proofs.lemmas.Option.{same_Some}
 use Rattle.std.specs.Option.{option_map}
 use Rattle.std.specs.declared.time.Duration.{Duration}
 use Rattle.std.specs.Prelude.{slice_index_or}
-use Rattle.iox2_store.specs.machine.Mailbox.{is_borrowed}
-use Rattle.iox2_store.specs.machine.Records.{Entry, Environment, Loan, Publisher, BlockedSend}
-use Rattle.iox2_store.specs.machine.Sends.{Retry, GiveUp, SendResult, Blocked_send, Delivered_to, Send_error}
-use Rattle.iox2_store.specs.machine.SingleCalls.{HoldsBlocked}
-use Rattle.iox2_store.specs.machine.State.{State, Messages}
+use Rattle.iox2_machine.specs.machine.Mailbox.{is_borrowed}
+use Rattle.iox2_machine.specs.machine.Records.{Entry, Environment, Loan, Publisher, BlockedSend}
+use Rattle.iox2_machine.specs.machine.Sends.{Retry, GiveUp, SendResult, Blocked_send, Delivered_to, Send_error}
+use Rattle.iox2_machine.specs.machine.SingleCalls.{HoldsBlocked}
+use Rattle.iox2_machine.specs.machine.State.{State, Messages}
 use Rattle.iox2_ends.specs.Mailboxes.{sender_ends}
 use Rattle.iox2_laws.specs.Laws.{Advances}
 use Rattle.iox2_laws.proofs.LoanKeeping.{retry_loans, give_up_loans}
@@ -31,9 +31,9 @@ use Rattle.iox2_pubsub.proofs.LiveParts.{unblocked-free, unblocked-parts}
 use Rattle.std.specs.Prelude.{IfErr}
 use Rattle.std.specs.declared.result.Result.{Result}
 use Rattle.std.specs.declared.result.Result.TheVariants.{Ok, Err}
-use Rattle.iox2_store.specs.declared.errors.SendError.{SendError}
-use Rattle.iox2_store.specs.declared.errors.SendError.TheVariants.{UnableToDeliver}
-use Rattle.iox2_store.specs.declared.key.Key.{Key}
+use Rattle.iox2_machine.specs.declared.errors.SendError.{SendError}
+use Rattle.iox2_machine.specs.declared.errors.SendError.TheVariants.{UnableToDeliver}
+use Rattle.iox2_machine.specs.declared.key.Key.{Key}
 use Rattle.iox2_messages.specs.SendEnds.{IsKept, end_result}
 use Rattle.iox2_messages.specs.declared.send_end.SendEnd.{SendEnd}
 use Rattle.iox2_pubsub.proofs.StaysBut.{same-boxes, IsSpared, SparedPublishers, stays-between}

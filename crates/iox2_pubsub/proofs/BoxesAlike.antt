@@ -4,15 +4,15 @@ use Rattle.std.proofs.lemmas.Option.{same_Some}
 use Rattle.std.specs.declared.option.Option.{Option}
 use Rattle.std.specs.declared.option.Option.TheVariants.{None, Some}
 use Rattle.std.specs.declared.result.Result.{Result}
-use Rattle.iox2_store.specs.machine.Records.{Custom, Environment, Fixed, Handler, Loan}
-use Rattle.iox2_store.specs.machine.State.{State, Messages}
-use Rattle.iox2_store.specs.declared.backpressure.BackpressureAction.{BackpressureAction}
-use Rattle.iox2_store.specs.declared.backpressure.BackpressureInfo.{BackpressureInfo}
-use Rattle.iox2_store.specs.declared.degradation.DegradationAction.{DegradationAction}
-use Rattle.iox2_store.specs.declared.degradation.DegradationCause.{DegradationCause}
-use Rattle.iox2_store.specs.declared.degradation.DegradationCause.TheVariants.{FailedToEstablishConnection as NotEstablished}
-use Rattle.iox2_store.specs.declared.degradation.DegradationInfo.{DegradationInfo}
-use Rattle.iox2_store.specs.declared.errors.SendError.{SendError}
+use Rattle.iox2_machine.specs.machine.Records.{Custom, Environment, Fixed, Handler, Loan}
+use Rattle.iox2_machine.specs.machine.State.{State, Messages}
+use Rattle.iox2_machine.specs.declared.backpressure.BackpressureAction.{BackpressureAction}
+use Rattle.iox2_machine.specs.declared.backpressure.BackpressureInfo.{BackpressureInfo}
+use Rattle.iox2_machine.specs.declared.degradation.DegradationAction.{DegradationAction}
+use Rattle.iox2_machine.specs.declared.degradation.DegradationCause.{DegradationCause}
+use Rattle.iox2_machine.specs.declared.degradation.DegradationCause.TheVariants.{FailedToEstablishConnection as NotEstablished}
+use Rattle.iox2_machine.specs.declared.degradation.DegradationInfo.{DegradationInfo}
+use Rattle.iox2_machine.specs.declared.errors.SendError.{SendError}
 use Rattle.iox2_ends.proofs.AnyEnvironment.{AllowsAsMuch}
 use Rattle.iox2_domain.specs.Boxes.{BoxAnswers, BoxDegrades, answers_of, box_of, degradation_box_of}
 use Rattle.iox2_domain.specs.Kept.{Kept}

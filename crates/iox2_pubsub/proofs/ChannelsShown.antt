@@ -1,6 +1,6 @@
 -- What a port is told of its channels, in the words of the state that its domain shows.
 use Rattle.std.proofs.Common.{◌≡◌, ℕ, get_or, None, Some, ap, sym, ◌∙◌}
-use Rattle.iox2_store.specs.machine.State.{State, Messages}
+use Rattle.iox2_machine.specs.machine.State.{State, Messages}
 use Rattle.iox2_domain.specs.Boxes.{DomainBoxes}
 use Rattle.iox2_domain.specs.Fields.{Fields, kept_of, keeping}
 use Rattle.iox2_domain.specs.Invariant.{IsDomain}

@@ -3,13 +3,13 @@ use Rattle.std.proofs.Common.{◌≡◌, ℕ, zero, suc, ◌+◌, Bool, true, fa
 use Rattle.std.specs.Prelude.{◌≢◌}
 use Rattle.std.specs.Option.{option_and_then, option_map_or}
 use Rattle.std.proofs.lemmas.Bool.{cases_eq, eq-eqb, ne_eqb, true≢false}
-use Rattle.iox2_store.specs.machine.Channel.{Channel, closed_state, is_in_state, is_closed, with_state, with_hint, changed_if}
-use Rattle.iox2_store.specs.machine.ChannelCalls.{place_from, connection_place, receiver_at, received_changed, senders_of, sent_closed}
-use Rattle.iox2_store.specs.machine.Numbers.{contains, put_at}
-use Rattle.iox2_store.specs.machine.Places.{occupant, is_port}
-use Rattle.iox2_store.specs.machine.Records.{Publisher}
-use Rattle.iox2_store.specs.machine.State.{State, with_channels}
-use Rattle.iox2_store.specs.machine.WellFormed.{IsWellFormed}
+use Rattle.iox2_machine.specs.machine.Channel.{Channel, closed_state, is_in_state, is_closed, with_state, with_hint, changed_if}
+use Rattle.iox2_machine.specs.machine.ChannelCalls.{place_from, connection_place, receiver_at, received_changed, senders_of, sent_closed}
+use Rattle.iox2_machine.specs.machine.Numbers.{contains, put_at}
+use Rattle.iox2_machine.specs.machine.Places.{occupant, is_port}
+use Rattle.iox2_machine.specs.machine.Records.{Publisher}
+use Rattle.iox2_machine.specs.machine.State.{State, with_channels}
+use Rattle.iox2_machine.specs.machine.WellFormed.{IsWellFormed}
 use Rattle.iox2_laws.proofs.PlaceLemmas.{is_port-true}
 use Rattle.iox2_pubsub.specs.Leaves.{ClosesNone}
 use Rattle.iox2_laws.proofs.Puts.{at_each, put_at-same, put_at-other}

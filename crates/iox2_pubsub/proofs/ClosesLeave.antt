@@ -1,8 +1,8 @@
 -- What a close of a subscriber leaves of a domain.
 use Rattle.std.proofs.Common.{◌≡◌, Some, refl}
-use Rattle.iox2_store.specs.machine.Ports.{subscriber_closed}
-use Rattle.iox2_store.specs.machine.Records.{Subscriber as Record}
-use Rattle.iox2_store.specs.machine.State.{State, Messages}
+use Rattle.iox2_machine.specs.machine.Ports.{subscriber_closed}
+use Rattle.iox2_machine.specs.machine.Records.{Subscriber as Record}
+use Rattle.iox2_machine.specs.machine.State.{State, Messages}
 use Rattle.iox2_domain.specs.Boxes.{DomainBoxes}
 use Rattle.iox2_domain.specs.Fields.{Fields, keeping}
 use Rattle.iox2_domain.specs.Invariant.{IsDomain}

@@ -2,11 +2,11 @@
 use Rattle.std.proofs.Common.{◌≡◌, ◌≤◌, ℕ, get_or, true, refl, ap, sym, subst, ◌∙◌, List, [], Option, None, Some, arith}
 use Rattle.std.proofs.lemmas.Bool.{true≢false}
 use Rattle.std.proofs.lemmas.Option.{none-some, same_Some}
-use Rattle.iox2_store.specs.machine.Mailbox.{is_borrowed}
-use Rattle.iox2_store.specs.machine.Ports.{publisher_closed, subscriber_closed}
-use Rattle.iox2_store.specs.machine.Records.{Loan, Publisher, Subscriber}
-use Rattle.iox2_store.specs.machine.State.{State, Messages}
-use Rattle.iox2_store.specs.declared.key.Key.{Key}
+use Rattle.iox2_machine.specs.machine.Mailbox.{is_borrowed}
+use Rattle.iox2_machine.specs.machine.Ports.{publisher_closed, subscriber_closed}
+use Rattle.iox2_machine.specs.machine.Records.{Loan, Publisher, Subscriber}
+use Rattle.iox2_machine.specs.machine.State.{State, Messages}
+use Rattle.iox2_machine.specs.declared.key.Key.{Key}
 use Rattle.iox2_laws.proofs.CloseLaws.{subscriber_closed_advances}
 use Rattle.iox2_laws.proofs.LoanKeeping.{subscriber_closed_loans}
 use Rattle.iox2_laws.proofs.PortsClose.{publisher_closed_gone, publisher_closed_others, publisher_closed_subscribers, publisher_closed_borrowed, subscriber_closed_shut, subscriber_closed_others, subscriber_closed_publishers, subscriber_closed_borrowed}

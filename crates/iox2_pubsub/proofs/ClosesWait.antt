@@ -1,9 +1,9 @@
 -- What a close leaves waiting, seen from outside.
 use Rattle.std.proofs.Common.{◌≡◌, ℕ, ◌≤◌, length, sym, ap, ◌∙◌, arith, Some}
-use Rattle.iox2_store.specs.machine.Ports.{publisher_closed, subscriber_closed}
-use Rattle.iox2_store.specs.machine.Records.{Publisher, Subscriber as MachineSubscriber}
-use Rattle.iox2_store.specs.machine.State.{State, Messages}
-use Rattle.iox2_store.specs.machine.Waiting.{waiting_from, waiting_for}
+use Rattle.iox2_machine.specs.machine.Ports.{publisher_closed, subscriber_closed}
+use Rattle.iox2_machine.specs.machine.Records.{Publisher, Subscriber as MachineSubscriber}
+use Rattle.iox2_machine.specs.machine.State.{State, Messages}
+use Rattle.iox2_machine.specs.machine.Waiting.{waiting_from, waiting_for}
 use Rattle.iox2_domain.specs.Kept.{Kept}
 use Rattle.iox2_domain.specs.Shows.{Shows}
 use Rattle.iox2_laws.proofs.WaitingCloses.{publisher_closed_no_fewer, subscriber_closed_ports, subscriber_closed_none, subscriber_closed_from, subscriber_closed_updated}

@@ -5,20 +5,20 @@ use Rattle.std.specs.Option.{option_map, option_and_then}
 use Rattle.std.specs.declared.time.Duration.{Duration}
 use Rattle.std.proofs.lemmas.Bool.{true≢false, ne_eqb, eq-eqb, cases_eq, and_parts, or_parts}
 use Rattle.std.proofs.lemmas.Option.{none-some, same_Some}
-use Rattle.iox2_store.specs.machine.Numbers.{put_at, contains, IsOnce, last_n}
-use Rattle.iox2_store.specs.machine.Places.{occupant, occupants, set_place, is_port}
-use Rattle.iox2_store.specs.machine.Mailbox.{Mailbox, has_room, with_appended, waiting_dropped, with_waiting}
-use Rattle.iox2_store.specs.machine.Records.{Publisher, Subscriber, Handler, Environment}
-use Rattle.iox2_store.specs.machine.State.{State, receiving_buffer, has_receiver_end}
-use Rattle.iox2_store.specs.machine.Connections.{ForEachPlace}
-use Rattle.iox2_store.specs.machine.Delivery.{PutResult, DeliveryEnd, Complete, Suspended, Put, Deliver, is_blocking, is_failed, accepted_count, no_time}
-use Rattle.iox2_store.specs.machine.PublisherUpdate.{SenderSide, SenderAction, Keep_end, Drop_waiting, Disconnect, Connect, sender_action, dropped, disconnected, connected, Performs, UpdateSenderPlace, history_for, sender_side, with_sender_side, UpdatePublisher}
-use Rattle.iox2_store.specs.machine.WellFormed.{IsWellFormed, subscriber_place}
-use Rattle.iox2_store.specs.declared.backpressure.BackpressureStrategy.{BackpressureStrategy}
-use Rattle.iox2_store.specs.declared.backpressure.BackpressureAction.{BackpressureAction}
-use Rattle.iox2_store.specs.declared.degradation.DegradationAction.{DegradationAction}
-use Rattle.iox2_store.specs.declared.service_config.ServiceConfig.{ServiceConfig}
-use Rattle.iox2_store.specs.declared.errors.ConnectionFailure.{ConnectionFailure}
+use Rattle.iox2_machine.specs.machine.Numbers.{put_at, contains, IsOnce, last_n}
+use Rattle.iox2_machine.specs.machine.Places.{occupant, occupants, set_place, is_port}
+use Rattle.iox2_machine.specs.machine.Mailbox.{Mailbox, has_room, with_appended, waiting_dropped, with_waiting}
+use Rattle.iox2_machine.specs.machine.Records.{Publisher, Subscriber, Handler, Environment}
+use Rattle.iox2_machine.specs.machine.State.{State, receiving_buffer, has_receiver_end}
+use Rattle.iox2_machine.specs.machine.Connections.{ForEachPlace}
+use Rattle.iox2_machine.specs.machine.Delivery.{PutResult, DeliveryEnd, Complete, Suspended, Put, Deliver, is_blocking, is_failed, accepted_count, no_time}
+use Rattle.iox2_machine.specs.machine.PublisherUpdate.{SenderSide, SenderAction, Keep_end, Drop_waiting, Disconnect, Connect, sender_action, dropped, disconnected, connected, Performs, UpdateSenderPlace, history_for, sender_side, with_sender_side, UpdatePublisher}
+use Rattle.iox2_machine.specs.machine.WellFormed.{IsWellFormed, subscriber_place}
+use Rattle.iox2_machine.specs.declared.backpressure.BackpressureStrategy.{BackpressureStrategy}
+use Rattle.iox2_machine.specs.declared.backpressure.BackpressureAction.{BackpressureAction}
+use Rattle.iox2_machine.specs.declared.degradation.DegradationAction.{DegradationAction}
+use Rattle.iox2_machine.specs.declared.service_config.ServiceConfig.{ServiceConfig}
+use Rattle.iox2_machine.specs.declared.errors.ConnectionFailure.{ConnectionFailure}
 use Rattle.iox2_laws.proofs.Cases.{by_option, by_bool}
 use Rattle.iox2_laws.proofs.NumberLemmas.{contains_in_cons}
 use Rattle.iox2_laws.proofs.PlaceLemmas.{occupant-set_place, found_set}

@@ -2,16 +2,16 @@
 use Rattle.std.proofs.Common.{◌≡◌, ◌≢◌, ◌⊎◌, ℕ, List, [], Bool, true, false, drop, take, refl, ap, sym, subst, ◌∙◌, inl, inr, Option, None, Some, Result, Ok, Err}
 use Rattle.std.specs.Prelude.{IsOk, IfErr}
 use Rattle.std.proofs.lemmas.Bool.{cases_eq, ne_eqb}
-use Rattle.iox2_store.specs.machine.Delivery.{DeliverIn, DeliveryEnd, Complete, Suspended, no_time}
-use Rattle.iox2_store.specs.machine.Mailbox.{Mailbox, is_borrowed}
-use Rattle.iox2_store.specs.machine.Numbers.{put_at}
-use Rattle.iox2_store.specs.machine.Records.{Entry, Environment, Loan, Publisher, Subscriber as MachineSubscriber}
-use Rattle.iox2_store.specs.machine.Sends.{SendResult, Send_error, Blocked_send, Delivered_to, SendToConnection, ConcludeSend, with_mailboxes}
-use Rattle.iox2_store.specs.machine.State.{State, Messages, channel_buffer, with_loan}
-use Rattle.iox2_store.specs.machine.Waiting.{waiting_from}
-use Rattle.iox2_store.specs.declared.errors.SendError.{SendError}
-use Rattle.iox2_store.specs.declared.errors.SendError.TheVariants.{ConnectionBrokenSinceSenderNoLongerExists, UnableToDeliver}
-use Rattle.iox2_store.specs.declared.key.Key.{Key}
+use Rattle.iox2_machine.specs.machine.Delivery.{DeliverIn, DeliveryEnd, Complete, Suspended, no_time}
+use Rattle.iox2_machine.specs.machine.Mailbox.{Mailbox, is_borrowed}
+use Rattle.iox2_machine.specs.machine.Numbers.{put_at}
+use Rattle.iox2_machine.specs.machine.Records.{Entry, Environment, Loan, Publisher, Subscriber as MachineSubscriber}
+use Rattle.iox2_machine.specs.machine.Sends.{SendResult, Send_error, Blocked_send, Delivered_to, SendToConnection, ConcludeSend, with_mailboxes}
+use Rattle.iox2_machine.specs.machine.State.{State, Messages, channel_buffer, with_loan}
+use Rattle.iox2_machine.specs.machine.Waiting.{waiting_from}
+use Rattle.iox2_machine.specs.declared.errors.SendError.{SendError}
+use Rattle.iox2_machine.specs.declared.errors.SendError.TheVariants.{ConnectionBrokenSinceSenderNoLongerExists, UnableToDeliver}
+use Rattle.iox2_machine.specs.declared.key.Key.{Key}
 use Rattle.iox2_laws.proofs.Cases.{by_option}
 use Rattle.iox2_laws.proofs.ConnectionSends.{send_to_connection_advances}
 use Rattle.iox2_laws.proofs.ConnectionSendsLeave.{send_to_connection_loans, send_to_connection_remains, send_to_connection_stays, send_to_connection_subscribers, send_to_connection_waits}

@@ -4,22 +4,22 @@ use Rattle.std.specs.Prelude.{◌≢◌}
 use Rattle.std.specs.Option.{option_map}
 use Rattle.std.proofs.lemmas.Bool.{true≢false, ne_eqb, eq-eqb}
 use Rattle.std.proofs.lemmas.Option.{none-some, same_Some}
-use Rattle.iox2_store.specs.machine.Channel.{is_closed}
-use Rattle.iox2_store.specs.machine.Limits.{refusal_limit}
-use Rattle.iox2_store.specs.machine.Numbers.{contains}
-use Rattle.iox2_store.specs.machine.Places.{occupant, set_place, is_port}
-use Rattle.iox2_store.specs.machine.Records.{Publisher, Subscriber, Handler, Environment, PublisherSettings}
-use Rattle.iox2_store.specs.machine.State.{State, Warnings, connected_publishers, receiving_buffer, has_receiver_end, sender_channels_reset}
-use Rattle.iox2_store.specs.machine.Connections.{ForEachPlace, warnings_after}
-use Rattle.iox2_store.specs.machine.Ports.{FirstPublisherUpdate, CreatePublisher, with_new_publisher, new_publisher, with_failure_warning}
-use Rattle.iox2_store.specs.machine.PublisherUpdate.{SenderSide, SenderAction, Keep_end, Drop_waiting, Disconnect, Connect, sender_action, disconnected, connected, Performs, UpdateSenderPlace, history_for, sender_side, with_sender_side, UpdatePublisher}
-use Rattle.iox2_store.specs.machine.Waiting.{receives_from}
-use Rattle.iox2_store.specs.machine.WellFormed.{IsWellFormed, subscriber_place}
-use Rattle.iox2_store.specs.declared.degradation.DegradationAction.{DegradationAction}
-use Rattle.iox2_store.specs.declared.degradation.DegradationAction.TheVariants.{Ignore, Warn, DegradeAndFail}
-use Rattle.iox2_store.specs.declared.errors.ConnectionFailure.{ConnectionFailure}
-use Rattle.iox2_store.specs.declared.errors.PublisherCreateError.{PublisherCreateError}
-use Rattle.iox2_store.specs.declared.warning.Warning.TheVariants.{PublisherPartlyConnected}
+use Rattle.iox2_machine.specs.machine.Channel.{is_closed}
+use Rattle.iox2_machine.specs.machine.Limits.{refusal_limit}
+use Rattle.iox2_machine.specs.machine.Numbers.{contains}
+use Rattle.iox2_machine.specs.machine.Places.{occupant, set_place, is_port}
+use Rattle.iox2_machine.specs.machine.Records.{Publisher, Subscriber, Handler, Environment, PublisherSettings}
+use Rattle.iox2_machine.specs.machine.State.{State, Warnings, connected_publishers, receiving_buffer, has_receiver_end, sender_channels_reset}
+use Rattle.iox2_machine.specs.machine.Connections.{ForEachPlace, warnings_after}
+use Rattle.iox2_machine.specs.machine.Ports.{FirstPublisherUpdate, CreatePublisher, with_new_publisher, new_publisher, with_failure_warning}
+use Rattle.iox2_machine.specs.machine.PublisherUpdate.{SenderSide, SenderAction, Keep_end, Drop_waiting, Disconnect, Connect, sender_action, disconnected, connected, Performs, UpdateSenderPlace, history_for, sender_side, with_sender_side, UpdatePublisher}
+use Rattle.iox2_machine.specs.machine.Waiting.{receives_from}
+use Rattle.iox2_machine.specs.machine.WellFormed.{IsWellFormed, subscriber_place}
+use Rattle.iox2_machine.specs.declared.degradation.DegradationAction.{DegradationAction}
+use Rattle.iox2_machine.specs.declared.degradation.DegradationAction.TheVariants.{Ignore, Warn, DegradeAndFail}
+use Rattle.iox2_machine.specs.declared.errors.ConnectionFailure.{ConnectionFailure}
+use Rattle.iox2_machine.specs.declared.errors.PublisherCreateError.{PublisherCreateError}
+use Rattle.iox2_machine.specs.declared.warning.Warning.TheVariants.{PublisherPartlyConnected}
 use Rattle.iox2_laws.proofs.Cases.{by_option, by_bool}
 use Rattle.iox2_laws.proofs.CallCases.{publisher_cases}
 use Rattle.iox2_laws.proofs.PlaceLemmas.{free_place_is, occupant-set_place, occupied_within, is_port-true}

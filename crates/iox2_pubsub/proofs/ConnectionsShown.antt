@@ -6,16 +6,16 @@ use Rattle.std.specs.List.{filter_map}
 use Rattle.std.proofs.lemmas.Bool.{ne_eqb}
 use Rattle.std.proofs.lemmas.List.{length-map, map-append, drop-map}
 use Rattle.std.proofs.lemmas.Option.{none-some, same_Some}
-use Rattle.iox2_store.specs.machine.Loans.{entry_of}
-use Rattle.iox2_store.specs.machine.Channel.{is_closed}
-use Rattle.iox2_store.specs.machine.Limits.{refusal_limit}
-use Rattle.iox2_store.specs.machine.Numbers.{contains, put_at}
-use Rattle.iox2_store.specs.machine.Ports.{CreatePublisher, publisher_closed, subscriber_closed}
-use Rattle.iox2_store.specs.machine.Records.{Entry, Environment, Loan, Publisher, PublisherSettings, Subscriber as MachineSubscriber}
-use Rattle.iox2_store.specs.machine.Sends.{Delivered_to, Send}
-use Rattle.iox2_store.specs.machine.State.{State, Messages, is_blocked}
-use Rattle.iox2_store.specs.machine.Waiting.{waiting_from}
-use Rattle.iox2_store.specs.declared.errors.PublisherCreateError.{PublisherCreateError}
+use Rattle.iox2_machine.specs.machine.Loans.{entry_of}
+use Rattle.iox2_machine.specs.machine.Channel.{is_closed}
+use Rattle.iox2_machine.specs.machine.Limits.{refusal_limit}
+use Rattle.iox2_machine.specs.machine.Numbers.{contains, put_at}
+use Rattle.iox2_machine.specs.machine.Ports.{CreatePublisher, publisher_closed, subscriber_closed}
+use Rattle.iox2_machine.specs.machine.Records.{Entry, Environment, Loan, Publisher, PublisherSettings, Subscriber as MachineSubscriber}
+use Rattle.iox2_machine.specs.machine.Sends.{Delivered_to, Send}
+use Rattle.iox2_machine.specs.machine.State.{State, Messages, is_blocked}
+use Rattle.iox2_machine.specs.machine.Waiting.{waiting_from}
+use Rattle.iox2_machine.specs.declared.errors.PublisherCreateError.{PublisherCreateError}
 use Rattle.iox2_domain.specs.Kept.{Kept, state_of, entries_of}
 use Rattle.iox2_domain.specs.Shows.{Shows}
 use Rattle.iox2_pubsub.specs.ConnectedPorts.{Connects}
@@ -23,7 +23,7 @@ use Rattle.iox2_pubsub.specs.Live.{ConnectionsStay, IsConnected, IsFull, IsServe
 use Rattle.iox2_pubsub.specs.SendCalls.{IsDelivered, Sends, messages_after}
 use Rattle.iox2_pubsub.specs.declared.send_outcome.SendOutcome.{SendOutcome}
 use Rattle.iox2_pubsub.specs.declared.send_outcome.SendOutcome.TheVariants.{Delivered, Blocked}
-use Rattle.iox2_store.specs.declared.errors.SendError.{SendError}
+use Rattle.iox2_machine.specs.declared.errors.SendError.{SendError}
 use Rattle.iox2_laws.proofs.NumberLemmas.{contains_first, contains_in_drop, contains_left, contains_right}
 use Rattle.iox2_laws.proofs.Puts.{put_at-same, put_at-other}
 use Rattle.iox2_pubsub.proofs.SliceParts.{values-parts}

@@ -6,28 +6,28 @@ use Rattle.std.specs.Option.{is_some, option_map, option_map_or}
 use Rattle.std.specs.declared.time.Duration.{Duration}
 use Rattle.std.proofs.lemmas.Bool.{true≢false, ne_eqb, eqb-true, eq-eqb, ltb-false, cases_eq}
 use Rattle.std.proofs.lemmas.Option.{none-some, same_Some}
-use Rattle.iox2_store.specs.machine.Channel.{Channel, is_closed}
-use Rattle.iox2_store.specs.machine.Limits.{expired_limit}
-use Rattle.iox2_store.specs.machine.Numbers.{put_at, contains, without}
-use Rattle.iox2_store.specs.machine.Places.{occupant, occupants, is_port, places_kept}
-use Rattle.iox2_store.specs.machine.Mailbox.{has_borrows, has_numbers}
-use Rattle.iox2_store.specs.machine.Records.{Publisher, Subscriber, Loan, Handler, Environment, BlockedSend, SubscriberSettings}
-use Rattle.iox2_store.specs.machine.State.{State, has_sender_end, connected_publishers, subscribers_due, with_loan}
-use Rattle.iox2_store.specs.machine.Connections.{ForEachPlace}
-use Rattle.iox2_store.specs.machine.Loans.{GrantLoan, loan_granted, loan_discarded}
-use Rattle.iox2_store.specs.machine.Ports.{FirstSubscriberUpdate, CreateSubscriber, with_new_subscriber, new_subscriber, with_failure_warning, publisher_closed, publisher_gone, subscribers_pruned, subscriber_shut, subscriber_closed}
-use Rattle.iox2_store.specs.machine.Receives.{ReceiveResult, Got_sample, No_sample, Receive_error, TakeSample, Receive}
-use Rattle.iox2_store.specs.machine.Releases.{is_connected, pruned, is_unused, place_freed, freed_if_unused, unborrowed, subscriber_pruned, released}
-use Rattle.iox2_store.specs.machine.Sends.{SendResult, Retry, GiveUp, DeliverAndConclude, more_retries}
-use Rattle.iox2_store.specs.machine.Delivery.{no_time}
-use Rattle.iox2_store.specs.machine.SubscriberUpdate.{ReceiverSide, Retirement, Keep_expired, Evict, Discard_data, Refuse, retirement_of, is_refused, after_retirement, with_end, ConnectReceiver, Retire, ConnectAtPlace, DisconnectAtPlace, UpdateReceiverSide, receiver_side, with_receiver_side, UpdateSubscriber}
-use Rattle.iox2_store.specs.machine.Waiting.{receives_from}
-use Rattle.iox2_store.specs.machine.WellFormed.{LeadsTo, IsWellFormed, publisher_place}
-use Rattle.iox2_store.specs.declared.degradation.DegradationAction.{DegradationAction}
-use Rattle.iox2_store.specs.declared.errors.ConnectionFailure.{ConnectionFailure}
-use Rattle.iox2_store.specs.declared.errors.LoanError.{LoanError}
-use Rattle.iox2_store.specs.declared.errors.SubscriberCreateError.{SubscriberCreateError}
-use Rattle.iox2_store.specs.declared.warning.Warning.TheVariants.{SubscriberPartlyConnected}
+use Rattle.iox2_machine.specs.machine.Channel.{Channel, is_closed}
+use Rattle.iox2_machine.specs.machine.Limits.{expired_limit}
+use Rattle.iox2_machine.specs.machine.Numbers.{put_at, contains, without}
+use Rattle.iox2_machine.specs.machine.Places.{occupant, occupants, is_port, places_kept}
+use Rattle.iox2_machine.specs.machine.Mailbox.{has_borrows, has_numbers}
+use Rattle.iox2_machine.specs.machine.Records.{Publisher, Subscriber, Loan, Handler, Environment, BlockedSend, SubscriberSettings}
+use Rattle.iox2_machine.specs.machine.State.{State, has_sender_end, connected_publishers, subscribers_due, with_loan}
+use Rattle.iox2_machine.specs.machine.Connections.{ForEachPlace}
+use Rattle.iox2_machine.specs.machine.Loans.{GrantLoan, loan_granted, loan_discarded}
+use Rattle.iox2_machine.specs.machine.Ports.{FirstSubscriberUpdate, CreateSubscriber, with_new_subscriber, new_subscriber, with_failure_warning, publisher_closed, publisher_gone, subscribers_pruned, subscriber_shut, subscriber_closed}
+use Rattle.iox2_machine.specs.machine.Receives.{ReceiveResult, Got_sample, No_sample, Receive_error, TakeSample, Receive}
+use Rattle.iox2_machine.specs.machine.Releases.{is_connected, pruned, is_unused, place_freed, freed_if_unused, unborrowed, subscriber_pruned, released}
+use Rattle.iox2_machine.specs.machine.Sends.{SendResult, Retry, GiveUp, DeliverAndConclude, more_retries}
+use Rattle.iox2_machine.specs.machine.Delivery.{no_time}
+use Rattle.iox2_machine.specs.machine.SubscriberUpdate.{ReceiverSide, Retirement, Keep_expired, Evict, Discard_data, Refuse, retirement_of, is_refused, after_retirement, with_end, ConnectReceiver, Retire, ConnectAtPlace, DisconnectAtPlace, UpdateReceiverSide, receiver_side, with_receiver_side, UpdateSubscriber}
+use Rattle.iox2_machine.specs.machine.Waiting.{receives_from}
+use Rattle.iox2_machine.specs.machine.WellFormed.{LeadsTo, IsWellFormed, publisher_place}
+use Rattle.iox2_machine.specs.declared.degradation.DegradationAction.{DegradationAction}
+use Rattle.iox2_machine.specs.declared.errors.ConnectionFailure.{ConnectionFailure}
+use Rattle.iox2_machine.specs.declared.errors.LoanError.{LoanError}
+use Rattle.iox2_machine.specs.declared.errors.SubscriberCreateError.{SubscriberCreateError}
+use Rattle.iox2_machine.specs.declared.warning.Warning.TheVariants.{SubscriberPartlyConnected}
 use Rattle.iox2_laws.proofs.Cases.{by_option, by_bool}
 use Rattle.iox2_laws.proofs.CallCases.{grant_cases, subscriber_cases}
 use Rattle.iox2_laws.proofs.FilterLemmas.{contains-filter}

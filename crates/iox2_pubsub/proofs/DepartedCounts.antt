@@ -3,8 +3,8 @@ use Rattle.std.proofs.Common.{◌≡◌, ℕ, zero, suc, ◌≤◌, Bool, true, 
 use Rattle.std.specs.List.{filter}
 use Rattle.std.proofs.lemmas.Bool.{true≢false}
 use Rattle.std.proofs.lemmas.Option.{none-some, same_Some}
-use Rattle.iox2_store.specs.machine.Numbers.{contains, IsOnce}
-use Rattle.iox2_store.specs.machine.Places.{occupant, occupants, set_place, places_kept}
+use Rattle.iox2_machine.specs.machine.Numbers.{contains, IsOnce}
+use Rattle.iox2_machine.specs.machine.Places.{occupant, occupants, set_place, places_kept}
 use Rattle.iox2_laws.proofs.NumberLemmas.{contains_first, contains_later}
 
 -- how many of these places have a port that passes the test

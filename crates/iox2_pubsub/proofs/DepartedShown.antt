@@ -1,10 +1,10 @@
 -- Which calls leave subscribers room for closed publishers, seen from outside.
 use Rattle.std.proofs.Common.{ℕ, suc, ◌≡◌, ◌≤◌, sym, subst, Option, None, Some}
-use Rattle.iox2_store.specs.machine.Limits.{expired_limit}
-use Rattle.iox2_store.specs.machine.Ports.{CreatePublisher, CreateSubscriber, publisher_closed, subscriber_closed}
-use Rattle.iox2_store.specs.machine.Records.{Environment, Publisher, PublisherSettings, Subscriber as MachineSubscriber, SubscriberSettings}
-use Rattle.iox2_store.specs.machine.State.{State, Messages}
-use Rattle.iox2_store.specs.declared.errors.PublisherCreateError.{PublisherCreateError}
+use Rattle.iox2_machine.specs.machine.Limits.{expired_limit}
+use Rattle.iox2_machine.specs.machine.Ports.{CreatePublisher, CreateSubscriber, publisher_closed, subscriber_closed}
+use Rattle.iox2_machine.specs.machine.Records.{Environment, Publisher, PublisherSettings, Subscriber as MachineSubscriber, SubscriberSettings}
+use Rattle.iox2_machine.specs.machine.State.{State, Messages}
+use Rattle.iox2_machine.specs.declared.errors.PublisherCreateError.{PublisherCreateError}
 use Rattle.iox2_domain.specs.Kept.{Kept}
 use Rattle.iox2_domain.specs.Shows.{Shows}
 use Rattle.iox2_pubsub.specs.DepartedPorts.{HasRoom}

@@ -4,23 +4,23 @@ use Rattle.std.specs.List.{filter}
 use Rattle.std.specs.Option.{is_some, option_map, option_map_or}
 use Rattle.std.specs.declared.time.Duration.{Duration}
 use Rattle.std.proofs.lemmas.Bool.{true≢false, cond_both, cases_eq, ltb-false}
-use Rattle.iox2_store.specs.machine.Limits.{expired_limit}
-use Rattle.iox2_store.specs.machine.Places.{occupant, occupants, places_kept}
-use Rattle.iox2_store.specs.machine.Loans.{GrantLoan, loan_discarded}
-use Rattle.iox2_store.specs.machine.Ports.{FirstPublisherUpdate, FirstSubscriberUpdate, CreatePublisher, CreateSubscriber, with_new_publisher, with_new_subscriber, new_subscriber, with_failure_warning, publisher_gone, publisher_closed, subscriber_shut, subscriber_closed}
-use Rattle.iox2_store.specs.machine.PublisherUpdate.{UpdatePublisher}
-use Rattle.iox2_store.specs.machine.Receives.{ReceiveResult, Got_sample, No_sample, Receive_error, TakeSample, Receive}
-use Rattle.iox2_store.specs.machine.Records.{Publisher, Subscriber, Loan, Environment, BlockedSend, PublisherSettings, SubscriberSettings}
-use Rattle.iox2_store.specs.machine.Releases.{is_connected, pruned, is_unused, place_freed, unborrowed, subscriber_pruned, released}
-use Rattle.iox2_store.specs.machine.Sends.{SendResult, Send, Retry, GiveUp}
-use Rattle.iox2_store.specs.machine.State.{State, with_loan}
-use Rattle.iox2_store.specs.machine.SubscriberUpdate.{UpdateSubscriber}
-use Rattle.iox2_store.specs.machine.WellFormed.{IsWellFormed}
-use Rattle.iox2_store.specs.declared.errors.ConnectionFailure.{ConnectionFailure}
-use Rattle.iox2_store.specs.declared.errors.LoanError.{LoanError}
-use Rattle.iox2_store.specs.declared.errors.PublisherCreateError.{PublisherCreateError}
-use Rattle.iox2_store.specs.declared.errors.SubscriberCreateError.{SubscriberCreateError}
-use Rattle.iox2_store.specs.declared.warning.Warning.TheVariants.{PublisherPartlyConnected, SubscriberPartlyConnected}
+use Rattle.iox2_machine.specs.machine.Limits.{expired_limit}
+use Rattle.iox2_machine.specs.machine.Places.{occupant, occupants, places_kept}
+use Rattle.iox2_machine.specs.machine.Loans.{GrantLoan, loan_discarded}
+use Rattle.iox2_machine.specs.machine.Ports.{FirstPublisherUpdate, FirstSubscriberUpdate, CreatePublisher, CreateSubscriber, with_new_publisher, with_new_subscriber, new_subscriber, with_failure_warning, publisher_gone, publisher_closed, subscriber_shut, subscriber_closed}
+use Rattle.iox2_machine.specs.machine.PublisherUpdate.{UpdatePublisher}
+use Rattle.iox2_machine.specs.machine.Receives.{ReceiveResult, Got_sample, No_sample, Receive_error, TakeSample, Receive}
+use Rattle.iox2_machine.specs.machine.Records.{Publisher, Subscriber, Loan, Environment, BlockedSend, PublisherSettings, SubscriberSettings}
+use Rattle.iox2_machine.specs.machine.Releases.{is_connected, pruned, is_unused, place_freed, unborrowed, subscriber_pruned, released}
+use Rattle.iox2_machine.specs.machine.Sends.{SendResult, Send, Retry, GiveUp}
+use Rattle.iox2_machine.specs.machine.State.{State, with_loan}
+use Rattle.iox2_machine.specs.machine.SubscriberUpdate.{UpdateSubscriber}
+use Rattle.iox2_machine.specs.machine.WellFormed.{IsWellFormed}
+use Rattle.iox2_machine.specs.declared.errors.ConnectionFailure.{ConnectionFailure}
+use Rattle.iox2_machine.specs.declared.errors.LoanError.{LoanError}
+use Rattle.iox2_machine.specs.declared.errors.PublisherCreateError.{PublisherCreateError}
+use Rattle.iox2_machine.specs.declared.errors.SubscriberCreateError.{SubscriberCreateError}
+use Rattle.iox2_machine.specs.declared.warning.Warning.TheVariants.{PublisherPartlyConnected, SubscriberPartlyConnected}
 use Rattle.iox2_laws.proofs.Cases.{by_option}
 use Rattle.iox2_laws.proofs.CallCases.{publisher_cases, subscriber_cases}
 use Rattle.iox2_laws.proofs.FilterLemmas.{length-filter_le}

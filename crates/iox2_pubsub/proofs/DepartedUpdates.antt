@@ -6,18 +6,18 @@ use Rattle.std.specs.Option.{is_some, option_map, option_map_or}
 use Rattle.std.proofs.lemmas.Bool.{true≢false, cond_both, ltb-true, ltb-false, eqb-false, eq-eqb, ne_eqb, cases_eq}
 use Rattle.std.proofs.lemmas.List.{length-append}
 use Rattle.std.proofs.lemmas.Option.{none-some, same_Some}
-use Rattle.iox2_store.specs.machine.Limits.{expired_limit}
-use Rattle.iox2_store.specs.machine.Numbers.{put_at, contains, without, is_nil, IsOnce}
-use Rattle.iox2_store.specs.machine.Places.{occupant, occupants, is_port, set_place}
-use Rattle.iox2_store.specs.machine.Mailbox.{Mailbox, has_borrows, has_data, has_numbers, has_waiting}
-use Rattle.iox2_store.specs.machine.Records.{Publisher, Subscriber, Handler, Environment}
-use Rattle.iox2_store.specs.machine.State.{State, connected_publishers, has_sender_end}
-use Rattle.iox2_store.specs.machine.Connections.{expired_buffer_full}
-use Rattle.iox2_store.specs.machine.SubscriberUpdate.{ReceiverSide, Retirement, Keep_expired, Evict, Discard_data, Refuse, first_without_borrows, evict_or_refuse, retirement_of, is_refused, after_retirement, with_end, ConnectReceiver, Retire, ConnectAtPlace, DisconnectAtPlace, UpdateReceiverSide, receiver_side, with_receiver_side, UpdateSubscriber}
-use Rattle.iox2_store.specs.machine.Waiting.{receives_from, waiting_from}
-use Rattle.iox2_store.specs.machine.WellFormed.{LeadsTo, IsWellFormed}
-use Rattle.iox2_store.specs.declared.degradation.DegradationAction.{DegradationAction}
-use Rattle.iox2_store.specs.declared.errors.ConnectionFailure.{ConnectionFailure}
+use Rattle.iox2_machine.specs.machine.Limits.{expired_limit}
+use Rattle.iox2_machine.specs.machine.Numbers.{put_at, contains, without, is_nil, IsOnce}
+use Rattle.iox2_machine.specs.machine.Places.{occupant, occupants, is_port, set_place}
+use Rattle.iox2_machine.specs.machine.Mailbox.{Mailbox, has_borrows, has_data, has_numbers, has_waiting}
+use Rattle.iox2_machine.specs.machine.Records.{Publisher, Subscriber, Handler, Environment}
+use Rattle.iox2_machine.specs.machine.State.{State, connected_publishers, has_sender_end}
+use Rattle.iox2_machine.specs.machine.Connections.{expired_buffer_full}
+use Rattle.iox2_machine.specs.machine.SubscriberUpdate.{ReceiverSide, Retirement, Keep_expired, Evict, Discard_data, Refuse, first_without_borrows, evict_or_refuse, retirement_of, is_refused, after_retirement, with_end, ConnectReceiver, Retire, ConnectAtPlace, DisconnectAtPlace, UpdateReceiverSide, receiver_side, with_receiver_side, UpdateSubscriber}
+use Rattle.iox2_machine.specs.machine.Waiting.{receives_from, waiting_from}
+use Rattle.iox2_machine.specs.machine.WellFormed.{LeadsTo, IsWellFormed}
+use Rattle.iox2_machine.specs.declared.degradation.DegradationAction.{DegradationAction}
+use Rattle.iox2_machine.specs.declared.errors.ConnectionFailure.{ConnectionFailure}
 use Rattle.iox2_laws.proofs.Cases.{by_option, by_bool}
 use Rattle.iox2_laws.proofs.MailboxLemmas.{has_numbers-data, has_waiting-data}
 use Rattle.iox2_laws.proofs.NumberLemmas.{contains_left, contains_right, length-without}

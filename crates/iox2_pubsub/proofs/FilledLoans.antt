@@ -1,10 +1,10 @@
 -- A loan whose cells were all written at once, with other values.
 use Rattle.std.proofs.Common.{◌≡◌, ℕ, List, map, true, refl, ap, sym, subst, ◌∙◌, Some}
-use Rattle.iox2_store.specs.machine.Records.{Loan}
-use Rattle.iox2_store.specs.machine.SingleCalls.{HoldsLoan, WriteAllFrom}
-use Rattle.iox2_store.specs.machine.State.{State, Messages, with_loan}
-use Rattle.iox2_store.specs.declared.header.Header.{Header}
-use Rattle.iox2_store.specs.declared.key.Key.{Key}
+use Rattle.iox2_machine.specs.machine.Records.{Loan}
+use Rattle.iox2_machine.specs.machine.SingleCalls.{HoldsLoan, WriteAllFrom}
+use Rattle.iox2_machine.specs.machine.State.{State, Messages, with_loan}
+use Rattle.iox2_machine.specs.declared.header.Header.{Header}
+use Rattle.iox2_machine.specs.declared.key.Key.{Key}
 use Rattle.iox2_domain.specs.Kept.{Kept, state_of}
 use Rattle.iox2_domain.specs.Boxes.{DomainBoxes}
 use Rattle.iox2_domain.specs.Fields.{Fields, kept_of, keeping}

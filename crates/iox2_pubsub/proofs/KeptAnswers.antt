@@ -1,13 +1,13 @@
 -- What comes of calls where the boxes answer that a domain keeps.
 use Rattle.std.proofs.Common.{◌≡◌, ℕ, Bool, get_or, ap, subst, Option, Some, None, Result}
-use Rattle.iox2_store.specs.machine.Records.{Environment}
-use Rattle.iox2_store.specs.declared.backpressure.BackpressureAction.{BackpressureAction}
-use Rattle.iox2_store.specs.declared.backpressure.BackpressureInfo.{BackpressureInfo}
-use Rattle.iox2_store.specs.declared.degradation.DegradationAction.{DegradationAction}
-use Rattle.iox2_store.specs.declared.degradation.DegradationCause.{DegradationCause}
-use Rattle.iox2_store.specs.declared.degradation.DegradationInfo.{DegradationInfo}
-use Rattle.iox2_store.specs.declared.errors.ConnectionFailure.{ConnectionFailure}
-use Rattle.iox2_store.specs.declared.errors.ReceiveError.{ReceiveError}
+use Rattle.iox2_machine.specs.machine.Records.{Environment}
+use Rattle.iox2_machine.specs.declared.backpressure.BackpressureAction.{BackpressureAction}
+use Rattle.iox2_machine.specs.declared.backpressure.BackpressureInfo.{BackpressureInfo}
+use Rattle.iox2_machine.specs.declared.degradation.DegradationAction.{DegradationAction}
+use Rattle.iox2_machine.specs.declared.degradation.DegradationCause.{DegradationCause}
+use Rattle.iox2_machine.specs.declared.degradation.DegradationInfo.{DegradationInfo}
+use Rattle.iox2_machine.specs.declared.errors.ConnectionFailure.{ConnectionFailure}
+use Rattle.iox2_machine.specs.declared.errors.ReceiveError.{ReceiveError}
 use Rattle.iox2_domain.specs.Boxes.{DomainBoxes, answers_of}
 use Rattle.iox2_domain.specs.Connects.{UpdatesPublisher}
 use Rattle.iox2_domain.specs.Fields.{Fields, keeping}

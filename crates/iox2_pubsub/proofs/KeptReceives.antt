@@ -4,16 +4,16 @@ use mathlib.Core.Path.{fun_ext}
 use Rattle.std.specs.Prelude.{◌≢◌}
 use Rattle.std.proofs.lemmas.Bool.{true≢false, ne_eqb}
 use Rattle.std.proofs.lemmas.Option.{same_Some}
-use Rattle.iox2_store.specs.machine.Mailbox.{Mailbox}
-use Rattle.iox2_store.specs.machine.Numbers.{put_at}
-use Rattle.iox2_store.specs.machine.Receives.{Got_sample, No_sample, Receive_error, Receive}
-use Rattle.iox2_store.specs.machine.Records.{Entry, Environment, Loan, Subscriber as MachineSubscriber}
-use Rattle.iox2_store.specs.machine.State.{State, Messages, with_mailbox}
-use Rattle.iox2_store.specs.machine.SubscriberUpdate.{UpdateSubscriber}
-use Rattle.iox2_store.specs.machine.Waiting.{waiting_from, waiting_for}
-use Rattle.iox2_store.specs.machine.WellFormed.{IsWellFormed}
-use Rattle.iox2_store.specs.declared.errors.ConnectionFailure.{ConnectionFailure}
-use Rattle.iox2_store.specs.declared.errors.SendError.{SendError}
+use Rattle.iox2_machine.specs.machine.Mailbox.{Mailbox}
+use Rattle.iox2_machine.specs.machine.Numbers.{put_at}
+use Rattle.iox2_machine.specs.machine.Receives.{Got_sample, No_sample, Receive_error, Receive}
+use Rattle.iox2_machine.specs.machine.Records.{Entry, Environment, Loan, Subscriber as MachineSubscriber}
+use Rattle.iox2_machine.specs.machine.State.{State, Messages, with_mailbox}
+use Rattle.iox2_machine.specs.machine.SubscriberUpdate.{UpdateSubscriber}
+use Rattle.iox2_machine.specs.machine.Waiting.{waiting_from, waiting_for}
+use Rattle.iox2_machine.specs.machine.WellFormed.{IsWellFormed}
+use Rattle.iox2_machine.specs.declared.errors.ConnectionFailure.{ConnectionFailure}
+use Rattle.iox2_machine.specs.declared.errors.SendError.{SendError}
 use Rattle.iox2_domain.specs.Kept.{Kept}
 use Rattle.iox2_domain.specs.Shows.{Shows}
 use Rattle.iox2_laws.proofs.Cases.{by_option, by_bool}

@@ -1,10 +1,10 @@
 -- What is read of a loan that is out.
 use Rattle.std.proofs.Common.{◌≡◌, ℕ, List, Option, Some, map, true, false, subst, sym}
-use Rattle.iox2_store.specs.declared.header.Header.{Header}
-use Rattle.iox2_store.specs.declared.key.Key.{Key}
-use Rattle.iox2_store.specs.machine.State.{State, Messages}
-use Rattle.iox2_store.specs.SingleValues.{is_single_valued}
-use Rattle.iox2_store.specs.declared.service_config.TypeVariant.TheVariants.{FixedSize}
+use Rattle.iox2_machine.specs.declared.header.Header.{Header}
+use Rattle.iox2_machine.specs.declared.key.Key.{Key}
+use Rattle.iox2_machine.specs.machine.State.{State, Messages}
+use Rattle.iox2_machine.specs.SingleValues.{is_single_valued}
+use Rattle.iox2_machine.specs.declared.service_config.TypeVariant.TheVariants.{FixedSize}
 use Rattle.iox2_domain.specs.Boxes.{DomainBoxes}
 use Rattle.iox2_domain.specs.Fields.{Fields, kept_of, keeping}
 use Rattle.iox2_domain.specs.Invariant.{IsDomain}

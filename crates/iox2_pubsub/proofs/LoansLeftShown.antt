@@ -3,24 +3,24 @@ use Rattle.std.proofs.Common.{◌≡◌, ℕ, Bool, ◌+◌, ◌≤◌, ◌<◌,
 use Rattle.std.specs.Prelude.{◌≢◌, IfOk, OnErr}
 use Rattle.std.specs.declared.time.Duration.{Duration}
 use Rattle.std.proofs.lemmas.Bool.{cases_eq}
-use Rattle.iox2_store.specs.machine.Limits.{last_number, worst_case}
-use Rattle.iox2_store.specs.machine.Loans.{loan_discarded}
-use Rattle.iox2_store.specs.machine.LoansLeft.{CanLend}
-use Rattle.iox2_store.specs.machine.Ports.{CreatePublisher, CreateSubscriber, slots_for, publisher_closed, subscriber_closed}
-use Rattle.iox2_store.specs.machine.PublisherUpdate.{UpdatePublisher}
-use Rattle.iox2_store.specs.machine.Receives.{ReceiveResult, Receive}
-use Rattle.iox2_store.specs.machine.Records.{Environment, Loan, BlockedSend, Publisher as MachinePublisher, Subscriber as MachineSubscriber, PublisherSettings, SubscriberSettings}
-use Rattle.iox2_store.specs.machine.Releases.{released}
-use Rattle.iox2_store.specs.machine.Sends.{SendToConnection, SendResult, Blocked_send, Delivered_to, Send_error, Send, Retry, GiveUp}
+use Rattle.iox2_machine.specs.machine.Limits.{last_number, worst_case}
+use Rattle.iox2_machine.specs.machine.Loans.{loan_discarded}
+use Rattle.iox2_machine.specs.machine.LoansLeft.{CanLend}
+use Rattle.iox2_machine.specs.machine.Ports.{CreatePublisher, CreateSubscriber, slots_for, publisher_closed, subscriber_closed}
+use Rattle.iox2_machine.specs.machine.PublisherUpdate.{UpdatePublisher}
+use Rattle.iox2_machine.specs.machine.Receives.{ReceiveResult, Receive}
+use Rattle.iox2_machine.specs.machine.Records.{Environment, Loan, BlockedSend, Publisher as MachinePublisher, Subscriber as MachineSubscriber, PublisherSettings, SubscriberSettings}
+use Rattle.iox2_machine.specs.machine.Releases.{released}
+use Rattle.iox2_machine.specs.machine.Sends.{SendToConnection, SendResult, Blocked_send, Delivered_to, Send_error, Send, Retry, GiveUp}
 use Rattle.iox2_laws.proofs.ConnectionSendsLeave.{send_to_connection_blocked_kept, send_to_connection_ends}
-use Rattle.iox2_store.specs.machine.State.{State, Messages, with_loan, fresh, no_messages}
-use Rattle.iox2_store.specs.machine.SubscriberUpdate.{UpdateSubscriber}
-use Rattle.iox2_store.specs.declared.errors.ConnectionFailure.{ConnectionFailure}
-use Rattle.iox2_store.specs.declared.errors.LoanError.{LoanError}
-use Rattle.iox2_store.specs.declared.errors.SendError.{SendError}
-use Rattle.iox2_store.specs.declared.errors.PublisherCreateError.{PublisherCreateError}
-use Rattle.iox2_store.specs.declared.errors.SubscriberCreateError.{SubscriberCreateError}
-use Rattle.iox2_store.specs.declared.service_config.ServiceConfig.{ServiceConfig}
+use Rattle.iox2_machine.specs.machine.State.{State, Messages, with_loan, fresh, no_messages}
+use Rattle.iox2_machine.specs.machine.SubscriberUpdate.{UpdateSubscriber}
+use Rattle.iox2_machine.specs.declared.errors.ConnectionFailure.{ConnectionFailure}
+use Rattle.iox2_machine.specs.declared.errors.LoanError.{LoanError}
+use Rattle.iox2_machine.specs.declared.errors.SendError.{SendError}
+use Rattle.iox2_machine.specs.declared.errors.PublisherCreateError.{PublisherCreateError}
+use Rattle.iox2_machine.specs.declared.errors.SubscriberCreateError.{SubscriberCreateError}
+use Rattle.iox2_machine.specs.declared.service_config.ServiceConfig.{ServiceConfig}
 use Rattle.iox2_laws.proofs.PortsClose.{publisher_closed_others}
 use Rattle.iox2_laws.proofs.LoansLeft.{KeepsTerms, values_kept, LoansKept, LoanTaken, LoanEnds, set_kept, update_publisher_kept, update_subscriber_kept, receive_kept, released_kept, subscriber_closed_kept, create_publisher_kept, created_grows, created_lends, created_longest, create_subscriber_kept, kept_itself, kept_lends, closed_lends, loan_taken, discarded_ends, send_ends, send_blocked_kept, retry_ends, retry_blocked_kept, give_up_ends, give_up_blocked_kept, ended_lends, waited_lends, others_lend, lends_fewer}
 use Rattle.iox2_domain.specs.Kept.{Kept, state_of}

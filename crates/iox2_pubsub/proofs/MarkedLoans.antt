@@ -7,10 +7,10 @@ use Rattle.slab.specs.Slab.{get}
 use Rattle.iox2_slots.specs.SlotBook.{Book}
 use Rattle.iox2_slots.specs.declared.slots.mark.SlotMark.{SlotMark}
 use Rattle.iox2_slots.specs.declared.slots.mark.SlotMark.TheVariants.{Unwritten, Written, Sent}
-use Rattle.iox2_store.specs.machine.Records.{Loan}
-use Rattle.iox2_store.specs.machine.SingleCalls.{HoldsLoan}
-use Rattle.iox2_store.specs.machine.State.{State}
-use Rattle.iox2_store.specs.declared.key.Key.{Key}
+use Rattle.iox2_machine.specs.machine.Records.{Loan}
+use Rattle.iox2_machine.specs.machine.SingleCalls.{HoldsLoan}
+use Rattle.iox2_machine.specs.machine.State.{State}
+use Rattle.iox2_machine.specs.declared.key.Key.{Key}
 use Rattle.iox2_domain.specs.Kept.{Kept, KeptMessage, Lent_message, Sent_message, state_of}
 use Rattle.iox2_domain.specs.Fields.{Fields, kept_of, contents_at, message_of}
 use Rattle.iox2_domain.specs.LoanSlots.{LiesInSlot}

@@ -1,9 +1,9 @@
 -- What closes no channel: a reset, and each step that leaves channels alone.
 use Rattle.std.proofs.Common.{◌≡◌, ℕ, Bool, true, false, cond, refl, ap, subst, ◌∙◌, inl, inr}
 use Rattle.std.proofs.lemmas.Bool.{cases_eq, ne_eqb}
-use Rattle.iox2_store.specs.machine.Channel.{Channel, is_closed, new_channels}
-use Rattle.iox2_store.specs.machine.Numbers.{put_at}
-use Rattle.iox2_store.specs.machine.State.{State, is_linked, channels_if_linked, sender_channels_reset, receiver_channels_reset}
+use Rattle.iox2_machine.specs.machine.Channel.{Channel, is_closed, new_channels}
+use Rattle.iox2_machine.specs.machine.Numbers.{put_at}
+use Rattle.iox2_machine.specs.machine.State.{State, is_linked, channels_if_linked, sender_channels_reset, receiver_channels_reset}
 use Rattle.iox2_laws.proofs.Puts.{put_at-same, put_at-other}
 use Rattle.iox2_pubsub.specs.ConnectedPorts.{Connects}
 

@@ -1,13 +1,13 @@
 -- A publisher that waits for no full receiver, by its strategy or its handler, has no send that is blocked.
 use Rattle.std.proofs.Common.{◌≡◌, ℕ, ◌+◌, ◌||◌, Bool, true, false, List, [], ◌∷◌, sym, ap, ◌∙◌, Option, None, Some}
 use Rattle.std.specs.declared.time.Duration.{Duration}
-use Rattle.iox2_store.specs.machine.Mailbox.{Mailbox, has_room_in}
-use Rattle.iox2_store.specs.machine.Records.{BlockedSend, Environment, Handler, Fixed, Custom}
-use Rattle.iox2_store.specs.machine.Delivery.{DeliverIn, DeliveryEnd, Complete, Suspended, Decides, PutResult, PutIn, PutAtEndIn, accepted_count, is_blocking, is_failed, no_time}
-use Rattle.iox2_store.specs.declared.backpressure.BackpressureAction.{BackpressureAction}
-use Rattle.iox2_store.specs.declared.backpressure.BackpressureInfo.{BackpressureInfo}
-use Rattle.iox2_store.specs.declared.backpressure.BackpressureStrategy.{BackpressureStrategy}
-use Rattle.iox2_store.specs.declared.service_config.ServiceConfig.{ServiceConfig}
+use Rattle.iox2_machine.specs.machine.Mailbox.{Mailbox, has_room_in}
+use Rattle.iox2_machine.specs.machine.Records.{BlockedSend, Environment, Handler, Fixed, Custom}
+use Rattle.iox2_machine.specs.machine.Delivery.{DeliverIn, DeliveryEnd, Complete, Suspended, Decides, PutResult, PutIn, PutAtEndIn, accepted_count, is_blocking, is_failed, no_time}
+use Rattle.iox2_machine.specs.declared.backpressure.BackpressureAction.{BackpressureAction}
+use Rattle.iox2_machine.specs.declared.backpressure.BackpressureInfo.{BackpressureInfo}
+use Rattle.iox2_machine.specs.declared.backpressure.BackpressureStrategy.{BackpressureStrategy}
+use Rattle.iox2_machine.specs.declared.service_config.ServiceConfig.{ServiceConfig}
 use Rattle.iox2_laws.proofs.Cases.{by_bool}
 use Rattle.iox2_pubsub.specs.Handlers.{may_wait}
 

@@ -2,12 +2,12 @@
 use Rattle.std.proofs.Common.{◌≡◌, ℕ, zero, suc, ◌+◌, ◌<◌, ◌≤◌, true, false, Option, subst, List, [], ◌∷◌, ◌++◌, map, length, refl, sym, ap, ◌∙◌, arith, inl, inr}
 use Rattle.std.specs.List.{AllByRecursion}
 use Rattle.std.specs.Option.{option_map_or}
-use Rattle.iox2_store.specs.machine.Records.{Entry}
+use Rattle.iox2_machine.specs.machine.Records.{Entry}
 use Rattle.std.proofs.lemmas.Bool.{cases_eq}
 use Rattle.std.proofs.lemmas.List.{append-nil, length-append, length-map}
-use Rattle.iox2_store.specs.machine.Numbers.{contains}
-use Rattle.iox2_store.specs.machine.State.{State, Messages}
-use Rattle.iox2_store.specs.machine.Waiting.{sum_below, waiting_from, waiting_for}
+use Rattle.iox2_machine.specs.machine.Numbers.{contains}
+use Rattle.iox2_machine.specs.machine.State.{State, Messages}
+use Rattle.iox2_machine.specs.machine.Waiting.{sum_below, waiting_from, waiting_for}
 use Rattle.iox2_laws.proofs.NumberLemmas.{contains_first, contains_later, contains_in_cons}
 use Rattle.iox2_laws.proofs.WaitingCounts.{sum_same, sum_part}
 use Rattle.iox2_pubsub.specs.Payloads.{all_below, payload_of, payloads_for}

@@ -1,11 +1,11 @@
 -- What the creation of a publisher makes and leaves.
 use Rattle.std.proofs.Common.{◌≡◌, ◌≤◌, ℕ, List, Option, None, Some, false, true, get_or, ap, sym, subst, ◌∙◌}
 use Rattle.std.specs.Prelude.{◌≢◌}
-use Rattle.iox2_store.specs.machine.Limits.{worst_case}
-use Rattle.iox2_store.specs.machine.Ports.{CreatePublisher, slots_for}
-use Rattle.iox2_store.specs.machine.Records.{Environment, PublisherSettings}
-use Rattle.iox2_store.specs.machine.State.{State, Messages}
-use Rattle.iox2_store.specs.declared.errors.PublisherCreateError.{PublisherCreateError}
+use Rattle.iox2_machine.specs.machine.Limits.{worst_case}
+use Rattle.iox2_machine.specs.machine.Ports.{CreatePublisher, slots_for}
+use Rattle.iox2_machine.specs.machine.Records.{Environment, PublisherSettings}
+use Rattle.iox2_machine.specs.machine.State.{State, Messages}
+use Rattle.iox2_machine.specs.declared.errors.PublisherCreateError.{PublisherCreateError}
 use Rattle.iox2_domain.specs.Boxes.{DomainBoxes, boxes_of}
 use Rattle.iox2_domain.specs.Fields.{Fields, kept_of, keeping}
 use Rattle.iox2_domain.specs.Handlers.{may_fail, may_fail_update}

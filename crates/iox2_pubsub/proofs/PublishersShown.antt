@@ -3,12 +3,12 @@ use Rattle.std.proofs.Common.{◌≡◌, ◌<◌, get_or, true, false, inl, inr,
 use Rattle.std.proofs.lemmas.Option.{same_Some}
 use Rattle.std.specs.declared.option.Option.{Option}
 use Rattle.std.specs.declared.option.Option.TheVariants.{None, Some}
-use Rattle.iox2_store.specs.machine.Ports.{CreatePublisher}
-use Rattle.iox2_store.specs.machine.Records.{Environment, Publisher as Record, PublisherSettings}
-use Rattle.iox2_store.specs.machine.SingleCalls.{HoldsPublisher}
-use Rattle.iox2_store.specs.machine.State.{State, Messages}
-use Rattle.iox2_store.specs.declared.errors.PublisherCreateError.{PublisherCreateError}
-use Rattle.iox2_store.specs.declared.service_config.ServiceConfig.{ServiceConfig}
+use Rattle.iox2_machine.specs.machine.Ports.{CreatePublisher}
+use Rattle.iox2_machine.specs.machine.Records.{Environment, Publisher as Record, PublisherSettings}
+use Rattle.iox2_machine.specs.machine.SingleCalls.{HoldsPublisher}
+use Rattle.iox2_machine.specs.machine.State.{State, Messages}
+use Rattle.iox2_machine.specs.declared.errors.PublisherCreateError.{PublisherCreateError}
+use Rattle.iox2_machine.specs.declared.service_config.ServiceConfig.{ServiceConfig}
 use Rattle.iox2_laws.proofs.SendsRemain.{created_as}
 use Rattle.iox2_domain.specs.Handlers.{may_fail, may_fail_update}
 use Rattle.iox2_domain.specs.Kept.{Kept, state_of}

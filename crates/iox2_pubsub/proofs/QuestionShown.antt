@@ -1,9 +1,9 @@
 -- Asking for samples, seen from outside.
 use Rattle.std.proofs.Common.{◌≡◌, ℕ, Bool, get_or, subst, Option, Some, None, Result, Ok, Err}
-use Rattle.iox2_store.specs.machine.Records.{Environment}
-use Rattle.iox2_store.specs.machine.Receives.{HasSamples}
-use Rattle.iox2_store.specs.machine.State.{State, Messages}
-use Rattle.iox2_store.specs.declared.errors.ConnectionFailure.{ConnectionFailure}
+use Rattle.iox2_machine.specs.machine.Records.{Environment}
+use Rattle.iox2_machine.specs.machine.Receives.{HasSamples}
+use Rattle.iox2_machine.specs.machine.State.{State, Messages}
+use Rattle.iox2_machine.specs.declared.errors.ConnectionFailure.{ConnectionFailure}
 use Rattle.iox2_laws.proofs.LoanKeeping.{has_samples_loans}
 use Rattle.iox2_laws.proofs.ReceiveLaws.{has_samples_advances}
 use Rattle.iox2_domain.specs.Boxes.{DomainBoxes}

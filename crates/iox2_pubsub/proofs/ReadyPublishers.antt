@@ -1,9 +1,9 @@
 -- A publisher that is ready, and what its close leaves.
 use Rattle.std.proofs.Common.{◌≡◌, ◌≤◌, ℕ, suc, false, get_or, None, Some, refl, ap, sym, subst, ◌∙◌}
 use Rattle.std.specs.Prelude.{◌≢◌}
-use Rattle.iox2_store.specs.machine.Ports.{publisher_closed}
-use Rattle.iox2_store.specs.machine.Records.{Publisher as Record}
-use Rattle.iox2_store.specs.machine.State.{State, Messages, is_blocked}
+use Rattle.iox2_machine.specs.machine.Ports.{publisher_closed}
+use Rattle.iox2_machine.specs.machine.Records.{Publisher as Record}
+use Rattle.iox2_machine.specs.machine.State.{State, Messages, is_blocked}
 use Rattle.iox2_domain.specs.Boxes.{DomainBoxes}
 use Rattle.iox2_domain.specs.Fields.{Fields, keeping}
 use Rattle.iox2_domain.specs.Invariant.{IsDomain}

@@ -1,8 +1,8 @@
 -- A release, seen from outside.
 use Rattle.std.proofs.Common.{◌≡◌, ℕ, Bool, true, false, cond, refl, sym, subst}
-use Rattle.iox2_store.specs.machine.Mailbox.{is_borrowed}
-use Rattle.iox2_store.specs.machine.Releases.{is_unused, place_freed, unborrowed, subscriber_pruned, released}
-use Rattle.iox2_store.specs.machine.State.{State, Messages}
+use Rattle.iox2_machine.specs.machine.Mailbox.{is_borrowed}
+use Rattle.iox2_machine.specs.machine.Releases.{is_unused, place_freed, unborrowed, subscriber_pruned, released}
+use Rattle.iox2_machine.specs.machine.State.{State, Messages}
 use Rattle.iox2_domain.specs.Kept.{Kept, state_of}
 use Rattle.iox2_domain.specs.Boxes.{DomainBoxes}
 use Rattle.iox2_domain.specs.Fields.{Fields, kept_of, keeping}

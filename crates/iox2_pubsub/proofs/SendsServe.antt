@@ -2,17 +2,17 @@
 use Rattle.std.proofs.Common.{◌≡◌, ℕ, Bool, false, cond, ◌||◌, [], ◌∷◌, ◌++◌, refl, sym, ap, subst, ◌∙◌, Option, None, Some}
 use Rattle.std.specs.Option.{option_map}
 use Rattle.std.proofs.lemmas.Option.{same_Some}
-use Rattle.iox2_store.specs.machine.Channel.{Channel, is_closed}
-use Rattle.iox2_store.specs.machine.Numbers.{last_n, without}
-use Rattle.iox2_store.specs.machine.Mailbox.{Mailbox, has_room, with_appended}
-use Rattle.iox2_store.specs.machine.Records.{Publisher, Subscriber, Loan, Environment}
-use Rattle.iox2_store.specs.machine.State.{State, channel_buffer, receiving_buffer, is_blocked, publisher_changed, with_loan}
-use Rattle.iox2_store.specs.machine.Delivery.{DeliveryEnd, Complete, Suspended, Deliver, no_time}
-use Rattle.iox2_store.specs.machine.PublisherUpdate.{UpdatePublisher}
-use Rattle.iox2_store.specs.machine.Sends.{SendResult, Delivered_to, Blocked_send, Send_error, Send, Publish, ConcludeSend, published, with_mailboxes}
-use Rattle.iox2_store.specs.machine.Waiting.{waiting_from}
-use Rattle.iox2_store.specs.machine.WellFormed.{LeadsTo, IsWellFormed}
-use Rattle.iox2_store.specs.declared.errors.ConnectionFailure.{ConnectionFailure}
+use Rattle.iox2_machine.specs.machine.Channel.{Channel, is_closed}
+use Rattle.iox2_machine.specs.machine.Numbers.{last_n, without}
+use Rattle.iox2_machine.specs.machine.Mailbox.{Mailbox, has_room, with_appended}
+use Rattle.iox2_machine.specs.machine.Records.{Publisher, Subscriber, Loan, Environment}
+use Rattle.iox2_machine.specs.machine.State.{State, channel_buffer, receiving_buffer, is_blocked, publisher_changed, with_loan}
+use Rattle.iox2_machine.specs.machine.Delivery.{DeliveryEnd, Complete, Suspended, Deliver, no_time}
+use Rattle.iox2_machine.specs.machine.PublisherUpdate.{UpdatePublisher}
+use Rattle.iox2_machine.specs.machine.Sends.{SendResult, Delivered_to, Blocked_send, Send_error, Send, Publish, ConcludeSend, published, with_mailboxes}
+use Rattle.iox2_machine.specs.machine.Waiting.{waiting_from}
+use Rattle.iox2_machine.specs.machine.WellFormed.{LeadsTo, IsWellFormed}
+use Rattle.iox2_machine.specs.declared.errors.ConnectionFailure.{ConnectionFailure}
 use Rattle.iox2_laws.proofs.Cases.{by_option, by_bool}
 use Rattle.iox2_laws.proofs.PlaceLemmas.{contains-occupants, IsOnce-occupants}
 use Rattle.iox2_laws.proofs.PublisherUpdates.{update_publisher_keeps}

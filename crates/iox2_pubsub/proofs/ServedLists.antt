@@ -3,12 +3,12 @@ use Rattle.std.proofs.Common.{◌≡◌, ℕ, suc, ◌+◌, ◌<◌, ◌≤◌, 
 use Rattle.std.specs.Bool.{MatchBool}
 use Rattle.std.proofs.lemmas.Bool.{ltb-false}
 use Rattle.std.proofs.lemmas.List.{length-append}
-use Rattle.iox2_store.specs.machine.Mailbox.{Mailbox, has_room, with_appended}
-use Rattle.iox2_store.specs.machine.Records.{Loan, Environment}
-use Rattle.iox2_store.specs.machine.Sends.{Delivered_to, Send}
-use Rattle.iox2_store.specs.machine.State.{State, is_blocked}
-use Rattle.iox2_store.specs.machine.Waiting.{waiting_from, waiting_for}
-use Rattle.iox2_store.specs.machine.WellFormed.{IsWellFormed}
+use Rattle.iox2_machine.specs.machine.Mailbox.{Mailbox, has_room, with_appended}
+use Rattle.iox2_machine.specs.machine.Records.{Loan, Environment}
+use Rattle.iox2_machine.specs.machine.Sends.{Delivered_to, Send}
+use Rattle.iox2_machine.specs.machine.State.{State, is_blocked}
+use Rattle.iox2_machine.specs.machine.Waiting.{waiting_from, waiting_for}
+use Rattle.iox2_machine.specs.machine.WellFormed.{IsWellFormed}
 use Rattle.iox2_pubsub.specs.ConnectedPorts.{Connects}
 use Rattle.iox2_pubsub.proofs.SendsServe.{connected-waits, send-serves, send-connections}
 use Rattle.iox2_pubsub.proofs.ConnectedCounts.{send-one-more, send-as-many}

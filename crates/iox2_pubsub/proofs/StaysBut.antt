@@ -2,17 +2,17 @@
 use Rattle.std.proofs.Common.{◌⊎◌, inl, inr, ◌≡◌, ◌≢◌, refl, ℕ, ◌<◌, arith, Bool, true, false, List, sym, ap, subst, ◌∙◌, Option, None, Some}
 use Rattle.std.proofs.lemmas.Bool.{cases_eq}
 use Rattle.std.specs.Option.{option_and_then}
-use Rattle.iox2_store.specs.SingleValues.{is_single_valued}
-use Rattle.iox2_store.specs.machine.Mailbox.{is_borrowed}
-use Rattle.iox2_store.specs.machine.Records.{Entry, Loan, Publisher, Subscriber}
-use Rattle.iox2_store.specs.machine.State.{State, Messages}
-use Rattle.iox2_store.specs.machine.WellFormed.{IsWellFormed}
-use Rattle.iox2_store.specs.declared.header.Header.{Header}
-use Rattle.iox2_store.specs.declared.key.Key.{Key}
-use Rattle.iox2_store.specs.declared.service_config.ServiceConfig.{ServiceConfig}
+use Rattle.iox2_machine.specs.SingleValues.{is_single_valued}
+use Rattle.iox2_machine.specs.machine.Mailbox.{is_borrowed}
+use Rattle.iox2_machine.specs.machine.Records.{Entry, Loan, Publisher, Subscriber}
+use Rattle.iox2_machine.specs.machine.State.{State, Messages}
+use Rattle.iox2_machine.specs.machine.WellFormed.{IsWellFormed}
+use Rattle.iox2_machine.specs.declared.header.Header.{Header}
+use Rattle.iox2_machine.specs.declared.key.Key.{Key}
+use Rattle.iox2_machine.specs.declared.service_config.ServiceConfig.{ServiceConfig}
 use Rattle.iox2_laws.proofs.PortsStay.{Remain}
 use Rattle.iox2_laws.proofs.Waits.{Waits}
-use Rattle.iox2_store.specs.Stored.{In_mailbox}
+use Rattle.iox2_machine.specs.Stored.{In_mailbox}
 use Rattle.iox2_domain.specs.Boxes.{DomainBoxes, box_of, boxes_of, degradation_box_of}
 use Rattle.iox2_domain.specs.declared.boxes.PortBox.{PortBox}
 use Rattle.iox2_domain.specs.declared.boxes.PortBoxes.{PortBoxes}

@@ -4,18 +4,18 @@ use Rattle.std.specs.Prelude.{MatchOption}
 use Rattle.std.specs.Bool.{MatchBool}
 use Rattle.std.specs.declared.option.Option.{Option}
 use Rattle.std.specs.declared.option.Option.TheVariants.{None, Some}
-use Rattle.iox2_store.specs.machine.Connections.{ForEachPlace, DegradationAnswers, failure_of, first_failure}
-use Rattle.iox2_store.specs.machine.Places.{occupant}
-use Rattle.iox2_store.specs.machine.PublisherUpdate.{SenderAction, Keep_end, Drop_waiting, Disconnect, Connect, SenderSide, Performs, UpdatePublisher, UpdateSenderPlace, history_for, sender_action, sender_side, with_sender_side}
-use Rattle.iox2_store.specs.machine.Records.{Environment, Fixed, Custom, Handler, Loan, Publisher}
-use Rattle.iox2_store.specs.machine.Delivery.{DeliveryEnd, Complete, Suspended}
-use Rattle.iox2_store.specs.machine.Sends.{ConcludeSend, Send, SendResult, Blocked_send, Delivered_to, Send_error, published, with_mailboxes}
-use Rattle.iox2_store.specs.machine.State.{State, receiving_buffer, has_receiver_end, sender_channels_reset}
-use Rattle.iox2_store.specs.declared.degradation.DegradationAction.{DegradationAction}
-use Rattle.iox2_store.specs.declared.degradation.DegradationAction.TheVariants.{Ignore, Warn, DegradeAndFail}
-use Rattle.iox2_store.specs.declared.degradation.DegradationInfo.{DegradationInfo}
-use Rattle.iox2_store.specs.declared.errors.ConnectionFailure.{ConnectionFailure}
-use Rattle.iox2_store.specs.declared.errors.SendError.TheVariants.{ConnectionBrokenSinceSenderNoLongerExists, ConnectionError, UnableToDeliver}
+use Rattle.iox2_machine.specs.machine.Connections.{ForEachPlace, DegradationAnswers, failure_of, first_failure}
+use Rattle.iox2_machine.specs.machine.Places.{occupant}
+use Rattle.iox2_machine.specs.machine.PublisherUpdate.{SenderAction, Keep_end, Drop_waiting, Disconnect, Connect, SenderSide, Performs, UpdatePublisher, UpdateSenderPlace, history_for, sender_action, sender_side, with_sender_side}
+use Rattle.iox2_machine.specs.machine.Records.{Environment, Fixed, Custom, Handler, Loan, Publisher}
+use Rattle.iox2_machine.specs.machine.Delivery.{DeliveryEnd, Complete, Suspended}
+use Rattle.iox2_machine.specs.machine.Sends.{ConcludeSend, Send, SendResult, Blocked_send, Delivered_to, Send_error, published, with_mailboxes}
+use Rattle.iox2_machine.specs.machine.State.{State, receiving_buffer, has_receiver_end, sender_channels_reset}
+use Rattle.iox2_machine.specs.declared.degradation.DegradationAction.{DegradationAction}
+use Rattle.iox2_machine.specs.declared.degradation.DegradationAction.TheVariants.{Ignore, Warn, DegradeAndFail}
+use Rattle.iox2_machine.specs.declared.degradation.DegradationInfo.{DegradationInfo}
+use Rattle.iox2_machine.specs.declared.errors.ConnectionFailure.{ConnectionFailure}
+use Rattle.iox2_machine.specs.declared.errors.SendError.TheVariants.{ConnectionBrokenSinceSenderNoLongerExists, ConnectionError, UnableToDeliver}
 use Rattle.iox2_laws.proofs.Cases.{by_option}
 use Rattle.iox2_domain.specs.Handlers.{fails_update, may_fail_update}
 

@@ -5,19 +5,19 @@ use Rattle.std.specs.Prelude.{◌≢◌, nat_lt}
 use Rattle.std.specs.Option.{option_map}
 use Rattle.std.proofs.lemmas.Bool.{true≢false, ne_eqb, eqb-true, eq-eqb}
 use Rattle.std.proofs.lemmas.Option.{none-some, same_Some}
-use Rattle.iox2_store.specs.machine.Channel.{Channel, is_closed}
-use Rattle.iox2_store.specs.machine.Limits.{refusal_limit, expired_limit}
-use Rattle.iox2_store.specs.machine.Numbers.{contains}
-use Rattle.iox2_store.specs.machine.Places.{occupant, occupants}
-use Rattle.iox2_store.specs.machine.Records.{Publisher, Subscriber, Handler, Environment, SubscriberSettings}
-use Rattle.iox2_store.specs.machine.State.{State, Warnings, has_sender_end, with_warning, receiver_channels_reset}
-use Rattle.iox2_store.specs.machine.Ports.{FirstSubscriberUpdate, CreateSubscriber, with_new_subscriber, with_buffer_warning, new_subscriber, with_failure_warning}
-use Rattle.iox2_store.specs.machine.PublisherUpdate.{UpdatePublisher, with_sender_side}
-use Rattle.iox2_store.specs.machine.SubscriberUpdate.{ReceiverSide, Retirement, Keep_expired, Evict, Discard_data, Refuse, retirement_of, is_refused, after_retirement, with_end, ConnectReceiver, Retire, ConnectAtPlace, DisconnectAtPlace, UpdateReceiverSide, receiver_side, with_receiver_side}
-use Rattle.iox2_store.specs.machine.WellFormed.{IsWellFormed}
-use Rattle.iox2_store.specs.declared.degradation.DegradationAction.{DegradationAction}
-use Rattle.iox2_store.specs.declared.errors.ConnectionFailure.{ConnectionFailure}
-use Rattle.iox2_store.specs.declared.warning.Warning.TheVariants.{ExpiredBufferRaised, SubscriberPartlyConnected}
+use Rattle.iox2_machine.specs.machine.Channel.{Channel, is_closed}
+use Rattle.iox2_machine.specs.machine.Limits.{refusal_limit, expired_limit}
+use Rattle.iox2_machine.specs.machine.Numbers.{contains}
+use Rattle.iox2_machine.specs.machine.Places.{occupant, occupants}
+use Rattle.iox2_machine.specs.machine.Records.{Publisher, Subscriber, Handler, Environment, SubscriberSettings}
+use Rattle.iox2_machine.specs.machine.State.{State, Warnings, has_sender_end, with_warning, receiver_channels_reset}
+use Rattle.iox2_machine.specs.machine.Ports.{FirstSubscriberUpdate, CreateSubscriber, with_new_subscriber, with_buffer_warning, new_subscriber, with_failure_warning}
+use Rattle.iox2_machine.specs.machine.PublisherUpdate.{UpdatePublisher, with_sender_side}
+use Rattle.iox2_machine.specs.machine.SubscriberUpdate.{ReceiverSide, Retirement, Keep_expired, Evict, Discard_data, Refuse, retirement_of, is_refused, after_retirement, with_end, ConnectReceiver, Retire, ConnectAtPlace, DisconnectAtPlace, UpdateReceiverSide, receiver_side, with_receiver_side}
+use Rattle.iox2_machine.specs.machine.WellFormed.{IsWellFormed}
+use Rattle.iox2_machine.specs.declared.degradation.DegradationAction.{DegradationAction}
+use Rattle.iox2_machine.specs.declared.errors.ConnectionFailure.{ConnectionFailure}
+use Rattle.iox2_machine.specs.declared.warning.Warning.TheVariants.{ExpiredBufferRaised, SubscriberPartlyConnected}
 use Rattle.iox2_laws.proofs.Cases.{by_option, by_bool}
 use Rattle.iox2_laws.proofs.CallCases.{subscriber_cases}
 use Rattle.iox2_laws.proofs.NumberLemmas.{contains_right}

@@ -2,10 +2,10 @@
 use Rattle.std.proofs.Common.{◌≡◌, ℕ, get_or, refl, ap, sym, subst, ◌∙◌}
 use Rattle.std.specs.declared.option.Option.TheVariants.{None, Some}
 use Rattle.std.proofs.lemmas.Option.{same_Some}
-use Rattle.iox2_store.specs.machine.Ports.{buffer_for, CreateSubscriber}
-use Rattle.iox2_store.specs.machine.Records.{SubscriberSettings, Environment, Subscriber as MachineSubscriber}
-use Rattle.iox2_store.specs.machine.State.{State, Messages}
-use Rattle.iox2_store.specs.declared.errors.SubscriberCreateError.{SubscriberCreateError}
+use Rattle.iox2_machine.specs.machine.Ports.{buffer_for, CreateSubscriber}
+use Rattle.iox2_machine.specs.machine.Records.{SubscriberSettings, Environment, Subscriber as MachineSubscriber}
+use Rattle.iox2_machine.specs.machine.State.{State, Messages}
+use Rattle.iox2_machine.specs.declared.errors.SubscriberCreateError.{SubscriberCreateError}
 use Rattle.iox2_domain.specs.Kept.{Kept, state_of}
 use Rattle.iox2_domain.specs.Boxes.{DomainBoxes}
 use Rattle.iox2_domain.specs.Fields.{Fields, kept_of, keeping}

@@ -3,16 +3,16 @@ use Rattle.std.proofs.Common.{◌≡◌, ◌⊎◌, inl, inr, ℕ, ◌<◌, ◌+
 use Rattle.std.proofs.lemmas.Option.{same_Some}
 use Rattle.std.specs.Option.{option_map}
 use Rattle.std.specs.declared.time.Duration.{Duration}
-use Rattle.iox2_store.specs.machine.Mailbox.{Mailbox, has_room_in}
-use Rattle.iox2_store.specs.machine.Numbers.{without}
-use Rattle.iox2_store.specs.machine.Records.{BlockedSend, Environment, Handler, Loan, Publisher}
-use Rattle.iox2_store.specs.machine.State.{State, channel_buffer}
-use Rattle.iox2_store.specs.machine.Delivery.{DeliverIn, DeliveryEnd, Complete, Suspended, PutResult, PutIn, PutAtEndIn, accepted_count, is_blocking, is_failed, no_time}
-use Rattle.iox2_store.specs.machine.Sends.{Send, Retry, GiveUp, SendResult, Delivered_to, Blocked_send, Send_error, ConcludeSend, DeliverAndConclude, more_retries, with_mailboxes, published}
-use Rattle.iox2_store.specs.declared.backpressure.BackpressureAction.{BackpressureAction}
-use Rattle.iox2_store.specs.declared.backpressure.BackpressureStrategy.{BackpressureStrategy}
-use Rattle.iox2_store.specs.declared.errors.SendError.TheVariants.{ConnectionBrokenSinceSenderNoLongerExists, ConnectionError, UnableToDeliver}
-use Rattle.iox2_store.specs.declared.service_config.ServiceConfig.{ServiceConfig}
+use Rattle.iox2_machine.specs.machine.Mailbox.{Mailbox, has_room_in}
+use Rattle.iox2_machine.specs.machine.Numbers.{without}
+use Rattle.iox2_machine.specs.machine.Records.{BlockedSend, Environment, Handler, Loan, Publisher}
+use Rattle.iox2_machine.specs.machine.State.{State, channel_buffer}
+use Rattle.iox2_machine.specs.machine.Delivery.{DeliverIn, DeliveryEnd, Complete, Suspended, PutResult, PutIn, PutAtEndIn, accepted_count, is_blocking, is_failed, no_time}
+use Rattle.iox2_machine.specs.machine.Sends.{Send, Retry, GiveUp, SendResult, Delivered_to, Blocked_send, Send_error, ConcludeSend, DeliverAndConclude, more_retries, with_mailboxes, published}
+use Rattle.iox2_machine.specs.declared.backpressure.BackpressureAction.{BackpressureAction}
+use Rattle.iox2_machine.specs.declared.backpressure.BackpressureStrategy.{BackpressureStrategy}
+use Rattle.iox2_machine.specs.declared.errors.SendError.TheVariants.{ConnectionBrokenSinceSenderNoLongerExists, ConnectionError, UnableToDeliver}
+use Rattle.iox2_machine.specs.declared.service_config.ServiceConfig.{ServiceConfig}
 use Rattle.iox2_laws.proofs.Cases.{by_option, by_bool}
 use Rattle.iox2_laws.proofs.PortsStay.{update_publisher_stays}
 use Rattle.iox2_laws.proofs.Puts.{put_at-same}

@@ -2,19 +2,19 @@
 use Rattle.std.proofs.Common.{◌≡◌, ℕ, refl, sym, ap, subst, Bool, Option, None, Result, Ok, Err}
 use Rattle.std.specs.Prelude.{OnOk}
 use Rattle.std.specs.declared.time.Duration.{Duration}
-use Rattle.iox2_store.specs.machine.Loans.{loan_discarded}
-use Rattle.iox2_store.specs.machine.Ports.{CreateSubscriber}
-use Rattle.iox2_store.specs.machine.PublisherUpdate.{UpdatePublisher}
-use Rattle.iox2_store.specs.machine.Receives.{ReceiveResult, Receive_error, Receive}
-use Rattle.iox2_store.specs.machine.Records.{Environment, Loan, BlockedSend, SubscriberSettings}
-use Rattle.iox2_store.specs.machine.Releases.{released}
-use Rattle.iox2_store.specs.machine.Sends.{SendResult, Send, Retry, GiveUp}
-use Rattle.iox2_store.specs.machine.State.{State, Messages, with_loan}
-use Rattle.iox2_store.specs.machine.SubscriberUpdate.{UpdateSubscriber}
-use Rattle.iox2_store.specs.declared.errors.ConnectionFailure.{ConnectionFailure}
-use Rattle.iox2_store.specs.declared.errors.LoanError.{LoanError}
-use Rattle.iox2_store.specs.declared.errors.ReceiveError.{ReceiveError}
-use Rattle.iox2_store.specs.declared.errors.SubscriberCreateError.{SubscriberCreateError}
+use Rattle.iox2_machine.specs.machine.Loans.{loan_discarded}
+use Rattle.iox2_machine.specs.machine.Ports.{CreateSubscriber}
+use Rattle.iox2_machine.specs.machine.PublisherUpdate.{UpdatePublisher}
+use Rattle.iox2_machine.specs.machine.Receives.{ReceiveResult, Receive_error, Receive}
+use Rattle.iox2_machine.specs.machine.Records.{Environment, Loan, BlockedSend, SubscriberSettings}
+use Rattle.iox2_machine.specs.machine.Releases.{released}
+use Rattle.iox2_machine.specs.machine.Sends.{SendResult, Send, Retry, GiveUp}
+use Rattle.iox2_machine.specs.machine.State.{State, Messages, with_loan}
+use Rattle.iox2_machine.specs.machine.SubscriberUpdate.{UpdateSubscriber}
+use Rattle.iox2_machine.specs.declared.errors.ConnectionFailure.{ConnectionFailure}
+use Rattle.iox2_machine.specs.declared.errors.LoanError.{LoanError}
+use Rattle.iox2_machine.specs.declared.errors.ReceiveError.{ReceiveError}
+use Rattle.iox2_machine.specs.declared.errors.SubscriberCreateError.{SubscriberCreateError}
 use Rattle.iox2_laws.proofs.UpToDate.{IsUpdated, UpdatedStay, same_subscribers, grant_loan_subscribers, update_publisher_subscribers, send_subscribers, retry_subscribers, give_up_subscribers, update_subscriber_updated, update_leaves_updated, receive_updated, receive_leaves_updated, released_updated, create_subscriber_updated}
 use Rattle.iox2_domain.specs.Kept.{Kept}
 use Rattle.iox2_domain.specs.Lending.{LoanCall, loan_memory}

@@ -1,9 +1,9 @@
 -- A step that moves no message, seen from outside: an update by call.
 use Rattle.std.proofs.Common.{◌≡◌, ◌≤◌, ℕ, get_or, ap, sym, subst, ◌∙◌, Option, Some, None}
-use Rattle.iox2_store.specs.machine.Records.{Environment}
-use Rattle.iox2_store.specs.machine.PublisherUpdate.{UpdatePublisher}
-use Rattle.iox2_store.specs.machine.SubscriberUpdate.{UpdateSubscriber}
-use Rattle.iox2_store.specs.machine.State.{State, Messages}
+use Rattle.iox2_machine.specs.machine.Records.{Environment}
+use Rattle.iox2_machine.specs.machine.PublisherUpdate.{UpdatePublisher}
+use Rattle.iox2_machine.specs.machine.SubscriberUpdate.{UpdateSubscriber}
+use Rattle.iox2_machine.specs.machine.State.{State, Messages}
 use Rattle.iox2_laws.proofs.LoanKeeping.{update_publisher_loans, update_subscriber_loans}
 use Rattle.iox2_laws.proofs.PublisherUpdates.{update_publisher_advances}
 use Rattle.iox2_laws.proofs.SubscriberUpdates.{update_subscriber_advances}
@@ -15,7 +15,7 @@ use Rattle.iox2_domain.specs.Kept.{Kept, state_of}
 use Rattle.iox2_domain.specs.Ports.{PublisherFields, SubscriberFields}
 use Rattle.iox2_domain.specs.Reaches.{Reaches}
 use Rattle.iox2_domain.specs.Shows.{Shows}
-use Rattle.iox2_store.specs.declared.errors.ConnectionFailure.{ConnectionFailure}
+use Rattle.iox2_machine.specs.declared.errors.ConnectionFailure.{ConnectionFailure}
 use Rattle.iox2_domain.proofs.lemmas.fields.ReachesShows.{reaches-shows}
 use Rattle.iox2_domain.proofs.lemmas.receives.Reception.{updated-reaches}
 

@@ -1,12 +1,12 @@
 -- What updates, questions and receives leave of a domain, told from their steps in the states that the domain shows.
 use Rattle.std.proofs.Common.{◌≡◌, ℕ, Bool, Option, Result}
 use Rattle.std.specs.Prelude.{OnOk}
-use Rattle.iox2_store.specs.machine.PublisherUpdate.{UpdatePublisher}
-use Rattle.iox2_store.specs.machine.Receives.{ReceiveResult, Receive}
-use Rattle.iox2_store.specs.machine.Records.{Environment}
-use Rattle.iox2_store.specs.machine.State.{State, Messages}
-use Rattle.iox2_store.specs.machine.SubscriberUpdate.{UpdateSubscriber}
-use Rattle.iox2_store.specs.declared.errors.ConnectionFailure.{ConnectionFailure}
+use Rattle.iox2_machine.specs.machine.PublisherUpdate.{UpdatePublisher}
+use Rattle.iox2_machine.specs.machine.Receives.{ReceiveResult, Receive}
+use Rattle.iox2_machine.specs.machine.Records.{Environment}
+use Rattle.iox2_machine.specs.machine.State.{State, Messages}
+use Rattle.iox2_machine.specs.machine.SubscriberUpdate.{UpdateSubscriber}
+use Rattle.iox2_machine.specs.declared.errors.ConnectionFailure.{ConnectionFailure}
 use Rattle.iox2_laws.proofs.LoanKeeping.{update_publisher_loans, update_subscriber_loans}
 use Rattle.iox2_laws.proofs.PortsStay.{update_publisher_stays, update_subscriber_stays}
 use Rattle.iox2_laws.proofs.Waits.{update_publisher_waits, update_subscriber_waits}

@@ -1,7 +1,7 @@
 -- What an update leaves of a domain.
 use Rattle.std.proofs.Common.{◌≡◌, ℕ, Option, ap, ◌∙◌}
-use Rattle.iox2_store.specs.machine.Records.{Loan}
-use Rattle.iox2_store.specs.machine.State.{State, Messages}
+use Rattle.iox2_machine.specs.machine.Records.{Loan}
+use Rattle.iox2_machine.specs.machine.State.{State, Messages}
 use Rattle.iox2_laws.proofs.PortsStay.{PortsStay}
 use Rattle.iox2_laws.proofs.SamplesStay.{same_borrowed}
 use Rattle.iox2_laws.proofs.Waits.{Waits}

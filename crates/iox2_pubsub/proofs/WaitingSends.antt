@@ -1,12 +1,12 @@
 -- A blocked send, and what a call does to it, in a state that its domain shows.
 use Rattle.std.proofs.Common.{◌≡◌, ℕ, List, Result, None, Some, refl, ap, sym, subst, ◌∙◌}
 use Rattle.std.specs.Prelude.{IfOk, slice_index_or}
-use Rattle.iox2_store.specs.machine.Records.{BlockedSend, Publisher}
-use Rattle.iox2_store.specs.machine.Sends.{Blocked_send, SendResult}
-use Rattle.iox2_store.specs.machine.SingleCalls.{HoldsBlocked}
-use Rattle.iox2_store.specs.machine.State.{State, Messages}
-use Rattle.iox2_store.specs.declared.errors.SendError.{SendError}
-use Rattle.iox2_store.specs.declared.service_config.ServiceConfig.{ServiceConfig}
+use Rattle.iox2_machine.specs.machine.Records.{BlockedSend, Publisher}
+use Rattle.iox2_machine.specs.machine.Sends.{Blocked_send, SendResult}
+use Rattle.iox2_machine.specs.machine.SingleCalls.{HoldsBlocked}
+use Rattle.iox2_machine.specs.machine.State.{State, Messages}
+use Rattle.iox2_machine.specs.declared.errors.SendError.{SendError}
+use Rattle.iox2_machine.specs.declared.service_config.ServiceConfig.{ServiceConfig}
 use Rattle.iox2_ends.specs.LookUp.{look_up}
 use Rattle.iox2_domain.specs.BlockedSends.{HasBlocked, waiting_send}
 use Rattle.iox2_domain.specs.Boxes.{DomainBoxes}

@@ -6,24 +6,24 @@ use Rattle.std.specs.List.{AllByRecursion, filter_map}
 use Rattle.std.specs.Option.{option_map_or}
 use Rattle.std.proofs.lemmas.Bool.{cases_eq}
 use Rattle.std.proofs.lemmas.List.{append-nil}
-use Rattle.iox2_store.specs.machine.Loans.{entry_of, loan_discarded}
-use Rattle.iox2_store.specs.machine.Mailbox.{numbers_in}
-use Rattle.iox2_store.specs.machine.Numbers.{contains}
-use Rattle.iox2_store.specs.machine.Ports.{CreatePublisher, CreateSubscriber}
-use Rattle.iox2_store.specs.machine.PublisherUpdate.{UpdatePublisher}
-use Rattle.iox2_store.specs.machine.Receives.{ReceiveResult, Got_sample, No_sample, Receive, HasSamples}
+use Rattle.iox2_machine.specs.machine.Loans.{entry_of, loan_discarded}
+use Rattle.iox2_machine.specs.machine.Mailbox.{numbers_in}
+use Rattle.iox2_machine.specs.machine.Numbers.{contains}
+use Rattle.iox2_machine.specs.machine.Ports.{CreatePublisher, CreateSubscriber}
+use Rattle.iox2_machine.specs.machine.PublisherUpdate.{UpdatePublisher}
+use Rattle.iox2_machine.specs.machine.Receives.{ReceiveResult, Got_sample, No_sample, Receive, HasSamples}
 use Rattle.std.specs.declared.time.Duration.{Duration}
-use Rattle.iox2_store.specs.machine.Records.{Entry, Environment, Loan, BlockedSend, PublisherSettings, SubscriberSettings, Publisher as MachinePublisher, Subscriber as MachineSubscriber}
-use Rattle.iox2_store.specs.machine.Releases.{released}
-use Rattle.iox2_store.specs.machine.Sends.{SendToConnection, SendResult, Send, Retry, GiveUp}
-use Rattle.iox2_store.specs.machine.State.{State, Messages, with_loan}
-use Rattle.iox2_store.specs.machine.SubscriberUpdate.{UpdateSubscriber}
-use Rattle.iox2_store.specs.machine.Waiting.{waiting_from, waiting_for}
-use Rattle.iox2_store.specs.Stored.{In_mailbox}
-use Rattle.iox2_store.specs.declared.errors.ConnectionFailure.{ConnectionFailure}
-use Rattle.iox2_store.specs.declared.errors.LoanError.{LoanError}
-use Rattle.iox2_store.specs.declared.errors.PublisherCreateError.{PublisherCreateError}
-use Rattle.iox2_store.specs.declared.errors.SubscriberCreateError.{SubscriberCreateError}
+use Rattle.iox2_machine.specs.machine.Records.{Entry, Environment, Loan, BlockedSend, PublisherSettings, SubscriberSettings, Publisher as MachinePublisher, Subscriber as MachineSubscriber}
+use Rattle.iox2_machine.specs.machine.Releases.{released}
+use Rattle.iox2_machine.specs.machine.Sends.{SendToConnection, SendResult, Send, Retry, GiveUp}
+use Rattle.iox2_machine.specs.machine.State.{State, Messages, with_loan}
+use Rattle.iox2_machine.specs.machine.SubscriberUpdate.{UpdateSubscriber}
+use Rattle.iox2_machine.specs.machine.Waiting.{waiting_from, waiting_for}
+use Rattle.iox2_machine.specs.Stored.{In_mailbox}
+use Rattle.iox2_machine.specs.declared.errors.ConnectionFailure.{ConnectionFailure}
+use Rattle.iox2_machine.specs.declared.errors.LoanError.{LoanError}
+use Rattle.iox2_machine.specs.declared.errors.PublisherCreateError.{PublisherCreateError}
+use Rattle.iox2_machine.specs.declared.errors.SubscriberCreateError.{SubscriberCreateError}
 use Rattle.iox2_domain.specs.Kept.{Kept, state_of, entries_of}
 use Rattle.iox2_domain.specs.Lending.{LoanCall, loan_memory}
 use Rattle.iox2_domain.specs.Questions.{IsAnswer}

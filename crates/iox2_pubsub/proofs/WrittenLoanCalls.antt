@@ -5,12 +5,12 @@ use Rattle.std.proofs.lemmas.Bool.{eq-eqb}
 use Rattle.std.specs.declared.option.Option.{Option}
 use Rattle.std.specs.Option.{MatchOption}
 use Rattle.std.specs.Prelude.{IfErr}
-use Rattle.iox2_store.specs.machine.Loans.{GrantLoan, written}
-use Rattle.iox2_store.specs.machine.Records.{Environment, Loan}
-use Rattle.iox2_store.specs.machine.SingleCalls.{GrantWrittenLoan, GrantDefaultSlice, WriteAllFrom}
-use Rattle.iox2_store.specs.machine.State.{State, Messages, with_loan}
-use Rattle.iox2_store.specs.declared.errors.LoanError.{LoanError}
-use Rattle.iox2_store.specs.declared.errors.SendError.{SendError}
+use Rattle.iox2_machine.specs.machine.Loans.{GrantLoan, written}
+use Rattle.iox2_machine.specs.machine.Records.{Environment, Loan}
+use Rattle.iox2_machine.specs.machine.SingleCalls.{GrantWrittenLoan, GrantDefaultSlice, WriteAllFrom}
+use Rattle.iox2_machine.specs.machine.State.{State, Messages, with_loan}
+use Rattle.iox2_machine.specs.declared.errors.LoanError.{LoanError}
+use Rattle.iox2_machine.specs.declared.errors.SendError.{SendError}
 use Rattle.iox2_domain.specs.Lending.{loan_memory}
 use Rattle.iox2_pubsub.specs.SendCalls.{IsOfHandler, Sends, messages_after}
 use Rattle.iox2_pubsub.specs.WrittenLoans.{SendsCopy, SendsGranted}

@@ -1,8 +1,8 @@
 -- How far a blocked send still has to go, and what there is when it has ended.
 use Rattle.std.specs.Prelude.{ℕ, length}
 use Rattle.std.specs.Option.{option_map_or}
-use Rattle.iox2_store.specs.machine.Records.{Publisher as MachinePublisher, BlockedSend as MachineBlocked}
-use Rattle.iox2_store.specs.machine.State.{State}
+use Rattle.iox2_machine.specs.machine.Records.{Publisher as MachinePublisher, BlockedSend as MachineBlocked}
+use Rattle.iox2_machine.specs.machine.State.{State}
 use Rattle.iox2_domain.specs.Kept.{Kept, state_of}
 use Rattle.iox2_pubsub.specs.Live.{IsUnblocked, Stays, StaysBut, blocked_key, blocked_send, lender_key}
 use Rattle.iox2_pubsub.specs.declared.blocked_send.BlockedSend.{BlockedSend}

@@ -1,11 +1,11 @@
 -- Which publisher is connected with which subscriber, and which is with its next update.
 use Rattle.std.specs.Prelude.{ℕ, true, false, ◌≡◌}
 use Rattle.std.specs.declared.option.Option.TheVariants.{Some}
-use Rattle.iox2_store.specs.machine.Channel.{is_closed}
-use Rattle.iox2_store.specs.machine.Records.{Publisher, Subscriber}
-use Rattle.iox2_store.specs.machine.State.{State}
-use Rattle.iox2_store.specs.machine.Waiting.{receives_from}
-use Rattle.iox2_store.specs.machine.WellFormed.{LeadsTo}
+use Rattle.iox2_machine.specs.machine.Channel.{is_closed}
+use Rattle.iox2_machine.specs.machine.Records.{Publisher, Subscriber}
+use Rattle.iox2_machine.specs.machine.State.{State}
+use Rattle.iox2_machine.specs.machine.Waiting.{receives_from}
+use Rattle.iox2_machine.specs.machine.WellFormed.{LeadsTo}
 
 -- The publisher p has its end of the mailbox with q, which is open, and has its own end or makes it in its next update. Their
 -- channel isn't closed.

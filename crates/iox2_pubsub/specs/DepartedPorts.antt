@@ -2,10 +2,10 @@
 use Rattle.std.specs.Prelude.{ℕ, Bool, not, length, ◌+◌, ◌≤◌}
 use Rattle.std.specs.List.{filter}
 use Rattle.std.specs.Option.{option_map_or}
-use Rattle.iox2_store.specs.machine.Limits.{expired_limit}
-use Rattle.iox2_store.specs.machine.Places.{occupants}
-use Rattle.iox2_store.specs.machine.Records.{Subscriber}
-use Rattle.iox2_store.specs.machine.State.{State, is_present}
+use Rattle.iox2_machine.specs.machine.Limits.{expired_limit}
+use Rattle.iox2_machine.specs.machine.Places.{occupants}
+use Rattle.iox2_machine.specs.machine.Records.{Subscriber}
+use Rattle.iox2_machine.specs.machine.State.{State, is_present}
 
 module _ {T U : Type 0} where
   -- The publisher was closed, or never made.

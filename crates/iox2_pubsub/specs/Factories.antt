@@ -3,13 +3,13 @@ use Rattle.std.specs.Prelude.{ℕ, ◌≡◌, ◌≤◌, IsTrue}
 use Rattle.std.specs.Bool.{MatchBool}
 use Rattle.std.specs.declared.option.Option.{Option}
 use Rattle.std.specs.declared.option.Option.TheVariants.{None, Some}
-use Rattle.iox2_store.specs.machine.Records.{Handler, PublisherSettings, SubscriberSettings}
-use Rattle.iox2_store.specs.machine.Records as machine
-use Rattle.iox2_store.specs.declared.degradation.DegradationAction.{DegradationAction}
-use Rattle.iox2_store.specs.declared.degradation_handler.DegradationHandler.{DegradationHandler}
-use Rattle.iox2_store.specs.declared.degradation_handler.DegradationHandler.TheVariants as degradation
-use Rattle.iox2_store.specs.declared.backpressure_handler.BackpressureHandler.{BackpressureHandler}
-use Rattle.iox2_store.specs.machine.Limits.{fits}
+use Rattle.iox2_machine.specs.machine.Records.{Handler, PublisherSettings, SubscriberSettings}
+use Rattle.iox2_machine.specs.machine.Records as machine
+use Rattle.iox2_machine.specs.declared.degradation.DegradationAction.{DegradationAction}
+use Rattle.iox2_machine.specs.declared.degradation_handler.DegradationHandler.{DegradationHandler}
+use Rattle.iox2_machine.specs.declared.degradation_handler.DegradationHandler.TheVariants as degradation
+use Rattle.iox2_machine.specs.declared.backpressure_handler.BackpressureHandler.{BackpressureHandler}
+use Rattle.iox2_machine.specs.machine.Limits.{fits}
 use Rattle.iox2_ends.specs.Handlers.{mark_of}
 use Rattle.iox2_ports.specs.Handlers.{custom_box}
 use Rattle.iox2_pubsub.specs.declared.port_factory.preallocation.PreallocatedSamplesOverride.{PreallocatedSamplesOverride}

@@ -2,11 +2,11 @@
 use Rattle.std.specs.Prelude.{Bool, true}
 use Rattle.std.specs.declared.option.Option.{Option}
 use Rattle.std.specs.declared.option.Option.TheVariants.{None, Some}
-use Rattle.iox2_store.specs.machine.Delivery.{by_action, by_strategy, is_blocking}
-use Rattle.iox2_store.specs.machine.Records.{Handler}
-use Rattle.iox2_store.specs.machine.Records as machine
-use Rattle.iox2_store.specs.declared.backpressure.BackpressureAction.{BackpressureAction}
-use Rattle.iox2_store.specs.declared.backpressure.BackpressureStrategy.{BackpressureStrategy}
+use Rattle.iox2_machine.specs.machine.Delivery.{by_action, by_strategy, is_blocking}
+use Rattle.iox2_machine.specs.machine.Records.{Handler}
+use Rattle.iox2_machine.specs.machine.Records as machine
+use Rattle.iox2_machine.specs.declared.backpressure.BackpressureAction.{BackpressureAction}
+use Rattle.iox2_machine.specs.declared.backpressure.BackpressureStrategy.{BackpressureStrategy}
 
 -- A send may wait for a full receiver: the strategy says so, or a handler that always gives the same answer, or there is a box.
 abbrev pub may_wait : BackpressureStrategy → Option (Handler BackpressureAction) → Bool

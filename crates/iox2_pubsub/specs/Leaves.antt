@@ -1,7 +1,7 @@
 -- What a call leaves as it was.
 use Rattle.iox2_domain.specs.Kept.{Kept}
 use Rattle.std.specs.Prelude.{ℕ, ◌≡◌, ◌≢◌, ◌≤◌, true, false}
-use Rattle.iox2_store.specs.machine.Channel.{Channel, is_closed, is_in_state}
+use Rattle.iox2_machine.specs.machine.Channel.{Channel, is_closed, is_in_state}
 use Rattle.iox2_pubsub.specs.Live.{AddAtMost, IsConnected, IsUpToDate, Item, No_item, OthersStayUpToDate, OthersWait, RoomStays, Stays, StaysBut, UpToDateStay, WaitingStays, subscriber_port, waiting}
 use Rattle.iox2_pubsub.specs.LoansLeft.{LoansLeftStay}
 use Rattle.iox2_pubsub.specs.declared.subscriber.Subscriber.{Subscriber}

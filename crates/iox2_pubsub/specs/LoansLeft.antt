@@ -1,14 +1,14 @@
 -- How many loans a publisher may still take, and how many message numbers a domain has left.
 use Rattle.std.specs.Prelude.{ℕ, false, ◌≡◌, ◌≢◌, ◌+◌, ◌≤◌}
 use Rattle.std.specs.declared.option.Option.TheVariants.{Some}
-use Rattle.iox2_store.specs.machine.Limits.{last_number}
-use Rattle.iox2_store.specs.machine.Loans.{is_static}
-use Rattle.iox2_store.specs.machine.LoansLeft.{CanLend}
-use Rattle.iox2_store.specs.machine.Records.{Publisher as MachinePublisher, PublisherSettings}
-use Rattle.iox2_store.specs.machine.State.{State}
-use Rattle.iox2_store.specs.declared.allocation.AllocationStrategy.{AllocationStrategy}
-use Rattle.iox2_store.specs.declared.service_config.ServiceConfig.{ServiceConfig}
-use Rattle.iox2_store.specs.declared.service_config.TypeVariant.TheVariants.{FixedSize}
+use Rattle.iox2_machine.specs.machine.Limits.{last_number}
+use Rattle.iox2_machine.specs.machine.Loans.{is_static}
+use Rattle.iox2_machine.specs.machine.LoansLeft.{CanLend}
+use Rattle.iox2_machine.specs.machine.Records.{Publisher as MachinePublisher, PublisherSettings}
+use Rattle.iox2_machine.specs.machine.State.{State}
+use Rattle.iox2_machine.specs.declared.allocation.AllocationStrategy.{AllocationStrategy}
+use Rattle.iox2_machine.specs.declared.service_config.ServiceConfig.{ServiceConfig}
+use Rattle.iox2_machine.specs.declared.service_config.TypeVariant.TheVariants.{FixedSize}
 use Rattle.iox2_domain.specs.Kept.{Kept, state_of}
 use Rattle.iox2_pubsub.specs.declared.publisher.Publisher.{Publisher}
 

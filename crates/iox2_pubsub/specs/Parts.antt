@@ -1,13 +1,13 @@
 -- Handles that are plain numbers.
-use Rattle.iox2_store.specs.declared.key.Key.{Key}
+use Rattle.iox2_machine.specs.declared.key.Key.{Key}
 use Rattle.iox2_pubsub.specs.declared.parts.PublisherParts.{PublisherParts}
 use Rattle.iox2_pubsub.specs.declared.parts.SubscriberParts.{SubscriberParts}
 use Rattle.iox2_pubsub.specs.declared.parts.LoanParts.{LoanParts}
 use Rattle.iox2_pubsub.specs.declared.parts.SampleParts.{SampleParts}
 use Rattle.std.specs.Prelude.{◌≡◌, ℕ, Bool, true, false}
 use Rattle.std.specs.declared.option.Option.TheVariants.{Some}
-use Rattle.iox2_store.specs.machine.Records.{Loan, Publisher as MachinePublisher}
-use Rattle.iox2_store.specs.machine.State.{State}
+use Rattle.iox2_machine.specs.machine.Records.{Loan, Publisher as MachinePublisher}
+use Rattle.iox2_machine.specs.machine.State.{State}
 use Rattle.iox2_domain.specs.Kept.{Kept, state_of}
 use Rattle.iox2_slots.specs.declared.slots.mark.SlotMark.{SlotMark}
 use Rattle.iox2_slots.specs.declared.slots.mark.SlotMark.TheVariants.{Written}

@@ -1,9 +1,9 @@
 -- The payloads of what waits for a subscriber.
 use Rattle.std.specs.Prelude.{ℕ, zero, suc, List, [], ◌++◌, map}
 use Rattle.std.specs.Option.{option_map_or}
-use Rattle.iox2_store.specs.machine.Records.{Entry}
-use Rattle.iox2_store.specs.machine.State.{State, Messages}
-use Rattle.iox2_store.specs.machine.Waiting.{waiting_from}
+use Rattle.iox2_machine.specs.machine.Records.{Entry}
+use Rattle.iox2_machine.specs.machine.State.{State, Messages}
+use Rattle.iox2_machine.specs.machine.Waiting.{waiting_from}
 
 -- The lists of all numbers below n, one after the other.
 abbrev pub all_below : {X : Type 0} → (ℕ → List X) → (n : ℕ) → List X

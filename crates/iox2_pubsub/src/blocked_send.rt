@@ -6,7 +6,7 @@ mod retry;
 
 use crate::keys::loan_key;
 use iox2_domain::LoanAt;
-use iox2_store::Key;
+use iox2_machine::Key;
 
 /// A send that waits for a subscriber whose buffer is full. It is a value to be spent: until then
 /// the domain keeps the send, and its publisher lends, sends and updates nothing and can't be closed.

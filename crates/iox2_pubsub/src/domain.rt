@@ -3,10 +3,10 @@ ghost use Rattle.std.specs.Prelude.{◌≡◌, ◌<◌, ℕ, IfOk, true};
 ghost use Rattle.std.specs.List.{count_by};
 ghost use Rattle.std.specs.Option.{is_some};
 ghost use Rattle.circular_buffer.specs.Buffer.{buffer};
-ghost use Rattle.iox2_store.specs.machine.Limits.{last_number, warning_limit};
-ghost use Rattle.iox2_store.specs.machine.State.{Messages, fresh, no_messages};
+ghost use Rattle.iox2_machine.specs.machine.Limits.{last_number, warning_limit};
+ghost use Rattle.iox2_machine.specs.machine.State.{Messages, fresh, no_messages};
 ghost use Rattle.iox2_domain.specs.Kept.{state_of};
-ghost use Rattle.iox2_store.specs.declared.service_config.TypeVariant.TheVariants.{Dynamic, FixedSize};
+ghost use Rattle.iox2_machine.specs.declared.service_config.TypeVariant.TheVariants.{Dynamic, FixedSize};
 ghost use Rattle.iox2_domain.specs.Shows.{Shows};
 ghost use Rattle.iox2_pubsub.specs.Live.{IsSingleValued};
 ghost use Rattle.iox2_pubsub.specs.LoansLeft.{HasNumbersLeft};
@@ -16,7 +16,7 @@ mod holds;
 
 use circular_buffer::HeapCircularBuffer;
 use iox2_domain::{Boxes, DomainState};
-use iox2_store::{
+use iox2_machine::{
     BackpressureFn, DegradationFn, DomainCreateError, ServiceConfig, TypeVariant, Warning,
 };
 use std::alloc::Global;

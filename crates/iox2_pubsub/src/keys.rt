@@ -2,7 +2,7 @@
 ghost use Rattle.std.specs.Prelude.{◌≡◌};
 
 use iox2_domain::LoanAt;
-use iox2_store::Key;
+use iox2_machine::Key;
 
 /// The key of the port with this id.
 pub(crate) fn port_key(service_id: u128, port: u128) -> Key

@@ -20,7 +20,7 @@ pub use blocked_send::BlockedSend;
 pub use circular_buffer::HeapCircularBuffer;
 pub use custom_markers::{CustomHeaderMarker, CustomPayloadMarker};
 pub use domain::Domain;
-pub use iox2_store::{
+pub use iox2_machine::{
     AllocationStrategy, BackpressureAction, BackpressureFn, BackpressureHandler, BackpressureInfo,
     BackpressureStrategy, BackpressureToReceiverAction, ConnectionFailure, DataSegmentType,
     DegradationAction, DegradationCause, DegradationFn, DegradationHandler, DegradationInfo,

@@ -11,7 +11,7 @@ mod loans;
 mod ports;
 mod sample;
 
-use iox2_store::BackpressureStrategy;
+use iox2_machine::BackpressureStrategy;
 
 /// The numbers of a publisher. This library's own.
 ///

@@ -11,8 +11,8 @@ mod update_connections;
 
 use crate::domain::Domain;
 use crate::keys::port_key;
+use iox2_machine::{BackpressureFn, BackpressureStrategy, DegradationFn, Key, UniquePublisherId};
 use iox2_messages::is_waiting;
-use iox2_store::{BackpressureFn, BackpressureStrategy, DegradationFn, Key, UniquePublisherId};
 
 /// Sends messages to every subscriber of its domain. It is a value to be spent: the domain keeps
 /// the publisher until that is closed.

@@ -4,9 +4,9 @@ ghost use Rattle.std.specs.Prelude.{◌≡◌};
 mod release;
 
 use crate::domain::Domain;
-use iox2_messages::{sample_header, sample_payload, sample_user_header};
 use iox2_domain::SampleAt;
-use iox2_store::{BackpressureFn, DegradationFn, Header, Key, UniquePublisherId};
+use iox2_machine::{BackpressureFn, DegradationFn, Header, Key, UniquePublisherId};
+use iox2_messages::{sample_header, sample_payload, sample_user_header};
 
 /// A message that a subscriber has received and not yet released. It is a value to be spent: until
 /// it is released the message counts among those that the subscriber has borrowed.
@@ -32,8 +32,8 @@ pub struct Sample {
 
 impl Sample {
     ghost use Rattle.std.specs.Prelude.{[], ◌∷◌, Some};
-    ghost use Rattle.iox2_store.specs.machine.Records.{Entry};
-    ghost use Rattle.iox2_store.specs.machine.State.{State, Messages};
+    ghost use Rattle.iox2_machine.specs.machine.Records.{Entry};
+    ghost use Rattle.iox2_machine.specs.machine.State.{State, Messages};
     ghost use Rattle.iox2_pubsub.specs.Live.{IsFromOrigin, IsLiveSample, IsSingleValued, SampleHasHeader, SampleHasUserHeader, SampleReads, sample_key};
     ghost use Rattle.iox2_domain.specs.Shows.{Shows};
     ghost use Rattle.iox2_pubsub.specs.Handles.{origin_of, sample_number};

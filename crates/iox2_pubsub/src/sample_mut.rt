@@ -9,9 +9,9 @@ mod user_header_mut;
 
 use crate::domain::Domain;
 use crate::keys::loan_key;
-use iox2_messages::{is_waiting, loan_header, loan_user_header, loan_value};
 use iox2_domain::LoanAt;
-use iox2_store::{BackpressureFn, DegradationFn, Header, Key};
+use iox2_machine::{BackpressureFn, DegradationFn, Header, Key};
+use iox2_messages::{is_waiting, loan_header, loan_user_header, loan_value};
 
 /// A loan whose payload is written. It is a value to be spent: the domain keeps the loan until its
 /// message was sent or it was discarded.
@@ -33,7 +33,7 @@ pub struct SampleMut {
 
 impl SampleMut {
     ghost use Rattle.std.specs.Prelude.{Some, false, ◌↔◌};
-    ghost use Rattle.iox2_store.specs.machine.State.{State, Messages};
+    ghost use Rattle.iox2_machine.specs.machine.State.{State, Messages};
     ghost use Rattle.iox2_pubsub.specs.Live.{IsLoanKey, IsSingleValued, IsUnblocked, IsWritten, LoanHasHeader, LoanHasUserHeader, LoanReads, written_key};
     ghost use Rattle.iox2_domain.specs.LoanCalls.{HasCell, HasLoanHeader, HasLoanUserHeader};
     ghost use Rattle.iox2_domain.specs.Shows.{Shows};

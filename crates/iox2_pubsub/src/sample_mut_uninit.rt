@@ -9,9 +9,9 @@ mod write_payload;
 
 use crate::domain::Domain;
 use crate::keys::loan_key;
-use iox2_messages::{loan_cell, loan_header, loan_user_header};
 use iox2_domain::LoanAt;
-use iox2_store::{BackpressureFn, DegradationFn, Header, Key};
+use iox2_machine::{BackpressureFn, DegradationFn, Header, Key};
+use iox2_messages::{loan_cell, loan_header, loan_user_header};
 
 /// A loan whose payload isn't written. It is a value to be spent: the domain keeps the loan until
 /// its message was sent or it was discarded.
@@ -31,7 +31,7 @@ pub struct SampleMutUninit {
 
 impl SampleMutUninit {
     ghost use Rattle.std.specs.Prelude.{Option};
-    ghost use Rattle.iox2_store.specs.machine.State.{State, Messages};
+    ghost use Rattle.iox2_machine.specs.machine.State.{State, Messages};
     ghost use Rattle.iox2_pubsub.specs.Live.{IsLoanKey, IsSingleValued, IsUnwritten, LoanHasHeader, LoanHasUserHeader, UnwrittenReads, unwritten_key};
     ghost use Rattle.iox2_domain.specs.LoanCalls.{HasCell, HasLoanHeader, HasLoanUserHeader};
     ghost use Rattle.iox2_domain.specs.Shows.{Shows};

@@ -11,7 +11,7 @@ mod update_connections;
 use crate::domain::Domain;
 use crate::keys::port_key;
 use crate::parts::hints::find_open_subscriber;
-use iox2_store::{BackpressureFn, DegradationFn, Key, UniqueSubscriberId};
+use iox2_machine::{BackpressureFn, DegradationFn, Key, UniqueSubscriberId};
 
 /// Receives the messages of every publisher of its domain. It is a value to be spent: the domain
 /// keeps the subscriber until that is closed.

@@ -3,7 +3,7 @@ ghost use Rattle.std.specs.Prelude.{◌≡◌, ℕ, OnOk};
 ghost use Rattle.iox2_pubsub.specs.UpdateCalls.{returned_failure};
 
 use crate::domain::Domain;
-use iox2_store::{BackpressureFn, ConnectionFailure, DegradationFn};
+use iox2_machine::{BackpressureFn, ConnectionFailure, DegradationFn};
 
 /// A port of which the connections can be updated by a call, in a domain whose messages and boxed
 /// handlers have these types. Each send, receive and question does it too.
@@ -17,8 +17,8 @@ use iox2_store::{BackpressureFn, ConnectionFailure, DegradationFn};
 /// iceoryx2's `UpdateConnections` (`src/port/update_connections.rs`).
 pub trait UpdateConnections<T: Drop, U: Default + Drop, F: BackpressureFn, G: DegradationFn> {
     ghost use Rattle.std.specs.declared.option.Option.{Option};
-    ghost use Rattle.iox2_store.specs.machine.State.{State, Messages};
-    ghost use Rattle.iox2_store.specs.declared.errors.ConnectionFailure.{ConnectionFailure};
+    ghost use Rattle.iox2_machine.specs.machine.State.{State, Messages};
+    ghost use Rattle.iox2_machine.specs.declared.errors.ConnectionFailure.{ConnectionFailure};
     ghost use Rattle.iox2_domain.specs.Kept.{Kept};
     ghost use Rattle.iox2_domain.specs.Shows.{Shows};
     ghost use Rattle.iox2_pubsub.specs.Leaves.{LeavesAdding};

@@ -1,8 +1,8 @@
 -- A recorded domain is called once more.
 use Rattle.std.proofs.Common.{rules, ◌≡◌, true, List, [], ◌∷◌, ◌++◌, sym, subst, append-nil, append_assoc}
-use Rattle.iox2_store.specs.machine.Environments.{fixed_handlers}
-use Rattle.iox2_store.specs.machine.State.{fresh, no_messages}
-use Rattle.iox2_store.specs.declared.service_config.ServiceConfig.{ServiceConfig}
+use Rattle.iox2_machine.specs.machine.Environments.{fixed_handlers}
+use Rattle.iox2_machine.specs.machine.State.{fresh, no_messages}
+use Rattle.iox2_machine.specs.declared.service_config.ServiceConfig.{ServiceConfig}
 use Rattle.iox2_domain.specs.Kept.{Kept as Domain}
 use Rattle.iox2_domain.specs.Shows.{Shows}
 use Rattle.iox2_commands.specs.Runs.{Defaults}

@@ -4,9 +4,9 @@ ghost use Rattle.iox2_recorded.specs.declared.create_error.RecordedCreateError.T
 ghost use Rattle.iox2_recorded.specs.Recorded.{IsCarriedOut, IsRecorded, Keeps, SameRecording, WasRun, has_room};
 
 use crate::create_error::RecordedCreateError;
+use iox2_machine::{BackpressureFn, DegradationFn};
 use iox2_pubsub::{Domain, ServiceConfig};
 use iox2_runs::{Command, Made, Reply, carry_out, disown_all};
-use iox2_store::{BackpressureFn, DegradationFn};
 use std::alloc::{AllocError, Global};
 
 // There is a default value of the type. For proofs alone.

@@ -2,11 +2,11 @@
 use Rattle.std.proofs.Common.{◌≡◌, ℕ, ◌≤◌, false, List, [], ◌∷◌, ◌++◌, map, refl, sym, ap, subst, ◌∙◌, Option, Some, inl, inr, arith}
 use Rattle.std.proofs.lemmas.Bool.{cases_eq}
 use Rattle.std.specs.Prelude.{slice_get, slice_set, slice_index_or}
-use Rattle.iox2_store.specs.machine.Mailbox.{is_borrowed}
-use Rattle.iox2_store.specs.machine.Ports.{publisher_closed, subscriber_closed}
-use Rattle.iox2_store.specs.machine.Records.{Loan, Publisher, Subscriber, Environment}
-use Rattle.iox2_store.specs.machine.SingleCalls.{HoldsBlocked}
-use Rattle.iox2_store.specs.machine.State.{State, Messages}
+use Rattle.iox2_machine.specs.machine.Mailbox.{is_borrowed}
+use Rattle.iox2_machine.specs.machine.Ports.{publisher_closed, subscriber_closed}
+use Rattle.iox2_machine.specs.machine.Records.{Loan, Publisher, Subscriber, Environment}
+use Rattle.iox2_machine.specs.machine.SingleCalls.{HoldsBlocked}
+use Rattle.iox2_machine.specs.machine.State.{State, Messages}
 use Rattle.iox2_laws.proofs.CloseLaws.{subscriber_closed_advances}
 use Rattle.iox2_laws.proofs.LoanKeeping.{publisher_closed_loans, subscriber_closed_loans}
 use Rattle.iox2_laws.proofs.PortsClose.{publisher_closed_gone, publisher_closed_others, publisher_closed_subscribers, publisher_closed_borrowed, subscriber_closed_shut, subscriber_closed_others, subscriber_closed_publishers, subscriber_closed_borrowed}

@@ -2,18 +2,18 @@
 use Rattle.std.proofs.Common.{◌≡◌, ℕ, List, [], ◌∷◌, ◌++◌, map, sym, ap, subst, ◌∙◌, Option, None, Some}
 use Rattle.std.specs.Prelude.{MatchResult}
 use Rattle.std.specs.declared.result.Result.{Result}
-use Rattle.iox2_store.specs.machine.Limits.{buffer_limit}
-use Rattle.iox2_store.specs.machine.Records.{PublisherSettings, SubscriberSettings, Environment}
-use Rattle.iox2_store.specs.machine.State.{State, Messages}
-use Rattle.iox2_store.specs.machine.Ports.{CreatePublisher, CreateSubscriber}
-use Rattle.iox2_store.specs.declared.allocation.AllocationStrategy.{AllocationStrategy}
-use Rattle.iox2_store.specs.declared.backpressure.BackpressureAction.{BackpressureAction}
-use Rattle.iox2_store.specs.declared.backpressure.BackpressureStrategy.{BackpressureStrategy}
-use Rattle.iox2_store.specs.declared.degradation.DegradationAction.{DegradationAction}
-use Rattle.iox2_store.specs.declared.errors.PublisherCreateError.{PublisherCreateError}
-use Rattle.iox2_store.specs.declared.errors.SubscriberCreateError.{SubscriberCreateError}
-use Rattle.iox2_store.specs.declared.service_config.TypeVariant.{TypeVariant}
-use Rattle.iox2_store.specs.declared.service_config.TypeVariant.TheVariants.{FixedSize, Dynamic}
+use Rattle.iox2_machine.specs.machine.Limits.{buffer_limit}
+use Rattle.iox2_machine.specs.machine.Records.{PublisherSettings, SubscriberSettings, Environment}
+use Rattle.iox2_machine.specs.machine.State.{State, Messages}
+use Rattle.iox2_machine.specs.machine.Ports.{CreatePublisher, CreateSubscriber}
+use Rattle.iox2_machine.specs.declared.allocation.AllocationStrategy.{AllocationStrategy}
+use Rattle.iox2_machine.specs.declared.backpressure.BackpressureAction.{BackpressureAction}
+use Rattle.iox2_machine.specs.declared.backpressure.BackpressureStrategy.{BackpressureStrategy}
+use Rattle.iox2_machine.specs.declared.degradation.DegradationAction.{DegradationAction}
+use Rattle.iox2_machine.specs.declared.errors.PublisherCreateError.{PublisherCreateError}
+use Rattle.iox2_machine.specs.declared.errors.SubscriberCreateError.{SubscriberCreateError}
+use Rattle.iox2_machine.specs.declared.service_config.TypeVariant.{TypeVariant}
+use Rattle.iox2_machine.specs.declared.service_config.TypeVariant.TheVariants.{FixedSize, Dynamic}
 use Rattle.iox2_laws.proofs.PortLaws.{create_publisher_advances, create_subscriber_advances}
 use Rattle.iox2_domain.specs.Kept.{Kept as Domain}
 use Rattle.iox2_domain.specs.Shows.{Shows}

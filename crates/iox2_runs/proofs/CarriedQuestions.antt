@@ -1,10 +1,10 @@
 -- A subscriber is asked whether samples wait, with what a run keeps.
 use Rattle.std.proofs.Common.{◌≡◌, ℕ, Bool, false, List, map, Option, refl, sym, ap}
 use Rattle.std.specs.Prelude.{slice_index_or}
-use Rattle.iox2_store.specs.machine.Receives.{HasSamples}
-use Rattle.iox2_store.specs.machine.Records.{Loan, Environment}
-use Rattle.iox2_store.specs.machine.State.{State, Messages}
-use Rattle.iox2_store.specs.declared.errors.ConnectionFailure.{ConnectionFailure}
+use Rattle.iox2_machine.specs.machine.Receives.{HasSamples}
+use Rattle.iox2_machine.specs.machine.Records.{Loan, Environment}
+use Rattle.iox2_machine.specs.machine.State.{State, Messages}
+use Rattle.iox2_machine.specs.declared.errors.ConnectionFailure.{ConnectionFailure}
 use Rattle.iox2_laws.proofs.LoanKeeping.{has_samples_loans}
 use Rattle.iox2_laws.proofs.PortsCome.{update_subscriber_comes}
 use Rattle.iox2_laws.proofs.PortsStay.{update_subscriber_stays}

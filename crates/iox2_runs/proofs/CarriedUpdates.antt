@@ -2,11 +2,11 @@
 use Rattle.std.proofs.Common.{◌≡◌, ℕ, false, List, map, Option, refl, ap, None, Some}
 use Rattle.std.specs.Option.{option_map_or}
 use Rattle.std.specs.Prelude.{slice_index_or}
-use Rattle.iox2_store.specs.machine.PublisherUpdate.{UpdatePublisher}
-use Rattle.iox2_store.specs.machine.Records.{Loan, Environment}
-use Rattle.iox2_store.specs.machine.State.{State, Messages}
-use Rattle.iox2_store.specs.machine.SubscriberUpdate.{UpdateSubscriber}
-use Rattle.iox2_store.specs.declared.errors.ConnectionFailure.{ConnectionFailure}
+use Rattle.iox2_machine.specs.machine.PublisherUpdate.{UpdatePublisher}
+use Rattle.iox2_machine.specs.machine.Records.{Loan, Environment}
+use Rattle.iox2_machine.specs.machine.State.{State, Messages}
+use Rattle.iox2_machine.specs.machine.SubscriberUpdate.{UpdateSubscriber}
+use Rattle.iox2_machine.specs.declared.errors.ConnectionFailure.{ConnectionFailure}
 use Rattle.iox2_laws.proofs.LoanKeeping.{update_publisher_loans, update_subscriber_loans}
 use Rattle.iox2_laws.proofs.PortsCome.{update_publisher_comes, update_subscriber_comes}
 use Rattle.iox2_laws.proofs.PortsStay.{update_publisher_stays, update_subscriber_stays}

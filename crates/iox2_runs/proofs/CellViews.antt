@@ -6,14 +6,14 @@ use Rattle.std.specs.Option.{option_map}
 use Rattle.std.proofs.lemmas.Bool.{lt-ltb}
 use Rattle.std.proofs.lemmas.List.{length-map}
 use Rattle.std.proofs.lemmas.Option.{slice_get-map, slice_get_past, same_Some}
-use Rattle.iox2_store.specs.machine.Loans.{with_cell, written}
-use Rattle.iox2_store.specs.machine.Records.{Entry, Loan}
-use Rattle.iox2_store.specs.machine.SingleCalls.{WriteAllFrom}
-use Rattle.iox2_store.specs.machine.State.{State, Messages, with_loan}
+use Rattle.iox2_machine.specs.machine.Loans.{with_cell, written}
+use Rattle.iox2_machine.specs.machine.Records.{Entry, Loan}
+use Rattle.iox2_machine.specs.machine.SingleCalls.{WriteAllFrom}
+use Rattle.iox2_machine.specs.machine.State.{State, Messages, with_loan}
 use Rattle.iox2_domain.specs.Kept.{Kept as Domain, state_of, entries_of}
 use Rattle.iox2_domain.specs.LoanCalls.{HasCell, HasCells, first_cell_changed, cells_changed}
 use Rattle.iox2_domain.specs.Shows.{Shows}
-use Rattle.iox2_store.specs.declared.key.Key.{Key}
+use Rattle.iox2_machine.specs.declared.key.Key.{Key}
 use Rattle.iox2_pubsub.specs.Slices.{HasUnwrittenCells, HasValues, SampleHasValues}
 use Rattle.iox2_pubsub.proofs.SliceParts.{cells-parts, values-parts}
 use Rattle.iox2_runs.specs.Cells.{LoanHasAt, MessageHasAt, WritesAt}

@@ -1,8 +1,8 @@
 -- Two runs that tell of no refused memory, compared.
 use Rattle.std.proofs.Common.{List, [], sym, ap, subst}
 use Rattle.std.proofs.lemmas.List.{append-nil}
-use Rattle.iox2_store.specs.machine.State.{State, fresh, no_messages}
-use Rattle.iox2_store.specs.declared.service_config.ServiceConfig.{ServiceConfig}
+use Rattle.iox2_machine.specs.machine.State.{State, fresh, no_messages}
+use Rattle.iox2_machine.specs.declared.service_config.ServiceConfig.{ServiceConfig}
 use Rattle.iox2_domain.specs.Kept.{Kept}
 use Rattle.iox2_commands.specs.Refusals.{MetNoRefusal}
 use Rattle.iox2_commands.specs.Runs.{only_defaults}

@@ -1,16 +1,16 @@
 -- Calls on ports without boxes, where other ports may have some: they are calls where no port has one.
 use Rattle.std.proofs.Common.{◌≡◌, ℕ, Bool, sym, subst, Option, None, Some, Result, Ok, Err}
 use Rattle.std.specs.Prelude.{MatchResult}
-use Rattle.iox2_store.specs.machine.Environments.{fixed_handlers}
-use Rattle.iox2_store.specs.machine.Ports.{CreatePublisher, CreateSubscriber}
-use Rattle.iox2_store.specs.machine.PublisherUpdate.{UpdatePublisher}
-use Rattle.iox2_store.specs.machine.Receives.{HasSamples, Receive, ReceiveResult}
-use Rattle.iox2_store.specs.machine.Records.{Custom, Environment, PublisherSettings, Subscriber, SubscriberSettings}
-use Rattle.iox2_store.specs.machine.State.{State, Messages}
-use Rattle.iox2_store.specs.machine.SubscriberUpdate.{UpdateSubscriber}
-use Rattle.iox2_store.specs.declared.errors.ConnectionFailure.{ConnectionFailure}
-use Rattle.iox2_store.specs.declared.errors.PublisherCreateError.{PublisherCreateError}
-use Rattle.iox2_store.specs.declared.errors.SubscriberCreateError.{SubscriberCreateError}
+use Rattle.iox2_machine.specs.machine.Environments.{fixed_handlers}
+use Rattle.iox2_machine.specs.machine.Ports.{CreatePublisher, CreateSubscriber}
+use Rattle.iox2_machine.specs.machine.PublisherUpdate.{UpdatePublisher}
+use Rattle.iox2_machine.specs.machine.Receives.{HasSamples, Receive, ReceiveResult}
+use Rattle.iox2_machine.specs.machine.Records.{Custom, Environment, PublisherSettings, Subscriber, SubscriberSettings}
+use Rattle.iox2_machine.specs.machine.State.{State, Messages}
+use Rattle.iox2_machine.specs.machine.SubscriberUpdate.{UpdateSubscriber}
+use Rattle.iox2_machine.specs.declared.errors.ConnectionFailure.{ConnectionFailure}
+use Rattle.iox2_machine.specs.declared.errors.PublisherCreateError.{PublisherCreateError}
+use Rattle.iox2_machine.specs.declared.errors.SubscriberCreateError.{SubscriberCreateError}
 use Rattle.iox2_domain.specs.Kept.{Kept as Domain, state_of}
 use Rattle.iox2_domain.specs.Shows.{Shows}
 use Rattle.iox2_steps.proofs.updates.AnyBoxes.{AllowsUpdates, update-alike}

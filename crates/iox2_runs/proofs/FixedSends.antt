@@ -3,12 +3,12 @@ use Rattle.std.proofs.Common.{◌≡◌, ℕ, ◌<◌, refl, sym, ap, ◌∙◌,
 use Rattle.std.proofs.lemmas.Option.{none-some, same_Some}
 use Rattle.std.specs.Option.{option_map}
 use Rattle.std.specs.declared.time.Duration.{Duration}
-use Rattle.iox2_store.specs.machine.Environments.{fixed_handlers}
-use Rattle.iox2_store.specs.machine.Records.{BlockedSend, Custom, Environment, Fixed, Handler, Loan, Publisher}
-use Rattle.iox2_store.specs.machine.Sends.{Send, Retry, GiveUp, SendResult}
-use Rattle.iox2_store.specs.machine.State.{State}
-use Rattle.iox2_store.specs.declared.backpressure.BackpressureAction.{BackpressureAction}
-use Rattle.iox2_store.specs.declared.degradation.DegradationAction.{DegradationAction}
+use Rattle.iox2_machine.specs.machine.Environments.{fixed_handlers}
+use Rattle.iox2_machine.specs.machine.Records.{BlockedSend, Custom, Environment, Fixed, Handler, Loan, Publisher}
+use Rattle.iox2_machine.specs.machine.Sends.{Send, Retry, GiveUp, SendResult}
+use Rattle.iox2_machine.specs.machine.State.{State}
+use Rattle.iox2_machine.specs.declared.backpressure.BackpressureAction.{BackpressureAction}
+use Rattle.iox2_machine.specs.declared.degradation.DegradationAction.{DegradationAction}
 use Rattle.iox2_laws.proofs.Waits.{Waits, update_publisher_waits}
 use Rattle.iox2_ends.proofs.AnyEnvironment.{AllowsAsMuch}
 use Rattle.iox2_steps.proofs.sends.AnySends.{MayAnswerAsMuch, sends-alike, retries-alike, gives_up-alike}

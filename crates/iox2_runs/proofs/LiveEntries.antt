@@ -2,12 +2,12 @@
 use Rattle.std.proofs.Common.{◌≡◌, ◌<◌, Bool, true, false, map, refl, sym, subst, ◌∙◌}
 use Rattle.std.proofs.lemmas.Bool.{true≢false}
 use Rattle.std.specs.Prelude.{◌↔◌}
-use Rattle.iox2_store.specs.machine.State.{State, Messages}
-use Rattle.iox2_store.specs.machine.WellFormed.{IsWellFormed}
-use Rattle.iox2_store.specs.declared.key.Key.{Key}
+use Rattle.iox2_machine.specs.machine.State.{State, Messages}
+use Rattle.iox2_machine.specs.machine.WellFormed.{IsWellFormed}
+use Rattle.iox2_machine.specs.declared.key.Key.{Key}
 use Rattle.iox2_domain.specs.Kept.{Kept as Domain, state_of}
 use Rattle.iox2_domain.specs.Shows.{Shows}
-use Rattle.iox2_store.specs.machine.Mailbox.{is_borrowed}
+use Rattle.iox2_machine.specs.machine.Mailbox.{is_borrowed}
 use Rattle.iox2_pubsub.specs.Live.{IsPublisherKey, IsReadyPublisher, IsLiveSubscriber, IsUnblocked, IsUnwritten, IsWritten, IsBlockedSend, IsLiveSample, publisher_key, blocked_key}
 use Rattle.iox2_pubsub.proofs.LiveParts.{publisher-live, unblocked-free, unblocked-parts, blocked-live, subscriber-live, unwritten-live, written-live, sample-live}
 use Rattle.iox2_pubsub.specs.declared.blocked_send.BlockedSend.{BlockedSend as BlockedHandle}

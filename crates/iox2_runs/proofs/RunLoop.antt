@@ -3,9 +3,9 @@ use Rattle.std.proofs.Common.{◌≡◌, ℕ, List, [], ◌∷◌, ◌++◌, map
 use Rattle.std.specs.Prelude.{slice_get}
 use Rattle.std.proofs.lemmas.List.{map-append}
 use Rattle.std.proofs.lemmas.Option.{none-some}
-use Rattle.iox2_store.specs.machine.Environments.{fixed_handlers}
-use Rattle.iox2_store.specs.machine.Records.{Environment}
-use Rattle.iox2_store.specs.machine.State.{State, Messages}
+use Rattle.iox2_machine.specs.machine.Environments.{fixed_handlers}
+use Rattle.iox2_machine.specs.machine.Records.{Environment}
+use Rattle.iox2_machine.specs.machine.State.{State, Messages}
 use Rattle.iox2_domain.specs.Kept.{Kept as Domain}
 use Rattle.iox2_domain.specs.Shows.{Shows}
 use Rattle.iox2_commands.specs.Outcomes.{Handle, Event, messages_after}

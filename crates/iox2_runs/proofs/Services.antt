@@ -1,11 +1,11 @@
 -- In which service a command names anything.
 use Rattle.std.proofs.Common.{◌≡◌, Bool, true, false, cond, refl, eqb, ◌&&◌, not, Option, None}
 use Rattle.std.proofs.lemmas.Bool.{eqb-true}
-use Rattle.iox2_store.specs.SingleValues.{is_fixed_size, is_single_valued}
-use Rattle.iox2_store.specs.machine.State.{State}
-use Rattle.iox2_store.specs.declared.service_config.ServiceConfig.{ServiceConfig}
-use Rattle.iox2_store.specs.declared.service_config.TypeVariant.{TypeVariant}
-use Rattle.iox2_store.specs.declared.service_config.TypeVariant.TheVariants.{FixedSize, Dynamic}
+use Rattle.iox2_machine.specs.SingleValues.{is_fixed_size, is_single_valued}
+use Rattle.iox2_machine.specs.machine.State.{State}
+use Rattle.iox2_machine.specs.declared.service_config.ServiceConfig.{ServiceConfig}
+use Rattle.iox2_machine.specs.declared.service_config.TypeVariant.{TypeVariant}
+use Rattle.iox2_machine.specs.declared.service_config.TypeVariant.TheVariants.{FixedSize, Dynamic}
 use Rattle.iox2_domain.specs.Kept.{Kept as Domain}
 use Rattle.iox2_domain.proofs.lemmas.fields.SingleSettings.{single-settings}
 use Rattle.iox2_pubsub.specs.Live.{IsSingleValued}

@@ -1,9 +1,9 @@
 -- Blocked sends that go on, with what the run keeps.
 use Rattle.std.proofs.Common.{◌≡◌, ℕ, Option, Some, List, [], ◌∷◌, ◌++◌, refl, ap, ◌∙◌}
 use Rattle.std.specs.Prelude.{slice_get, slice_set}
-use Rattle.iox2_store.specs.machine.Mailbox.{is_borrowed}
-use Rattle.iox2_store.specs.machine.Records.{Environment, Loan}
-use Rattle.iox2_store.specs.machine.State.{State, Messages}
+use Rattle.iox2_machine.specs.machine.Mailbox.{is_borrowed}
+use Rattle.iox2_machine.specs.machine.Records.{Environment, Loan}
+use Rattle.iox2_machine.specs.machine.State.{State, Messages}
 use Rattle.iox2_laws.specs.Laws.{Advances}
 use Rattle.iox2_commands.specs.Outcomes.{Handle, No_handle, Blocked_handle, Event, No_event, replied}
 use Rattle.iox2_commands.specs.Runs.{Defaults}

@@ -4,12 +4,12 @@ use Rattle.std.specs.Prelude.{slice_get, slice_set, MatchOption}
 use Rattle.std.specs.Option.{option_and_then}
 use Rattle.std.proofs.lemmas.Bool.{ne_eqb}
 use Rattle.std.proofs.lemmas.Option.{none-some, same_Some}
-use Rattle.iox2_store.specs.machine.Numbers.{put_at}
-use Rattle.iox2_store.specs.machine.Records.{Loan, Environment}
-use Rattle.iox2_store.specs.machine.State.{State, Messages, with_loan, is_blocked}
-use Rattle.iox2_store.specs.machine.Loans.{written, entry_of}
-use Rattle.iox2_store.specs.machine.Mailbox.{is_borrowed}
-use Rattle.iox2_store.specs.machine.Sends.{Send, SendResult}
+use Rattle.iox2_machine.specs.machine.Numbers.{put_at}
+use Rattle.iox2_machine.specs.machine.Records.{Loan, Environment}
+use Rattle.iox2_machine.specs.machine.State.{State, Messages, with_loan, is_blocked}
+use Rattle.iox2_machine.specs.machine.Loans.{written, entry_of}
+use Rattle.iox2_machine.specs.machine.Mailbox.{is_borrowed}
+use Rattle.iox2_machine.specs.machine.Sends.{Send, SendResult}
 use Rattle.iox2_laws.proofs.LoanKeeping.{send_loans}
 use Rattle.iox2_laws.proofs.SendLaws.{send_advances}
 use Rattle.iox2_laws.proofs.Puts.{put_at-same, put_at-other}

@@ -2,8 +2,8 @@
 use Rattle.std.proofs.Common.{◌≡◌, ℕ, true, false, List, [], ◌∷◌, ◌++◌, refl, sym, ap, ◌∙◌, Some, arith}
 use Rattle.std.specs.Prelude.{slice_get, slice_set}
 use Rattle.std.proofs.lemmas.Bool.{ne_eqb}
-use Rattle.iox2_store.specs.machine.Records.{Loan, Environment}
-use Rattle.iox2_store.specs.machine.State.{State, Messages, with_loan}
+use Rattle.iox2_machine.specs.machine.Records.{Loan, Environment}
+use Rattle.iox2_machine.specs.machine.State.{State, Messages, with_loan}
 use Rattle.iox2_laws.proofs.PortsCome.{loan_set_comes}
 use Rattle.iox2_laws.proofs.PortsStay.{loan_set_stays}
 use Rattle.iox2_laws.proofs.Waits.{loan_set_waits}

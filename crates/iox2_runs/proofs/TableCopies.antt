@@ -3,17 +3,17 @@ use Rattle.std.proofs.Common.{◌≡◌, ℕ, ◌+◌, ◌≤◌, ◌<◌, true,
 use Rattle.std.specs.Prelude.{MatchOption, slice_get}
 use Rattle.std.proofs.lemmas.Option.{none-some, same_Some}
 use Rattle.std.proofs.lemmas.Bool.{ne_eqb}
-use Rattle.iox2_store.specs.machine.Environments.{fixed_handlers}
-use Rattle.iox2_store.specs.machine.Loans.{written, entry_of}
-use Rattle.iox2_store.specs.machine.Numbers.{put_at}
-use Rattle.iox2_store.specs.machine.Records.{Loan, Environment}
-use Rattle.iox2_store.specs.machine.Mailbox.{is_borrowed}
-use Rattle.iox2_store.specs.machine.Sends.{Send, SendResult}
-use Rattle.iox2_store.specs.machine.SingleCalls.{GrantWrittenLoan}
-use Rattle.iox2_store.specs.machine.State.{State, Messages, with_loan}
-use Rattle.iox2_store.specs.declared.errors.LoanError.{LoanError}
-use Rattle.iox2_store.specs.declared.errors.SendError.TheVariants.{LoanError as NotLoaned}
-use Rattle.iox2_store.specs.SingleValues.{is_single_valued}
+use Rattle.iox2_machine.specs.machine.Environments.{fixed_handlers}
+use Rattle.iox2_machine.specs.machine.Loans.{written, entry_of}
+use Rattle.iox2_machine.specs.machine.Numbers.{put_at}
+use Rattle.iox2_machine.specs.machine.Records.{Loan, Environment}
+use Rattle.iox2_machine.specs.machine.Mailbox.{is_borrowed}
+use Rattle.iox2_machine.specs.machine.Sends.{Send, SendResult}
+use Rattle.iox2_machine.specs.machine.SingleCalls.{GrantWrittenLoan}
+use Rattle.iox2_machine.specs.machine.State.{State, Messages, with_loan}
+use Rattle.iox2_machine.specs.declared.errors.LoanError.{LoanError}
+use Rattle.iox2_machine.specs.declared.errors.SendError.TheVariants.{LoanError as NotLoaned}
+use Rattle.iox2_machine.specs.SingleValues.{is_single_valued}
 use Rattle.iox2_laws.proofs.LoanKeeping.{send_loans}
 use Rattle.iox2_laws.proofs.NextLoan.{IsNextLoan, loan_next, loan_refused}
 use Rattle.iox2_laws.proofs.PortsCome.{PortsCome, ports_come_themselves, ports_come_trans, grant_loan_comes, loan_set_comes}

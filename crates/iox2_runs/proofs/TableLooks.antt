@@ -4,11 +4,11 @@ use Rattle.std.specs.Prelude.{◌==◌, slice_get}
 use Rattle.std.specs.Option.{option_and_then, option_map, option_map_or}
 use Rattle.std.proofs.lemmas.Bool.{true≢false, ne_eqb, eq-eqb}
 use Rattle.std.proofs.lemmas.Option.{none-some, same_Some}
-use Rattle.iox2_store.specs.machine.Mailbox.{is_borrowed}
-use Rattle.iox2_store.specs.machine.Records.{Loan, Publisher, Subscriber, BlockedSend}
-use Rattle.iox2_store.specs.machine.State.{State, is_blocked}
+use Rattle.iox2_machine.specs.machine.Mailbox.{is_borrowed}
+use Rattle.iox2_machine.specs.machine.Records.{Loan, Publisher, Subscriber, BlockedSend}
+use Rattle.iox2_machine.specs.machine.State.{State, is_blocked}
 use Rattle.iox2_commands.specs.Outcomes.{Handle, No_handle, Publisher_handle, Subscriber_handle, Loan_handle, Blocked_handle, Sample_handle, Event}
-use Rattle.iox2_store.specs.machine.SingleCalls.{HoldsBlocked}
+use Rattle.iox2_machine.specs.machine.SingleCalls.{HoldsBlocked}
 use Rattle.iox2_commands.specs.Step.{publisher_at, unblocked_at, subscriber_at, loan_at, unwritten_at, written_at, sendable_at, blocked_at, sample_at}
 use Rattle.iox2_runs.specs.Tables.{TableEntry, No_entry, Publisher_entry, Subscriber_entry, Unwritten_entry, Written_entry, Blocked_entry, Sample_entry, IsUnblocked, HasLoan, HasNoBox, IsEntryOf, IsTable}
 

@@ -3,10 +3,10 @@ use Rattle.std.proofs.Common.{◌≡◌, ℕ, ◌≤◌, ◌<◌, Bool, true, fa
 use Rattle.std.specs.Prelude.{slice_get, slice_set}
 use Rattle.std.proofs.lemmas.Bool.{ne_eqb, eq-eqb}
 use Rattle.std.proofs.lemmas.Option.{none-some}
-use Rattle.iox2_store.specs.machine.Records.{Loan, Environment}
-use Rattle.iox2_store.specs.machine.State.{State, Messages}
-use Rattle.iox2_store.specs.machine.Receives.{Receive, ReceiveResult, Got_sample}
-use Rattle.iox2_store.specs.machine.Releases.{released}
+use Rattle.iox2_machine.specs.machine.Records.{Loan, Environment}
+use Rattle.iox2_machine.specs.machine.State.{State, Messages}
+use Rattle.iox2_machine.specs.machine.Receives.{Receive, ReceiveResult, Got_sample}
+use Rattle.iox2_machine.specs.machine.Releases.{released}
 use Rattle.iox2_laws.proofs.LoanKeeping.{receive_loans, released_loans}
 use Rattle.iox2_commands.specs.Outcomes.{Handle, No_handle, Loan_handle, Blocked_handle, Sample_handle, Event, No_event, Message_received, replied, done, skipped}
 use Rattle.iox2_commands.specs.Runs.{Defaults}

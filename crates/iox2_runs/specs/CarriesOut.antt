@@ -1,6 +1,6 @@
 -- What one command of a run comes to.
 use Rattle.std.specs.declared.vec.Vec.{Vec}
-use Rattle.iox2_store.specs.machine.Records.{Environment}
+use Rattle.iox2_machine.specs.machine.Records.{Environment}
 use Rattle.iox2_commands.specs.Runs.{Defaults}
 use Rattle.iox2_commands.specs.declared.command.Command.{Command}
 use Rattle.iox2_commands.specs.declared.reply.Reply.{Reply}

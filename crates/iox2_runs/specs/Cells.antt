@@ -2,9 +2,9 @@
 use Rattle.std.specs.Prelude.{ℕ, Bool, cond, length, nat_lt, slice_get, ◌≡◌}
 use Rattle.std.specs.declared.option.Option.{Option}
 use Rattle.std.specs.declared.option.Option.TheVariants.{Some}
-use Rattle.iox2_store.specs.machine.Loans.{with_cell}
-use Rattle.iox2_store.specs.machine.Records.{Entry, Loan}
-use Rattle.iox2_store.specs.machine.State.{State, Messages, with_loan}
+use Rattle.iox2_machine.specs.machine.Loans.{with_cell}
+use Rattle.iox2_machine.specs.machine.Records.{Entry, Loan}
+use Rattle.iox2_machine.specs.machine.State.{State, Messages, with_loan}
 use Rattle.iox2_domain.specs.Kept.{Kept as Domain}
 use Rattle.iox2_domain.specs.Shows.{Shows}
 

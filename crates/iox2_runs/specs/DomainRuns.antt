@@ -1,7 +1,7 @@
 -- A run on a domain.
 use Rattle.std.specs.Prelude.{List, []}
-use Rattle.iox2_store.specs.machine.Environments.{fixed_handlers}
-use Rattle.iox2_store.specs.machine.State.{State, Messages}
+use Rattle.iox2_machine.specs.machine.Environments.{fixed_handlers}
+use Rattle.iox2_machine.specs.machine.State.{State, Messages}
 use Rattle.iox2_domain.specs.Kept.{Kept as Domain}
 use Rattle.iox2_domain.specs.Shows.{Shows}
 use Rattle.iox2_commands.specs.Outcomes.{Handle, Event}

@@ -1,8 +1,8 @@
 -- What the function of one command of a run ensures.
 use Rattle.std.specs.Prelude.{ℕ, List, [], ◌∷◌, ◌++◌, ◌≡◌}
-use Rattle.iox2_store.specs.machine.Numbers.{IsOnce}
-use Rattle.iox2_store.specs.machine.Records.{Environment}
-use Rattle.iox2_store.specs.machine.State.{State, Messages}
+use Rattle.iox2_machine.specs.machine.Numbers.{IsOnce}
+use Rattle.iox2_machine.specs.machine.Records.{Environment}
+use Rattle.iox2_machine.specs.machine.State.{State, Messages}
 use Rattle.iox2_commands.specs.Outcomes.{Handle, Event, Outcome, messages_after}
 use Rattle.iox2_commands.specs.Step.{Step}
 use Rattle.iox2_commands.specs.Runs.{Defaults, received}

@@ -1,7 +1,7 @@
 -- What a run replies to a send, and what it has of it.
 use Rattle.std.specs.declared.result.Result.{Result}
 use Rattle.std.specs.declared.result.Result.TheVariants.{Ok, Err}
-use Rattle.iox2_store.specs.declared.errors.SendError.{SendError}
+use Rattle.iox2_machine.specs.declared.errors.SendError.{SendError}
 use Rattle.iox2_pubsub.specs.declared.send_outcome.SendOutcome.{SendOutcome}
 use Rattle.iox2_pubsub.specs.declared.send_outcome.SendOutcome.TheVariants.{Delivered as WasDelivered, Blocked as IsBlocked}
 use Rattle.iox2_commands.specs.declared.reply.Reply.{Reply}

@@ -2,10 +2,10 @@
 use Rattle.std.specs.Prelude.{ℕ, Bool, not, ◌&&◌, ◌==◌}
 use Rattle.std.specs.declared.option.Option.{Option}
 use Rattle.std.specs.declared.option.Option.TheVariants.{None, Some}
-use Rattle.iox2_store.specs.SingleValues.{is_fixed_size}
-use Rattle.iox2_store.specs.machine.Records.{SubscriberSettings, Fixed}
-use Rattle.iox2_store.specs.declared.degradation.DegradationAction.{DegradationAction}
-use Rattle.iox2_store.specs.declared.service_config.ServiceConfig.{ServiceConfig}
+use Rattle.iox2_machine.specs.SingleValues.{is_fixed_size}
+use Rattle.iox2_machine.specs.machine.Records.{SubscriberSettings, Fixed}
+use Rattle.iox2_machine.specs.declared.degradation.DegradationAction.{DegradationAction}
+use Rattle.iox2_machine.specs.declared.service_config.ServiceConfig.{ServiceConfig}
 
 -- The payload of each message is a slice of elements of one unit.
 abbrev pub has_slices : ServiceConfig → Bool

@@ -1,8 +1,8 @@
 -- What a command does with what its handle names.
 use Rattle.std.specs.Prelude.{◌≡◌, ℕ, List, slice_index_or, slice_set}
 use Rattle.std.specs.declared.vec.Vec.{Vec}
-use Rattle.iox2_store.specs.machine.Records.{Environment}
-use Rattle.iox2_store.specs.machine.State.{State, Messages}
+use Rattle.iox2_machine.specs.machine.Records.{Environment}
+use Rattle.iox2_machine.specs.machine.State.{State, Messages}
 use Rattle.iox2_domain.specs.Kept.{Kept as Domain}
 use Rattle.iox2_domain.specs.Shows.{Shows}
 use Rattle.iox2_pubsub.specs.declared.publisher.Publisher.{Publisher as PublisherHandle}

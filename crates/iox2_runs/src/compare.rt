@@ -6,8 +6,8 @@ ghost use Rattle.iox2_runs.specs.Compared.{RanAfresh, RanWithOneDefault, AreComp
 
 use crate::runs::run;
 use iox2_commands::{Command, Reply};
+use iox2_machine::{BackpressureFn, DegradationFn, ServiceConfig};
 use iox2_pubsub::Domain;
-use iox2_store::{BackpressureFn, DegradationFn, ServiceConfig};
 use std::alloc::Global;
 
 /// Runs both lists, each on a new domain with these settings, and returns each domain with its

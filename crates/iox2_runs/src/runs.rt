@@ -1,7 +1,7 @@
 //! Runs of commands on a domain.
 ghost use Rattle.std.specs.Prelude.{◌≡◌, List, IfOk, IfErr};
-ghost use Rattle.iox2_store.specs.machine.Environments.{fixed_handlers};
-ghost use Rattle.iox2_store.specs.machine.State.{State, Messages};
+ghost use Rattle.iox2_machine.specs.machine.Environments.{fixed_handlers};
+ghost use Rattle.iox2_machine.specs.machine.State.{State, Messages};
 ghost use Rattle.iox2_domain.specs.Shows.{Shows};
 ghost use Rattle.iox2_pubsub.specs.Live.{Stays};
 ghost use Rattle.iox2_runs.specs.Carries.{IsLiveTable, defaults_of};
@@ -30,8 +30,8 @@ mod updates;
 
 use changes::{assume_init, set_payload, write_all, write_cell, write_header};
 use iox2_commands::{Command, Reply};
+use iox2_machine::{BackpressureFn, DegradationFn};
 use iox2_pubsub::Domain;
-use iox2_store::{BackpressureFn, DegradationFn};
 use lends::{loan, loan_slice, loan_uninit, send_copy};
 pub use made::{Made, disown_all};
 use made::{settle, take};

@@ -2,8 +2,8 @@
 use Rattle.std.proofs.Common.{◌≡◌, ◌≢◌, ℕ, zero, suc, ◌-◌, ◌<◌, Bool, true, false, cond, not, ◌&&◌, List, [], ◌∷◌, length, replicate, refl, ap, sym, ◌∙◌, inl, inr, ne_eqb, arith}
 use Rattle.std.proofs.lemmas.Bool.{cases_eq, eq-eqb}
 use Rattle.std.proofs.lemmas.List.{get_or-set_same, get_or-set_other, length-set}
-use Rattle.iox2_store.specs.machine.Channel.{Channel, new_channel, is_in_state, is_closed, changed_if}
-use Rattle.iox2_store.specs.machine.Numbers.{put_at}
+use Rattle.iox2_machine.specs.machine.Channel.{Channel, new_channel, is_in_state, is_closed, changed_if}
+use Rattle.iox2_machine.specs.machine.Numbers.{put_at}
 use Rattle.iox2_slots.specs.Link.{Link, channel_at, changed_in, channels_changed, having_channels}
 use mathlib.Core.Path.{fun_ext}
 

@@ -8,8 +8,8 @@ use Rattle.std.proofs.lemmas.Bool.{cases_lt, lt-ltb}
 use Rattle.std.specs.Vec.{with_item}
 use Rattle.circular_buffer.specs.Buffer.{Buffer, buffer as buffer_of}
 use Rattle.std.specs.Prelude.{slice_get}
-use Rattle.iox2_store.specs.machine.Channel.{Channel, new_channel, is_closed}
-use Rattle.iox2_store.specs.machine.Mailbox.{numbers_of, with_numbers_of, other_room}
+use Rattle.iox2_machine.specs.machine.Channel.{Channel, new_channel, is_closed}
+use Rattle.iox2_machine.specs.machine.Mailbox.{numbers_of, with_numbers_of, other_room}
 use Rattle.iox2_slots.specs.Link.{Link, IsPut, IsOtherDropped, DropsFirst, channel_at, changed_in, channels_changed, having_channels}
 use Rattle.iox2_slots.specs.LinkFields.{link_of, IsConnection}
 use Rattle.iox2_slots.specs.FurtherChannels.{slots_from, rings, statuses, empty_channel, HasRoom, HaveRoom, IsRingPut, IsFirstFilled}

@@ -1,13 +1,13 @@
 -- What waits in further channels, as one list.
 use Rattle.std.proofs.Common.{◌≡◌, ℕ, zero, suc, ◌+◌, ◌<◌, ◌≤◌, Bool, true, false, cond, List, [], ◌∷◌, ◌++◌, length, map, get_or, refl, ap, sym, subst, ◌∙◌, append_assoc, arith, eqb, ltb, inl, inr, not, Option, None, Some, MatchOption}
 use Rattle.std.specs.Option.{is_some}
-use Rattle.iox2_store.specs.machine.Numbers.{is_nil}
+use Rattle.iox2_machine.specs.machine.Numbers.{is_nil}
 use Rattle.std.proofs.Math.ListN.{set}
 use Rattle.std.proofs.lemmas.List.{append-nil}
 use Rattle.std.proofs.lemmas.List.Elements.{filter-append}
 use Rattle.std.proofs.lemmas.Bool.{ne_eqb, eq-eqb, lt-ltb, false_from_ne_true, ltb-true, cases_eq, eqb-true}
 use Rattle.std.specs.List.{filter, All, AllWithin}
-use Rattle.iox2_store.specs.machine.Mailbox.{ChannelNumber, numbers_of, with_numbers_of}
+use Rattle.iox2_machine.specs.machine.Mailbox.{ChannelNumber, numbers_of, with_numbers_of}
 use Rattle.iox2_slots.specs.Link.{DropsFirst}
 use Rattle.iox2_slots.specs.FurtherChannels.{tagged, slots_from, rings, IsUnfilled, IsFirstFilled}
 use Rattle.iox2_slots.specs.declared.further_channel.FurtherChannel.{FurtherChannel}

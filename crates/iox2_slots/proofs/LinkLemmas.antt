@@ -4,8 +4,8 @@ use Rattle.std.proofs.lemmas.Bool.{false≢true, or_cases, or_left, or_right, or
 use Rattle.std.proofs.lemmas.List.Sums.{sum_by-cons}
 use Rattle.std.specs.Prelude.{count_by, slice_get}
 use Rattle.iox2_slots.specs.Link.{Link, has_other_slots, IsTaken, IsDropped, IsReclaimed}
-use Rattle.iox2_store.specs.machine.Mailbox.{ChannelNumber}
-use Rattle.iox2_store.specs.machine.Numbers.{contains, without, is_nil}
+use Rattle.iox2_machine.specs.machine.Mailbox.{ChannelNumber}
+use Rattle.iox2_machine.specs.machine.Numbers.{contains, without, is_nil}
 
 -- the first waiting slot of a ring was borrowed
 pub taken_first : (c d : Link) (xs : List ℕ) (slot : ℕ) → c.waiting ≡ xs → Some slot ≡ slice_get xs 0 → d ≡ record c { waiting = drop 1 xs; borrowed = c.borrowed ++ slot ∷ [] } → IsTaken c (Some slot) d

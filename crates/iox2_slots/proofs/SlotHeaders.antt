@@ -1,7 +1,7 @@
 -- The headers of a book's slots, where one of them gets another number of elements.
 use Rattle.std.proofs.Common.{◌≡◌, ℕ, ◌<◌, List, length, get_or, slice_set, replicate, ap, ◌∙◌}
 use Rattle.std.proofs.lemmas.List.Elements.{All-replicate, All-set}
-use Rattle.iox2_store.specs.declared.header.Header.{Header}
+use Rattle.iox2_machine.specs.declared.header.Header.{Header}
 use Rattle.iox2_slots.specs.SlotHeaders.{AreFrom}
 
 -- The header with another number of elements.

@@ -3,7 +3,7 @@ use Rattle.std.proofs.Common.{◌≡◌, ℕ, zero, suc, ◌+◌, ◌-◌, ◌<�
 use Rattle.std.proofs.lemmas.Bool.{cases_eq, ne_eqb, or_parts}
 use Rattle.std.proofs.lemmas.List.Sums.{sum_by-cons}
 use Rattle.std.specs.Prelude.{count_by, remove, slice_get}
-use Rattle.iox2_store.specs.machine.Numbers.{contains, without, IsOnce}
+use Rattle.iox2_machine.specs.machine.Numbers.{contains, without, IsOnce}
 
 -- how often the slot stands in the list
 abbrev tally : ℕ → List ℕ → ℕ

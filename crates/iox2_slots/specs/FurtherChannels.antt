@@ -1,8 +1,8 @@
 -- The channels of a connection behind channel 0, as rings of slots.
 use Rattle.std.specs.Prelude.{◌≡◌, ℕ, suc, ◌<◌, ◌≤◌, Bool, true, false, List, [], ◌∷◌, ◌++◌, length, map, slice_index_or}
 use Rattle.std.specs.List.{All, AllWithin}
-use Rattle.iox2_store.specs.machine.Channel.{Channel, new_channel}
-use Rattle.iox2_store.specs.machine.Mailbox.{ChannelNumber}
+use Rattle.iox2_machine.specs.machine.Channel.{Channel, new_channel}
+use Rattle.iox2_machine.specs.machine.Mailbox.{ChannelNumber}
 use Rattle.iox2_slots.specs.declared.connection.PutOutcome.{PutOutcome}
 use Rattle.iox2_slots.specs.declared.connection.PutOutcome.TheVariants.{Taken, Overwrote, Full}
 use Rattle.iox2_slots.specs.declared.further_channel.FurtherChannel.{FurtherChannel}

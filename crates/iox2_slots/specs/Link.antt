@@ -2,9 +2,9 @@
 use Rattle.std.specs.Prelude.{◌≡◌, ℕ, zero, suc, ◌+◌, ◌<◌, ◌≤◌, ◌^◌, Bool, true, false, not, ◌&&◌, List, [], ◌∷◌, ◌++◌, length, map, cond, nat_lt, replicate, slice_index_or, slice_set}
 use Rattle.std.specs.declared.option.Option.{Option}
 use Rattle.std.specs.declared.option.Option.TheVariants.{None, Some}
-use Rattle.iox2_store.specs.machine.Numbers.{is_nil, without}
-use Rattle.iox2_store.specs.machine.Channel.{Channel, new_channel, is_in_state, is_closed, with_state, with_hint}
-use Rattle.iox2_store.specs.machine.Mailbox.{ChannelNumber, numbers_of, with_numbers_of, other_room}
+use Rattle.iox2_machine.specs.machine.Numbers.{is_nil, without}
+use Rattle.iox2_machine.specs.machine.Channel.{Channel, new_channel, is_in_state, is_closed, with_state, with_hint}
+use Rattle.iox2_machine.specs.machine.Mailbox.{ChannelNumber, numbers_of, with_numbers_of, other_room}
 use Rattle.iox2_slots.specs.declared.connection.Home.{Home}
 use Rattle.iox2_slots.specs.declared.connection.PutOutcome.{PutOutcome}
 use Rattle.iox2_slots.specs.declared.connection.PutOutcome.TheVariants.{Taken, Overwrote, Full}

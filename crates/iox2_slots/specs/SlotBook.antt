@@ -1,6 +1,6 @@
 -- What contracts see of a publisher's book: plain lists, with an entry for each slot.
 use Rattle.std.specs.Prelude.{◌≡◌, ℕ, ◌<◌, List, ◌++◌, length, replicate, slice_index, slice_set}
-use Rattle.iox2_store.specs.declared.header.Header.{Header}
+use Rattle.iox2_machine.specs.declared.header.Header.{Header}
 use Rattle.iox2_slots.specs.declared.slots.mark.SlotMark.{SlotMark}
 use Rattle.iox2_slots.specs.declared.slots.mark.SlotMark.TheVariants.{Unwritten}
 

@@ -1,6 +1,6 @@
 //! How a channel of a connection stands.
 ghost use Rattle.std.specs.Prelude.{◌≡◌};
-ghost use Rattle.iox2_store.specs.machine.Channel.{is_closed, new_channel, with_hint, with_state};
+ghost use Rattle.iox2_machine.specs.machine.Channel.{is_closed, new_channel, with_hint, with_state};
 ghost use Rattle.iox2_slots.specs.Link.{changed_in};
 
 use std::marker::Model;
@@ -25,7 +25,7 @@ pub(crate) struct ChannelStatus {
 }
 
 impl Model for ChannelStatus {
-    ghost use Rattle.iox2_store.specs.machine.Channel.{Channel};
+    ghost use Rattle.iox2_machine.specs.machine.Channel.{Channel};
 
     ghost Value = { Channel };
 

@@ -1,7 +1,7 @@
 //! What lies between one publisher and one subscriber: numbers of the publisher's slots.
 ghost use Rattle.std.specs.Prelude.{◌≡◌, ◌+◌, ◌<◌, ◌↔◌, length, Contains, IfOk, IsTrue};
 ghost use Rattle.iox2_slots.specs.Link.{load, is_shut_in, empty_link, channel_at, has_slots, has_other_slots, has_borrowed_slots, has_returned_slots, can_borrow, is_shut, with_mark, state_changed, hint_set, with_returned, without_borrowed, IsBounded};
-ghost use Rattle.iox2_store.specs.machine.Numbers.{IsOnce};
+ghost use Rattle.iox2_machine.specs.machine.Numbers.{IsOnce};
 
 use crate::channel_status::ChannelStatus;
 use crate::further_channel::{FurtherChannel, first_filled, new_channels, put_into};

@@ -1,7 +1,7 @@
 //! A slot in a list: among what is borrowed of a connection, or among a publisher's loans.
 ghost use Rattle.std.specs.Prelude.{◌≡◌, ◌==◌, ◌+◌, ◌-◌, ◌≤◌, ◌↔◌, count_by, length, slice_get, Some, MatchOption, Contains, IsTrue};
 ghost use Rattle.std.specs.Vec.{vec_capacity};
-ghost use Rattle.iox2_store.specs.machine.Numbers.{without};
+ghost use Rattle.iox2_machine.specs.machine.Numbers.{without};
 
 /// A place at which a slot stands. It is looked for from both ends, since either the oldest or the
 /// newest slots go first.

@@ -6,7 +6,7 @@ use Rattle.std.specs.Option.{option_and_then}
 use Rattle.slab.specs.Slab.{get}
 use Rattle.iox2_slots.specs.Link.{Link}
 use Rattle.iox2_slots.specs.SlotBook.{Book}
-use Rattle.iox2_store.specs.machine.State.{State}
+use Rattle.iox2_machine.specs.machine.State.{State}
 use Rattle.iox2_domain.specs.Kept.{KeptMessage, state_of}
 use Rattle.iox2_domain.specs.KeptLinks.{HasLink}
 use Rattle.iox2_domain.specs.Midway.{with_channels_of}

@@ -1,7 +1,7 @@
 -- The words of a publisher's strategies.
 use Rattle.std.specs.Prelude.{ℕ, List, codes}
-use Rattle.iox2_store.specs.declared.backpressure.BackpressureStrategy.{BackpressureStrategy}
-use Rattle.iox2_store.specs.declared.backpressure.BackpressureStrategy.TheVariants as strategy
+use Rattle.iox2_machine.specs.declared.backpressure.BackpressureStrategy.{BackpressureStrategy}
+use Rattle.iox2_machine.specs.declared.backpressure.BackpressureStrategy.TheVariants as strategy
 use Rattle.iox2_strategy_words.specs.declared.StrategyWord.{StrategyWord}
 use Rattle.iox2_strategy_words.specs.declared.StrategyWord.TheVariants as word
 

@@ -8,7 +8,7 @@ mod tests;
 ghost use Rattle.std.specs.Prelude.{◌≡◌};
 ghost use Rattle.iox2_strategy_words.specs.Words.{strategy_name, strategy_of, word_for};
 
-use iox2_store::BackpressureStrategy;
+use iox2_machine::BackpressureStrategy;
 use serde::{Described, Deserialize, Serialize, Serializer};
 
 /// A strategy, as `serde` writes and reads it: by its name. Any other text is refused.

@@ -1,5 +1,5 @@
 use crate::StrategyWord;
-use iox2_store::BackpressureStrategy;
+use iox2_machine::BackpressureStrategy;
 use std::alloc::Global;
 use std::process::Abort;
 use std::test::Fail;

@@ -1,7 +1,7 @@
 //! Ports get their connections, one place after the other.
 ghost use Rattle.std.specs.Prelude.{◌≡◌, ℕ, ◌<◌, cond, true, false, Some, None, length, slice_index_or, [], IsSomeAnd, IfOk, OnOk, OnErr, MatchResult};
 ghost use Rattle.slab.specs.Slab.{get};
-ghost use Rattle.iox2_store.specs.machine.Limits.{channel_count};
+ghost use Rattle.iox2_machine.specs.machine.Limits.{channel_count};
 ghost use Rattle.iox2_slots.specs.Link.{Link};
 ghost use Rattle.iox2_domain.specs.Boxes.{answers_of};
 ghost use Rattle.iox2_domain.specs.Ports.{PublisherFields, SubscriberFields};
@@ -18,8 +18,8 @@ use iox2_domain::{
     key_at, reserve_connection_at, reserve_key_at, set_key_at, stands_at,
 };
 use iox2_ends::sender::{deliver_history, drop_all, reclaim_all, remove_connection};
+use iox2_machine::{BackpressureFn, ConnectionFailure, DegradationFn, ServiceConfig};
 use iox2_slots::{Connection, Home};
-use iox2_store::{BackpressureFn, ConnectionFailure, DegradationFn, ServiceConfig};
 use slab::Slab;
 use std::alloc::{AllocError, Global};
 

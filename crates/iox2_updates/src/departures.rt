@@ -2,8 +2,8 @@
 ghost use Rattle.std.specs.Prelude.{◌≡◌, ◌<◌, ◌↔◌, ℕ, false, Some, None, length, map, slice_index_or, IsTrue, IsSomeAnd};
 ghost use Rattle.slab.specs.Slab.{get};
 ghost use Rattle.iox2_slots.specs.Link.{Link, has_borrowed_slots, load};
-ghost use Rattle.iox2_store.specs.machine.Releases.{freed_if_unused};
-ghost use Rattle.iox2_store.specs.machine.WellFormed.{IsWellFormed, MailboxIsWellFormed};
+ghost use Rattle.iox2_machine.specs.machine.Releases.{freed_if_unused};
+ghost use Rattle.iox2_machine.specs.machine.WellFormed.{IsWellFormed, MailboxIsWellFormed};
 ghost use Rattle.iox2_domain.specs.Departures.{BorrowsNothing, BorrowsSome, DropsUnshared, ForgetsConnection, HasKey, IsUnshared, KnowsKey};
 ghost use Rattle.iox2_domain.specs.Fields.{kept_of};
 ghost use Rattle.iox2_domain.specs.Invariant.{SenderHas, HasParts};

@@ -1,18 +1,18 @@
 //! What a port does without a connection, and what its update fails with.
 ghost use Rattle.std.specs.Prelude.{◌≡◌};
-ghost use Rattle.iox2_store.specs.machine.Connections.{DegradationAnswers, failure_of, first_failure, warnings_after};
-ghost use Rattle.iox2_store.specs.machine.Limits.{warning_limit};
+ghost use Rattle.iox2_machine.specs.machine.Connections.{DegradationAnswers, failure_of, first_failure, warnings_after};
+ghost use Rattle.iox2_machine.specs.machine.Limits.{warning_limit};
 ghost use Rattle.iox2_domain.specs.Boxes.{answers_of};
 ghost use Rattle.iox2_domain.specs.Handlers.{handler_of};
 ghost use Rattle.iox2_domain.specs.Updates.{refused_between};
 ghost use Rattle.iox2_domain.specs.WarningRing.{warning_ring};
 
 use iox2_domain::{Boxes, HandlerMark, Warnings, degradation_answer};
-use iox2_slots::Home;
-use iox2_store::{
+use iox2_machine::{
     BackpressureFn, ConnectionFailure, DegradationAction, DegradationFn, DegradationInfo,
     UniquePublisherId, UniqueSubscriberId, Warning, ZeroCopyCreationError,
 };
+use iox2_slots::Home;
 
 /// What the port with an id and this mark, of the service with a number, answers for the connection
 /// which was to stand there, for which memory was refused. A box is among these boxes.

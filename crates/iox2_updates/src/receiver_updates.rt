@@ -3,8 +3,8 @@ ghost use Rattle.std.specs.Prelude.{◌≡◌, ◌<◌, ◌==◌, true, None, So
 ghost use Rattle.std.specs.Option.{option_map};
 ghost use Rattle.slab.specs.Slab.{get, ContainsKey};
 ghost use Rattle.iox2_slots.specs.Link.{Link};
-ghost use Rattle.iox2_store.specs.machine.Connections.{expired_buffer_full};
-ghost use Rattle.iox2_store.specs.machine.Environments.{fixed_handlers};
+ghost use Rattle.iox2_machine.specs.machine.Connections.{expired_buffer_full};
+ghost use Rattle.iox2_machine.specs.machine.Environments.{fixed_handlers};
 ghost use Rattle.iox2_domain.specs.Boxes.{answers_of};
 ghost use Rattle.iox2_domain.specs.Ports.{PublisherFields, SubscriberFields};
 ghost use Rattle.iox2_domain.specs.Invariant.{IsDomain};
@@ -17,8 +17,8 @@ use crate::retirements::retire;
 use iox2_domain::{
     Boxes, DomainState, PublisherState, degradation_at, is_due_at, key_at, set_key_at, settle,
 };
+use iox2_machine::{BackpressureFn, ConnectionFailure, DegradationFn, ZeroCopyCreationError};
 use iox2_slots::Home;
-use iox2_store::{BackpressureFn, ConnectionFailure, DegradationFn, ZeroCopyCreationError};
 
 // The id of the publisher at a place.
 fn publisher_at(publishers: &[Option<PublisherState>], place: usize) -> Option<u128>

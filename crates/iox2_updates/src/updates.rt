@@ -9,7 +9,7 @@ ghost use Rattle.iox2_domain.specs.Connects.{UpdatesPublisher};
 use crate::connects::update_sender_place;
 use crate::failures::first_of;
 use iox2_domain::{Boxes, DomainState, is_due_at, settle};
-use iox2_store::{BackpressureFn, ConnectionFailure, DegradationFn};
+use iox2_machine::{BackpressureFn, ConnectionFailure, DegradationFn};
 
 /// Updates the publisher at a place, where it is due: it goes over the subscribers' places. An end to
 /// the subscriber that stands there stays; where it is closed, what waits for it is lost. Any other

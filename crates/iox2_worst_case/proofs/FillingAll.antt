@@ -4,13 +4,13 @@ use Rattle.std.proofs.Common.{◌≡◌, ℕ, zero, suc, ◌+◌, ◌*◌, ◌-�
 use Rattle.std.specs.Prelude.{slice_get}
 use Rattle.std.specs.List.{flat_map}
 use Rattle.std.proofs.lemmas.List.{length-append}
-use Rattle.iox2_store.specs.machine.Limits.{buffer_limit, channel_count, worst_case, last_number}
-use Rattle.iox2_store.specs.machine.Numbers.{put_at, contains, last_n, size, IsOnce}
-use Rattle.iox2_store.specs.machine.Places.{occupants}
-use Rattle.iox2_store.specs.machine.Mailbox.{Mailbox, other_numbers, numbers_in, has_numbers, with_waiting}
-use Rattle.iox2_store.specs.machine.State.{State, held}
-use Rattle.iox2_store.specs.machine.WellFormed.{MailboxIsWellFormed}
-use Rattle.iox2_store.specs.declared.service_config.ServiceConfig.{ServiceConfig}
+use Rattle.iox2_machine.specs.machine.Limits.{buffer_limit, channel_count, worst_case, last_number}
+use Rattle.iox2_machine.specs.machine.Numbers.{put_at, contains, last_n, size, IsOnce}
+use Rattle.iox2_machine.specs.machine.Places.{occupants}
+use Rattle.iox2_machine.specs.machine.Mailbox.{Mailbox, other_numbers, numbers_in, has_numbers, with_waiting}
+use Rattle.iox2_machine.specs.machine.State.{State, held}
+use Rattle.iox2_machine.specs.machine.WellFormed.{MailboxIsWellFormed}
+use Rattle.iox2_machine.specs.declared.service_config.ServiceConfig.{ServiceConfig}
 use Rattle.iox2_laws.proofs.Puts.{put_at-same}
 use Rattle.iox2_laws.proofs.Sizes.{size_is}
 use Rattle.iox2_laws.proofs.NumberLemmas.{false_from, absent_from, contains_in_append, contains_in_flat_map, IsOnce-append}

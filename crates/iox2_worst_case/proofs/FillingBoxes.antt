@@ -3,10 +3,10 @@ use Rattle.std.proofs.Common.{◌≡◌, ℕ, suc, ◌+◌, ◌-◌, ◌≤◌, 
 use Rattle.std.specs.List.{flat_map}
 use Rattle.std.proofs.lemmas.Bool.{ne_eqb, le-ltb, ltb-true, ltb-false}
 use Rattle.std.proofs.lemmas.List.{length-append}
-use Rattle.iox2_store.specs.machine.Limits.{buffer_limit}
-use Rattle.iox2_store.specs.machine.Numbers.{contains, last_n, put_at, IsOnce}
-use Rattle.iox2_store.specs.machine.Mailbox.{Mailbox, other_numbers, numbers_in, has_room, with_appended, with_waiting}
-use Rattle.iox2_store.specs.declared.service_config.ServiceConfig.{ServiceConfig}
+use Rattle.iox2_machine.specs.machine.Limits.{buffer_limit}
+use Rattle.iox2_machine.specs.machine.Numbers.{contains, last_n, put_at, IsOnce}
+use Rattle.iox2_machine.specs.machine.Mailbox.{Mailbox, other_numbers, numbers_in, has_room, with_appended, with_waiting}
+use Rattle.iox2_machine.specs.declared.service_config.ServiceConfig.{ServiceConfig}
 use Rattle.iox2_laws.proofs.Puts.{put_at-other}
 use Rattle.iox2_laws.proofs.NumberLemmas.{contains_in_append, contains_left, contains_right, contains_one, contains_first, contains_later, contains_in_last_n, length-last_n, absent_from, IsOnce-append, contains_in_flat_map}
 use Rattle.iox2_laws.proofs.MailboxLemmas.{contains_in_appended}

@@ -2,16 +2,16 @@
 use Rattle.std.proofs.Common.{◌≡◌, ℕ, suc, ◌+◌, ◌*◌, ◌-◌, ◌^◌, ◌≤◌, ◌<◌, true, false, ◌&&◌, List, [], ◌∷◌, length, refl, sym, ap, subst, ◌∙◌, arith, Option, None, Some, ◌⊎◌, ⊎_elim, inr, replicate}
 use Rattle.std.specs.Prelude.{slice_get}
 use Rattle.std.proofs.lemmas.Bool.{lt-ltb}
-use Rattle.iox2_store.specs.machine.Limits.{buffer_limit, worst_case, last_number, fits, segment_fits}
-use Rattle.iox2_store.specs.machine.Numbers.{size}
-use Rattle.iox2_store.specs.machine.Records.{Publisher}
-use Rattle.iox2_store.specs.machine.State.{State, Messages, fresh, no_messages, held}
-use Rattle.iox2_store.specs.machine.Ports.{slots_for, first_segment_fits}
-use Rattle.iox2_store.specs.declared.service_config.ServiceConfig.{ServiceConfig}
+use Rattle.iox2_machine.specs.machine.Limits.{buffer_limit, worst_case, last_number, fits, segment_fits}
+use Rattle.iox2_machine.specs.machine.Numbers.{size}
+use Rattle.iox2_machine.specs.machine.Records.{Publisher}
+use Rattle.iox2_machine.specs.machine.State.{State, Messages, fresh, no_messages, held}
+use Rattle.iox2_machine.specs.machine.Ports.{slots_for, first_segment_fits}
+use Rattle.iox2_machine.specs.declared.service_config.ServiceConfig.{ServiceConfig}
 use Rattle.iox2_laws.proofs.Enough.{fresh_is_well_formed, holds_at_most_worst_case}
 use Rattle.iox2_commands.specs.Outcomes.{Handle, Event}
 use Rattle.iox2_worst_case.specs.Fills.{is_granted}
-use Rattle.iox2_store.specs.machine.Environments.{ample_memory}
+use Rattle.iox2_machine.specs.machine.Environments.{ample_memory}
 use Rattle.iox2_commands.specs.Runs.{Run, any_defaults}
 use Rattle.iox2_worst_case.specs.FillingCommands.{publisher_command, loan_command, subscribers_filled, filling_commands, IsFillable, WorstCaseIsReached, WorstCaseIsLeast}
 use Rattle.iox2_commands.specs.declared.command.Command.{Command}

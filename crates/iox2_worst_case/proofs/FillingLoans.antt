@@ -2,23 +2,23 @@
 use Rattle.std.proofs.Common.{◌≡◌, ℕ, suc, ◌+◌, ◌<◌, Bool, true, false, cond, List, length, max, refl, ap, subst, ◌∙◌, arith, eqb, Option, None, Some, ◌⊎◌, inl, inr}
 use Rattle.std.specs.Prelude.{slice_get}
 use Rattle.std.proofs.lemmas.Bool.{lt-leb, eqb-true}
-use Rattle.iox2_store.specs.machine.Limits.{last_number}
-use Rattle.iox2_store.specs.machine.Numbers.{size}
-use Rattle.iox2_store.specs.machine.Mailbox.{Mailbox}
-use Rattle.iox2_store.specs.machine.Records.{Loan, Publisher}
-use Rattle.iox2_store.specs.machine.State.{State, Messages, held, with_loan}
-use Rattle.iox2_store.specs.machine.Loans.{GrantLoan, StaticLoan, loan_granted, limit_error, written}
-use Rattle.iox2_store.specs.machine.WellFormed.{IsWellFormed}
-use Rattle.iox2_store.specs.declared.service_config.ServiceConfig.{ServiceConfig}
-use Rattle.iox2_store.specs.declared.service_config.TypeVariant.{TypeVariant}
-use Rattle.iox2_store.specs.declared.service_config.TypeVariant.TheVariants.{FixedSize, Dynamic}
-use Rattle.iox2_store.specs.declared.errors.LoanError.{LoanError}
-use Rattle.iox2_store.specs.declared.errors.LoanError.TheVariants.{ExceedsMaxLoans}
+use Rattle.iox2_machine.specs.machine.Limits.{last_number}
+use Rattle.iox2_machine.specs.machine.Numbers.{size}
+use Rattle.iox2_machine.specs.machine.Mailbox.{Mailbox}
+use Rattle.iox2_machine.specs.machine.Records.{Loan, Publisher}
+use Rattle.iox2_machine.specs.machine.State.{State, Messages, held, with_loan}
+use Rattle.iox2_machine.specs.machine.Loans.{GrantLoan, StaticLoan, loan_granted, limit_error, written}
+use Rattle.iox2_machine.specs.machine.WellFormed.{IsWellFormed}
+use Rattle.iox2_machine.specs.declared.service_config.ServiceConfig.{ServiceConfig}
+use Rattle.iox2_machine.specs.declared.service_config.TypeVariant.{TypeVariant}
+use Rattle.iox2_machine.specs.declared.service_config.TypeVariant.TheVariants.{FixedSize, Dynamic}
+use Rattle.iox2_machine.specs.declared.errors.LoanError.{LoanError}
+use Rattle.iox2_machine.specs.declared.errors.LoanError.TheVariants.{ExceedsMaxLoans}
 use Rattle.iox2_laws.proofs.Cases.{by_bool}
 use Rattle.iox2_laws.proofs.Puts.{put_at-same}
 use Rattle.iox2_commands.specs.Outcomes.{Handle, Publisher_handle, Loan_handle, Outcome, done}
 use Rattle.iox2_commands.specs.Step.{Step, after_loan, unblocked_at, if_single_units, if_fixed_size, if_dynamic, unwritten_at}
-use Rattle.iox2_store.specs.machine.Environments.{ample_memory}
+use Rattle.iox2_machine.specs.machine.Environments.{ample_memory}
 use Rattle.iox2_worst_case.specs.FillingCommands.{loan_command}
 use Rattle.iox2_commands.specs.declared.command.Command.TheVariants.{WriteAll}
 use Rattle.iox2_commands.specs.declared.reply.Reply.TheVariants.{Loaned, Done}

@@ -4,8 +4,8 @@ use Rattle.std.proofs.lemmas.Bool.{true≢false}
 use Rattle.std.proofs.lemmas.List.{length-append}
 use Rattle.std.proofs.lemmas.Grind.{flat_map-append}
 use Rattle.std.specs.List.{flat_map}
-use Rattle.iox2_store.specs.machine.Numbers.{contains, last_n, IsOnce}
-use Rattle.iox2_store.specs.machine.Places.{occupant, occupants, lowest_free, set_place}
+use Rattle.iox2_machine.specs.machine.Numbers.{contains, last_n, IsOnce}
+use Rattle.iox2_machine.specs.machine.Places.{occupant, occupants, lowest_free, set_place}
 use Rattle.iox2_laws.proofs.NumberLemmas.{contains_in_cons, absent_from}
 
 -- so many numbers from that one on

@@ -2,32 +2,32 @@
 use Rattle.std.proofs.Common.{◌≡◌, ℕ, suc, ◌+◌, ◌-◌, ◌≤◌, ◌<◌, Bool, true, false, cond, List, [], ◌∷◌, min, refl, sym, ap, subst, ◌∙◌, arith, eqb, ltb, Option, None, Some, option_map, ◌⊎◌, ⊎_elim}
 use Rattle.std.specs.Bool.{MatchBool}
 use Rattle.std.proofs.lemmas.Bool.{le-ltb, lt-ltb, ne_eqb, eqb-false, eqb-true, cond_both}
-use Rattle.iox2_store.specs.machine.Limits.{buffer_limit, expired_limit, last_number}
-use Rattle.iox2_store.specs.machine.Places.{occupant, free_place, lowest_free, set_place}
-use Rattle.iox2_store.specs.machine.Channel.{Channel, new_channels}
-use Rattle.iox2_store.specs.machine.Mailbox.{Mailbox, empty_mailbox}
-use Rattle.iox2_store.specs.machine.Records.{Publisher, Subscriber, PublisherSettings, SubscriberSettings, Handler, Fixed}
-use Rattle.iox2_store.specs.machine.State.{State, Messages, fresh, has_sender_end, is_linked, channels_if_linked, sender_channels_reset, receiver_channels_reset}
-use Rattle.iox2_store.specs.machine.Connections.{ForEachPlace, first_failure}
-use Rattle.iox2_store.specs.machine.PublisherUpdate.{sender_side, with_sender_side}
-use Rattle.iox2_store.specs.machine.SubscriberUpdate.{ReceiverSide, with_end, UpdateReceiverSide, ConnectReceiver, ConnectAtPlace, DisconnectAtPlace, receiver_side, with_receiver_side}
-use Rattle.iox2_store.specs.machine.Ports.{slots_for, first_segment_fits, buffer_for, new_subscriber, new_publisher, with_new_publisher, with_new_subscriber, with_failure_warning, FirstSubscriberUpdate, MakePublisher, MakeSubscriber}
-use Rattle.iox2_store.specs.machine.WellFormed.{IsWellFormed}
-use Rattle.iox2_store.specs.declared.service_config.ServiceConfig.{ServiceConfig}
-use Rattle.iox2_store.specs.declared.service_config.TypeVariant.{TypeVariant}
-use Rattle.iox2_store.specs.declared.service_config.TypeVariant.TheVariants.{FixedSize, Dynamic}
-use Rattle.iox2_store.specs.declared.allocation.AllocationStrategy.TheVariants.{Static}
-use Rattle.iox2_store.specs.declared.backpressure.BackpressureStrategy.TheVariants.{DiscardData}
-use Rattle.iox2_store.specs.declared.degradation.DegradationAction.{DegradationAction}
-use Rattle.iox2_store.specs.declared.degradation.DegradationAction.TheVariants.{Warn}
-use Rattle.iox2_store.specs.declared.errors.ConnectionFailure.{ConnectionFailure}
-use Rattle.iox2_store.specs.declared.errors.PublisherCreateError.{PublisherCreateError}
-use Rattle.iox2_store.specs.declared.errors.SubscriberCreateError.{SubscriberCreateError}
-use Rattle.iox2_store.specs.declared.warning.Warning.TheVariants.{PublisherPartlyConnected, SubscriberPartlyConnected}
+use Rattle.iox2_machine.specs.machine.Limits.{buffer_limit, expired_limit, last_number}
+use Rattle.iox2_machine.specs.machine.Places.{occupant, free_place, lowest_free, set_place}
+use Rattle.iox2_machine.specs.machine.Channel.{Channel, new_channels}
+use Rattle.iox2_machine.specs.machine.Mailbox.{Mailbox, empty_mailbox}
+use Rattle.iox2_machine.specs.machine.Records.{Publisher, Subscriber, PublisherSettings, SubscriberSettings, Handler, Fixed}
+use Rattle.iox2_machine.specs.machine.State.{State, Messages, fresh, has_sender_end, is_linked, channels_if_linked, sender_channels_reset, receiver_channels_reset}
+use Rattle.iox2_machine.specs.machine.Connections.{ForEachPlace, first_failure}
+use Rattle.iox2_machine.specs.machine.PublisherUpdate.{sender_side, with_sender_side}
+use Rattle.iox2_machine.specs.machine.SubscriberUpdate.{ReceiverSide, with_end, UpdateReceiverSide, ConnectReceiver, ConnectAtPlace, DisconnectAtPlace, receiver_side, with_receiver_side}
+use Rattle.iox2_machine.specs.machine.Ports.{slots_for, first_segment_fits, buffer_for, new_subscriber, new_publisher, with_new_publisher, with_new_subscriber, with_failure_warning, FirstSubscriberUpdate, MakePublisher, MakeSubscriber}
+use Rattle.iox2_machine.specs.machine.WellFormed.{IsWellFormed}
+use Rattle.iox2_machine.specs.declared.service_config.ServiceConfig.{ServiceConfig}
+use Rattle.iox2_machine.specs.declared.service_config.TypeVariant.{TypeVariant}
+use Rattle.iox2_machine.specs.declared.service_config.TypeVariant.TheVariants.{FixedSize, Dynamic}
+use Rattle.iox2_machine.specs.declared.allocation.AllocationStrategy.TheVariants.{Static}
+use Rattle.iox2_machine.specs.declared.backpressure.BackpressureStrategy.TheVariants.{DiscardData}
+use Rattle.iox2_machine.specs.declared.degradation.DegradationAction.{DegradationAction}
+use Rattle.iox2_machine.specs.declared.degradation.DegradationAction.TheVariants.{Warn}
+use Rattle.iox2_machine.specs.declared.errors.ConnectionFailure.{ConnectionFailure}
+use Rattle.iox2_machine.specs.declared.errors.PublisherCreateError.{PublisherCreateError}
+use Rattle.iox2_machine.specs.declared.errors.SubscriberCreateError.{SubscriberCreateError}
+use Rattle.iox2_machine.specs.declared.warning.Warning.TheVariants.{PublisherPartlyConnected, SubscriberPartlyConnected}
 use Rattle.iox2_laws.proofs.Puts.{put_at-own, put_at-same, at_each}
 use Rattle.iox2_commands.specs.Outcomes.{Handle, Publisher_handle, Subscriber_handle, Outcome}
 use Rattle.iox2_commands.specs.Step.{Step, after_publisher, after_subscriber, publisher_settings}
-use Rattle.iox2_store.specs.machine.Environments.{ample_memory}
+use Rattle.iox2_machine.specs.machine.Environments.{ample_memory}
 use Rattle.iox2_commands.specs.declared.command.Command.TheVariants.{CreatePublisher as PublisherCommand, CreateSubscriber as SubscriberCommand}
 use Rattle.iox2_commands.specs.declared.reply.Reply.TheVariants.{PublisherMade, SubscriberMade}
 use Rattle.iox2_worst_case.proofs.FillingNumbers.{numbers_from, recent, lowest_free-ports_from, set_place-ports_from}

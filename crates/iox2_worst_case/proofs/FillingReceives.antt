@@ -2,18 +2,18 @@
 use Rattle.std.proofs.Common.{◌≡◌, ℕ, ◌+◌, ◌-◌, ◌≤◌, ◌<◌, Bool, true, false, cond, not, ◌&&◌, ◌||◌, List, [], ◌∷◌, ◌++◌, length, drop, take, refl, sym, ap, subst, ◌∙◌, arith, eqb, ltb, Option, None, Some}
 use Rattle.std.specs.Prelude.{slice_get, MatchOption}
 use Rattle.std.proofs.lemmas.Bool.{true≢false, lt-ltb}
-use Rattle.iox2_store.specs.machine.Limits.{buffer_limit}
-use Rattle.iox2_store.specs.machine.Numbers.{put_at, is_nil}
-use Rattle.iox2_store.specs.machine.Mailbox.{Mailbox, BorrowsFirst, has_data, can_receive}
-use Rattle.iox2_store.specs.machine.Records.{Subscriber}
-use Rattle.iox2_store.specs.machine.State.{State, Messages, with_mailbox}
-use Rattle.iox2_store.specs.machine.Receives.{Receive, TakeSample, ReceiveResult, Got_sample, No_sample, Receive_error}
-use Rattle.iox2_store.specs.machine.WellFormed.{IsWellFormed}
-use Rattle.iox2_store.specs.declared.service_config.ServiceConfig.{ServiceConfig}
+use Rattle.iox2_machine.specs.machine.Limits.{buffer_limit}
+use Rattle.iox2_machine.specs.machine.Numbers.{put_at, is_nil}
+use Rattle.iox2_machine.specs.machine.Mailbox.{Mailbox, BorrowsFirst, has_data, can_receive}
+use Rattle.iox2_machine.specs.machine.Records.{Subscriber}
+use Rattle.iox2_machine.specs.machine.State.{State, Messages, with_mailbox}
+use Rattle.iox2_machine.specs.machine.Receives.{Receive, TakeSample, ReceiveResult, Got_sample, No_sample, Receive_error}
+use Rattle.iox2_machine.specs.machine.WellFormed.{IsWellFormed}
+use Rattle.iox2_machine.specs.declared.service_config.ServiceConfig.{ServiceConfig}
 use Rattle.iox2_laws.proofs.NumberLemmas.{contains_one}
 use Rattle.iox2_commands.specs.Outcomes.{Handle, Subscriber_handle, Outcome}
 use Rattle.iox2_commands.specs.Step.{Step, subscriber_at, if_single_units, after_receive}
-use Rattle.iox2_store.specs.machine.Environments.{ample_memory}
+use Rattle.iox2_machine.specs.machine.Environments.{ample_memory}
 use Rattle.iox2_commands.specs.declared.command.Command.TheVariants.{Receive as ReceiveSample}
 use Rattle.iox2_commands.specs.declared.reply.Reply.TheVariants.{Sample}
 use Rattle.iox2_worst_case.proofs.FillingShape.{reader, IsFilling, at_some, at_none, concluded, subscriber_named}

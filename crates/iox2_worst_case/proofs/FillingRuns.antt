@@ -2,15 +2,15 @@
 use Rattle.std.proofs.Common.{◌≡◌, ℕ, suc, ◌<◌, Bool, true, false, ◌&&◌, List, [], ◌∷◌, ◌++◌, length, take, drop, refl, sym, ap, subst, ◌∙◌, Some, ◌⊎◌, inl, inr, ⊎_elim}
 use Rattle.std.specs.Prelude.{slice_get}
 use Rattle.std.specs.List.{list_all}
-use Rattle.iox2_store.specs.machine.Numbers.{size}
-use Rattle.iox2_store.specs.machine.Records.{Publisher}
-use Rattle.iox2_store.specs.machine.State.{State, Messages, held}
-use Rattle.iox2_store.specs.machine.WellFormed.{IsWellFormed}
-use Rattle.iox2_store.specs.declared.service_config.ServiceConfig.{ServiceConfig}
-use Rattle.iox2_store.specs.declared.errors.LoanError.TheVariants.{OutOfMemory}
+use Rattle.iox2_machine.specs.machine.Numbers.{size}
+use Rattle.iox2_machine.specs.machine.Records.{Publisher}
+use Rattle.iox2_machine.specs.machine.State.{State, Messages, held}
+use Rattle.iox2_machine.specs.machine.WellFormed.{IsWellFormed}
+use Rattle.iox2_machine.specs.declared.service_config.ServiceConfig.{ServiceConfig}
+use Rattle.iox2_machine.specs.declared.errors.LoanError.TheVariants.{OutOfMemory}
 use Rattle.iox2_commands.specs.Outcomes.{Handle, Event, Outcome, messages_after}
 use Rattle.iox2_commands.specs.Step.{Step}
-use Rattle.iox2_store.specs.machine.Environments.{ample_memory}
+use Rattle.iox2_machine.specs.machine.Environments.{ample_memory}
 use Rattle.iox2_commands.specs.Runs.{RunFrom, RunTo, Defaults}
 use Rattle.iox2_worst_case.specs.Fills.{is_granted}
 use Rattle.iox2_worst_case.specs.FillingCommands.{loan_command}

@@ -2,22 +2,22 @@
 use Rattle.std.proofs.Common.{◌≡◌, ℕ, zero, suc, ◌+◌, ◌≤◌, ◌<◌, Bool, true, false, cond, List, [], ◌∷◌, ◌++◌, refl, sym, ap, subst, ◌∙◌, arith, Option, None, Some, option_and_then, ⊎_elim}
 use Rattle.std.specs.Prelude.{slice_get}
 use Rattle.std.proofs.lemmas.Bool.{eq-eqb, cond_both}
-use Rattle.iox2_store.specs.machine.Limits.{buffer_limit}
-use Rattle.iox2_store.specs.machine.Numbers.{last_n, put_at}
-use Rattle.iox2_store.specs.machine.Places.{occupant, is_port}
-use Rattle.iox2_store.specs.machine.Channel.{Channel, new_channels, is_closed}
-use Rattle.iox2_store.specs.machine.Mailbox.{Mailbox, with_waiting}
-use Rattle.iox2_store.specs.machine.Records.{Publisher, Subscriber, Handler}
-use Rattle.iox2_store.specs.machine.State.{State, Messages, receiving_buffer, has_receiver_end, is_linked, sender_channels_reset}
-use Rattle.iox2_store.specs.machine.Connections.{ForEachPlace, first_failure}
-use Rattle.iox2_store.specs.machine.PublisherUpdate.{SenderSide, SenderAction, Keep_end, Drop_waiting, Disconnect, Connect, sender_action, connected, disconnected, ConnectSender, Performs, UpdateSenderPlace, UpdatePublisher, sender_side, with_sender_side, history_for}
-use Rattle.iox2_store.specs.machine.WellFormed.{IsWellFormed}
-use Rattle.iox2_store.specs.declared.service_config.ServiceConfig.{ServiceConfig}
-use Rattle.iox2_store.specs.declared.degradation.DegradationAction.{DegradationAction}
-use Rattle.iox2_store.specs.declared.errors.ConnectionFailure.{ConnectionFailure}
+use Rattle.iox2_machine.specs.machine.Limits.{buffer_limit}
+use Rattle.iox2_machine.specs.machine.Numbers.{last_n, put_at}
+use Rattle.iox2_machine.specs.machine.Places.{occupant, is_port}
+use Rattle.iox2_machine.specs.machine.Channel.{Channel, new_channels, is_closed}
+use Rattle.iox2_machine.specs.machine.Mailbox.{Mailbox, with_waiting}
+use Rattle.iox2_machine.specs.machine.Records.{Publisher, Subscriber, Handler}
+use Rattle.iox2_machine.specs.machine.State.{State, Messages, receiving_buffer, has_receiver_end, is_linked, sender_channels_reset}
+use Rattle.iox2_machine.specs.machine.Connections.{ForEachPlace, first_failure}
+use Rattle.iox2_machine.specs.machine.PublisherUpdate.{SenderSide, SenderAction, Keep_end, Drop_waiting, Disconnect, Connect, sender_action, connected, disconnected, ConnectSender, Performs, UpdateSenderPlace, UpdatePublisher, sender_side, with_sender_side, history_for}
+use Rattle.iox2_machine.specs.machine.WellFormed.{IsWellFormed}
+use Rattle.iox2_machine.specs.declared.service_config.ServiceConfig.{ServiceConfig}
+use Rattle.iox2_machine.specs.declared.degradation.DegradationAction.{DegradationAction}
+use Rattle.iox2_machine.specs.declared.errors.ConnectionFailure.{ConnectionFailure}
 use Rattle.iox2_commands.specs.Outcomes.{Handle, Publisher_handle, Outcome}
 use Rattle.iox2_commands.specs.Step.{Step, unblocked_at, after_update}
-use Rattle.iox2_store.specs.machine.Environments.{ample_memory}
+use Rattle.iox2_machine.specs.machine.Environments.{ample_memory}
 use Rattle.iox2_commands.specs.declared.command.Command.TheVariants.{Update}
 use Rattle.iox2_commands.specs.declared.reply.Reply.TheVariants.{Done}
 use Rattle.iox2_worst_case.proofs.FillingNumbers.{ports_from, recent, ports_from_push, set_place-ports_from, occupant-ports_from, nobody-ports_from}

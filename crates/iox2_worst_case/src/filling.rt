@@ -1,12 +1,12 @@
 //! A list of commands that fills every slot of its publisher.
 ghost use Rattle.std.specs.Prelude.{◌≡◌, ◌+◌, ◌*◌, ◌≤◌, ◌<◌, ◌∷◌, [], ◌++◌, ◌↔◌, replicate, IsTrue, IfSome, OnSome, ℕ, vec_len, vec_capacity};
-ghost use Rattle.iox2_store.specs.machine.Limits.{worst_case};
+ghost use Rattle.iox2_machine.specs.machine.Limits.{worst_case};
 ghost use Rattle.iox2_worst_case.specs.Fills.{Fills};
 ghost use Rattle.iox2_worst_case.specs.FillingCommands.{loan_command as loan_spec, publisher_command as publisher_spec, sends, rounds, subscriber_filled, subscribers_filled, filling_length, filling_commands, IsFillable, RefusesForWantOfSlots};
 ghost use Rattle.iox2_commands.specs.declared.command.Command.TheVariants.{WriteAll, Send};
 
 use iox2_commands::Command;
-use iox2_store::{
+use iox2_machine::{
     AllocationStrategy, BackpressureStrategy, DegradationAction, ServiceConfig, TypeVariant,
     worst_case_slots,
 };

@@ -3,11 +3,11 @@ use crate::chance::Chance;
 use crate::moods::Wish;
 use crate::positions::{any, live, live_or_any};
 use iox2_commands::Command;
-use iox2_model::{Kind, Model};
-use iox2_store::{
+use iox2_machine::{
     AllocationStrategy, BackpressureAction, BackpressureStrategy, DegradationAction, ServiceConfig,
     TypeVariant,
 };
+use iox2_model::{Kind, Model};
 use std::time::Duration;
 
 // A command that does what is wished.

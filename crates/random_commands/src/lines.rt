@@ -1,6 +1,6 @@
 //! Scripts as text.
 use iox2_commands::Command;
-use iox2_store::{
+use iox2_machine::{
     AllocationStrategy, BackpressureStrategy, DegradationAction, ServiceConfig, TypeVariant,
 };
 use std::alloc::{AllocError, Global};

@@ -4,8 +4,8 @@ use crate::commands::draw_command;
 use crate::moods::{Mood, draw_mood, draw_wish};
 use crate::sizes::draw_config;
 use iox2_commands::Command;
+use iox2_machine::ServiceConfig;
 use iox2_model::{Memory, Model, ModelError};
-use iox2_store::ServiceConfig;
 use std::alloc::Global;
 
 /// The settings of a domain, and the commands on it.

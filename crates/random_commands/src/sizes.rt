@@ -1,6 +1,6 @@
 //! The settings of a script's service.
 use crate::chance::Chance;
-use iox2_store::{BackpressureStrategy, ServiceConfig, TypeVariant};
+use iox2_machine::{BackpressureStrategy, ServiceConfig, TypeVariant};
 
 // The greatest sizes of a service.
 #[derive(Clone, Copy)]

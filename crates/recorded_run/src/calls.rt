@@ -1,6 +1,6 @@
 //! What is called.
 use iox2_commands::Command;
-use iox2_store::{AllocationStrategy, BackpressureStrategy, DegradationAction, ServiceConfig};
+use iox2_machine::{AllocationStrategy, BackpressureStrategy, DegradationAction, ServiceConfig};
 use std::time::Duration;
 
 /// The settings of a service with one subscriber, which keeps what it has where its buffer is full.

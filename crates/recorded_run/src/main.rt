@@ -8,7 +8,7 @@ mod replay;
 
 use calls::{calls, service};
 use failure::Failure;
-use iox2_store::ServiceConfig;
+use iox2_machine::ServiceConfig;
 use record::record;
 use recordings::{Recording, save};
 use replay::count_alike;

@@ -3,8 +3,8 @@ ghost use Rattle.iox2_recorded.specs.Recorded.{IsRecorded};
 
 use crate::failure::Failure;
 use iox2_commands::{Command, Reply};
+use iox2_machine::{BackpressureFn, DegradationFn, ServiceConfig};
 use iox2_recorded::Recorded;
-use iox2_store::{BackpressureFn, DegradationFn, ServiceConfig};
 use std::alloc::{AllocError, Global};
 
 type Recorder<T, U> = Recorded<T, U, Box<dyn BackpressureFn>, Box<dyn DegradationFn>>;

@@ -1,8 +1,8 @@
 use crate::failure::Failure;
 use iox2_commands::{Command, Reply};
+use iox2_machine::ServiceConfig;
 use iox2_pubsub::Domain;
 use iox2_runs::run;
-use iox2_store::ServiceConfig;
 use std::alloc::Global;
 
 /// How many replies of a run on a new domain are those that are given.

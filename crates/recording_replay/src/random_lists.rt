@@ -3,7 +3,7 @@ use crate::failure::Failure;
 use crate::record::recorded;
 use crate::replay::first_difference;
 use crate::shortest::shortest;
-use iox2_store::ServiceConfig;
+use iox2_machine::ServiceConfig;
 use random_commands::draw_script;
 use recordings::{Recording, load, save};
 

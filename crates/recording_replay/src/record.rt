@@ -1,8 +1,8 @@
 //! A script is run and recorded.
 use crate::failure::Failure;
+use iox2_machine::ServiceConfig;
 use iox2_pubsub::Domain;
 use iox2_runs::{Command, run};
-use iox2_store::ServiceConfig;
 use recordings::{Recording, save};
 use script_text::Script;
 use std::alloc::{AllocError, Global};

@@ -1,6 +1,6 @@
 //! Settings and commands as lines.
 use iox2_commands::Command;
-use iox2_store::{
+use iox2_machine::{
     AllocationStrategy, BackpressureAction, BackpressureStrategy, DegradationAction, ServiceConfig,
     TypeVariant,
 };

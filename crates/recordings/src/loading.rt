@@ -3,7 +3,7 @@ use crate::load_error::{Fault, LoadError};
 use crate::recording::Recording;
 use crate::saving::{REPLIES, TITLE, VERSION, push_end};
 use crate::sum::Sum;
-use iox2_store::{AllocationStrategy, BackpressureStrategy, ServiceConfig};
+use iox2_machine::{AllocationStrategy, BackpressureStrategy, ServiceConfig};
 use script_text::{command_of, domain_of};
 use std::alloc::Global;
 

@@ -1,6 +1,6 @@
 use crate::replies::push_reply;
 use iox2_commands::{Command, Reply};
-use iox2_store::ServiceConfig;
+use iox2_machine::ServiceConfig;
 use std::alloc::{AllocError, Global};
 
 /// What was called on a domain, in order, and what was replied.

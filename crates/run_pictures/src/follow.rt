@@ -4,8 +4,8 @@ use crate::holders::Holders;
 use crate::mailboxes::Mailboxes;
 use crate::story::{Loan, LoanEnd, Mark, MarkKind, Point, Port, Story};
 use iox2_commands::{Command, Reply};
+use iox2_machine::UniquePublisherId;
 use iox2_model::{Memory, Model, Thing};
-use iox2_store::UniquePublisherId;
 use recordings::{Recording, push_command, push_reply};
 use std::alloc::Global;
 

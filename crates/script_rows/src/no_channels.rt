@@ -1,7 +1,7 @@
 //! A row's script in a service that asks for no channels.
+use iox2_machine::ServiceConfig;
 use iox2_pubsub::Domain;
 use iox2_runs::run;
-use iox2_store::ServiceConfig;
 use script_text::{Script, reply_lines};
 use std::alloc::Global;
 

@@ -1,10 +1,10 @@
 -- How a script ends.
 use Rattle.std.specs.Prelude.{ℕ, List, Option, IfSome, ◌≡◌, ◌⊎◌}
 use Rattle.std.specs.Io.KnownBytes.{Appends, Keeps}
-use Rattle.iox2_store.specs.declared.service_config.ServiceConfig.{ServiceConfig}
-use Rattle.iox2_store.specs.machine.Environments.{fixed_handlers}
-use Rattle.iox2_store.specs.machine.State.{State, Messages, fresh, no_messages}
-use Rattle.iox2_store.specs.declared.warning.Warning.{Warning}
+use Rattle.iox2_machine.specs.declared.service_config.ServiceConfig.{ServiceConfig}
+use Rattle.iox2_machine.specs.machine.Environments.{fixed_handlers}
+use Rattle.iox2_machine.specs.machine.State.{State, Messages, fresh, no_messages}
+use Rattle.iox2_machine.specs.declared.warning.Warning.{Warning}
 use Rattle.iox2_commands.specs.Outcomes.{Event}
 use Rattle.iox2_commands.specs.Runs.{Run, only_defaults}
 use Rattle.iox2_commands.specs.declared.command.Command.{Command}

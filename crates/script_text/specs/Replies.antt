@@ -2,7 +2,7 @@
 use Rattle.std.specs.Prelude.{ℕ, List, [], ◌∷◌, ◌++◌, codes, Some, None, true, false}
 use Rattle.std.specs.List.{flat_map}
 use Rattle.std.specs.Fmt.{decimal}
-use Rattle.iox2_store.specs.ErrorTexts.{loan_error_text, send_error_text, receive_error_text, connection_failure_text, publisher_create_error_text, subscriber_create_error_text}
+use Rattle.iox2_machine.specs.ErrorTexts.{loan_error_text, send_error_text, receive_error_text, connection_failure_text, publisher_create_error_text, subscriber_create_error_text}
 use Rattle.iox2_commands.specs.declared.reply.Reply.{Reply}
 use Rattle.iox2_commands.specs.declared.reply.Reply.TheVariants as reply
 

@@ -1,7 +1,7 @@
 -- Which texts are scripts, and which line of another text is the first that isn't one of a script.
 use Rattle.std.specs.Prelude.{ℕ, List, [], ◌∷◌, ◌++◌, ◌+◌, ◌≡◌, ◌⊎◌, length}
 use Rattle.std.specs.Str.Lines.{lines}
-use Rattle.iox2_store.specs.declared.service_config.ServiceConfig.{ServiceConfig}
+use Rattle.iox2_machine.specs.declared.service_config.ServiceConfig.{ServiceConfig}
 use Rattle.iox2_commands.specs.declared.command.Command.{Command}
 use Rattle.script_text.specs.Commands.{NamesCommand, NamesDomain}
 use Rattle.script_text.specs.declared.failure.ScriptError.{ScriptError}

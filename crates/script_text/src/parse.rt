@@ -1,12 +1,12 @@
 //! What the lines of a script ask for.
 ghost use Rattle.std.specs.Prelude.{◌≡◌, ◌↔◌, ◌<◌, ◌*◌, ◌+◌, ℕ, Bool, Option, IfErr, IfNone, IfOk, IfSome, IsSome, length};
 ghost use Rattle.std.specs.Duration.{as_nanos};
-ghost use Rattle.iox2_store.specs.declared.allocation.AllocationStrategy.{AllocationStrategy};
-ghost use Rattle.iox2_store.specs.declared.backpressure.BackpressureAction.{BackpressureAction};
-ghost use Rattle.iox2_store.specs.declared.degradation.DegradationAction.{DegradationAction};
-ghost use Rattle.iox2_store.specs.declared.service_config.TypeVariant.{TypeVariant};
-ghost use Rattle.iox2_store.specs.declared.backpressure.BackpressureStrategy.{BackpressureStrategy};
-ghost use Rattle.iox2_store.specs.declared.service_config.ServiceConfig.{ServiceConfig};
+ghost use Rattle.iox2_machine.specs.declared.allocation.AllocationStrategy.{AllocationStrategy};
+ghost use Rattle.iox2_machine.specs.declared.backpressure.BackpressureAction.{BackpressureAction};
+ghost use Rattle.iox2_machine.specs.declared.degradation.DegradationAction.{DegradationAction};
+ghost use Rattle.iox2_machine.specs.declared.service_config.TypeVariant.{TypeVariant};
+ghost use Rattle.iox2_machine.specs.declared.backpressure.BackpressureStrategy.{BackpressureStrategy};
+ghost use Rattle.iox2_machine.specs.declared.service_config.ServiceConfig.{ServiceConfig};
 ghost use Rattle.iox2_commands.specs.declared.command.Command.{Command};
 ghost use Rattle.script_text.specs.Commands.{IsAllocation, IsCommandLine, IsDegradation, IsDomainLine, IsHandler, IsKind, IsMode, IsSizeOrMost, IsStrategy, NamesCommand, NamesDomain};
 ghost use Rattle.script_text.specs.Numbers.{IsNumber, position_of, value_of};
@@ -17,7 +17,7 @@ use crate::failure::ScriptError;
 use crate::lines::Lines;
 use arrayvec::ArrayVec;
 use iox2_commands::Command;
-use iox2_store::{
+use iox2_machine::{
     AllocationStrategy, BackpressureAction, BackpressureStrategy, DegradationAction, ServiceConfig,
     TypeVariant,
 };

@@ -1,12 +1,12 @@
 //! The lines that are printed of warnings.
 ghost use Rattle.std.specs.Prelude.{◌≡◌, ◌≤◌, ◌+◌, ◌*◌, ◌++◌, length};
 ghost use Rattle.arrayvec.specs.ArrayString.{array_string_len};
-ghost use Rattle.iox2_store.specs.machine.Limits.{warning_limit};
+ghost use Rattle.iox2_machine.specs.machine.Limits.{warning_limit};
 ghost use Rattle.script_text.specs.Warnings.{warning_line, warning_lines};
 
 use arrayvec::ArrayString;
 use circular_buffer::HeapCircularBuffer;
-use iox2_store::Warning;
+use iox2_machine::Warning;
 
 /// How many warnings a domain keeps.
 const WARNING_LIMIT: usize = 32;

@@ -1,6 +1,6 @@
 -- What slices pass through.
 use Rattle.std.specs.Prelude.{◌≡◌}
-use Rattle.iox2_store.specs.declared.service_config.TypeVariant.TheVariants.{Dynamic}
+use Rattle.iox2_machine.specs.declared.service_config.TypeVariant.TheVariants.{Dynamic}
 use Rattle.iox2_domain.specs.Kept.{Kept}
 use Rattle.iox2_pubsub.specs.Slices.{IsSliced}
 

@@ -4,7 +4,7 @@ use Rattle.iox2_domain.specs.Kept.{Kept}
 use Rattle.iox2_pubsub.specs.Leaves.{LeavesBut}
 use Rattle.iox2_pubsub.specs.Live.{IsWrittenLoan, LoanHasUserHeader, written_loan}
 use Rattle.iox2_pubsub.specs.declared.sample_mut.SampleMut.{SampleMut}
-use Rattle.iox2_store.specs.declared.key.Key.{Key}
+use Rattle.iox2_machine.specs.declared.key.Key.{Key}
 
 -- The handle is the same one and the loan can still be sent. What else is live reads as before, and what waits still does.
 pub record ChangesLoan {T U F G : Type 0} (old new : Kept T U F G) (before after : SampleMut) : Type 0 where

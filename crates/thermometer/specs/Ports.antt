@@ -6,7 +6,7 @@ use Rattle.iox2_pubsub.specs.LoansLeft.{HasLoansLeft, HasNumbersLeft}
 use Rattle.iox2_pubsub.specs.Slices.{IsSliced}
 use Rattle.iox2_pubsub.specs.declared.publisher.Publisher.{Publisher}
 use Rattle.iox2_pubsub.specs.declared.subscriber.Subscriber.{Subscriber}
-use Rattle.iox2_store.specs.declared.service_config.TypeVariant.TheVariants.{Dynamic}
+use Rattle.iox2_machine.specs.declared.service_config.TypeVariant.TheVariants.{Dynamic}
 
 module _ {T U F G : Type 0} (domain : Kept T U F G) where
   -- A message is one reading, and the thermometer's publisher and the display are live.

@@ -4,8 +4,8 @@ use crate::tests::waiting_publishers::{
     message_of, next_reading, subscriber_of, waiting_domain, waiting_ports, waiting_publisher,
 };
 use iox2_fixtures::{Reading, Weather, elsewhere};
+use iox2_machine::{BackpressureStrategy, Key};
 use iox2_pubsub::{BlockedSend, LoanParts, Publisher};
-use iox2_store::{BackpressureStrategy, Key};
 use std::process::Abort;
 use std::time::Duration;
 

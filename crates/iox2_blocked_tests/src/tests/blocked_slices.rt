@@ -3,9 +3,9 @@ ghost use Rattle.std.specs.Prelude.{false};
 
 use crate::tests::waiting_publishers::{blocked, delivered};
 use iox2_fixtures::{Numbers, is_slice_publisher_ready, is_sliced, slices};
+use iox2_machine::{BackpressureAction, SendError};
 use iox2_pubsub::slice::{Publisher, SampleMut, Subscriber};
 use iox2_pubsub::{BackpressureHandler, BackpressureStrategy, BlockedSend, Domain, SendOutcome};
-use iox2_store::{BackpressureAction, SendError};
 use std::process::Abort;
 use std::time::Duration;
 

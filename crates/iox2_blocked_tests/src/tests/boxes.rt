@@ -1,6 +1,6 @@
 //! Publishers whose handler is a box.
 ghost use Rattle.std.specs.Prelude.{◌≡◌};
-ghost use Rattle.iox2_store.specs.declared.backpressure.BackpressureAction.TheVariants.{Retry};
+ghost use Rattle.iox2_machine.specs.declared.backpressure.BackpressureAction.TheVariants.{Retry};
 
 use crate::tests::handlers::failed;
 use crate::tests::waiting_publishers::{

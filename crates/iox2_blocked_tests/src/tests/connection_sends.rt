@@ -6,8 +6,8 @@ use crate::tests::waiting_publishers::{
     message_of, next_reading, subscriber_of, waiting_domain, waiting_publisher,
 };
 use iox2_fixtures::{Weather, close_publisher, close_subscriber, settings};
+use iox2_machine::ServiceConfig;
 use iox2_pubsub::{Domain, Publisher, SendError, SendOutcome};
-use iox2_store::ServiceConfig;
 use std::process::Abort;
 
 // The settings of a domain whose connections have two channels.

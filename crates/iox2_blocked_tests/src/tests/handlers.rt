@@ -5,8 +5,8 @@ ghost use Rattle.std.specs.declared.result.Result.TheVariants.{Err};
 use crate::tests::waiting_publishers::{
     block, deliver, given_up, send, subscriber_of, waiting_domain,
 };
+use iox2_machine::{BackpressureAction, BackpressureStrategy};
 use iox2_pubsub::{BackpressureHandler, SendError, SendOutcome};
-use iox2_store::{BackpressureAction, BackpressureStrategy};
 use std::process::Abort;
 
 /// Why the send failed.

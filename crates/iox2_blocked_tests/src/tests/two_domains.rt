@@ -6,8 +6,8 @@ use crate::tests::waiting_publishers::{
     release, subscriber_of, take, waiting_publisher,
 };
 use iox2_fixtures::{Weather, close_publisher, close_subscriber, settings};
+use iox2_machine::{Key, ServiceConfig};
 use iox2_pubsub::{BlockedSend, Domain, Publisher, Sample, SampleMut, SampleMutUninit, Subscriber};
-use iox2_store::{Key, ServiceConfig};
 use std::alloc::Global;
 use std::process::Abort;
 

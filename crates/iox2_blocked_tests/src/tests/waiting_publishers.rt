@@ -9,11 +9,11 @@ ghost use Rattle.iox2_pubsub.specs.Live.{IsBlockedSend, IsLiveSubscriber, IsRead
 use iox2_fixtures::{
     Reading, Weather, close_publisher, close_subscriber, is_ready, is_single_valued, settings,
 };
+use iox2_machine::ServiceConfig;
 use iox2_pubsub::{
     BlockedSend, Domain, Publisher, Sample, SampleMut, SampleMutUninit, SendError, SendOutcome,
     Subscriber,
 };
-use iox2_store::ServiceConfig;
 use std::alloc::Global;
 use std::process::Abort;
 use std::time::Duration;

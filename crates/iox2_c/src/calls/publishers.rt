@@ -1,6 +1,6 @@
 //! The calls of publishers.
 ghost use Rattle.std.specs.Prelude.{ℕ, ◌≡◌, ◌≢◌, ◌<◌, ◌⊎◌, Err, IfErr, IfOk, None, Ok, Some};
-ghost use Rattle.iox2_store.specs.declared.errors.PublisherCreateError.{PublisherCreateError};
+ghost use Rattle.iox2_machine.specs.declared.errors.PublisherCreateError.{PublisherCreateError};
 ghost use Rattle.iox2_pubsub.specs.Factories.{with_slots};
 ghost use Rattle.iox2_pubsub.specs.Handles.{max_slice_len_of, strategy_of as handle_strategy, as_publisher, publisher_id};
 ghost use Rattle.iox2_pubsub.specs.Live.{A_publisher, IsNewIn, IsPublisherKey, IsReadyPublisher, No_item, publisher_key};

@@ -1,6 +1,6 @@
 //! The calls of samples.
 ghost use Rattle.std.specs.Prelude.{ℕ, List, drop, length, take, ◌≡◌, ◌≢◌, ◌<◌, ◌≤◌, ◌⊎◌, IfNone, IfSome};
-ghost use Rattle.iox2_store.specs.declared.header.Header.{Header};
+ghost use Rattle.iox2_machine.specs.declared.header.Header.{Header};
 ghost use Rattle.iox2_pubsub.specs.Handles.{as_sample, origin_of, receiver_of, sample_number};
 ghost use Rattle.iox2_pubsub.specs.Live.{IsLiveSample, IsSampleKey, SampleHasHeader, received_sample, sample_key};
 ghost use Rattle.iox2_pubsub.specs.Slices.{SampleHasValues};

@@ -1,7 +1,7 @@
 //! Sends, and those that wait.
 ghost use Rattle.std.specs.Prelude.{◌≡◌, ◌≢◌, ◌<◌, ◌⊎◌, nat_eq, IfOk};
 ghost use Rattle.std.specs.declared.result.Result.{Result};
-ghost use Rattle.iox2_store.specs.declared.errors.SendError.{SendError};
+ghost use Rattle.iox2_machine.specs.declared.errors.SendError.{SendError};
 ghost use Rattle.iox2_pubsub.specs.declared.send_outcome.SendOutcome.{SendOutcome};
 ghost use Rattle.iox2_pubsub.specs.Live.{A_blocked_send, A_sent_copy, IsBlockedKey, IsReadyPublisher, StaysBut, blocked_key};
 ghost use Rattle.iox2_pubsub.specs.Handles.{as_publisher, publisher_id};

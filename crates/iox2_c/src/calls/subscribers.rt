@@ -1,9 +1,9 @@
 //! The calls of subscribers.
 ghost use Rattle.std.specs.Prelude.{ℕ, List, length, take, ◌≡◌, ◌≢◌, ◌<◌, ◌≤◌, ◌⊎◌, Err, IfErr, IfNone, IfOk, IfSome, Ok};
-ghost use Rattle.iox2_store.specs.declared.errors.ReceiveError.{ReceiveError};
-ghost use Rattle.iox2_store.specs.declared.errors.SubscriberCreateError.{SubscriberCreateError};
-ghost use Rattle.iox2_store.specs.declared.key.Key.{Key};
-ghost use Rattle.iox2_store.specs.machine.Receives.{Got_sample, No_sample, Receive_error};
+ghost use Rattle.iox2_machine.specs.declared.errors.ReceiveError.{ReceiveError};
+ghost use Rattle.iox2_machine.specs.declared.errors.SubscriberCreateError.{SubscriberCreateError};
+ghost use Rattle.iox2_machine.specs.declared.key.Key.{Key};
+ghost use Rattle.iox2_machine.specs.machine.Receives.{Got_sample, No_sample, Receive_error};
 ghost use Rattle.iox2_pubsub.specs.Handles.{as_sample, as_subscriber, buffer_size_of, origin_of, receiver_of, subscriber_id};
 ghost use Rattle.iox2_pubsub.specs.Slices.{SampleHasValues};
 ghost use Rattle.iox2_pubsub.specs.Live.{A_sample, A_subscriber, IsLiveSample, IsLiveSubscriber, IsNewIn, IsSampleKey, IsSubscriberKey, No_item, sample_key, subscriber_key};

@@ -1,10 +1,10 @@
 //! The exports of domains.
 ghost use Rattle.std.specs.Prelude.{◌≡◌, ◌≢◌, ◌<◌, ◌≤◌, ◌⊎◌, ◌↔◌, false, IfSome, IsTrue, None, Some, drop, length};
-ghost use Rattle.iox2_store.specs.machine.Limits.{fits, worst_case};
-ghost use Rattle.iox2_store.specs.Defaults.{default_config};
-ghost use Rattle.iox2_store.specs.declared.service_config.TypeVariant.TheVariants.{Dynamic};
-ghost use Rattle.iox2_store.specs.machine.Ports.{default_publisher_settings, default_subscriber_settings};
-ghost use Rattle.iox2_store.specs.machine.State.{fresh, no_messages};
+ghost use Rattle.iox2_machine.specs.machine.Limits.{fits, worst_case};
+ghost use Rattle.iox2_machine.specs.Defaults.{default_config};
+ghost use Rattle.iox2_machine.specs.declared.service_config.TypeVariant.TheVariants.{Dynamic};
+ghost use Rattle.iox2_machine.specs.machine.Ports.{default_publisher_settings, default_subscriber_settings};
+ghost use Rattle.iox2_machine.specs.machine.State.{fresh, no_messages};
 ghost use Rattle.iox2_domain.specs.Shows.{Shows};
 ghost use Rattle.iox2_c.specs.Boxed.{Knows};
 ghost use Rattle.iox2_c.specs.Settings.{AreValid, publisher_settings, settings_of, subscriber_settings};

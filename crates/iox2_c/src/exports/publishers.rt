@@ -1,7 +1,7 @@
 //! The exports of publishers.
 ghost use Rattle.std.specs.Prelude.{◌≡◌, ◌<◌, ◌↔◌, None, ◌≢◌, ◌≤◌, ◌⊎◌, Err, IfSome, Ok};
-ghost use Rattle.iox2_store.specs.declared.errors.LoanError.{LoanError};
-ghost use Rattle.iox2_store.specs.declared.errors.PublisherCreateError.{PublisherCreateError};
+ghost use Rattle.iox2_machine.specs.declared.errors.LoanError.{LoanError};
+ghost use Rattle.iox2_machine.specs.declared.errors.PublisherCreateError.{PublisherCreateError};
 ghost use Rattle.iox2_pubsub.specs.Live.{A_loan, A_publisher, IsNewIn, IsPublisherKey, No_item};
 ghost use Rattle.iox2_c.specs.Boxed.{Becomes, HoldsOn, Knows, KnowsNo, Turns};
 ghost use Rattle.iox2_c.specs.Calls.{IsOut, IsReady, RefusesPublisher};

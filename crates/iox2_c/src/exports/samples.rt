@@ -1,6 +1,6 @@
 //! The exports of samples.
 ghost use Rattle.std.specs.Prelude.{◌≡◌, ◌<◌, ◌↔◌, None, ℕ, List, drop, length, take, ◌≤◌, ◌⊎◌};
-ghost use Rattle.iox2_store.specs.declared.header.Header.{Header};
+ghost use Rattle.iox2_machine.specs.declared.header.Header.{Header};
 ghost use Rattle.iox2_pubsub.specs.Live.{A_sample, IsSampleKey, SampleHasHeader};
 ghost use Rattle.iox2_pubsub.specs.Slices.{SampleHasValues};
 ghost use Rattle.iox2_c.specs.Boxed.{Becomes, HoldsOn, Knows, KnowsNo};

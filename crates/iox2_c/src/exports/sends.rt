@@ -1,7 +1,7 @@
 //! The exports of sends.
 ghost use Rattle.std.specs.Prelude.{◌≡◌, ◌<◌, ◌↔◌, None, nat_eq, ◌≢◌, ◌⊎◌};
 ghost use Rattle.std.specs.declared.result.Result.{Result};
-ghost use Rattle.iox2_store.specs.declared.errors.SendError.{SendError};
+ghost use Rattle.iox2_machine.specs.declared.errors.SendError.{SendError};
 ghost use Rattle.iox2_pubsub.specs.declared.send_outcome.SendOutcome.{SendOutcome};
 ghost use Rattle.iox2_pubsub.specs.Live.{A_blocked_send, A_sent_copy, A_sent_loan, IsBlockedKey, IsLoanKey};
 ghost use Rattle.iox2_c.specs.Boxed.{Becomes, HoldsOn, Knows, KnowsNo};

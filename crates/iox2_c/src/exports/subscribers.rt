@@ -1,9 +1,9 @@
 //! The exports of subscribers.
 ghost use Rattle.std.specs.Prelude.{◌≡◌, ◌<◌, ◌↔◌, None, ℕ, List, length, take, ◌≢◌, ◌≤◌, ◌⊎◌, Err, Ok};
-ghost use Rattle.iox2_store.specs.declared.errors.ReceiveError.{ReceiveError};
-ghost use Rattle.iox2_store.specs.machine.Receives.{Got_sample, No_sample, Receive_error};
-ghost use Rattle.iox2_store.specs.declared.errors.SubscriberCreateError.{SubscriberCreateError};
-ghost use Rattle.iox2_store.specs.declared.key.Key.{Key};
+ghost use Rattle.iox2_machine.specs.declared.errors.ReceiveError.{ReceiveError};
+ghost use Rattle.iox2_machine.specs.machine.Receives.{Got_sample, No_sample, Receive_error};
+ghost use Rattle.iox2_machine.specs.declared.errors.SubscriberCreateError.{SubscriberCreateError};
+ghost use Rattle.iox2_machine.specs.declared.key.Key.{Key};
 ghost use Rattle.iox2_pubsub.specs.Live.{A_sample, A_subscriber, IsNewIn, IsSampleKey, IsSubscriberKey, No_item};
 ghost use Rattle.iox2_pubsub.specs.Slices.{SampleHasValues};
 ghost use Rattle.iox2_c.specs.Boxed.{Becomes, HoldsOn, Knows, KnowsNo, Turns};

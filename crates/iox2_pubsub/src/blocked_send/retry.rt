@@ -7,15 +7,15 @@ use crate::blocked_send::BlockedSend;
 use crate::domain::Domain;
 use crate::sample_mut::send::outcome_of;
 use crate::send_outcome::SendOutcome;
+use iox2_machine::{BackpressureFn, DegradationFn, SendError};
 use iox2_messages::{give_up_send, retry_send};
-use iox2_store::{BackpressureFn, DegradationFn, SendError};
 use std::time::Duration;
 
 impl BlockedSend {
     ghost use Rattle.std.specs.Prelude.{Some};
-    ghost use Rattle.iox2_store.specs.machine.Records.{Publisher as Record, BlockedSend as Waiting};
-    ghost use Rattle.iox2_store.specs.machine.Sends.{Retry, GiveUp};
-    ghost use Rattle.iox2_store.specs.machine.State.{State, Messages};
+    ghost use Rattle.iox2_machine.specs.machine.Records.{Publisher as Record, BlockedSend as Waiting};
+    ghost use Rattle.iox2_machine.specs.machine.Sends.{Retry, GiveUp};
+    ghost use Rattle.iox2_machine.specs.machine.State.{State, Messages};
     ghost use Rattle.iox2_pubsub.specs.Live.{AddAtMost, IsBlockedSend, IsUnblocked, NeverFails, StaysBut, UpToDateStay, blocked_key, blocked_send, lender_key, written_key};
     ghost use Rattle.iox2_pubsub.specs.LoansLeft.{HasOneMoreLeft, LoansLeftStay};
     ghost use Rattle.iox2_pubsub.specs.SendCalls.{IsDelivered};

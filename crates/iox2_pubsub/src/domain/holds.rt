@@ -4,8 +4,8 @@ ghost use Rattle.iox2_domain.specs.Shows.{KeepsEntries};
 ghost use Rattle.iox2_pubsub.specs.Live.{IsBlockedKey, IsLoanKey, IsPublisherKey, IsSampleKey, IsSubscriberKey};
 
 use super::Domain;
+use iox2_machine::{BackpressureFn, DegradationFn, Key, UniquePublisherId, UniqueSubscriberId};
 use iox2_messages::has_blocked_send;
-use iox2_store::{BackpressureFn, DegradationFn, Key, UniquePublisherId, UniqueSubscriberId};
 
 impl<T: Drop, U: Default + Drop, F: BackpressureFn, G: DegradationFn> Domain<T, U, F, G> {
     /// Whether the key is that of a publisher of this domain that wasn't closed. This library's

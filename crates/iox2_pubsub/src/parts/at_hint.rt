@@ -9,10 +9,10 @@ use crate::parts::hints::{
 };
 use crate::parts::{LoanParts, PublisherParts, SampleParts, SubscriberParts};
 use crate::sample::Sample;
-use iox2_store::{BackpressureFn, DegradationFn, UniquePublisherId, UniqueSubscriberId};
+use iox2_machine::{BackpressureFn, DegradationFn, UniquePublisherId, UniqueSubscriberId};
 
 impl<T: Drop, U: Default + Drop, F: BackpressureFn, G: DegradationFn> Domain<T, U, F, G> {
-    ghost use Rattle.iox2_store.specs.declared.allocation.AllocationStrategy.TheVariants.{Static};
+    ghost use Rattle.iox2_machine.specs.declared.allocation.AllocationStrategy.TheVariants.{Static};
     ghost use Rattle.iox2_pubsub.specs.Live.{HasMark, IsLiveSample, IsLiveSubscriber, IsLoanKey, IsPlacedPublisher, IsPublisherKey, IsReadyPublisher, IsSampleKey, IsUnblocked, IsUpToDate};
     ghost use Rattle.iox2_pubsub.specs.LoansLeft.{GrowsBy, HasNumbersLeft};
     ghost use Rattle.iox2_pubsub.specs.Parts.{LenderIsPlaced, loan_named, publisher_named, publisher_with, sample_named, sample_parts, subscriber_with};

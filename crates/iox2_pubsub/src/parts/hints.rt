@@ -1,10 +1,10 @@
 //! What a handle made of numbers names is looked for first where the numbers say.
 ghost use Rattle.std.specs.Prelude.{◌≡◌, ◌↔◌, ◌<◌, ◌≤◌, [], true, false, length, slice_get, slice_index_or, is_some, IfSome, IsTrue, MatchOption, None, Some};
-ghost use Rattle.iox2_store.specs.SingleValues.{is_single_valued};
-ghost use Rattle.iox2_store.specs.declared.allocation.AllocationStrategy.TheVariants.{Static};
-ghost use Rattle.iox2_store.specs.machine.Limits.{last_number};
-ghost use Rattle.iox2_store.specs.machine.Records.{Entry};
-ghost use Rattle.iox2_store.specs.machine.SingleCalls.{HoldsLoan, HoldsSample, HoldsSubscriber};
+ghost use Rattle.iox2_machine.specs.SingleValues.{is_single_valued};
+ghost use Rattle.iox2_machine.specs.declared.allocation.AllocationStrategy.TheVariants.{Static};
+ghost use Rattle.iox2_machine.specs.machine.Limits.{last_number};
+ghost use Rattle.iox2_machine.specs.machine.Records.{Entry};
+ghost use Rattle.iox2_machine.specs.machine.SingleCalls.{HoldsLoan, HoldsSample, HoldsSubscriber};
 ghost use Rattle.iox2_domain.specs.Kept.{state_of, entries_of};
 ghost use Rattle.iox2_domain.specs.Fields.{kept_of};
 ghost use Rattle.iox2_domain.specs.Invariant.{IsDomain};
@@ -15,8 +15,8 @@ ghost use Rattle.iox2_slots.specs.declared.slots.mark.SlotMark.{SlotMark};
 ghost use Rattle.iox2_pubsub.specs.Parts.{HoldsMarked, written_mark};
 
 use iox2_domain::{DomainState, LoanAt, SampleAt, is_loan_slot};
+use iox2_machine::{AllocationStrategy, UniquePublisherId, UniqueSubscriberId};
 use iox2_slots::{SlotBook, SlotMark};
-use iox2_store::{AllocationStrategy, UniquePublisherId, UniqueSubscriberId};
 
 /// Whether a publisher has this id, wasn't closed and stands at the place.
 pub(crate) fn has_publisher_at_hint<T: Drop, U: Default + Drop>(

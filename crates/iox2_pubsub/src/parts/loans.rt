@@ -8,7 +8,7 @@ use crate::parts::hints::has_marked;
 use crate::sample_mut::SampleMut;
 use crate::sample_mut_uninit::SampleMutUninit;
 use iox2_domain::LoanAt;
-use iox2_store::{BackpressureFn, DegradationFn, Key, UniquePublisherId};
+use iox2_machine::{BackpressureFn, DegradationFn, Key, UniquePublisherId};
 
 impl LoanParts {
     // The numbers of a handle's private part.

@@ -6,7 +6,7 @@ use crate::parts::hints::find_open_subscriber;
 use crate::parts::{PublisherParts, SubscriberParts};
 use crate::publisher::Publisher;
 use crate::subscriber::Subscriber;
-use iox2_store::{BackpressureFn, DegradationFn, UniquePublisherId, UniqueSubscriberId};
+use iox2_machine::{BackpressureFn, DegradationFn, UniquePublisherId, UniqueSubscriberId};
 
 impl Publisher {
     ghost use Rattle.iox2_pubsub.specs.Parts.{publisher_parts};

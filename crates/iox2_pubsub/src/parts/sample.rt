@@ -6,7 +6,7 @@ use crate::parts::SampleParts;
 use crate::parts::hints::has_sample;
 use crate::sample::Sample;
 use iox2_domain::SampleAt;
-use iox2_store::{BackpressureFn, DegradationFn, UniquePublisherId, UniqueSubscriberId};
+use iox2_machine::{BackpressureFn, DegradationFn, UniquePublisherId, UniqueSubscriberId};
 
 impl SampleParts {
     ghost use Rattle.iox2_pubsub.specs.Parts.{sample_parts};

@@ -4,7 +4,7 @@ ghost use Rattle.iox2_domain.specs.Handlers.{handler_of};
 ghost use Rattle.iox2_pubsub.specs.Factories.{answer_of, degrading_box};
 
 use iox2_domain::HandlerMark;
-use iox2_store::{DegradationAction, DegradationHandler};
+use iox2_machine::{DegradationAction, DegradationHandler};
 
 /// What stands for the handler in its port.
 pub(crate) fn mark_of<G>(handler: &DegradationHandler<G>) -> HandlerMark<DegradationAction>

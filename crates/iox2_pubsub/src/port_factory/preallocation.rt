@@ -1,8 +1,8 @@
 //! How many slots a publisher gets, and how they grow.
 ghost use Rattle.std.specs.Prelude.{◌≡◌};
 
+use iox2_machine::{AllocationStrategy, ServiceConfig, worst_case_slots};
 use iox2_ports::SegmentOptions;
-use iox2_store::{AllocationStrategy, ServiceConfig, worst_case_slots};
 
 /// No override: a publisher has the worst case of slots.
 ///
@@ -46,7 +46,7 @@ pub(crate) struct SlotSettings<O> {
 }
 
 impl<P: Fn(usize) -> usize + Drop> SlotSettings<PreallocatedSamplesOverride<P>> {
-    ghost use Rattle.iox2_store.specs.machine.Limits.{worst_case};
+    ghost use Rattle.iox2_machine.specs.machine.Limits.{worst_case};
     ghost use Rattle.iox2_pubsub.specs.Factories.{AsksFor};
 
     /// How the slots of a publisher with so many loans are allocated. The override is asked how many

@@ -1,11 +1,11 @@
 //! The factory of publishers, of single values and of slices.
 ghost use Rattle.std.specs.Prelude.{◌≡◌, ◌≤◌, true, false, None, Some, IfOk, OnErr, MatchResult};
-ghost use Rattle.iox2_store.specs.declared.degradation.DegradationAction.TheVariants.{Warn};
+ghost use Rattle.iox2_machine.specs.declared.degradation.DegradationAction.TheVariants.{Warn};
 ghost use Rattle.iox2_domain.specs.Boxes.{answers_of};
-ghost use Rattle.iox2_store.specs.machine.Records.{Fixed};
-ghost use Rattle.iox2_store.specs.machine.Limits.{worst_case};
-ghost use Rattle.iox2_store.specs.machine.Ports.{CreatePublisher, slots_for};
-ghost use Rattle.iox2_store.specs.machine.State.{State, Messages};
+ghost use Rattle.iox2_machine.specs.machine.Records.{Fixed};
+ghost use Rattle.iox2_machine.specs.machine.Limits.{worst_case};
+ghost use Rattle.iox2_machine.specs.machine.Ports.{CreatePublisher, slots_for};
+ghost use Rattle.iox2_machine.specs.machine.State.{State, Messages};
 ghost use Rattle.iox2_pubsub.specs.Live.{ConnectionsStay, IsConnected, IsNewIn, IsReadyPublisher, NeverFails, NeverWaits, NoneRefused, RoomStays, Stays, degradation_box, handler_box, publisher_key, publisher_port, waiting, WaitingStays, IsSubscriberKey, subscriber_key};
 ghost use Rattle.iox2_pubsub.specs.LoansLeft.{GrowsBy, HasLoansLeft, LendsFirst, LoansLeftStay};
 ghost use Rattle.iox2_domain.specs.NewPublisher.{plain_publisher};
@@ -28,11 +28,11 @@ use crate::port_factory::preallocation::{NoOverride, PreallocatedSamplesOverride
 use crate::publisher::Publisher;
 use crate::slice;
 use iox2_domain::{HandlerMark, PublisherOptions};
-use iox2_ports::{SegmentOptions, create_publisher};
-use iox2_store::{
+use iox2_machine::{
     AllocationStrategy, BackpressureFn, BackpressureHandler, BackpressureStrategy,
     DegradationAction, DegradationFn, DegradationHandler, PublisherCreateError, ServiceConfig,
 };
+use iox2_ports::{SegmentOptions, create_publisher};
 use std::marker::{Model, PhantomData};
 
 /// Makes a publisher. It begins with the loans that the domain's settings allow a publisher, and with

@@ -1,11 +1,11 @@
 //! The factory of subscribers, of single values and of slices.
 ghost use Rattle.std.specs.Prelude.{◌≡◌, ◌≤◌, ℕ, None, Some, IfOk, MatchResult};
-ghost use Rattle.iox2_store.specs.declared.degradation.DegradationAction.TheVariants.{Warn};
+ghost use Rattle.iox2_machine.specs.declared.degradation.DegradationAction.TheVariants.{Warn};
 ghost use Rattle.iox2_domain.specs.Boxes.{answers_of};
-ghost use Rattle.iox2_store.specs.machine.Records.{Fixed};
-ghost use Rattle.iox2_store.specs.machine.Ports.{default_subscriber_settings, buffer_for, CreateSubscriber};
-ghost use Rattle.iox2_store.specs.machine.State.{State, Messages};
-ghost use Rattle.iox2_store.specs.machine.Limits.{expired_limit};
+ghost use Rattle.iox2_machine.specs.machine.Records.{Fixed};
+ghost use Rattle.iox2_machine.specs.machine.Ports.{default_subscriber_settings, buffer_for, CreateSubscriber};
+ghost use Rattle.iox2_machine.specs.machine.State.{State, Messages};
+ghost use Rattle.iox2_machine.specs.machine.Limits.{expired_limit};
 ghost use Rattle.iox2_pubsub.specs.Live.{HasItsBuffer, HasRoomFor, IsLiveSubscriber, IsNewIn, subscriber_box, subscriber_port, waiting, IsAwaited, NoneRefused, IsPublisherKey, publisher_key};
 ghost use Rattle.iox2_pubsub.specs.Leaves.{Leaves};
 ghost use Rattle.iox2_pubsub.specs.Factories.{receiver_with_degradation};
@@ -16,11 +16,11 @@ use crate::port_factory::degradations::{box_in, mark_of};
 use crate::port_factory::handles::PortHandle;
 use crate::subscriber::Subscriber;
 use iox2_domain::{HandlerMark, SubscriberOptions};
-use iox2_ports::create_subscriber;
-use iox2_store::{
+use iox2_machine::{
     BackpressureFn, DegradationAction, DegradationFn, DegradationHandler, ServiceConfig,
     SubscriberCreateError,
 };
+use iox2_ports::create_subscriber;
 use std::marker::{Model, PhantomData};
 
 /// Makes a subscriber. It begins with the largest buffer that the domain allows.

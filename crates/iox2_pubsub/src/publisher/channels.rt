@@ -3,14 +3,14 @@ ghost use Rattle.std.specs.Prelude.{◌≡◌, ◌≢◌, ◌⊎◌, ◌<◌};
 
 use crate::domain::Domain;
 use crate::publisher::Publisher;
+use iox2_machine::{BackpressureFn, DegradationFn};
 use iox2_messages::{close_sent, is_sent_hinted, is_sent_in, place_of_receiver};
-use iox2_store::{BackpressureFn, DegradationFn};
 
 impl Publisher {
     ghost use Rattle.std.specs.Prelude.{Some};
-    ghost use Rattle.iox2_store.specs.machine.ChannelCalls.{connection_place, has_channel_state, has_disconnect_hint, sent_closed};
-    ghost use Rattle.iox2_store.specs.machine.Limits.{channel_count};
-    ghost use Rattle.iox2_store.specs.machine.State.{State, Messages};
+    ghost use Rattle.iox2_machine.specs.machine.ChannelCalls.{connection_place, has_channel_state, has_disconnect_hint, sent_closed};
+    ghost use Rattle.iox2_machine.specs.machine.Limits.{channel_count};
+    ghost use Rattle.iox2_machine.specs.machine.State.{State, Messages};
     ghost use Rattle.iox2_domain.specs.Kept.{state_of};
     ghost use Rattle.iox2_pubsub.specs.Leaves.{LeavesButChannels};
     ghost use Rattle.iox2_pubsub.specs.Live.{IsPlacedPublisher, IsPublisherKey, publisher_key};

@@ -3,14 +3,14 @@ ghost use Rattle.std.specs.Prelude.{◌≡◌, ◌≢◌, ◌≤◌, suc, ℕ};
 
 use crate::domain::Domain;
 use crate::publisher::Publisher;
+use iox2_machine::{BackpressureFn, DegradationFn};
 use iox2_ports::close_publisher;
-use iox2_store::{BackpressureFn, DegradationFn};
 
 impl Publisher {
     ghost use Rattle.std.specs.Prelude.{None, Some};
-    ghost use Rattle.iox2_store.specs.machine.Ports.{publisher_closed};
-    ghost use Rattle.iox2_store.specs.machine.Records.{Publisher as Record};
-    ghost use Rattle.iox2_store.specs.machine.State.{State, Messages};
+    ghost use Rattle.iox2_machine.specs.machine.Ports.{publisher_closed};
+    ghost use Rattle.iox2_machine.specs.machine.Records.{Publisher as Record};
+    ghost use Rattle.iox2_machine.specs.machine.State.{State, Messages};
     ghost use Rattle.iox2_pubsub.specs.Live.{HasRoomFor, IsConnected, IsPublisherKey, IsReadyPublisher, IsUpToDate, StaysBut, degradation_box, handler_box, publisher_key, publisher_port, payloads_from, waiting};
     ghost use Rattle.iox2_pubsub.specs.LoansLeft.{NumbersLeftStay, OthersLoansLeftStay};
     ghost use Rattle.iox2_pubsub.specs.declared.subscriber.Subscriber.{Subscriber};

@@ -4,12 +4,12 @@ ghost use Rattle.std.specs.Prelude.{◌≡◌, ◌≤◌, ◌+◌, ◌*◌, ℕ,
 use crate::domain::Domain;
 use crate::publisher::Publisher;
 use crate::sample_mut_uninit::SampleMutUninit;
+use iox2_machine::{BackpressureFn, DegradationFn, LoanError};
 use iox2_messages::loan;
-use iox2_store::{BackpressureFn, DegradationFn, LoanError};
 
 impl Publisher {
-    ghost use Rattle.iox2_store.specs.machine.State.{State, Messages};
-    ghost use Rattle.iox2_store.specs.declared.service_config.TypeVariant.TheVariants.{FixedSize};
+    ghost use Rattle.iox2_machine.specs.machine.State.{State, Messages};
+    ghost use Rattle.iox2_machine.specs.declared.service_config.TypeVariant.TheVariants.{FixedSize};
     ghost use Rattle.iox2_pubsub.specs.Live.{HasLender, IsReadyPublisher, IsSingleValued, IsUnblocked, IsUnwritten, IsUnwrittenLoan, IsNewIn, LoanHasHeader, NeverWaits, Stays, lender_key, publisher_key, unwritten_key, unwritten_loan, UpToDateStay, WaitingStays};
     ghost use Rattle.iox2_pubsub.specs.LoansLeft.{HasLoansLeft, HasNumbersLeft, LoansLeftStay, TakesOneLeft};
     ghost use Rattle.iox2_pubsub.specs.Slices.{HasUnwrittenCells};

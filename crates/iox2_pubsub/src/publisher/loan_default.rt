@@ -4,10 +4,10 @@ ghost use Rattle.std.specs.Prelude.{◌≡◌, ◌+◌, ℕ, IfOk, IsOk, OnErr};
 use crate::domain::Domain;
 use crate::publisher::Publisher;
 use crate::sample_mut::SampleMut;
-use iox2_store::{BackpressureFn, DegradationFn, LoanError};
+use iox2_machine::{BackpressureFn, DegradationFn, LoanError};
 
 impl Publisher {
-    ghost use Rattle.iox2_store.specs.machine.State.{State, Messages};
+    ghost use Rattle.iox2_machine.specs.machine.State.{State, Messages};
     ghost use Rattle.iox2_domain.specs.Shows.{Shows};
     ghost use Rattle.iox2_pubsub.specs.Live.{HasLender, IsNewIn, IsReadyPublisher, IsSingleValued, IsUnblocked, IsWritten, IsWrittenLoan, LoanReads, NeverWaits, Stays, UpToDateStay, lender_key, publisher_key, written_key, written_loan, WaitingStays};
     ghost use Rattle.iox2_pubsub.specs.LoansLeft.{HasLoansLeft, HasNumbersLeft, LoansLeftStay, TakesOneLeft};

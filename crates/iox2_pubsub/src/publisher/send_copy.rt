@@ -4,10 +4,10 @@ ghost use Rattle.std.specs.Prelude.{◌≡◌, ◌<◌, ◌+◌, ◌++◌, ℕ, 
 use crate::domain::Domain;
 use crate::publisher::Publisher;
 use crate::send_outcome::SendOutcome;
-use iox2_store::{BackpressureFn, DegradationFn, SendError};
+use iox2_machine::{BackpressureFn, DegradationFn, SendError};
 
 impl Publisher {
-    ghost use Rattle.iox2_store.specs.machine.State.{State, Messages};
+    ghost use Rattle.iox2_machine.specs.machine.State.{State, Messages};
     ghost use Rattle.iox2_domain.specs.Boxes.{answers_of};
     ghost use Rattle.iox2_domain.specs.Shows.{Shows};
     ghost use Rattle.iox2_pubsub.specs.Live.{A_blocked_send, AddAtMost, AllFrom, AreAllSlices, HasItsBuffer, IsBlockedSend, IsConnected, IsReadyPublisher, IsServed, IsSingleValued, NeverFails, NeverWaits, OthersSend, StaysBut, UpToDateStay, blocked_key, blocked_send, lender_key, payloads, publisher_key, waiting};

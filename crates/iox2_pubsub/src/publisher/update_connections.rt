@@ -3,7 +3,7 @@
 use crate::domain::Domain;
 use crate::publisher::Publisher;
 use crate::update_connections::{UpdateConnections, outcome_of};
-use iox2_store::{BackpressureFn, ConnectionFailure, DegradationFn};
+use iox2_machine::{BackpressureFn, ConnectionFailure, DegradationFn};
 use iox2_updates::update_publisher;
 
 /// A publisher gets its connections with new subscribers, which a send does too.
@@ -12,7 +12,7 @@ use iox2_updates::update_publisher;
 impl<T: Drop, U: Default + Drop, F: BackpressureFn, G: DegradationFn> UpdateConnections<T, U, F, G>
     for Publisher {
     ghost use Rattle.iox2_domain.specs.Boxes.{answers_of};
-    ghost use Rattle.iox2_store.specs.machine.PublisherUpdate.{UpdatePublisher};
+    ghost use Rattle.iox2_machine.specs.machine.PublisherUpdate.{UpdatePublisher};
     ghost use Rattle.iox2_pubsub.specs.Live.{IsReadyPublisher, publisher_key, Connected};
     ghost use Rattle.iox2_pubsub.specs.Handles.{publisher_id};
 

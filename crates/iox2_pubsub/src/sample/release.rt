@@ -3,14 +3,14 @@ ghost use Rattle.std.specs.Prelude.{◌≡◌};
 
 use crate::domain::Domain;
 use crate::sample::Sample;
+use iox2_machine::{BackpressureFn, DegradationFn};
 use iox2_messages::give_back;
-use iox2_store::{BackpressureFn, DegradationFn};
 
 impl Sample {
     ghost use Rattle.std.specs.Prelude.{ℕ, IsTrue};
-    ghost use Rattle.iox2_store.specs.machine.Mailbox.{is_borrowed};
-    ghost use Rattle.iox2_store.specs.machine.Releases.{released};
-    ghost use Rattle.iox2_store.specs.machine.State.{State, Messages};
+    ghost use Rattle.iox2_machine.specs.machine.Mailbox.{is_borrowed};
+    ghost use Rattle.iox2_machine.specs.machine.Releases.{released};
+    ghost use Rattle.iox2_machine.specs.machine.State.{State, Messages};
     ghost use Rattle.iox2_pubsub.specs.Live.{IsLiveSample, received_sample};
     ghost use Rattle.iox2_pubsub.specs.Leaves.{LeavesBut};
     ghost use Rattle.iox2_domain.specs.Shows.{Shows};

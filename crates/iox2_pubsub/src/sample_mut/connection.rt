@@ -7,15 +7,15 @@ use crate::domain::Domain;
 use crate::sample_mut::SampleMut;
 use crate::sample_mut::send::outcome_of;
 use crate::send_outcome::SendOutcome;
-use iox2_messages::send_to_connection;
 use iox2_domain::LoanAt;
-use iox2_store::{BackpressureFn, DegradationFn, SendError};
+use iox2_machine::{BackpressureFn, DegradationFn, SendError};
+use iox2_messages::send_to_connection;
 
 impl SampleMut {
     ghost use Rattle.std.specs.Prelude.{Some};
-    ghost use Rattle.iox2_store.specs.machine.Limits.{channel_count};
-    ghost use Rattle.iox2_store.specs.machine.Records.{Loan};
-    ghost use Rattle.iox2_store.specs.machine.State.{State, Messages};
+    ghost use Rattle.iox2_machine.specs.machine.Limits.{channel_count};
+    ghost use Rattle.iox2_machine.specs.machine.Records.{Loan};
+    ghost use Rattle.iox2_machine.specs.machine.State.{State, Messages};
     ghost use Rattle.iox2_pubsub.specs.Live.{AddAtMost, HasLender, IsBlockedSend, IsLoanKey, IsUnblocked, IsWritten, NeverFails, NeverWaits, OthersSend, StaysBut, UpToDateStay, blocked_key, written_key};
     ghost use Rattle.iox2_pubsub.specs.LoansLeft.{HasOneMoreLeft, LoansLeftStay};
     ghost use Rattle.iox2_pubsub.specs.SendCalls.{FailsDelivery, IsDelivered, SendsToConnection, messages_after, spent_by_send};

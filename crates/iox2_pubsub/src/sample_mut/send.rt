@@ -1,7 +1,7 @@
 //! A message is sent.
 ghost use Rattle.std.specs.Prelude.{◌≡◌, IfErr, IfOk, IsOk, ◌+◌, false};
-ghost use Rattle.iox2_store.specs.machine.SingleCalls.{HoldsPublisher};
-ghost use Rattle.iox2_store.specs.machine.State.{is_blocked};
+ghost use Rattle.iox2_machine.specs.machine.SingleCalls.{HoldsPublisher};
+ghost use Rattle.iox2_machine.specs.machine.State.{is_blocked};
 ghost use Rattle.iox2_domain.specs.Boxes.{answers_of};
 ghost use Rattle.iox2_domain.specs.Fields.{kept_of};
 ghost use Rattle.iox2_domain.specs.Invariant.{IsDomain};
@@ -16,14 +16,14 @@ use crate::blocked_send::BlockedSend;
 use crate::domain::Domain;
 use crate::sample_mut::SampleMut;
 use crate::send_outcome::SendOutcome;
-use iox2_messages::{SendEnd, send};
 use iox2_domain::{Boxes, DomainState, LoanAt};
-use iox2_store::{BackpressureFn, DegradationFn, SendError};
+use iox2_machine::{BackpressureFn, DegradationFn, SendError};
+use iox2_messages::{SendEnd, send};
 
 impl SampleMut {
     ghost use Rattle.std.specs.Prelude.{List, Some, [], length, ◌<◌, ◌++◌, ◌∷◌};
-    ghost use Rattle.iox2_store.specs.machine.Records.{Loan};
-    ghost use Rattle.iox2_store.specs.machine.State.{State, Messages};
+    ghost use Rattle.iox2_machine.specs.machine.Records.{Loan};
+    ghost use Rattle.iox2_machine.specs.machine.State.{State, Messages};
     ghost use Rattle.iox2_pubsub.specs.Live.{AllFrom, HasItsBuffer, HasLender, IsBlockedSend, IsConnected, IsLoanKey, IsServed, IsUnblocked, IsWritten, NeverFails, NeverWaits, OthersSend, StaysBut, blocked_key, written_key, AddAtMost, AreAllSlices, UpToDateStay, payloads, waiting};
     ghost use Rattle.iox2_pubsub.specs.LoansLeft.{HasOneMoreLeft, LoansLeftStay};
     ghost use Rattle.iox2_pubsub.specs.Slices.{HasValues};

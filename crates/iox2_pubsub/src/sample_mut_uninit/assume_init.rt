@@ -4,16 +4,16 @@ ghost use Rattle.std.specs.Prelude.{◌≡◌};
 use crate::domain::Domain;
 use crate::sample_mut::SampleMut;
 use crate::sample_mut_uninit::SampleMutUninit;
+use iox2_machine::{BackpressureFn, DegradationFn};
 use iox2_messages::assume_loan;
-use iox2_store::{BackpressureFn, DegradationFn};
 
 impl SampleMutUninit {
     ghost use Rattle.std.specs.Prelude.{Some, None, Option, List, map, is_some, IfOk, IsOkAnd, IsErr, MatchResult, true, false};
     ghost use Rattle.std.specs.List.{list_all};
-    ghost use Rattle.iox2_store.specs.declared.header.Header.{Header};
-    ghost use Rattle.iox2_store.specs.machine.Loans.{initialized, is_initialized};
-    ghost use Rattle.iox2_store.specs.machine.Records.{Loan};
-    ghost use Rattle.iox2_store.specs.machine.State.{State, Messages};
+    ghost use Rattle.iox2_machine.specs.declared.header.Header.{Header};
+    ghost use Rattle.iox2_machine.specs.machine.Loans.{initialized, is_initialized};
+    ghost use Rattle.iox2_machine.specs.machine.Records.{Loan};
+    ghost use Rattle.iox2_machine.specs.machine.State.{State, Messages};
     ghost use Rattle.iox2_domain.specs.Shows.{Shows};
     ghost use Rattle.iox2_pubsub.specs.Live.{HasLender, IsUnblocked, IsUnwritten, IsWritten, IsWrittenLoan, LoanHasHeader, LoanHasUserHeader, LoanReads, NeverWaits, UnwrittenReads, unwritten_key, unwritten_loan, written_key};
     ghost use Rattle.iox2_pubsub.specs.Leaves.{LeavesBut};

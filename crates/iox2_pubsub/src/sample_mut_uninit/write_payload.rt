@@ -4,15 +4,15 @@ ghost use Rattle.std.specs.Prelude.{◌≡◌};
 use crate::domain::Domain;
 use crate::sample_mut::SampleMut;
 use crate::sample_mut_uninit::SampleMutUninit;
+use iox2_machine::{BackpressureFn, DegradationFn};
 use iox2_messages::write_loan;
-use iox2_store::{BackpressureFn, DegradationFn};
 
 impl SampleMutUninit {
     ghost use Rattle.std.specs.Prelude.{Some};
-    ghost use Rattle.iox2_store.specs.declared.header.Header.{Header};
-    ghost use Rattle.iox2_store.specs.machine.Records.{Loan};
-    ghost use Rattle.iox2_store.specs.machine.State.{State, Messages, with_loan};
-    ghost use Rattle.iox2_store.specs.machine.Loans.{written};
+    ghost use Rattle.iox2_machine.specs.declared.header.Header.{Header};
+    ghost use Rattle.iox2_machine.specs.machine.Records.{Loan};
+    ghost use Rattle.iox2_machine.specs.machine.State.{State, Messages, with_loan};
+    ghost use Rattle.iox2_machine.specs.machine.Loans.{written};
     ghost use Rattle.iox2_pubsub.specs.Live.{HasLender, IsSingleValued, IsUnblocked, IsUnwritten, IsWritten, IsWrittenLoan, LoanHasHeader, LoanHasUserHeader, LoanReads, NeverWaits, unwritten_key, unwritten_loan, written_key};
     ghost use Rattle.iox2_pubsub.specs.Leaves.{LeavesBut};
     ghost use Rattle.iox2_domain.specs.Shows.{Shows};

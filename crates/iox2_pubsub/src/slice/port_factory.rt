@@ -1,13 +1,13 @@
 //! The factories of ports of slices: those of single values, which make other handles.
 ghost use Rattle.std.specs.Prelude.{◌≡◌, None};
-ghost use Rattle.iox2_store.specs.machine.Ports.{default_subscriber_settings};
+ghost use Rattle.iox2_machine.specs.machine.Ports.{default_subscriber_settings};
 ghost use Rattle.iox2_domain.specs.NewPublisher.{plain_publisher};
 
 use crate::domain::Domain;
 use crate::port_factory::preallocation::NoOverride;
 use crate::port_factory::{publisher, subscriber};
 use crate::slice::{Publisher, Subscriber};
-use iox2_store::{BackpressureFn, DegradationFn};
+use iox2_machine::{BackpressureFn, DegradationFn};
 
 /// Makes a publisher of slices. It begins with the loans that the domain's settings allow a
 /// publisher, each of one element at most, and with their strategy. Its memory is to grow as they say.

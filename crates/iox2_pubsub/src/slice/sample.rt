@@ -3,8 +3,8 @@ ghost use Rattle.std.specs.Prelude.{◌≡◌};
 
 use crate::domain::Domain;
 use crate::parts::hints::sample_values_at_hint;
+use iox2_machine::{BackpressureFn, DegradationFn};
 use iox2_messages::sample_payloads;
-use iox2_store::{BackpressureFn, DegradationFn};
 
 /// A slice that a subscriber has received and not yet released. It is a value to be spent, as the
 /// sample of a single value is, and is that sample with another view of its payload. All other
@@ -25,9 +25,9 @@ pub struct Sample {
 
 impl Sample {
     ghost use Rattle.std.specs.Prelude.{ℕ, IfSome, IsTrue, List};
-    ghost use Rattle.iox2_store.specs.machine.Mailbox.{is_borrowed};
-    ghost use Rattle.iox2_store.specs.machine.Releases.{released};
-    ghost use Rattle.iox2_store.specs.machine.State.{State, Messages};
+    ghost use Rattle.iox2_machine.specs.machine.Mailbox.{is_borrowed};
+    ghost use Rattle.iox2_machine.specs.machine.Releases.{released};
+    ghost use Rattle.iox2_machine.specs.machine.State.{State, Messages};
     ghost use Rattle.iox2_domain.specs.Shows.{Shows};
     ghost use Rattle.iox2_pubsub.specs.Live.{IsLiveSample, received_sample, sample_key};
     ghost use Rattle.iox2_pubsub.specs.Leaves.{LeavesBut};

@@ -6,8 +6,8 @@ mod user_header_mut;
 
 use crate::domain::Domain;
 use crate::send_outcome::SendOutcome;
+use iox2_machine::{BackpressureFn, DegradationFn, SendError};
 use iox2_messages::loan_values;
-use iox2_store::{BackpressureFn, DegradationFn, SendError};
 
 /// A loan of a slice whose payload is written. It is a value to be spent, as the loan of a single
 /// value is, and is that loan with another view of its payload. All other calls are those of
@@ -29,10 +29,10 @@ pub struct SampleMut {
 
 impl SampleMut {
     ghost use Rattle.std.specs.Prelude.{IfErr, IfOk, IsOk, List, Some, [], length, ◌<◌, ◌++◌, ◌∷◌, ◌+◌};
-    ghost use Rattle.iox2_store.specs.machine.Limits.{channel_count};
-    ghost use Rattle.iox2_store.specs.machine.Loans.{loan_discarded};
-    ghost use Rattle.iox2_store.specs.machine.Records.{Loan};
-    ghost use Rattle.iox2_store.specs.machine.State.{State, Messages};
+    ghost use Rattle.iox2_machine.specs.machine.Limits.{channel_count};
+    ghost use Rattle.iox2_machine.specs.machine.Loans.{loan_discarded};
+    ghost use Rattle.iox2_machine.specs.machine.Records.{Loan};
+    ghost use Rattle.iox2_machine.specs.machine.State.{State, Messages};
     ghost use Rattle.iox2_domain.specs.Boxes.{answers_of};
     ghost use Rattle.iox2_domain.specs.Shows.{Shows};
     ghost use Rattle.iox2_pubsub.specs.Live.{AddAtMost, AllFrom, AreAllSlices, HasItsBuffer, HasLender, IsBlockedSend, IsConnected, IsLoanKey, IsServed, IsUnblocked, IsWritten, NeverFails, NeverWaits, OthersSend, StaysBut, blocked_key, UpToDateStay, payloads, waiting, written_key, written_loan};

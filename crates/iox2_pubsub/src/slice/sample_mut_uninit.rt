@@ -7,8 +7,8 @@ mod write_unspecified;
 
 use crate::domain::Domain;
 use crate::slice::SampleMut;
+use iox2_machine::{BackpressureFn, DegradationFn};
 use iox2_messages::{loan_cells, write_loan_from_fn, write_loan_from_slice};
-use iox2_store::{BackpressureFn, DegradationFn};
 
 /// A loan of a slice whose payload isn't written. It is a value to be spent, as the loan of a single
 /// value is, and is that loan with another view of its payload. All other calls are those of
@@ -30,11 +30,11 @@ impl SampleMutUninit {
     ghost use Rattle.std.specs.Prelude.{Some, Option, List, length, map, is_some, IfOk, IsOkAnd, IsErr, MatchResult, true, false};
     ghost use Rattle.std.specs.List.{list_all};
     ghost use Rattle.iox2_contents.specs.SlotCalls.{AnswersInOrder};
-    ghost use Rattle.iox2_store.specs.declared.header.Header.{Header};
-    ghost use Rattle.iox2_store.specs.machine.Loans.{initialized, is_initialized, loan_discarded};
-    ghost use Rattle.iox2_store.specs.machine.Records.{Loan};
-    ghost use Rattle.iox2_store.specs.machine.State.{State, Messages};
-    ghost use Rattle.iox2_store.specs.machine.SingleCalls.{WriteAllFrom};
+    ghost use Rattle.iox2_machine.specs.declared.header.Header.{Header};
+    ghost use Rattle.iox2_machine.specs.machine.Loans.{initialized, is_initialized, loan_discarded};
+    ghost use Rattle.iox2_machine.specs.machine.Records.{Loan};
+    ghost use Rattle.iox2_machine.specs.machine.State.{State, Messages};
+    ghost use Rattle.iox2_machine.specs.machine.SingleCalls.{WriteAllFrom};
     ghost use Rattle.iox2_domain.specs.Shows.{Shows};
     ghost use Rattle.iox2_pubsub.specs.Live.{HasLender, IsLoanKey, IsUnblocked, IsUnwritten, IsWritten, IsWrittenLoan, LoanHasHeader, LoanHasUserHeader, NeverWaits, unwritten_key, unwritten_loan, written_key};
     ghost use Rattle.iox2_pubsub.specs.Leaves.{LeavesBut};

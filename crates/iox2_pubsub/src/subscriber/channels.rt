@@ -3,14 +3,14 @@ ghost use Rattle.std.specs.Prelude.{◌≡◌, ◌≢◌, ◌⊎◌, ◌<◌};
 
 use crate::domain::Domain;
 use crate::subscriber::Subscriber;
+use iox2_machine::{BackpressureFn, DegradationFn};
 use iox2_messages::{ChannelChange, all_received_in, change_received, some_received_in};
 use iox2_slots::CHANNEL_STATE_CLOSED;
-use iox2_store::{BackpressureFn, DegradationFn};
 
 impl Subscriber {
-    ghost use Rattle.iox2_store.specs.machine.ChannelCalls.{SetChannelState, received_changed, received_closed, received_hinted, some_channel_has_state};
-    ghost use Rattle.iox2_store.specs.machine.Limits.{channel_count};
-    ghost use Rattle.iox2_store.specs.machine.State.{State, Messages};
+    ghost use Rattle.iox2_machine.specs.machine.ChannelCalls.{SetChannelState, received_changed, received_closed, received_hinted, some_channel_has_state};
+    ghost use Rattle.iox2_machine.specs.machine.Limits.{channel_count};
+    ghost use Rattle.iox2_machine.specs.machine.State.{State, Messages};
     ghost use Rattle.iox2_messages.specs.ChannelChanges.{changed_channel};
     ghost use Rattle.iox2_pubsub.specs.Leaves.{ClosesNone, Leaves, LeavesButChannels};
     ghost use Rattle.iox2_pubsub.specs.Live.{IsLiveSubscriber};

@@ -3,14 +3,14 @@ ghost use Rattle.std.specs.Prelude.{◌≡◌};
 
 use crate::domain::Domain;
 use crate::subscriber::Subscriber;
+use iox2_machine::{BackpressureFn, DegradationFn};
 use iox2_ports::close_subscriber;
-use iox2_store::{BackpressureFn, DegradationFn};
 
 impl Subscriber {
     ghost use Rattle.std.specs.Prelude.{None, Some};
-    ghost use Rattle.iox2_store.specs.machine.Ports.{subscriber_closed};
-    ghost use Rattle.iox2_store.specs.machine.Records.{Subscriber as Record};
-    ghost use Rattle.iox2_store.specs.machine.State.{State, Messages};
+    ghost use Rattle.iox2_machine.specs.machine.Ports.{subscriber_closed};
+    ghost use Rattle.iox2_machine.specs.machine.Records.{Subscriber as Record};
+    ghost use Rattle.iox2_machine.specs.machine.State.{State, Messages};
     ghost use Rattle.iox2_pubsub.specs.Leaves.{LeavesWithout};
     ghost use Rattle.iox2_pubsub.specs.Live.{IsLiveSubscriber, IsSubscriberKey, subscriber_box, subscriber_key};
     ghost use Rattle.iox2_domain.specs.Shows.{Shows};

@@ -3,11 +3,11 @@ ghost use Rattle.std.specs.Prelude.{◌<◌, ◌↔◌, IfOk, IsTrue, OnOk};
 
 use crate::domain::Domain;
 use crate::subscriber::Subscriber;
+use iox2_machine::{BackpressureFn, ConnectionFailure, DegradationFn};
 use iox2_messages::has_samples_at;
-use iox2_store::{BackpressureFn, ConnectionFailure, DegradationFn};
 
 impl Subscriber {
-    ghost use Rattle.iox2_store.specs.machine.State.{State, Messages};
+    ghost use Rattle.iox2_machine.specs.machine.State.{State, Messages};
     ghost use Rattle.iox2_pubsub.specs.Leaves.{LeavesButWaiting};
     ghost use Rattle.iox2_pubsub.specs.Live.{IsLiveSubscriber, IsUpToDate, KeepsAll, waiting, WaitingStays};
     ghost use Rattle.iox2_pubsub.specs.QuestionCalls.{Answers};

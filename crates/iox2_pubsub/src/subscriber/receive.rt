@@ -5,13 +5,13 @@ use crate::domain::Domain;
 use crate::sample::Sample;
 use crate::subscriber::Subscriber;
 use iox2_domain::Receipt;
+use iox2_machine::{BackpressureFn, DegradationFn, ReceiveError};
 use iox2_messages::receive_at;
-use iox2_store::{BackpressureFn, DegradationFn, ReceiveError};
 
 impl Subscriber {
     ghost use Rattle.iox2_domain.specs.Boxes.{answers_of};
-    ghost use Rattle.iox2_store.specs.machine.Receives.{Receive};
-    ghost use Rattle.iox2_store.specs.machine.State.{State, Messages};
+    ghost use Rattle.iox2_machine.specs.machine.Receives.{Receive};
+    ghost use Rattle.iox2_machine.specs.machine.State.{State, Messages};
     ghost use Rattle.iox2_pubsub.specs.Live.{AreAllSlices, IsFromOrigin, IsLiveSample, IsLiveSubscriber, IsUpToDate, KeepsAll, IsNewIn, TakesOldest, payloads, received_sample, sample_key, waiting, LeavesLater, LeavesOthers, TakesFirst};
     ghost use Rattle.iox2_pubsub.specs.Leaves.{LeavesButWaiting};
     ghost use Rattle.iox2_pubsub.specs.ReceivedSamples.{received_result};

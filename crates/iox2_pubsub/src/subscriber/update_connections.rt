@@ -3,7 +3,7 @@
 use crate::domain::Domain;
 use crate::subscriber::Subscriber;
 use crate::update_connections::{UpdateConnections, outcome_of};
-use iox2_store::{BackpressureFn, ConnectionFailure, DegradationFn};
+use iox2_machine::{BackpressureFn, ConnectionFailure, DegradationFn};
 use iox2_updates::update_subscriber;
 
 /// A subscriber gets its connections with new publishers, which a receive does too.
@@ -12,7 +12,7 @@ use iox2_updates::update_subscriber;
 impl<T: Drop, U: Default + Drop, F: BackpressureFn, G: DegradationFn> UpdateConnections<T, U, F, G>
     for Subscriber {
     ghost use Rattle.iox2_domain.specs.Boxes.{answers_of};
-    ghost use Rattle.iox2_store.specs.machine.SubscriberUpdate.{UpdateSubscriber};
+    ghost use Rattle.iox2_machine.specs.machine.SubscriberUpdate.{UpdateSubscriber};
     ghost use Rattle.iox2_pubsub.specs.Live.{IsLiveSubscriber, IsUpToDate, KeepsAll, subscriber_key, WaitingStays};
     ghost use Rattle.iox2_pubsub.specs.Handles.{subscriber_id};
 

@@ -1,9 +1,9 @@
 //! Two ports, a sample and a loan end in every order, and nothing is left of them.
 use crate::tests::runs::{CREATE_SUBSCRIBER, create_publisher, replies_to_numbers};
 use iox2_fixtures::smallest;
+use iox2_machine::{ServiceConfig, UniquePublisherId, UniqueSubscriberId};
 use iox2_pubsub::Domain;
 use iox2_runs::{Command, Reply};
-use iox2_store::{ServiceConfig, UniquePublisherId, UniqueSubscriberId};
 use std::alloc::{AllocError, Global};
 use std::process::Abort;
 

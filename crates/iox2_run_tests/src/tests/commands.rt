@@ -1,5 +1,5 @@
+use iox2_machine::{LoanError, UniquePublisherId};
 use iox2_runs::{Command, Reply};
-use iox2_store::{LoanError, UniquePublisherId};
 
 type Commands = Command<u64, u8>;
 

@@ -3,12 +3,12 @@ ghost use Rattle.std.specs.Prelude.{◌≡◌, true};
 ghost use Rattle.iox2_commands.specs.Refusals.{TellNoRefusal};
 
 use iox2_fixtures::smallest;
-use iox2_pubsub::Domain;
-use iox2_runs::{Command, Reply, compare_runs};
-use iox2_store::{
+use iox2_machine::{
     AllocationStrategy, BackpressureAction, BackpressureStrategy, DegradationAction, SendError,
     ServiceConfig, SubscriberCreateError, TypeVariant, UniquePublisherId, UniqueSubscriberId,
 };
+use iox2_pubsub::Domain;
+use iox2_runs::{Command, Reply, compare_runs};
 use std::alloc::{AllocError, Global};
 use std::process::Abort;
 

@@ -1,9 +1,9 @@
 //! What a port answers where it can't make a connection.
 ghost use Rattle.std.specs.Prelude.{◌≡◌, cond, eqb};
-ghost use Rattle.iox2_store.specs.declared.degradation.DegradationAction.TheVariants.{DegradeAndFail, Ignore};
+ghost use Rattle.iox2_machine.specs.declared.degradation.DegradationAction.TheVariants.{DegradeAndFail, Ignore};
 
 use iox2_domain::{Boxes, HandlerMark, PortBoxes, degradation_answer};
-use iox2_store::{
+use iox2_machine::{
     BackpressureFn, DegradationAction, DegradationCause, DegradationFn, DegradationInfo,
 };
 use std::cell::Cell;

@@ -2,8 +2,8 @@
 use crate::tests::runs::{CREATE_SUBSCRIBER, create_publisher};
 use crate::tests::steps::{check, publisher_made, sample_of, subscriber_made};
 use iox2_fixtures::settings;
+use iox2_machine::ServiceConfig;
 use iox2_runs::{Command, Reply};
-use iox2_store::ServiceConfig;
 
 // A service whose subscriber keeps one departed publisher.
 fn service(max_publishers: usize, buffer: usize) -> ServiceConfig {

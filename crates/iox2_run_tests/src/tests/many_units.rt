@@ -2,8 +2,8 @@
 use crate::tests::runs::{CREATE_SUBSCRIBER, create_publisher};
 use crate::tests::steps::{check, publisher_made, subscriber_made};
 use iox2_fixtures::settings;
+use iox2_machine::{ServiceConfig, TypeVariant};
 use iox2_runs::{Command, Reply};
-use iox2_store::{ServiceConfig, TypeVariant};
 
 // Nothing is lent, sent at once or received there, of either kind of messages. Ports are made, updated
 // and closed.

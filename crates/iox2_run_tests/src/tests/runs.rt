@@ -2,15 +2,15 @@ ghost use Rattle.std.specs.Prelude.{IfOk, ℕ};
 ghost use Rattle.iox2_commands.specs.Runs.{only_defaults};
 ghost use Rattle.iox2_domain.specs.Shows.{Shows};
 ghost use Rattle.iox2_runs.specs.DomainRuns.{RunsOnDomain};
-ghost use Rattle.iox2_store.specs.machine.State.{State, Messages};
+ghost use Rattle.iox2_machine.specs.machine.State.{State, Messages};
 
 use iox2_fixtures::settings;
-use iox2_pubsub::Domain;
-use iox2_runs::{Command, Reply, run};
-use iox2_store::{
+use iox2_machine::{
     AllocationStrategy, BackpressureStrategy, DegradationAction, PublisherCreateError,
     UniquePublisherId,
 };
+use iox2_pubsub::Domain;
+use iox2_runs::{Command, Reply, run};
 use std::alloc::Global;
 
 pub(crate) const CREATE_SUBSCRIBER: Command<u64, u8> = Command::CreateSubscriber {

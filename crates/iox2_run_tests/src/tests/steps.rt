@@ -1,8 +1,8 @@
 //! Runs as lists of steps: each command beside the reply that it has to get.
 use crate::tests::runs::replies_to_numbers;
+use iox2_machine::{ServiceConfig, UniquePublisherId, UniqueSubscriberId};
 use iox2_pubsub::{Domain, Warning};
 use iox2_runs::{Command, Reply};
-use iox2_store::{ServiceConfig, UniquePublisherId, UniqueSubscriberId};
 use std::alloc::{AllocError, Global};
 use std::process::Abort;
 

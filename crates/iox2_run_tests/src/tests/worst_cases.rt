@@ -1,10 +1,10 @@
 use iox2_fixtures::{settings, smallest};
-use iox2_pubsub::Domain;
-use iox2_runs::{Command, Reply, run, worst_case_commands};
-use iox2_store::{
+use iox2_machine::{
     AllocationStrategy, BackpressureStrategy, DegradationAction, LoanError, ServiceConfig,
     TypeVariant, UniquePublisherId, UniqueSubscriberId, worst_case_slots,
 };
+use iox2_pubsub::Domain;
+use iox2_runs::{Command, Reply, run, worst_case_commands};
 use std::alloc::Global;
 use std::process::Abort;
 

@@ -4,16 +4,16 @@
 //! one of a slice for the call, and then taken back.
 ghost use Rattle.std.specs.Prelude.{◌≡◌, ◌∷◌, [], slice_get, true, Some};
 ghost use Rattle.std.specs.Option.{option_map};
-ghost use Rattle.iox2_store.specs.machine.Loans.{written};
-ghost use Rattle.iox2_store.specs.machine.Records.{Loan};
-ghost use Rattle.iox2_store.specs.machine.State.{State, Messages, with_loan};
+ghost use Rattle.iox2_machine.specs.machine.Loans.{written};
+ghost use Rattle.iox2_machine.specs.machine.Records.{Loan};
+ghost use Rattle.iox2_machine.specs.machine.State.{State, Messages, with_loan};
 ghost use Rattle.iox2_domain.specs.Shows.{Shows};
 ghost use Rattle.iox2_pubsub.specs.Live.{IsLiveSample, IsUnwritten, IsWritten, StaysBut, unwritten_key, unwritten_loan, written_key, written_loan};
 ghost use Rattle.iox2_runs.specs.Cells.{LoanHasAt, MessageHasAt, WritesAt};
 
 use super::services::is_single_valued;
+use iox2_machine::{BackpressureFn, DegradationFn};
 use iox2_pubsub::{Domain, Sample, SampleMut, SampleMutUninit, slice};
-use iox2_store::{BackpressureFn, DegradationFn};
 
 /// Reads the unwritten loan's cell at the index, if it has one there.
 pub(crate) fn unwritten_cell<

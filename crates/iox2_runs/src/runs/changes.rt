@@ -1,6 +1,6 @@
 //! Commands that change a loan that is out.
 ghost use Rattle.std.specs.Prelude.{◌≡◌, cond};
-ghost use Rattle.iox2_store.specs.machine.Environments.{fixed_handlers};
+ghost use Rattle.iox2_machine.specs.machine.Environments.{fixed_handlers};
 ghost use Rattle.iox2_runs.specs.Carries.{defaults_of};
 ghost use Rattle.iox2_runs.specs.Turns.{IsHeld, Turns};
 ghost use Rattle.iox2_commands.specs.declared.command.Command.TheVariants.{AssumeInit, SetPayload, WriteCell, WriteHeader, WriteAll};
@@ -9,8 +9,8 @@ ghost use Rattle.iox2_commands.specs.declared.reply.Reply.TheVariants.{Done, Ski
 use super::cells::{set_value_at, write_cell_at, write_cells};
 use super::made::{Made, Turn};
 use iox2_commands::Reply;
+use iox2_machine::{BackpressureFn, DegradationFn};
 use iox2_pubsub::{Domain, SampleMut, SampleMutUninit};
-use iox2_store::{BackpressureFn, DegradationFn};
 
 /// Writes a cell of the unwritten loan.
 pub(crate) fn write_cell<T: Default + Drop, U: Default + Drop, F: BackpressureFn, G: DegradationFn>(

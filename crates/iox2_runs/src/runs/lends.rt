@@ -1,5 +1,5 @@
 //! Commands that have a publisher lend, or send a copy.
-ghost use Rattle.iox2_store.specs.machine.Environments.{fixed_handlers};
+ghost use Rattle.iox2_machine.specs.machine.Environments.{fixed_handlers};
 ghost use Rattle.iox2_runs.specs.Carries.{defaults_of};
 ghost use Rattle.iox2_runs.specs.Turns.{IsHeld, Turns};
 ghost use Rattle.iox2_commands.specs.declared.command.Command.TheVariants.{LoanUninit, Loan, SendCopy, LoanSlice};
@@ -9,8 +9,8 @@ use super::ready::ready_publisher;
 use super::send_replies::send_reply;
 use super::services::{has_slices, is_single_valued};
 use iox2_commands::Reply;
+use iox2_machine::{BackpressureFn, DegradationFn};
 use iox2_pubsub::{Domain, slice};
-use iox2_store::{BackpressureFn, DegradationFn};
 
 /// Asks the publisher for a loan of a single value.
 pub(crate) fn loan_uninit<

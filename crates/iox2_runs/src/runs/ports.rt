@@ -1,8 +1,8 @@
 //! Commands that make ports.
 ghost use Rattle.std.specs.Prelude.{◌≡◌};
 ghost use Rattle.std.specs.declared.option.Option.TheVariants.{None};
-ghost use Rattle.iox2_store.specs.machine.Environments.{fixed_handlers};
-ghost use Rattle.iox2_store.specs.machine.Limits.{buffer_limit};
+ghost use Rattle.iox2_machine.specs.machine.Environments.{fixed_handlers};
+ghost use Rattle.iox2_machine.specs.machine.Limits.{buffer_limit};
 ghost use Rattle.iox2_runs.specs.Carries.{defaults_of};
 ghost use Rattle.iox2_runs.specs.Services.{given_for};
 ghost use Rattle.iox2_runs.specs.Turns.{Makes};
@@ -11,11 +11,11 @@ ghost use Rattle.iox2_commands.specs.declared.command.Command.TheVariants.{Creat
 use super::made::Made;
 use super::publishers::make_publisher;
 use iox2_commands::Reply;
-use iox2_pubsub::{DegradationHandler, Domain, PortFactorySubscriber};
-use iox2_store::{
+use iox2_machine::{
     AllocationStrategy, BackpressureAction, BackpressureFn, BackpressureStrategy,
     DegradationAction, DegradationFn,
 };
+use iox2_pubsub::{DegradationHandler, Domain, PortFactorySubscriber};
 
 /// Makes a publisher with so many loans, with that strategy, with memory that grows so and is for
 /// slices up to that length at first, with an override that asks for so many slots where there is one, with that answer to a refused connection,

@@ -1,9 +1,9 @@
 //! A publisher is made, of a service of either variant.
 ghost use Rattle.std.specs.Prelude.{◌≡◌, ℕ, IfOk, MatchResult};
 ghost use Rattle.std.specs.declared.option.Option.TheVariants.{None, Some};
-ghost use Rattle.iox2_store.specs.machine.Environments.{fixed_handlers};
-ghost use Rattle.iox2_store.specs.machine.Ports.{CreatePublisher};
-ghost use Rattle.iox2_store.specs.machine.State.{State, Messages};
+ghost use Rattle.iox2_machine.specs.machine.Environments.{fixed_handlers};
+ghost use Rattle.iox2_machine.specs.machine.Ports.{CreatePublisher};
+ghost use Rattle.iox2_machine.specs.machine.State.{State, Messages};
 ghost use Rattle.iox2_domain.specs.Boxes.{answers_of};
 ghost use Rattle.iox2_domain.specs.Handlers.{fixed_handler};
 ghost use Rattle.iox2_domain.specs.NewPublisher.{static_publisher};
@@ -14,12 +14,12 @@ ghost use Rattle.iox2_pubsub.specs.Handles.{publisher_id};
 ghost use Rattle.iox2_pubsub.specs.Live.{IsNewIn, IsReadyPublisher, Stays, publisher_port};
 ghost use Rattle.iox2_commands.specs.Step.{publisher_settings};
 
-use iox2_pubsub::{
-    DegradationHandler, Domain, NoOverride, PortFactoryPublisher, PortHandle, Publisher, slice,
-};
-use iox2_store::{
+use iox2_machine::{
     AllocationStrategy, BackpressureAction, BackpressureFn, BackpressureHandler,
     BackpressureStrategy, DegradationAction, DegradationFn, PublisherCreateError, TypeVariant,
+};
+use iox2_pubsub::{
+    DegradationHandler, Domain, NoOverride, PortFactoryPublisher, PortHandle, Publisher, slice,
 };
 
 // A factory of publishers of single values, with so many loans, memory that grows so and that answer

@@ -2,7 +2,7 @@
 ghost use Rattle.std.specs.Prelude.{◌≡◌, Some};
 ghost use Rattle.std.specs.Option.{option_map_or};
 ghost use Rattle.iox2_commands.specs.declared.reply.Reply.TheVariants.{Cell, Skipped};
-ghost use Rattle.iox2_store.specs.machine.Environments.{fixed_handlers};
+ghost use Rattle.iox2_machine.specs.machine.Environments.{fixed_handlers};
 ghost use Rattle.iox2_runs.specs.Carries.{defaults_of};
 ghost use Rattle.iox2_runs.specs.Turns.{IsHeld, Turns};
 ghost use Rattle.iox2_commands.specs.declared.command.Command.TheVariants.{Read, ReadHeader, ReadUserHeader};
@@ -10,8 +10,8 @@ ghost use Rattle.iox2_commands.specs.declared.command.Command.TheVariants.{Read,
 use super::cells::{received_value, unwritten_cell, written_value};
 use super::made::{Made, Turn};
 use iox2_commands::Reply;
+use iox2_machine::{BackpressureFn, DegradationFn};
 use iox2_pubsub::Domain;
-use iox2_store::{BackpressureFn, DegradationFn};
 
 /// Reads a value of the sample, or a cell of the loan.
 pub(crate) fn read<

@@ -5,8 +5,8 @@ ghost use Rattle.iox2_runs.specs.Turns.{IsHeld, IsUnready};
 ghost use Rattle.iox2_runs.specs.declared.runs.made.Made.TheVariants.{Publisher as MadePublisher};
 
 use super::made::Made;
+use iox2_machine::{BackpressureFn, DegradationFn};
 use iox2_pubsub::{Domain, Publisher};
-use iox2_store::{BackpressureFn, DegradationFn};
 
 /// The publisher that is held, unless it waits for a receiver. Else what is held is given back.
 pub(crate) fn ready_publisher<T: Drop, U: Default + Drop, F: BackpressureFn, G: DegradationFn>(

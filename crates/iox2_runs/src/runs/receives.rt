@@ -1,13 +1,13 @@
 //! Commands of subscribers that ask for a sample, or whether one waits.
-ghost use Rattle.iox2_store.specs.machine.Environments.{fixed_handlers};
+ghost use Rattle.iox2_machine.specs.machine.Environments.{fixed_handlers};
 ghost use Rattle.iox2_runs.specs.Carries.{defaults_of};
 ghost use Rattle.iox2_runs.specs.Turns.{IsHeld, Turns};
 ghost use Rattle.iox2_commands.specs.declared.command.Command.TheVariants.{Receive, HasSamples};
 
 use super::made::{Made, Turn};
 use iox2_commands::Reply;
+use iox2_machine::{BackpressureFn, DegradationFn};
 use iox2_pubsub::Domain;
-use iox2_store::{BackpressureFn, DegradationFn};
 
 /// Receives with the subscriber, and makes the sample.
 pub(crate) fn receive<T: Default + Drop, U: Default + Drop, F: BackpressureFn, G: DegradationFn>(

@@ -4,8 +4,8 @@ ghost use Rattle.iox2_runs.specs.SendReplies.{reply_to_send, made_by_send};
 
 use super::made::Made;
 use iox2_commands::Reply;
+use iox2_machine::SendError;
 use iox2_pubsub::SendOutcome;
-use iox2_store::SendError;
 
 /// What is replied to a send, a retry or a giving up that came out so, and the blocked send, where it
 /// is blocked.

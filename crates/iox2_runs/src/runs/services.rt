@@ -1,10 +1,10 @@
 //! What the messages of a service are.
 ghost use Rattle.std.specs.Prelude.{◌≡◌};
-ghost use Rattle.iox2_store.specs.SingleValues.{is_single_valued};
+ghost use Rattle.iox2_machine.specs.SingleValues.{is_single_valued};
 ghost use Rattle.iox2_runs.specs.Services.{has_slices};
 
+use iox2_machine::{BackpressureFn, DegradationFn, TypeVariant};
 use iox2_pubsub::Domain;
-use iox2_store::{BackpressureFn, DegradationFn, TypeVariant};
 
 /// Whether the payload of each message is a single value of one unit.
 pub(crate) fn is_single_valued<T: Drop, U: Default + Drop, F: BackpressureFn, G: DegradationFn>(

@@ -1,5 +1,5 @@
 //! Commands that spend what one before them made.
-ghost use Rattle.iox2_store.specs.machine.Environments.{fixed_handlers};
+ghost use Rattle.iox2_machine.specs.machine.Environments.{fixed_handlers};
 ghost use Rattle.iox2_runs.specs.Carries.{defaults_of};
 ghost use Rattle.iox2_runs.specs.Turns.{IsHeld, Turns};
 ghost use Rattle.iox2_commands.specs.declared.command.Command.TheVariants.{Send, Discard, Retry, GiveUp, Release, Close};
@@ -8,8 +8,8 @@ use super::made::{Made, Turn};
 use super::ready::ready_publisher;
 use super::send_replies::send_reply;
 use iox2_commands::Reply;
+use iox2_machine::{BackpressureFn, DegradationFn};
 use iox2_pubsub::Domain;
-use iox2_store::{BackpressureFn, DegradationFn};
 use std::time::Duration;
 
 /// Sends the loan, and makes the blocked send, where it is blocked.

@@ -2,7 +2,7 @@
 ghost use Rattle.std.specs.Prelude.{◌≡◌};
 ghost use Rattle.std.specs.Option.{option_map_or};
 ghost use Rattle.iox2_pubsub.specs.UpdateCalls.{returned_failure};
-ghost use Rattle.iox2_store.specs.machine.Environments.{fixed_handlers};
+ghost use Rattle.iox2_machine.specs.machine.Environments.{fixed_handlers};
 ghost use Rattle.iox2_runs.specs.Carries.{defaults_of};
 ghost use Rattle.iox2_runs.specs.Turns.{IsHeld, Turns};
 ghost use Rattle.iox2_commands.specs.declared.command.Command.TheVariants.{Update};
@@ -11,8 +11,8 @@ ghost use Rattle.iox2_commands.specs.declared.reply.Reply.TheVariants.{Done, Upd
 use super::made::{Made, Turn};
 use super::ready::ready_publisher;
 use iox2_commands::Reply;
+use iox2_machine::{BackpressureFn, ConnectionFailure, DegradationFn};
 use iox2_pubsub::{Domain, UpdateConnections};
-use iox2_store::{BackpressureFn, ConnectionFailure, DegradationFn};
 
 /// Updates the connections of the port, unless it is a publisher that waits for a receiver.
 pub(crate) fn update<T: Default + Drop, U: Default + Drop, F: BackpressureFn, G: DegradationFn>(

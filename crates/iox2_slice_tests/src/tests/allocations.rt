@@ -2,8 +2,8 @@
 
 use crate::tests::fixtures::slice_factory;
 use iox2_fixtures::{Numbers, is_slice_publisher_ready, is_sliced, slices};
+use iox2_machine::{AllocationStrategy, LoanError, ServiceConfig};
 use iox2_pubsub::{Domain, slice};
-use iox2_store::{AllocationStrategy, LoanError, ServiceConfig};
 use std::process::Abort;
 
 // What a publisher says to a loan of two elements, which is longer than its first slots. The

@@ -1,14 +1,14 @@
 //! The channels of connections that carry slices.
 ghost use Rattle.std.specs.Prelude.{◌<◌};
-ghost use Rattle.iox2_store.specs.machine.Limits.{channel_count};
+ghost use Rattle.iox2_machine.specs.machine.Limits.{channel_count};
 
 use crate::tests::fixtures::{
     lend_slice, receive_slice, send_slice, slice_publisher, slice_subscriber,
 };
 use iox2_fixtures::{Numbers, is_slice_publisher_ready, receiver_count, smallest};
+use iox2_machine::{ServiceConfig, TypeVariant};
 use iox2_pubsub::slice::{Publisher, Subscriber};
 use iox2_pubsub::{Domain, UpdateConnections};
-use iox2_store::{ServiceConfig, TypeVariant};
 use std::process::Abort;
 
 // The settings of a domain of slices whose connections have two channels.

@@ -1,12 +1,12 @@
 //! Messages of a caller's own bytes.
 ghost use Rattle.std.specs.Prelude.{◌≡◌, true};
-ghost use Rattle.iox2_store.specs.declared.service_config.TypeVariant.TheVariants.{Dynamic};
+ghost use Rattle.iox2_machine.specs.declared.service_config.TypeVariant.TheVariants.{Dynamic};
 ghost use Rattle.iox2_pubsub.specs.Slices.{IsSliced};
 
 use crate::tests::fixtures::{send_slice, slice_publisher, slice_subscriber};
 use iox2_fixtures::slices;
+use iox2_machine::{LoanError, ServiceConfig, TypeVariant};
 use iox2_pubsub::{CustomHeaderMarker, CustomPayloadMarker, Domain};
-use iox2_store::{LoanError, ServiceConfig, TypeVariant};
 use std::process::Abort;
 
 // The settings of a domain of elements of 40 bytes each.

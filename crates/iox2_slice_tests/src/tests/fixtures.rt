@@ -2,14 +2,14 @@
 //! what they ask of their handles.
 
 ghost use Rattle.std.specs.Prelude.{◌≡◌, List, Option, None, length};
-ghost use Rattle.iox2_store.specs.declared.degradation.DegradationAction.TheVariants.{Warn};
-ghost use Rattle.iox2_store.specs.machine.Records.{Fixed};
+ghost use Rattle.iox2_machine.specs.declared.degradation.DegradationAction.TheVariants.{Warn};
+ghost use Rattle.iox2_machine.specs.machine.Records.{Fixed};
 ghost use Rattle.iox2_pubsub.specs.Live.{IsLivePublisher, IsLiveSample, IsUnwritten, IsWritten, Stays};
 ghost use Rattle.iox2_pubsub.specs.Slices.{HasUnwrittenCells, HoldsSlices, IsSliced};
 
 use iox2_fixtures::{holds_slices, is_slice_publisher_ready, is_sliced, receiver_count};
+use iox2_machine::{BackpressureStrategy, ServiceConfig};
 use iox2_pubsub::{CustomHeaderMarker, CustomPayloadMarker, Domain, slice};
-use iox2_store::{BackpressureStrategy, ServiceConfig};
 use std::alloc::Global;
 use std::process::Abort;
 

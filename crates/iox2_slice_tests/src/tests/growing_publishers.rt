@@ -1,13 +1,13 @@
 //! Publishers of slices whose memory grows.
 ghost use Rattle.iox2_pubsub.specs.Slices.{IsSliced};
-ghost use Rattle.iox2_store.specs.declared.service_config.TypeVariant.TheVariants.{Dynamic};
+ghost use Rattle.iox2_machine.specs.declared.service_config.TypeVariant.TheVariants.{Dynamic};
 ghost use Rattle.std.specs.Prelude.{◌≡◌};
 
 use crate::tests::fixtures::{Bytes, byte_domain, slice_factory};
 use iox2_fixtures::{Numbers, is_slice_publisher_ready, is_sliced, smallest};
+use iox2_machine::{AllocationStrategy, LoanError, ServiceConfig, TypeVariant};
 use iox2_pubsub::Domain;
 use iox2_pubsub::slice::Publisher;
-use iox2_store::{AllocationStrategy, LoanError, ServiceConfig, TypeVariant};
 use std::alloc::Global;
 use std::process::Abort;
 use std::rc::Rc;

@@ -2,7 +2,7 @@
 
 use crate::tests::fixtures::{byte_domain, slice_factory};
 use iox2_fixtures::{is_slice_publisher_ready, slices};
-use iox2_store::LoanError;
+use iox2_machine::LoanError;
 
 #[test]
 fn a_publisher_of_bytes_has_as_many_slots_as_its_override_says(rt: HostRuntime) {

@@ -10,9 +10,9 @@ use crate::tests::fixtures::{
 use iox2_fixtures::{
     Costly, Numbers, costly_time, is_slice_publisher_ready, is_sliced, micros_since, slices,
 };
+use iox2_machine::{DegradationAction, LoanError};
 use iox2_pubsub::slice::{Publisher, Sample, SampleMut, SampleMutUninit, Subscriber};
 use iox2_pubsub::{DegradationHandler, Domain, UpdateConnections};
-use iox2_store::{DegradationAction, LoanError};
 use std::cell::Cell;
 use std::process::Abort;
 use std::time::CpuClock;

@@ -4,9 +4,9 @@ ghost use Rattle.iox2_pubsub.specs.Slices.{HoldsSlices};
 
 use crate::tests::fixtures::{receive_slice, send_slice, slice_publisher, slice_subscriber};
 use iox2_fixtures::{Numbers, holds_slices, is_slice_publisher_ready, slices};
+use iox2_machine::ServiceConfig;
 use iox2_pubsub::Domain;
 use iox2_pubsub::slice::{Publisher, SampleMutUninit};
-use iox2_store::ServiceConfig;
 use std::process::Abort;
 
 // The settings of a domain of slices whose cells aren't handed out.

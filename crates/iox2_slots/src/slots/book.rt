@@ -5,7 +5,7 @@ ghost use Rattle.iox2_slots.specs.SlotFree.{HasFree, IsTakenOut};
 
 use crate::slots::mark::SlotMark;
 use crate::slots::slot::Slot;
-use iox2_store::{Header, UniqueNodeId, UniquePublisherId};
+use iox2_machine::{Header, UniqueNodeId, UniquePublisherId};
 use std::alloc::{AllocError, Global};
 use std::marker::Model;
 

@@ -1,5 +1,5 @@
 use crate::slots::mark::SlotMark;
-use iox2_store::Header;
+use iox2_machine::Header;
 
 /// What is known of a slot beside its content.
 ///

@@ -7,8 +7,8 @@ use Rattle.std.specs.Option.{option_and_then}
 use Rattle.std.specs.List.{sum_by}
 use Rattle.slab.specs.Slab.{Slab, get}
 use Rattle.iox2_slots.specs.Link.{Link}
-use Rattle.iox2_store.specs.machine.Channel.{Channel}
-use Rattle.iox2_store.specs.machine.Mailbox.{empty_mailbox, has_numbers, ChannelNumber}
+use Rattle.iox2_machine.specs.machine.Channel.{Channel}
+use Rattle.iox2_machine.specs.machine.Mailbox.{empty_mailbox, has_numbers, ChannelNumber}
 use Rattle.iox2_slots.specs.declared.connection.Home.{Home}
 use Rattle.iox2_ends.specs.LookUp.{look_up, IsOnly}
 use Rattle.iox2_ends.specs.Homes.{IsApart, fixed_of}

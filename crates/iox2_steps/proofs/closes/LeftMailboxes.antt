@@ -6,11 +6,11 @@ use Rattle.std.specs.declared.option.Option.TheVariants.{None, Some}
 use Rattle.std.specs.Option.{option_map, option_map_or}
 use Rattle.slab.specs.Slab.{Slab, get}
 use Rattle.iox2_slots.specs.Link.{Link}
-use Rattle.iox2_store.specs.machine.Mailbox.{Mailbox, empty_mailbox, waiting_dropped}
-use Rattle.iox2_store.specs.machine.Places.{occupant, is_port}
-use Rattle.iox2_store.specs.machine.Ports.{mailbox_after_publisher, publisher_gone}
-use Rattle.iox2_store.specs.machine.Records.{Publisher, Subscriber}
-use Rattle.iox2_store.specs.machine.State.{State}
+use Rattle.iox2_machine.specs.machine.Mailbox.{Mailbox, empty_mailbox, waiting_dropped}
+use Rattle.iox2_machine.specs.machine.Places.{occupant, is_port}
+use Rattle.iox2_machine.specs.machine.Ports.{mailbox_after_publisher, publisher_gone}
+use Rattle.iox2_machine.specs.machine.Records.{Publisher, Subscriber}
+use Rattle.iox2_machine.specs.machine.State.{State}
 use Rattle.iox2_ends.specs.LookUp.{look_up}
 use Rattle.iox2_ends.specs.Finds.{IsReceivers}
 use Rattle.iox2_ends.specs.Mailboxes.{is_between, mailbox_of, mailbox_if_any, mailboxes_of, publisher_of_key}

@@ -8,9 +8,9 @@ use Rattle.std.specs.declared.option.Option.TheVariants.{None, Some}
 use Rattle.std.specs.Option.{option_map}
 use Rattle.slab.specs.Slab.{Slab, get}
 use Rattle.iox2_slots.specs.Link.{Link}
-use Rattle.iox2_store.specs.machine.Numbers.{put_at}
-use Rattle.iox2_store.specs.machine.Places.{vacated}
-use Rattle.iox2_store.specs.machine.Records.{Publisher}
+use Rattle.iox2_machine.specs.machine.Numbers.{put_at}
+use Rattle.iox2_machine.specs.machine.Places.{vacated}
+use Rattle.iox2_machine.specs.machine.Records.{Publisher}
 use Rattle.iox2_ends.specs.LookUp.{look_up}
 use Rattle.iox2_ends.specs.Homes.{IsSenders}
 use Rattle.iox2_ends.specs.Mailboxes.{sender_ends, subscriber_of_key}

@@ -8,8 +8,8 @@ use Rattle.std.specs.List.{sum_by}
 use Rattle.slab.specs.Slab.{Slab, get}
 use Rattle.iox2_slots.specs.Link.{Link}
 use Rattle.iox2_slots.specs.SlotBook.{Book, holders_at}
-use Rattle.iox2_store.specs.machine.Numbers.{contains}
-use Rattle.iox2_store.specs.machine.Records.{Loan, BlockedSend}
+use Rattle.iox2_machine.specs.machine.Numbers.{contains}
+use Rattle.iox2_machine.specs.machine.Records.{Loan, BlockedSend}
 use Rattle.iox2_ends.specs.Counters.{times, stands, with_counters}
 use Rattle.iox2_ends.proofs.MailboxChanges.{both-true}
 use Rattle.iox2_domain.specs.Ports.{PublisherFields}

@@ -5,11 +5,11 @@ use Rattle.std.specs.declared.option.Option.TheVariants.{None, Some}
 use Rattle.std.specs.Option.{option_map}
 use Rattle.std.specs.List.{All}
 use Rattle.slab.specs.Slab.{Slab}
-use Rattle.iox2_store.specs.machine.Numbers.{put_at}
-use Rattle.iox2_store.specs.machine.Records.{PublisherSettings}
-use Rattle.iox2_store.specs.machine.Places.{occupant, set_place}
-use Rattle.iox2_store.specs.machine.State.{State}
-use Rattle.iox2_store.specs.machine.Ports.{new_publisher, slots_for, with_new_publisher}
+use Rattle.iox2_machine.specs.machine.Numbers.{put_at}
+use Rattle.iox2_machine.specs.machine.Records.{PublisherSettings}
+use Rattle.iox2_machine.specs.machine.Places.{occupant, set_place}
+use Rattle.iox2_machine.specs.machine.State.{State}
+use Rattle.iox2_machine.specs.machine.Ports.{new_publisher, slots_for, with_new_publisher}
 use Rattle.iox2_slots.specs.SlotBook.{Book}
 use Rattle.iox2_contents.specs.SlotContents.{ContentState}
 use Rattle.iox2_laws.proofs.PortLaws.{new_publisher_keeps}

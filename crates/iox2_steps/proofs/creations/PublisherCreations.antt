@@ -7,20 +7,20 @@ use Rattle.std.specs.declared.option.Option.{Option}
 use Rattle.std.specs.declared.option.Option.TheVariants.{None, Some}
 use Rattle.std.specs.declared.result.Result.TheVariants.{Ok, Err}
 use Rattle.std.specs.Option.{option_map}
-use Rattle.iox2_store.specs.machine.Connections.{ForEachPlace}
-use Rattle.iox2_store.specs.machine.Limits.{last_number}
-use Rattle.iox2_store.specs.machine.Numbers.{put_at}
-use Rattle.iox2_store.specs.machine.Places.{free_place, lowest_free}
-use Rattle.iox2_store.specs.machine.Ports.{first_segment_fits, with_new_publisher, with_failure_warning, CreatePublisher, MakePublisher, FirstPublisherUpdate}
-use Rattle.iox2_store.specs.machine.PublisherUpdate.{SenderSide, UpdatePublisher, UpdateSenderPlace, history_for, sender_side, with_sender_side}
-use Rattle.iox2_store.specs.machine.Records.{Publisher, PublisherSettings, Environment}
-use Rattle.iox2_store.specs.machine.SingleCalls.{HoldsPublisher}
-use Rattle.iox2_store.specs.machine.State.{State, receiving_buffer, has_receiver_end, sender_channels_reset}
-use Rattle.iox2_store.specs.declared.errors.ConnectionFailure.{ConnectionFailure}
-use Rattle.iox2_store.specs.declared.errors.PublisherCreateError.{PublisherCreateError}
-use Rattle.iox2_store.specs.declared.errors.PublisherCreateError.TheVariants.{UnableToCreatePortTag, ExceedsMaxSupportedPublishers, UnableToCreateDataSegment}
-use Rattle.iox2_store.specs.declared.warning.Warning.{Warning}
-use Rattle.iox2_store.specs.declared.warning.Warning.TheVariants.{PublisherPartlyConnected}
+use Rattle.iox2_machine.specs.machine.Connections.{ForEachPlace}
+use Rattle.iox2_machine.specs.machine.Limits.{last_number}
+use Rattle.iox2_machine.specs.machine.Numbers.{put_at}
+use Rattle.iox2_machine.specs.machine.Places.{free_place, lowest_free}
+use Rattle.iox2_machine.specs.machine.Ports.{first_segment_fits, with_new_publisher, with_failure_warning, CreatePublisher, MakePublisher, FirstPublisherUpdate}
+use Rattle.iox2_machine.specs.machine.PublisherUpdate.{SenderSide, UpdatePublisher, UpdateSenderPlace, history_for, sender_side, with_sender_side}
+use Rattle.iox2_machine.specs.machine.Records.{Publisher, PublisherSettings, Environment}
+use Rattle.iox2_machine.specs.machine.SingleCalls.{HoldsPublisher}
+use Rattle.iox2_machine.specs.machine.State.{State, receiving_buffer, has_receiver_end, sender_channels_reset}
+use Rattle.iox2_machine.specs.declared.errors.ConnectionFailure.{ConnectionFailure}
+use Rattle.iox2_machine.specs.declared.errors.PublisherCreateError.{PublisherCreateError}
+use Rattle.iox2_machine.specs.declared.errors.PublisherCreateError.TheVariants.{UnableToCreatePortTag, ExceedsMaxSupportedPublishers, UnableToCreateDataSegment}
+use Rattle.iox2_machine.specs.declared.warning.Warning.{Warning}
+use Rattle.iox2_machine.specs.declared.warning.Warning.TheVariants.{PublisherPartlyConnected}
 use Rattle.iox2_domain.specs.Kept.{Named, state_of}
 use Rattle.iox2_domain.specs.Fields.{Fields, kept_of, publisher_of}
 use Rattle.iox2_domain.specs.FirstUpdates.{PublisherFirstUpdates}

@@ -7,18 +7,18 @@ use Rattle.std.specs.Option.{option_map, option_and_then}
 use Rattle.std.specs.List.{All}
 use Rattle.slab.specs.Slab.{Slab}
 use Rattle.circular_buffer.specs.Buffer.{buffer}
-use Rattle.iox2_store.specs.machine.Numbers.{put_at}
-use Rattle.iox2_store.specs.machine.Places.{set_place}
-use Rattle.iox2_store.specs.machine.Records.{Publisher, PublisherSettings}
-use Rattle.iox2_store.specs.machine.Ports.{new_publisher, slots_for}
+use Rattle.iox2_machine.specs.machine.Numbers.{put_at}
+use Rattle.iox2_machine.specs.machine.Places.{set_place}
+use Rattle.iox2_machine.specs.machine.Records.{Publisher, PublisherSettings}
+use Rattle.iox2_machine.specs.machine.Ports.{new_publisher, slots_for}
 use Rattle.iox2_slots.specs.SlotBook.{Book}
 use Rattle.iox2_contents.specs.SlotContents.{ContentState}
-use Rattle.iox2_store.specs.machine.Mailbox.{Mailbox}
+use Rattle.iox2_machine.specs.machine.Mailbox.{Mailbox}
 use Rattle.iox2_ends.specs.LookUp.{look_up, IsOnly}
 use Rattle.iox2_laws.proofs.PortLaws.{no_publisher_yet}
 use Rattle.iox2_domain.specs.Ports.{PublisherFields, slot_length}
 use Rattle.iox2_domain.specs.Kept.{Named, Between, state_of, port_named, ids, is_named, loan_in, stands_between, box_if_any, channels_if_between}
-use Rattle.iox2_store.specs.machine.Channel.{Channel}
+use Rattle.iox2_machine.specs.machine.Channel.{Channel}
 use Rattle.iox2_domain.specs.Fields.{Fields, kept_of, publisher_of}
 use Rattle.iox2_domain.specs.Invariant.{IsDomain, HasForms, cell_lists, is_publisher}
 use Rattle.iox2_domain.specs.Placed.{placed}

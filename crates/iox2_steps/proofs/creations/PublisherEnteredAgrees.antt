@@ -10,16 +10,16 @@ use Rattle.std.specs.declared.option.Option.TheVariants.{None, Some}
 use Rattle.std.specs.Option.{option_map_or, option_and_then}
 use Rattle.slab.specs.Slab.{Slab, get}
 use Rattle.iox2_slots.specs.Link.{Link}
-use Rattle.iox2_store.specs.machine.Limits.{worst_case}
-use Rattle.iox2_store.specs.declared.service_config.ServiceConfig.{ServiceConfig}
-use Rattle.iox2_store.specs.machine.Numbers.{contains, put_at}
-use Rattle.iox2_store.specs.machine.Places.{set_place}
-use Rattle.iox2_store.specs.machine.Records.{Publisher, PublisherSettings}
-use Rattle.iox2_store.specs.machine.State.{State}
-use Rattle.iox2_store.specs.machine.Ports.{new_publisher, slots_for}
+use Rattle.iox2_machine.specs.machine.Limits.{worst_case}
+use Rattle.iox2_machine.specs.declared.service_config.ServiceConfig.{ServiceConfig}
+use Rattle.iox2_machine.specs.machine.Numbers.{contains, put_at}
+use Rattle.iox2_machine.specs.machine.Places.{set_place}
+use Rattle.iox2_machine.specs.machine.Records.{Publisher, PublisherSettings}
+use Rattle.iox2_machine.specs.machine.State.{State}
+use Rattle.iox2_machine.specs.machine.Ports.{new_publisher, slots_for}
 use Rattle.iox2_slots.specs.SlotBook.{Book, holders_at}
 use Rattle.iox2_contents.specs.SlotContents.{ContentState}
-use Rattle.iox2_store.specs.machine.WellFormed.{IsWellFormed}
+use Rattle.iox2_machine.specs.machine.WellFormed.{IsWellFormed}
 use Rattle.iox2_ends.specs.LookUp.{look_up}
 use Rattle.iox2_ends.specs.Counters.{times, stands}
 use Rattle.iox2_ends.specs.Homes.{IsSenderLinked}
@@ -28,7 +28,7 @@ use Rattle.iox2_domain.specs.Kept.{state_of, entries_of, entry_in, KeptMessage}
 use Rattle.iox2_domain.specs.Fields.{Fields, kept_of, is_book_of, message_in, contents_at}
 use Rattle.iox2_domain.specs.Invariant.{IsDomain, IsBook, IsLinked, HasBook, HasBooks, KeepsBooks, HasShape, IsCounted, SenderHas, ReceiverHas, HasPublisherRoom, HasRoomFrom, is_publisher, is_loan_in, holders_of, own_holders, HasOpenLoans, cell_count, cell_lists}
 use Rattle.iox2_domain.specs.Placed.{placed}
-use Rattle.iox2_store.specs.Stored.{IsHeldMessage, In_history, In_mailbox, In_blocked_send}
+use Rattle.iox2_machine.specs.Stored.{IsHeldMessage, In_history, In_mailbox, In_blocked_send}
 use Rattle.iox2_domain.proofs.lemmas.fields.KeptBooks.{StoodOrEnters, kept-publishers}
 use Rattle.iox2_domain.proofs.lemmas.fields.NamedBooks.{names-books}
 use Rattle.iox2_domain.proofs.lemmas.containers.Placed.{placed-here}

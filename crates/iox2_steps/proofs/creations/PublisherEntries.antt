@@ -9,13 +9,13 @@ use Rattle.std.specs.declared.result.Result.TheVariants.{Ok, Err}
 use Rattle.std.specs.Option.{option_map}
 use Rattle.slab.specs.Slab.{Slab, get, Updates}
 use Rattle.circular_buffer.specs.Buffer.{buffer}
-use Rattle.iox2_store.specs.machine.Limits.{last_number}
-use Rattle.iox2_store.specs.machine.Ports.{slots_for, with_new_publisher}
-use Rattle.iox2_store.specs.machine.Records.{PublisherSettings}
-use Rattle.iox2_store.specs.SingleValues.{is_single_valued}
+use Rattle.iox2_machine.specs.machine.Limits.{last_number}
+use Rattle.iox2_machine.specs.machine.Ports.{slots_for, with_new_publisher}
+use Rattle.iox2_machine.specs.machine.Records.{PublisherSettings}
+use Rattle.iox2_machine.specs.SingleValues.{is_single_valued}
 use Rattle.iox2_slots.specs.SlotBook.{Book, IsAligned}
 use Rattle.iox2_contents.specs.SlotContents.{ContentState}
-use Rattle.iox2_store.specs.declared.errors.PublisherCreateError.TheVariants.{UnableToCreatePortTag, ExceedsMaxSupportedPublishers}
+use Rattle.iox2_machine.specs.declared.errors.PublisherCreateError.TheVariants.{UnableToCreatePortTag, ExceedsMaxSupportedPublishers}
 use Rattle.iox2_domain.specs.Ports.{PublisherFields, slot_length}
 use Rattle.iox2_domain.specs.Kept.{state_of}
 use Rattle.iox2_domain.specs.Fields.{Fields, kept_of}

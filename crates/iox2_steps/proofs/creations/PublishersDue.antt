@@ -4,9 +4,9 @@ use Rattle.std.specs.declared.option.Option.{Option}
 use Rattle.std.specs.declared.option.Option.TheVariants.{None, Some}
 use Rattle.std.specs.Option.{option_map}
 use Rattle.iox2_slots.specs.Link.{Link}
-use Rattle.iox2_store.specs.machine.Records.{Publisher}
-use Rattle.iox2_store.specs.machine.State.{State, publishers_due}
-use Rattle.iox2_store.specs.Stored.{IsHeldMessage}
+use Rattle.iox2_machine.specs.machine.Records.{Publisher}
+use Rattle.iox2_machine.specs.machine.State.{State, publishers_due}
+use Rattle.iox2_machine.specs.Stored.{IsHeldMessage}
 use Rattle.iox2_laws.proofs.PortChanges.{publishers_due_keeps}
 use Rattle.iox2_domain.specs.Ports.{PublisherFields, due}
 use Rattle.iox2_domain.specs.Kept.{state_of, port_named}

@@ -3,12 +3,12 @@ use Rattle.std.proofs.Common.{◌≡◌, ℕ, ◌+◌, ◌<◌, ◌≤◌, List,
 use Rattle.std.specs.declared.option.Option.{Option}
 use Rattle.std.specs.declared.option.Option.TheVariants.{None, Some}
 use Rattle.std.specs.Option.{option_map}
-use Rattle.iox2_store.specs.machine.Limits.{buffer_limit, warning_limit}
-use Rattle.iox2_store.specs.machine.Numbers.{put_at}
-use Rattle.iox2_store.specs.machine.Places.{occupant, set_place}
-use Rattle.iox2_store.specs.machine.Records.{SubscriberSettings}
-use Rattle.iox2_store.specs.machine.State.{State, Warnings}
-use Rattle.iox2_store.specs.machine.Ports.{new_subscriber, buffer_for, with_buffer_warning, with_new_subscriber}
+use Rattle.iox2_machine.specs.machine.Limits.{buffer_limit, warning_limit}
+use Rattle.iox2_machine.specs.machine.Numbers.{put_at}
+use Rattle.iox2_machine.specs.machine.Places.{occupant, set_place}
+use Rattle.iox2_machine.specs.machine.Records.{SubscriberSettings}
+use Rattle.iox2_machine.specs.machine.State.{State, Warnings}
+use Rattle.iox2_machine.specs.machine.Ports.{new_subscriber, buffer_for, with_buffer_warning, with_new_subscriber}
 use Rattle.iox2_laws.proofs.PortLaws.{new_subscriber_keeps}
 use Rattle.iox2_domain.specs.WarningRing.{WarningRing}
 use Rattle.iox2_domain.specs.Ports.{SubscriberFields}

@@ -4,18 +4,18 @@ use Rattle.std.proofs.lemmas.Bool.{eq-eqb}
 use Rattle.std.specs.Bool.{MatchBool}
 use Rattle.std.specs.declared.option.Option.{Option}
 use Rattle.std.specs.declared.option.Option.TheVariants.{None, Some}
-use Rattle.iox2_store.specs.machine.Limits.{buffer_limit, expired_limit, last_number}
-use Rattle.iox2_store.specs.machine.Numbers.{put_at}
-use Rattle.iox2_store.specs.machine.Places.{free_place}
-use Rattle.iox2_store.specs.machine.Ports.{buffer_for, new_subscriber, with_new_subscriber, with_failure_warning, CreateSubscriber, MakeSubscriber, FirstSubscriberUpdate}
-use Rattle.iox2_store.specs.machine.Records.{Subscriber, SubscriberSettings, Environment}
-use Rattle.iox2_store.specs.machine.State.{State, has_sender_end, receiver_channels_reset}
-use Rattle.iox2_store.specs.machine.SubscriberUpdate.{ReceiverSide, UpdateSubscriber, UpdateReceiverSide, receiver_side, with_receiver_side}
-use Rattle.iox2_store.specs.declared.errors.ConnectionFailure.{ConnectionFailure}
-use Rattle.iox2_store.specs.declared.errors.SubscriberCreateError.{SubscriberCreateError}
-use Rattle.iox2_store.specs.declared.errors.SubscriberCreateError.TheVariants.{UnableToCreatePortTag, BufferSizeExceedsMaxSupportedBufferSizeOfService, ExceedsMaxSupportedSubscribers}
-use Rattle.iox2_store.specs.declared.warning.Warning.{Warning}
-use Rattle.iox2_store.specs.declared.warning.Warning.TheVariants.{SubscriberPartlyConnected}
+use Rattle.iox2_machine.specs.machine.Limits.{buffer_limit, expired_limit, last_number}
+use Rattle.iox2_machine.specs.machine.Numbers.{put_at}
+use Rattle.iox2_machine.specs.machine.Places.{free_place}
+use Rattle.iox2_machine.specs.machine.Ports.{buffer_for, new_subscriber, with_new_subscriber, with_failure_warning, CreateSubscriber, MakeSubscriber, FirstSubscriberUpdate}
+use Rattle.iox2_machine.specs.machine.Records.{Subscriber, SubscriberSettings, Environment}
+use Rattle.iox2_machine.specs.machine.State.{State, has_sender_end, receiver_channels_reset}
+use Rattle.iox2_machine.specs.machine.SubscriberUpdate.{ReceiverSide, UpdateSubscriber, UpdateReceiverSide, receiver_side, with_receiver_side}
+use Rattle.iox2_machine.specs.declared.errors.ConnectionFailure.{ConnectionFailure}
+use Rattle.iox2_machine.specs.declared.errors.SubscriberCreateError.{SubscriberCreateError}
+use Rattle.iox2_machine.specs.declared.errors.SubscriberCreateError.TheVariants.{UnableToCreatePortTag, BufferSizeExceedsMaxSupportedBufferSizeOfService, ExceedsMaxSupportedSubscribers}
+use Rattle.iox2_machine.specs.declared.warning.Warning.{Warning}
+use Rattle.iox2_machine.specs.declared.warning.Warning.TheVariants.{SubscriberPartlyConnected}
 
 -- settings, numbers of messages and loans stay
 pub record KeepsLoans {T U : Type 0} (s s' : State T U) : Type 0 where

@@ -4,10 +4,10 @@ use Rattle.std.proofs.lemmas.Bool.{cases_eq, eqb-true}
 use Rattle.std.specs.declared.option.Option.{Option}
 use Rattle.std.specs.declared.option.Option.TheVariants.{None, Some}
 use Rattle.std.specs.Option.{option_map}
-use Rattle.iox2_store.specs.machine.Numbers.{put_at}
-use Rattle.iox2_store.specs.machine.Places.{set_place}
-use Rattle.iox2_store.specs.machine.Records.{Subscriber, SubscriberSettings}
-use Rattle.iox2_store.specs.machine.Ports.{new_subscriber, buffer_for}
+use Rattle.iox2_machine.specs.machine.Numbers.{put_at}
+use Rattle.iox2_machine.specs.machine.Places.{set_place}
+use Rattle.iox2_machine.specs.machine.Records.{Subscriber, SubscriberSettings}
+use Rattle.iox2_machine.specs.machine.Ports.{new_subscriber, buffer_for}
 use Rattle.iox2_ends.specs.LookUp.{look_up, IsOnly}
 use Rattle.iox2_laws.proofs.PortLaws.{no_subscriber_yet}
 use Rattle.iox2_domain.specs.WarningRing.{WarningRing}

@@ -7,13 +7,13 @@ use Rattle.std.specs.declared.option.Option.TheVariants.{None, Some}
 use Rattle.std.specs.declared.result.Result.{Result}
 use Rattle.std.specs.declared.result.Result.TheVariants.{Ok, Err}
 use Rattle.std.specs.Option.{option_map}
-use Rattle.iox2_store.specs.machine.Limits.{buffer_limit, warning_limit, last_number}
-use Rattle.iox2_store.specs.machine.Places.{lowest_free}
-use Rattle.iox2_store.specs.machine.Ports.{buffer_for, with_buffer_warning, with_new_subscriber, CreateSubscriber, FirstSubscriberUpdate, MakeSubscriber}
-use Rattle.iox2_store.specs.machine.Records.{Subscriber, SubscriberSettings, Environment}
-use Rattle.iox2_store.specs.machine.State.{State}
-use Rattle.iox2_store.specs.declared.errors.SubscriberCreateError.{SubscriberCreateError}
-use Rattle.iox2_store.specs.declared.errors.SubscriberCreateError.TheVariants.{UnableToCreatePortTag, BufferSizeExceedsMaxSupportedBufferSizeOfService, ExceedsMaxSupportedSubscribers}
+use Rattle.iox2_machine.specs.machine.Limits.{buffer_limit, warning_limit, last_number}
+use Rattle.iox2_machine.specs.machine.Places.{lowest_free}
+use Rattle.iox2_machine.specs.machine.Ports.{buffer_for, with_buffer_warning, with_new_subscriber, CreateSubscriber, FirstSubscriberUpdate, MakeSubscriber}
+use Rattle.iox2_machine.specs.machine.Records.{Subscriber, SubscriberSettings, Environment}
+use Rattle.iox2_machine.specs.machine.State.{State}
+use Rattle.iox2_machine.specs.declared.errors.SubscriberCreateError.{SubscriberCreateError}
+use Rattle.iox2_machine.specs.declared.errors.SubscriberCreateError.TheVariants.{UnableToCreatePortTag, BufferSizeExceedsMaxSupportedBufferSizeOfService, ExceedsMaxSupportedSubscribers}
 use Rattle.iox2_domain.specs.WarningRing.{WarningRing, warning_ring}
 use Rattle.iox2_domain.specs.Ports.{PublisherFields, SubscriberFields, due, entering}
 use Rattle.iox2_domain.specs.Kept.{Named, state_of}

@@ -2,8 +2,8 @@
 use Rattle.std.proofs.Common.{◌≡◌, ℕ, map, get_or, refl, ap, sym, subst, ◌∙◌, inl, inr, true}
 use Rattle.std.specs.declared.option.Option.TheVariants.{None, Some}
 use Rattle.std.specs.Option.{option_map}
-use Rattle.iox2_store.specs.machine.Records.{Subscriber}
-use Rattle.iox2_store.specs.machine.State.{subscribers_due}
+use Rattle.iox2_machine.specs.machine.Records.{Subscriber}
+use Rattle.iox2_machine.specs.machine.State.{subscribers_due}
 use Rattle.iox2_laws.proofs.PortChanges.{subscribers_due_keeps}
 use Rattle.iox2_domain.specs.Ports.{SubscriberFields}
 use Rattle.iox2_domain.specs.NewPublisher.{subscriber_due}

@@ -6,14 +6,14 @@ use Rattle.std.specs.declared.option.Option.TheVariants.{None, Some}
 use Rattle.std.specs.Option.{option_map, option_and_then}
 use Rattle.std.specs.Prelude.{List, ◌<◌, slice_set}
 use Rattle.slab.specs.Slab.{get, with_value}
-use Rattle.iox2_store.specs.machine.Loans.{loan_discarded}
+use Rattle.iox2_machine.specs.machine.Loans.{loan_discarded}
 use Rattle.iox2_slots.specs.SlotBook.{Book, holders_at}
 use Rattle.iox2_contents.specs.SlotContents.{ContentState, ended_content}
-use Rattle.iox2_store.specs.machine.Numbers.{put_at, without}
-use Rattle.iox2_store.specs.machine.Records.{Loan, Publisher}
-use Rattle.iox2_store.specs.machine.State.{State}
-use Rattle.iox2_store.specs.machine.WellFormed.{IsWellFormed}
-use Rattle.iox2_store.specs.Stored.{IsHeldMessage}
+use Rattle.iox2_machine.specs.machine.Numbers.{put_at, without}
+use Rattle.iox2_machine.specs.machine.Records.{Loan, Publisher}
+use Rattle.iox2_machine.specs.machine.State.{State}
+use Rattle.iox2_machine.specs.machine.WellFormed.{IsWellFormed}
+use Rattle.iox2_machine.specs.Stored.{IsHeldMessage}
 use Rattle.iox2_ends.specs.Counters.{times}
 use Rattle.iox2_ends.proofs.Counts.{one_if, one_if_other}
 use Rattle.iox2_laws.proofs.LoanLaws.{loan_discarded_keeps}

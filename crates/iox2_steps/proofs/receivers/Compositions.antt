@@ -5,11 +5,11 @@ use Rattle.std.proofs.lemmas.Option.{same_Some}
 use Rattle.std.specs.declared.option.Option.{Option}
 use Rattle.std.specs.declared.option.Option.TheVariants.{None, Some}
 use Rattle.std.specs.Option.{option_map_or}
-use Rattle.iox2_store.specs.machine.Numbers.{put_at}
-use Rattle.iox2_store.specs.machine.Places.{occupant, is_port}
-use Rattle.iox2_store.specs.machine.Records.{Publisher, Subscriber}
-use Rattle.iox2_store.specs.machine.State.{State, has_sender_end}
-use Rattle.iox2_store.specs.machine.SubscriberUpdate.{ReceiverSide, with_receiver_side}
+use Rattle.iox2_machine.specs.machine.Numbers.{put_at}
+use Rattle.iox2_machine.specs.machine.Places.{occupant, is_port}
+use Rattle.iox2_machine.specs.machine.Records.{Publisher, Subscriber}
+use Rattle.iox2_machine.specs.machine.State.{State, has_sender_end}
+use Rattle.iox2_machine.specs.machine.SubscriberUpdate.{ReceiverSide, with_receiver_side}
 use Rattle.iox2_laws.proofs.Puts.{put_at-same, put_at-twice}
 use Rattle.iox2_ends.proofs.MailboxChanges.{put_at-own}
 use Rattle.iox2_domain.specs.KeptLinks.{ChannelsFollow}

@@ -6,12 +6,12 @@ use Rattle.std.specs.declared.option.Option.TheVariants.{None, Some}
 use Rattle.slab.specs.Slab.{Slab, get, with_value}
 use Rattle.iox2_slots.specs.Link.{Link}
 use Rattle.iox2_slots.specs.SlotBook.{Book}
-use Rattle.iox2_store.specs.machine.Mailbox.{Mailbox, waiting_dropped, numbers_in}
-use Rattle.iox2_store.specs.machine.Numbers.{put_at, contains, without}
-use Rattle.iox2_store.specs.machine.Places.{occupants, set_place}
-use Rattle.iox2_store.specs.machine.Records.{Entry, Subscriber}
-use Rattle.iox2_store.specs.machine.State.{State}
-use Rattle.iox2_store.specs.Stored.{IsHeldMessage, In_history, In_mailbox, In_blocked_send}
+use Rattle.iox2_machine.specs.machine.Mailbox.{Mailbox, waiting_dropped, numbers_in}
+use Rattle.iox2_machine.specs.machine.Numbers.{put_at, contains, without}
+use Rattle.iox2_machine.specs.machine.Places.{occupants, set_place}
+use Rattle.iox2_machine.specs.machine.Records.{Entry, Subscriber}
+use Rattle.iox2_machine.specs.machine.State.{State}
+use Rattle.iox2_machine.specs.Stored.{IsHeldMessage, In_history, In_mailbox, In_blocked_send}
 use Rattle.iox2_laws.proofs.Puts.{at_each}
 use Rattle.iox2_ends.specs.Counters.{with_counters}
 use Rattle.iox2_ends.specs.Drops.{RemovesDropped, without_waiting}

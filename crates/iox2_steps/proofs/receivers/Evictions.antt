@@ -7,13 +7,13 @@ use Rattle.std.specs.Option.{option_map}
 use Rattle.slab.specs.Slab.{Slab, get}
 use Rattle.iox2_slots.specs.Link.{Link}
 use Rattle.iox2_slots.specs.SlotBook.{Book}
-use Rattle.iox2_store.specs.machine.Limits.{warning_limit}
-use Rattle.iox2_store.specs.machine.Mailbox.{has_borrows, waiting_dropped}
-use Rattle.iox2_store.specs.machine.Numbers.{put_at, contains, without}
-use Rattle.iox2_store.specs.machine.Places.{occupants, set_place}
-use Rattle.iox2_store.specs.machine.State.{State, warned}
-use Rattle.iox2_store.specs.machine.SubscriberUpdate.{ReceiverSide, Evict, with_receiver_side}
-use Rattle.iox2_store.specs.declared.warning.Warning.TheVariants.{ExpiredDataDiscarded}
+use Rattle.iox2_machine.specs.machine.Limits.{warning_limit}
+use Rattle.iox2_machine.specs.machine.Mailbox.{has_borrows, waiting_dropped}
+use Rattle.iox2_machine.specs.machine.Numbers.{put_at, contains, without}
+use Rattle.iox2_machine.specs.machine.Places.{occupants, set_place}
+use Rattle.iox2_machine.specs.machine.State.{State, warned}
+use Rattle.iox2_machine.specs.machine.SubscriberUpdate.{ReceiverSide, Evict, with_receiver_side}
+use Rattle.iox2_machine.specs.declared.warning.Warning.TheVariants.{ExpiredDataDiscarded}
 use Rattle.iox2_laws.proofs.ReceiverSides.{evicted_keeps}
 use Rattle.iox2_laws.proofs.SubscriberUpdates.{with_receiver_side_keeps}
 use Rattle.iox2_ends.specs.Drops.{RemovesDropped, without_waiting}
@@ -24,7 +24,7 @@ use Rattle.iox2_domain.specs.Midway.{with_channels_of}
 use Rattle.iox2_laws.proofs.PortChanges.{with_all_channels_keeps}
 use Rattle.iox2_domain.specs.WarningRing.{WarningRing, warning_ring}
 use Rattle.iox2_domain.specs.Ports.{SubscriberFields}
-use Rattle.iox2_store.specs.machine.WellFormed.{IsWellFormed}
+use Rattle.iox2_machine.specs.machine.WellFormed.{IsWellFormed}
 use Rattle.iox2_domain.specs.Kept.{state_of}
 use Rattle.iox2_domain.specs.Invariant.{HasParts, IsDomain, IsDomainBut}
 use Rattle.iox2_domain.specs.Fields.{Fields, kept_of}

@@ -3,11 +3,11 @@ use Rattle.std.proofs.Common.{◌≡◌, ◌≤◌, ℕ, List, get_or, refl, ap,
 use Rattle.std.proofs.lemmas.List.{set-set}
 use Rattle.std.specs.declared.option.Option.{Option}
 use Rattle.std.specs.declared.option.Option.TheVariants.{None, Some}
-use Rattle.iox2_store.specs.machine.Limits.{expired_limit}
-use Rattle.iox2_store.specs.machine.Records.{Subscriber, Environment}
-use Rattle.iox2_store.specs.machine.State.{State, has_sender_end}
-use Rattle.iox2_store.specs.machine.SubscriberUpdate.{ReceiverSide, ConnectReceiver, with_receiver_side}
-use Rattle.iox2_store.specs.declared.errors.ConnectionFailure.{ConnectionFailure}
+use Rattle.iox2_machine.specs.machine.Limits.{expired_limit}
+use Rattle.iox2_machine.specs.machine.Records.{Subscriber, Environment}
+use Rattle.iox2_machine.specs.machine.State.{State, has_sender_end}
+use Rattle.iox2_machine.specs.machine.SubscriberUpdate.{ReceiverSide, ConnectReceiver, with_receiver_side}
+use Rattle.iox2_machine.specs.declared.errors.ConnectionFailure.{ConnectionFailure}
 use Rattle.iox2_domain.specs.KeptLinks.{ChannelsFollow}
 use Rattle.iox2_domain.specs.Midway.{with_channels_of}
 use Rattle.iox2_domain.specs.Ports.{PublisherFields, SubscriberFields}

@@ -5,9 +5,9 @@ use Rattle.std.specs.declared.option.Option.{Option}
 use Rattle.std.specs.declared.option.Option.TheVariants.{None, Some}
 use Rattle.slab.specs.Slab.{Slab, get}
 use Rattle.iox2_slots.specs.Link.{Link}
-use Rattle.iox2_store.specs.machine.Numbers.{put_at, contains, without}
-use Rattle.iox2_store.specs.machine.Places.{occupants}
-use Rattle.iox2_store.specs.machine.Records.{Subscriber}
+use Rattle.iox2_machine.specs.machine.Numbers.{put_at, contains, without}
+use Rattle.iox2_machine.specs.machine.Places.{occupants}
+use Rattle.iox2_machine.specs.machine.Records.{Subscriber}
 use Rattle.iox2_laws.proofs.NumberLemmas.{contains_first, contains_later}
 use Rattle.iox2_ends.specs.Mailboxes.{receiver_ends}
 use Rattle.iox2_ends.proofs.MailboxChanges.{is_between-own}

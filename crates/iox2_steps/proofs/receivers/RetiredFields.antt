@@ -7,11 +7,11 @@ use Rattle.std.specs.Option.{option_map, option_map_or}
 use Rattle.slab.specs.Slab.{Slab, get, with_value, ContainsKey}
 use Rattle.iox2_slots.specs.Link.{Link}
 use Rattle.iox2_slots.specs.SlotBook.{Book}
-use Rattle.iox2_store.specs.machine.Limits.{warning_limit, expired_limit}
-use Rattle.iox2_store.specs.machine.Numbers.{contains}
-use Rattle.iox2_store.specs.machine.State.{State, warned}
-use Rattle.iox2_store.specs.machine.SubscriberUpdate.{ReceiverSide, Retirement, is_refused, Keep_expired, Evict, Discard_data, with_receiver_side}
-use Rattle.iox2_store.specs.declared.warning.Warning.TheVariants.{ExpiredDataDiscarded}
+use Rattle.iox2_machine.specs.machine.Limits.{warning_limit, expired_limit}
+use Rattle.iox2_machine.specs.machine.Numbers.{contains}
+use Rattle.iox2_machine.specs.machine.State.{State, warned}
+use Rattle.iox2_machine.specs.machine.SubscriberUpdate.{ReceiverSide, Retirement, is_refused, Keep_expired, Evict, Discard_data, with_receiver_side}
+use Rattle.iox2_machine.specs.declared.warning.Warning.TheVariants.{ExpiredDataDiscarded}
 use Rattle.iox2_ends.specs.Counters.{with_counters}
 use Rattle.iox2_ends.specs.Retires.{has_borrowed, chosen}
 use Rattle.iox2_ends.specs.declared.retirement.Retirement.{Retirement as Choice}
@@ -26,7 +26,7 @@ use Rattle.iox2_domain.specs.Updates.{changed_at, publisher_but_room, without_re
 use Rattle.iox2_domain.specs.Reaches.{Reaches}
 use Rattle.iox2_domain.specs.Midway.{ChangesBooks, IsMidway}
 use Rattle.iox2_domain.specs.ReceiverSteps.{HasDepartedEnd, ChangesReceiverTo, ChangesReceiver, FreesBook, LosesConnection, RetiresReceiver, Retired, Refused, retired, refused, machine_retirement, with_expired, without_expired, replacing_expired}
-use Rattle.iox2_store.specs.machine.WellFormed.{IsWellFormed}
+use Rattle.iox2_machine.specs.machine.WellFormed.{IsWellFormed}
 use Rattle.iox2_domain.proofs.lemmas.fields.Parts.{midway-but}
 use Rattle.iox2_steps.proofs.updates.DropCalls.{cleared-place}
 use Rattle.iox2_steps.proofs.receivers.LeftEnds.{IsDeparted}

@@ -6,15 +6,15 @@ use Rattle.std.specs.Bool.{MatchBool}
 use Rattle.std.specs.declared.option.Option.{Option}
 use Rattle.std.specs.declared.option.Option.TheVariants.{None, Some}
 use Rattle.std.specs.Option.{option_map, option_map_or}
-use Rattle.iox2_store.specs.machine.Connections.{ForEachPlace, first_failure}
-use Rattle.iox2_store.specs.machine.Limits.{expired_limit}
-use Rattle.iox2_store.specs.machine.Numbers.{put_at}
-use Rattle.iox2_store.specs.machine.Places.{occupant}
-use Rattle.iox2_store.specs.machine.Records.{Subscriber, Environment}
-use Rattle.iox2_store.specs.machine.State.{receiver_channels_reset, State, has_sender_end}
-use Rattle.iox2_store.specs.machine.SubscriberUpdate.{ReceiverSide, ConnectAtPlace, DisconnectAtPlace, UpdateReceiverSide, receiver_side, with_receiver_side}
-use Rattle.iox2_store.specs.declared.errors.ConnectionFailure.{ConnectionFailure}
-use Rattle.iox2_store.specs.declared.service_config.ServiceConfig.{ServiceConfig}
+use Rattle.iox2_machine.specs.machine.Connections.{ForEachPlace, first_failure}
+use Rattle.iox2_machine.specs.machine.Limits.{expired_limit}
+use Rattle.iox2_machine.specs.machine.Numbers.{put_at}
+use Rattle.iox2_machine.specs.machine.Places.{occupant}
+use Rattle.iox2_machine.specs.machine.Records.{Subscriber, Environment}
+use Rattle.iox2_machine.specs.machine.State.{receiver_channels_reset, State, has_sender_end}
+use Rattle.iox2_machine.specs.machine.SubscriberUpdate.{ReceiverSide, ConnectAtPlace, DisconnectAtPlace, UpdateReceiverSide, receiver_side, with_receiver_side}
+use Rattle.iox2_machine.specs.declared.errors.ConnectionFailure.{ConnectionFailure}
+use Rattle.iox2_machine.specs.declared.service_config.ServiceConfig.{ServiceConfig}
 use Rattle.iox2_laws.proofs.ReceiverSides.{receiver_side_begins}
 use Rattle.iox2_ends.proofs.MailboxChanges.{put_at-own}
 use Rattle.iox2_steps.proofs.updates.ResetChannels.{receiver-reset}

@@ -5,9 +5,9 @@ use Rattle.std.specs.Option.{option_map, IsSomeAnd}
 use Rattle.slab.specs.Slab.{Slab, Updates, get}
 use Rattle.iox2_slots.specs.Link.{Link, load}
 use Rattle.iox2_slots.specs.declared.connection.Home.{Home}
-use Rattle.iox2_store.specs.machine.Releases.{subscriber_pruned, unborrowed}
-use Rattle.iox2_store.specs.machine.State.{State}
-use Rattle.iox2_store.specs.machine.WellFormed.{IsWellFormed}
+use Rattle.iox2_machine.specs.machine.Releases.{subscriber_pruned, unborrowed}
+use Rattle.iox2_machine.specs.machine.State.{State}
+use Rattle.iox2_machine.specs.machine.WellFormed.{IsWellFormed}
 use Rattle.iox2_ends.specs.LookUp.{look_up}
 use Rattle.iox2_ends.proofs.MailboxChanges.{within_if_some}
 use Rattle.iox2_domain.specs.Departures.{ForgetsConnection, key_forgotten}

@@ -1,10 +1,10 @@
 -- Messages that are given back.
 use Rattle.std.proofs.Common.{◌≡◌, ◌≢◌, ℕ, true, sym, subst, ap, ◌∙◌}
 use Rattle.iox2_slots.specs.declared.connection.Home.{Home}
-use Rattle.iox2_store.specs.machine.Mailbox.{is_borrowed}
-use Rattle.iox2_store.specs.machine.Releases.{freed_if_unused, released, subscriber_pruned, unborrowed}
-use Rattle.iox2_store.specs.machine.State.{State, is_linked}
-use Rattle.iox2_store.specs.machine.WellFormed.{IsWellFormed, MailboxIsWellFormed}
+use Rattle.iox2_machine.specs.machine.Mailbox.{is_borrowed}
+use Rattle.iox2_machine.specs.machine.Releases.{freed_if_unused, released, subscriber_pruned, unborrowed}
+use Rattle.iox2_machine.specs.machine.State.{State, is_linked}
+use Rattle.iox2_machine.specs.machine.WellFormed.{IsWellFormed, MailboxIsWellFormed}
 use Rattle.iox2_laws.proofs.ReleaseLaws.{released_keeps, released_nearly}
 use Rattle.iox2_domain.specs.Fields.{Fields, kept_of, numbers_of}
 use Rattle.iox2_domain.specs.Invariant.{IsDomain}

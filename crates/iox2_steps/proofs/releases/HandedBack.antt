@@ -6,11 +6,11 @@ use Rattle.slab.specs.Slab.{Slab, get, with_value, ContainsKey}
 use Rattle.iox2_slots.specs.Link.{Link, without_borrowed}
 use Rattle.iox2_slots.specs.SlotBook.{Book, IsInUse}
 use Rattle.iox2_slots.specs.declared.connection.Home.{Home}
-use Rattle.iox2_store.specs.machine.Mailbox.{Mailbox, is_borrowed}
-use Rattle.iox2_store.specs.machine.Numbers.{contains, IsOnce}
-use Rattle.iox2_store.specs.machine.Records.{Subscriber}
-use Rattle.iox2_store.specs.machine.Releases.{subscriber_pruned, unborrowed}
-use Rattle.iox2_store.specs.machine.WellFormed.{LeadsTo}
+use Rattle.iox2_machine.specs.machine.Mailbox.{Mailbox, is_borrowed}
+use Rattle.iox2_machine.specs.machine.Numbers.{contains, IsOnce}
+use Rattle.iox2_machine.specs.machine.Records.{Subscriber}
+use Rattle.iox2_machine.specs.machine.Releases.{subscriber_pruned, unborrowed}
+use Rattle.iox2_machine.specs.machine.WellFormed.{LeadsTo}
 use Rattle.iox2_ends.specs.Counters.{one_holder_less, with_counters}
 use Rattle.iox2_ends.specs.Homes.{SameHomes}
 use Rattle.iox2_ends.specs.LookUp.{look_up}

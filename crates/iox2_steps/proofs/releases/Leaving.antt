@@ -3,9 +3,9 @@ use Rattle.std.proofs.Common.{◌≡◌, ℕ, true, false, map, get_or, slice_se
 use Rattle.std.specs.Option.{option_map}
 use Rattle.slab.specs.Slab.{Slab}
 use Rattle.iox2_slots.specs.Link.{Link}
-use Rattle.iox2_store.specs.machine.Releases.{freed_if_unused}
-use Rattle.iox2_store.specs.machine.State.{State}
-use Rattle.iox2_store.specs.machine.WellFormed.{MailboxIsWellFormed}
+use Rattle.iox2_machine.specs.machine.Releases.{freed_if_unused}
+use Rattle.iox2_machine.specs.machine.State.{State}
+use Rattle.iox2_machine.specs.machine.WellFormed.{MailboxIsWellFormed}
 use Rattle.iox2_domain.specs.Departures.{BorrowsNothing, BorrowsSome, DropsUnshared, KnowsKey}
 use Rattle.iox2_domain.specs.Fields.{Fields, kept_of}
 use Rattle.iox2_domain.specs.Kept.{state_of}

@@ -3,13 +3,13 @@ use Rattle.std.proofs.Common.{◌≡◌, ◌≢◌, ℕ, zero, suc, Bool, true, 
 use Rattle.std.proofs.lemmas.Bool.{eq-eqb, eqb-true, ne_eqb, or_left, or_right}
 use Rattle.std.specs.List.{filter}
 use Rattle.std.specs.Option.{option_map}
-use Rattle.iox2_store.specs.machine.Numbers.{put_at, contains}
-use Rattle.iox2_store.specs.machine.Places.{occupant, places_kept}
-use Rattle.iox2_store.specs.machine.Mailbox.{has_numbers, with_released}
-use Rattle.iox2_store.specs.machine.Records.{Publisher, Subscriber}
-use Rattle.iox2_store.specs.machine.State.{State, is_present}
-use Rattle.iox2_store.specs.machine.Releases.{is_connected, pruned, unborrowed, subscriber_pruned}
-use Rattle.iox2_store.specs.machine.WellFormed.{IsWellFormed, LeadsTo}
+use Rattle.iox2_machine.specs.machine.Numbers.{put_at, contains}
+use Rattle.iox2_machine.specs.machine.Places.{occupant, places_kept}
+use Rattle.iox2_machine.specs.machine.Mailbox.{has_numbers, with_released}
+use Rattle.iox2_machine.specs.machine.Records.{Publisher, Subscriber}
+use Rattle.iox2_machine.specs.machine.State.{State, is_present}
+use Rattle.iox2_machine.specs.machine.Releases.{is_connected, pruned, unborrowed, subscriber_pruned}
+use Rattle.iox2_machine.specs.machine.WellFormed.{IsWellFormed, LeadsTo}
 use Rattle.iox2_ends.proofs.MailboxChanges.{put_at-own}
 use Rattle.iox2_laws.proofs.Puts.{put_at-other}
 

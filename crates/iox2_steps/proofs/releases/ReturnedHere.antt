@@ -3,9 +3,9 @@ use Rattle.std.proofs.Common.{◌≡◌, ℕ, true, get_or, None, Some, Contains
 use Rattle.slab.specs.Slab.{Slab, ContainsKey, get}
 use Rattle.iox2_slots.specs.Link.{Link}
 use Rattle.iox2_slots.specs.declared.connection.Home.{Home}
-use Rattle.iox2_store.specs.machine.Mailbox.{is_borrowed}
-use Rattle.iox2_store.specs.machine.Numbers.{IsOnce}
-use Rattle.iox2_store.specs.machine.Releases.{released}
+use Rattle.iox2_machine.specs.machine.Mailbox.{is_borrowed}
+use Rattle.iox2_machine.specs.machine.Numbers.{IsOnce}
+use Rattle.iox2_machine.specs.machine.Releases.{released}
 use Rattle.iox2_ends.specs.Homes.{SameHomes}
 use Rattle.iox2_ends.specs.Takes.{KeepsOtherKeys, SameStands, ReleasesSlot}
 use Rattle.iox2_domain.specs.Fields.{Fields, kept_of}

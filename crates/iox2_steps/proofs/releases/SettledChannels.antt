@@ -7,14 +7,14 @@ use Rattle.std.specs.Option.{option_map, option_map_or}
 use Rattle.slab.specs.Slab.{Slab, get}
 use Rattle.iox2_slots.specs.Link.{Link}
 use Rattle.iox2_slots.specs.declared.connection.Home.{Home}
-use Rattle.iox2_store.specs.machine.Channel.{Channel}
-use Rattle.iox2_store.specs.machine.Numbers.{contains, put_at}
-use Rattle.iox2_store.specs.machine.Places.{occupants}
-use Rattle.iox2_store.specs.machine.Ports.{subscriber_shut}
-use Rattle.iox2_store.specs.machine.Records.{Publisher, Subscriber}
-use Rattle.iox2_store.specs.machine.Releases.{freed_if_unused, is_unused, place_freed, pruned, subscriber_pruned}
-use Rattle.iox2_store.specs.machine.State.{State, connected_publishers, is_linked, receiver_channels_reset}
-use Rattle.iox2_store.specs.machine.WellFormed.{MailboxIsWellFormed}
+use Rattle.iox2_machine.specs.machine.Channel.{Channel}
+use Rattle.iox2_machine.specs.machine.Numbers.{contains, put_at}
+use Rattle.iox2_machine.specs.machine.Places.{occupants}
+use Rattle.iox2_machine.specs.machine.Ports.{subscriber_shut}
+use Rattle.iox2_machine.specs.machine.Records.{Publisher, Subscriber}
+use Rattle.iox2_machine.specs.machine.Releases.{freed_if_unused, is_unused, place_freed, pruned, subscriber_pruned}
+use Rattle.iox2_machine.specs.machine.State.{State, connected_publishers, is_linked, receiver_channels_reset}
+use Rattle.iox2_machine.specs.machine.WellFormed.{MailboxIsWellFormed}
 use Rattle.iox2_ends.specs.LookUp.{look_up}
 use Rattle.iox2_ends.specs.Mailboxes.{is_between}
 use Rattle.iox2_ends.proofs.LookUps.{look_up-none, look_up-there}

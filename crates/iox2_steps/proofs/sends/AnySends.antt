@@ -5,16 +5,16 @@ use Rattle.std.specs.Option.{option_map}
 use Rattle.std.specs.declared.option.Option.{Option}
 use Rattle.std.specs.declared.option.Option.TheVariants.{None, Some}
 use Rattle.std.specs.declared.time.Duration.{Duration}
-use Rattle.iox2_store.specs.machine.Delivery.{DeliverIn, DeliveryEnd, no_time}
-use Rattle.iox2_store.specs.machine.Loans.{loan_discarded}
-use Rattle.iox2_store.specs.machine.Mailbox.{Mailbox}
-use Rattle.iox2_store.specs.machine.Numbers.{last_n}
-use Rattle.iox2_store.specs.machine.PublisherUpdate.{UpdatePublisher}
-use Rattle.iox2_store.specs.machine.Records.{BlockedSend, Environment, Loan, Publisher}
-use Rattle.iox2_store.specs.machine.Sends.{SendResult, Send_error, DeliverAndConclude, ConcludeSend, Publish, Send, Retry, GiveUp, published, with_mailboxes, more_retries}
-use Rattle.iox2_store.specs.machine.State.{State, channel_buffer, with_loan}
-use Rattle.iox2_store.specs.declared.errors.ConnectionFailure.{ConnectionFailure}
-use Rattle.iox2_store.specs.declared.errors.SendError.TheVariants.{ConnectionBrokenSinceSenderNoLongerExists, ConnectionError}
+use Rattle.iox2_machine.specs.machine.Delivery.{DeliverIn, DeliveryEnd, no_time}
+use Rattle.iox2_machine.specs.machine.Loans.{loan_discarded}
+use Rattle.iox2_machine.specs.machine.Mailbox.{Mailbox}
+use Rattle.iox2_machine.specs.machine.Numbers.{last_n}
+use Rattle.iox2_machine.specs.machine.PublisherUpdate.{UpdatePublisher}
+use Rattle.iox2_machine.specs.machine.Records.{BlockedSend, Environment, Loan, Publisher}
+use Rattle.iox2_machine.specs.machine.Sends.{SendResult, Send_error, DeliverAndConclude, ConcludeSend, Publish, Send, Retry, GiveUp, published, with_mailboxes, more_retries}
+use Rattle.iox2_machine.specs.machine.State.{State, channel_buffer, with_loan}
+use Rattle.iox2_machine.specs.declared.errors.ConnectionFailure.{ConnectionFailure}
+use Rattle.iox2_machine.specs.declared.errors.SendError.TheVariants.{ConnectionBrokenSinceSenderNoLongerExists, ConnectionError}
 use Rattle.iox2_laws.proofs.Puts.{put_at-same}
 use Rattle.iox2_ends.proofs.AnyEnvironment.{AllowsAsMuch, Deliver-any}
 use Rattle.iox2_steps.proofs.updates.AnyBoxes.{AllowsUpdates, update-alike}

@@ -9,11 +9,11 @@ use Rattle.std.specs.Option.{option_map}
 use Rattle.slab.specs.Slab.{get, Slab}
 use Rattle.iox2_slots.specs.Link.{Link}
 use Rattle.iox2_slots.specs.SlotBook.{Book, holders_at}
-use Rattle.iox2_store.specs.machine.Delivery.{no_time}
-use Rattle.iox2_store.specs.machine.Records.{Publisher, BlockedSend, Environment}
-use Rattle.iox2_store.specs.machine.Sends.{DeliverAndConclude, Retry, GiveUp, more_retries}
-use Rattle.iox2_store.specs.machine.State.{State}
-use Rattle.iox2_store.specs.machine.WellFormed.{BlockedIsWellFormed}
+use Rattle.iox2_machine.specs.machine.Delivery.{no_time}
+use Rattle.iox2_machine.specs.machine.Records.{Publisher, BlockedSend, Environment}
+use Rattle.iox2_machine.specs.machine.Sends.{DeliverAndConclude, Retry, GiveUp, more_retries}
+use Rattle.iox2_machine.specs.machine.State.{State}
+use Rattle.iox2_machine.specs.machine.WellFormed.{BlockedIsWellFormed}
 use Rattle.iox2_ends.specs.Counters.{times, HoldsItself}
 use Rattle.iox2_ends.specs.Mailboxes.{sender_ends, subscriber_of_key}
 use Rattle.iox2_ends.specs.Receivers.{HasReclaimed}

@@ -6,20 +6,20 @@ use Rattle.std.specs.declared.time.Duration.{Duration}
 use Rattle.std.specs.Option.{option_map}
 use Rattle.std.specs.Prelude.{slice_get, nat_lt}
 use Rattle.slab.specs.Slab.{Slab, get, with_value}
-use Rattle.iox2_store.specs.machine.Delivery.{PutResult, Complete, Suspended, Decides, PutIn, PutAtEndIn, DeliverIn, by_strategy, by_action, is_blocking, is_failed, accepted_count, no_time}
+use Rattle.iox2_machine.specs.machine.Delivery.{PutResult, Complete, Suspended, Decides, PutIn, PutAtEndIn, DeliverIn, by_strategy, by_action, is_blocking, is_failed, accepted_count, no_time}
 use Rattle.iox2_slots.specs.Link.{Link}
-use Rattle.iox2_store.specs.machine.Mailbox.{Mailbox, has_room_in}
-use Rattle.iox2_store.specs.machine.Records.{Environment, Handler, Fixed, Custom}
+use Rattle.iox2_machine.specs.machine.Mailbox.{Mailbox, has_room_in}
+use Rattle.iox2_machine.specs.machine.Records.{Environment, Handler, Fixed, Custom}
 use Rattle.iox2_slots.specs.SlotBook.{Book, holders_at, IsInUse}
-use Rattle.iox2_store.specs.declared.backpressure.BackpressureAction.{BackpressureAction}
-use Rattle.iox2_store.specs.declared.backpressure.BackpressureAction.TheVariants as actions
-use Rattle.iox2_store.specs.declared.backpressure.BackpressureInfo.{BackpressureInfo}
-use Rattle.iox2_store.specs.declared.backpressure.BackpressureStrategy.{BackpressureStrategy}
-use Rattle.iox2_store.specs.declared.backpressure.BackpressureStrategy.TheVariants.{DiscardData, RetryUntilDelivered}
-use Rattle.iox2_store.specs.declared.degradation.DegradationAction.{DegradationAction}
-use Rattle.iox2_store.specs.declared.degradation.DegradationCause.{DegradationCause}
-use Rattle.iox2_store.specs.declared.degradation.DegradationInfo.{DegradationInfo}
-use Rattle.iox2_store.specs.declared.service_config.ServiceConfig.{ServiceConfig}
+use Rattle.iox2_machine.specs.declared.backpressure.BackpressureAction.{BackpressureAction}
+use Rattle.iox2_machine.specs.declared.backpressure.BackpressureAction.TheVariants as actions
+use Rattle.iox2_machine.specs.declared.backpressure.BackpressureInfo.{BackpressureInfo}
+use Rattle.iox2_machine.specs.declared.backpressure.BackpressureStrategy.{BackpressureStrategy}
+use Rattle.iox2_machine.specs.declared.backpressure.BackpressureStrategy.TheVariants.{DiscardData, RetryUntilDelivered}
+use Rattle.iox2_machine.specs.declared.degradation.DegradationAction.{DegradationAction}
+use Rattle.iox2_machine.specs.declared.degradation.DegradationCause.{DegradationCause}
+use Rattle.iox2_machine.specs.declared.degradation.DegradationInfo.{DegradationInfo}
+use Rattle.iox2_machine.specs.declared.service_config.ServiceConfig.{ServiceConfig}
 use Rattle.iox2_ends.specs.Counters.{GrowsAlone, with_counters, HoldsItself, times}
 use Rattle.iox2_ends.specs.Mailboxes.{mailboxes_of, sender_ends}
 use Rattle.iox2_ends.specs.Receivers.{IsReadyToDeliver, taking_buffers, has_id}
@@ -41,8 +41,8 @@ use Rattle.iox2_domain.proofs.lemmas.slots.RecountedLoans.{recounted_fields, par
 use Rattle.std.proofs.lemmas.List.{get_or-set_same, length-set}
 use Rattle.iox2_ends.proofs.MailboxChanges.{within_if_some}
 use Rattle.iox2_ends.specs.Handlers.{asked, marks_of}
-use Rattle.iox2_store.specs.declared.backpressure_handler.BackpressureHandler.{BackpressureHandler}
-use Rattle.iox2_store.specs.declared.backpressure_handler.BackpressureHandler.TheVariants as handlers
+use Rattle.iox2_machine.specs.declared.backpressure_handler.BackpressureHandler.{BackpressureHandler}
+use Rattle.iox2_machine.specs.declared.backpressure_handler.BackpressureHandler.TheVariants as handlers
 use Rattle.iox2_ends.proofs.AnyEnvironment.{AllowsAsMuch, Deliver-any}
 use Rattle.iox2_ends.proofs.Counts.{in_range, times-cons, one_if_same, get_or-one_holder_more}
 use Rattle.iox2_ends.proofs.ReclaimedPuts.{own-in_use, own-still}

@@ -2,15 +2,15 @@
 use Rattle.std.proofs.Common.{◌≡◌, ℕ, refl, ap, sym, subst, ◌∙◌, inr, None}
 use Rattle.std.specs.declared.option.Option.{Option}
 use Rattle.std.specs.declared.option.Option.TheVariants.{Some}
-use Rattle.iox2_store.specs.machine.Loans.{loan_discarded}
-use Rattle.iox2_store.specs.machine.Numbers.{put_at}
-use Rattle.iox2_store.specs.machine.PublisherUpdate.{UpdatePublisher}
-use Rattle.iox2_store.specs.machine.Records.{Loan, Environment}
-use Rattle.iox2_store.specs.machine.Sends.{Send_error}
-use Rattle.iox2_store.specs.machine.SingleCalls.{HoldsLoan}
-use Rattle.iox2_store.specs.machine.State.{State}
-use Rattle.iox2_store.specs.declared.errors.ConnectionFailure.{ConnectionFailure}
-use Rattle.iox2_store.specs.declared.errors.SendError.TheVariants.{ConnectionError}
+use Rattle.iox2_machine.specs.machine.Loans.{loan_discarded}
+use Rattle.iox2_machine.specs.machine.Numbers.{put_at}
+use Rattle.iox2_machine.specs.machine.PublisherUpdate.{UpdatePublisher}
+use Rattle.iox2_machine.specs.machine.Records.{Loan, Environment}
+use Rattle.iox2_machine.specs.machine.Sends.{Send_error}
+use Rattle.iox2_machine.specs.machine.SingleCalls.{HoldsLoan}
+use Rattle.iox2_machine.specs.machine.State.{State}
+use Rattle.iox2_machine.specs.declared.errors.ConnectionFailure.{ConnectionFailure}
+use Rattle.iox2_machine.specs.declared.errors.SendError.TheVariants.{ConnectionError}
 use Rattle.iox2_laws.proofs.PublisherUpdates.{update_publisher_leaves}
 use Rattle.iox2_domain.specs.Connects.{UpdatesPublisher}
 use Rattle.iox2_domain.specs.Discards.{DiscardsLoan}

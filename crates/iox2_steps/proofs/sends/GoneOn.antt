@@ -8,18 +8,18 @@ use Rattle.std.specs.declared.option.Option.TheVariants.{None, Some}
 use Rattle.std.specs.declared.time.Duration.{Duration}
 use Rattle.std.specs.Option.{option_map, option_map_or}
 use Rattle.slab.specs.Slab.{get, Slab, with_value}
-use Rattle.iox2_store.specs.machine.Delivery.{DeliveryEnd, Complete, Suspended, DeliverIn}
+use Rattle.iox2_machine.specs.machine.Delivery.{DeliveryEnd, Complete, Suspended, DeliverIn}
 use Rattle.iox2_slots.specs.SlotBook.{Book, holders_at}
 use Rattle.iox2_slots.specs.declared.slots.mark.SlotMark.{SlotMark}
 use Rattle.iox2_slots.specs.declared.slots.mark.SlotMark.TheVariants.{Unwritten, Written, Sent}
-use Rattle.iox2_store.specs.machine.Mailbox.{Mailbox, numbers_in}
-use Rattle.iox2_store.specs.machine.Numbers.{put_at, contains, without}
-use Rattle.iox2_store.specs.machine.Places.{occupant}
-use Rattle.iox2_store.specs.machine.Records.{Entry, Loan, Publisher, BlockedSend, Environment}
-use Rattle.iox2_store.specs.machine.Sends.{ConcludeSend, DeliverAndConclude, with_mailboxes}
-use Rattle.iox2_store.specs.Stored.{IsHeldMessage, In_history, In_mailbox, In_blocked_send}
-use Rattle.iox2_store.specs.machine.State.{State, channel_buffer}
-use Rattle.iox2_store.specs.machine.WellFormed.{IsWellFormed, IsInjective, LeadsTo}
+use Rattle.iox2_machine.specs.machine.Mailbox.{Mailbox, numbers_in}
+use Rattle.iox2_machine.specs.machine.Numbers.{put_at, contains, without}
+use Rattle.iox2_machine.specs.machine.Places.{occupant}
+use Rattle.iox2_machine.specs.machine.Records.{Entry, Loan, Publisher, BlockedSend, Environment}
+use Rattle.iox2_machine.specs.machine.Sends.{ConcludeSend, DeliverAndConclude, with_mailboxes}
+use Rattle.iox2_machine.specs.Stored.{IsHeldMessage, In_history, In_mailbox, In_blocked_send}
+use Rattle.iox2_machine.specs.machine.State.{State, channel_buffer}
+use Rattle.iox2_machine.specs.machine.WellFormed.{IsWellFormed, IsInjective, LeadsTo}
 use Rattle.iox2_ends.specs.Counters.{times, with_counters, one_holder_less}
 use Rattle.iox2_ends.specs.Deliveries.{end_of}
 use Rattle.iox2_ends.specs.declared.sender.Progress.{Progress}

@@ -8,23 +8,23 @@ use Rattle.std.specs.declared.option.Option.{Option}
 use Rattle.std.specs.declared.option.Option.TheVariants.{None, Some}
 use Rattle.std.specs.Option.{option_map, option_and_then, option_map_or}
 use Rattle.slab.specs.Slab.{get, Slab}
-use Rattle.iox2_store.specs.machine.Delivery.{Deliver, no_time, DeliveryEnd}
-use Rattle.iox2_store.specs.machine.Loans.{entry_of}
+use Rattle.iox2_machine.specs.machine.Delivery.{Deliver, no_time, DeliveryEnd}
+use Rattle.iox2_machine.specs.machine.Loans.{entry_of}
 use Rattle.iox2_slots.specs.SlotBook.{Book, IsInUse, holders_at}
-use Rattle.iox2_store.specs.machine.Mailbox.{Mailbox, numbers_in}
-use Rattle.iox2_store.specs.machine.Numbers.{put_at, contains, without, last_n}
-use Rattle.iox2_store.specs.machine.Records.{Entry, Loan, Publisher, Subscriber, Environment, BlockedSend}
-use Rattle.iox2_store.specs.machine.Sends.{Publish, published, send_ended, with_mailboxes, SendResult, Blocked_send, ConcludeSend, send_blocked}
-use Rattle.iox2_store.specs.Stored.{IsHeldMessage, In_history, In_mailbox, In_blocked_send}
-use Rattle.iox2_store.specs.machine.State.{State, receiving_buffer, channel_buffer, publisher_changed}
-use Rattle.iox2_store.specs.machine.WellFormed.{IsWellFormed}
+use Rattle.iox2_machine.specs.machine.Mailbox.{Mailbox, numbers_in}
+use Rattle.iox2_machine.specs.machine.Numbers.{put_at, contains, without, last_n}
+use Rattle.iox2_machine.specs.machine.Records.{Entry, Loan, Publisher, Subscriber, Environment, BlockedSend}
+use Rattle.iox2_machine.specs.machine.Sends.{Publish, published, send_ended, with_mailboxes, SendResult, Blocked_send, ConcludeSend, send_blocked}
+use Rattle.iox2_machine.specs.Stored.{IsHeldMessage, In_history, In_mailbox, In_blocked_send}
+use Rattle.iox2_machine.specs.machine.State.{State, receiving_buffer, channel_buffer, publisher_changed}
+use Rattle.iox2_machine.specs.machine.WellFormed.{IsWellFormed}
 use Rattle.iox2_ends.specs.Counters.{times, with_counters, one_holder_more}
 use Rattle.iox2_ends.specs.LookUp.{look_up, IsOnly}
 use Rattle.iox2_ends.specs.Mailboxes.{mailboxes_of}
 use Rattle.iox2_ends.specs.Receivers.{buffers_of, taking_buffers, buffer_if_open, has_id}
 use Rattle.iox2_ends.proofs.MailboxChanges.{others-stay, one-put, both-true}
 use Rattle.iox2_laws.proofs.Altered.{same_state}
-use Rattle.iox2_store.specs.machine.Channel.{Channel, is_closed}
+use Rattle.iox2_machine.specs.machine.Channel.{Channel, is_closed}
 use Rattle.iox2_domain.proofs.lemmas.fields.KeptChannels.{channels-are}
 use Rattle.iox2_laws.proofs.DeliveryLaws.{Delivered, deliver_is, all_from}
 use Rattle.iox2_laws.proofs.MailboxLemmas.{contains_in_appended}

@@ -7,11 +7,11 @@ use Rattle.std.specs.declared.option.Option.{Option}
 use Rattle.std.specs.declared.option.Option.TheVariants.{None, Some}
 use Rattle.circular_buffer.proofs.Places.{slice_get-set_other}
 use Rattle.slab.specs.Slab.{get, with_value}
-use Rattle.iox2_store.specs.machine.Loans.{entry_of}
+use Rattle.iox2_machine.specs.machine.Loans.{entry_of}
 use Rattle.iox2_slots.specs.SlotBook.{Book, IsAligned, IsInUse, holders_at}
 use Rattle.iox2_slots.specs.declared.slots.mark.SlotMark.TheVariants.{Unwritten, Written, Sent}
-use Rattle.iox2_store.specs.machine.Numbers.{put_at, without}
-use Rattle.iox2_store.specs.machine.Records.{Entry, Loan}
+use Rattle.iox2_machine.specs.machine.Numbers.{put_at, without}
+use Rattle.iox2_machine.specs.machine.Records.{Entry, Loan}
 use Rattle.iox2_ends.specs.Counters.{times}
 use Rattle.iox2_ends.proofs.Counts.{times_push, one_if_other}
 use Rattle.iox2_domain.specs.Ports.{PublisherFields}

@@ -8,9 +8,9 @@ use Rattle.std.specs.declared.option.Option.TheVariants.{None, Some}
 use Rattle.slab.specs.Slab.{Slab, get, with_value}
 use Rattle.circular_buffer.specs.Buffer.{Buffer, buffer, keep_last}
 use Rattle.iox2_slots.specs.SlotBook.{Book, holders_at}
-use Rattle.iox2_store.specs.machine.Numbers.{put_at, last_n}
-use Rattle.iox2_store.specs.machine.Records.{Entry, Loan, Publisher}
-use Rattle.iox2_store.specs.Stored.{IsHeldMessage}
+use Rattle.iox2_machine.specs.machine.Numbers.{put_at, last_n}
+use Rattle.iox2_machine.specs.machine.Records.{Entry, Loan, Publisher}
+use Rattle.iox2_machine.specs.Stored.{IsHeldMessage}
 use Rattle.iox2_ends.specs.Counters.{times, one_holder_less}
 use Rattle.iox2_ends.proofs.Counts.{one_if, one_if_same, one_if_other, times-cons, get_or-one_holder_less}
 use Rattle.iox2_ends.proofs.MailboxChanges.{put_at-own}

@@ -8,15 +8,15 @@ use Rattle.std.specs.Option.{option_map}
 use Rattle.slab.specs.Slab.{get}
 use Rattle.iox2_slots.specs.Link.{Link}
 use Rattle.iox2_slots.specs.SlotBook.{Book}
-use Rattle.iox2_store.specs.machine.Mailbox.{Mailbox, has_numbers, numbers_in, ChannelNumber}
-use Rattle.iox2_store.specs.machine.Numbers.{contains, is_nil}
-use Rattle.iox2_store.specs.machine.Places.{occupants}
-use Rattle.iox2_store.specs.machine.Ports.{subscriber_shut, subscriber_closed}
-use Rattle.iox2_store.specs.machine.Records.{Publisher, Subscriber}
-use Rattle.iox2_store.specs.machine.Releases.{freed_if_unused, subscriber_pruned}
-use Rattle.iox2_store.specs.machine.State.{State, is_linked, publishers_due}
-use Rattle.iox2_store.specs.machine.WellFormed.{LeadsTo, IsWellFormed, MailboxIsWellFormed}
-use Rattle.iox2_store.specs.Stored.{IsHeldMessage, In_history, In_mailbox, In_blocked_send}
+use Rattle.iox2_machine.specs.machine.Mailbox.{Mailbox, has_numbers, numbers_in, ChannelNumber}
+use Rattle.iox2_machine.specs.machine.Numbers.{contains, is_nil}
+use Rattle.iox2_machine.specs.machine.Places.{occupants}
+use Rattle.iox2_machine.specs.machine.Ports.{subscriber_shut, subscriber_closed}
+use Rattle.iox2_machine.specs.machine.Records.{Publisher, Subscriber}
+use Rattle.iox2_machine.specs.machine.Releases.{freed_if_unused, subscriber_pruned}
+use Rattle.iox2_machine.specs.machine.State.{State, is_linked, publishers_due}
+use Rattle.iox2_machine.specs.machine.WellFormed.{LeadsTo, IsWellFormed, MailboxIsWellFormed}
+use Rattle.iox2_machine.specs.Stored.{IsHeldMessage, In_history, In_mailbox, In_blocked_send}
 use Rattle.iox2_laws.proofs.CloseLaws.{closed_nearly, subscriber_closed_keeps}
 use Rattle.iox2_laws.proofs.MailboxLemmas.{contains_in_dropped}
 use Rattle.iox2_laws.proofs.PlaceLemmas.{leads_to}

@@ -7,7 +7,7 @@ use Rattle.std.specs.declared.option.Option.TheVariants.{None, Some}
 use Rattle.std.specs.Option.{option_map}
 use Rattle.slab.specs.Slab.{Updates, get}
 use Rattle.iox2_slots.specs.Link.{Link, load}
-use Rattle.iox2_store.specs.machine.Numbers.{is_nil}
+use Rattle.iox2_machine.specs.machine.Numbers.{is_nil}
 use Rattle.iox2_slots.specs.declared.connection.Home.{Home}
 use Rattle.iox2_ends.specs.Drops.{without_waiting}
 use Rattle.iox2_ends.specs.Finds.{IsReceivers}
@@ -33,7 +33,7 @@ use Rattle.iox2_steps.proofs.subscriber_closes.CloseKeys.{ExpiredBelow, ExpiredL
 use Rattle.iox2_domain.specs.OpenMarks.{IsUnmarkedReceiver}
 use Rattle.iox2_domain.proofs.lemmas.slots.PublisherBooks.{link-held}
 use Rattle.iox2_steps.proofs.receivers.DepartedEnds.{nothing-returned}
-use Rattle.iox2_store.specs.machine.Mailbox.{ChannelNumber}
+use Rattle.iox2_machine.specs.machine.Mailbox.{ChannelNumber}
 
 -- there is something
 pub some-of : {A : Type 0} (o : Option A) → IsSome o → (x : A) × (o ≡ Some x)

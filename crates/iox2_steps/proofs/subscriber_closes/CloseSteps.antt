@@ -8,9 +8,9 @@ use Rattle.std.specs.Option.{option_map}
 use Rattle.slab.specs.Slab.{Slab, Updates, ContainsKey, get, with_value}
 use Rattle.iox2_slots.specs.Link.{Link, other_slots}
 use Rattle.iox2_slots.specs.SlotBook.{Book}
-use Rattle.iox2_store.specs.machine.Mailbox.{Mailbox, has_numbers, ChannelNumber}
-use Rattle.iox2_store.specs.machine.Numbers.{is_nil, put_at}
-use Rattle.iox2_store.specs.machine.State.{subscriber_changed}
+use Rattle.iox2_machine.specs.machine.Mailbox.{Mailbox, has_numbers, ChannelNumber}
+use Rattle.iox2_machine.specs.machine.Numbers.{is_nil, put_at}
+use Rattle.iox2_machine.specs.machine.State.{subscriber_changed}
 use Rattle.iox2_ends.specs.LookUp.{look_up}
 use Rattle.iox2_ends.specs.Counters.{times, with_counters}
 use Rattle.iox2_ends.specs.Drops.{DropsWaiting, without_waiting}

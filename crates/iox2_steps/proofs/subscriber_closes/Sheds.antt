@@ -6,15 +6,15 @@ use Rattle.std.specs.List.{filter}
 use Rattle.std.specs.Option.{option_map}
 use Rattle.std.proofs.lemmas.Bool.{true≢false, eqb-true, eq-eqb, and_cases, or_left, or_right, not-false}
 use Rattle.std.proofs.lemmas.Option.{none-some, same_Some}
-use Rattle.iox2_store.specs.machine.Channel.{Channel}
-use Rattle.iox2_store.specs.machine.Numbers.{contains, put_at, without, is_nil}
-use Rattle.iox2_store.specs.machine.Places.{occupant, is_port, vacated, places_kept}
-use Rattle.iox2_store.specs.machine.Mailbox.{Mailbox, has_numbers, has_data, waiting_dropped}
-use Rattle.iox2_store.specs.machine.Records.{Publisher, Subscriber}
-use Rattle.iox2_store.specs.machine.State.{State, is_present, with_mailbox, publishers_due}
-use Rattle.iox2_store.specs.machine.Releases.{is_connected, pruned, subscriber_pruned}
-use Rattle.iox2_store.specs.machine.Ports.{mailbox_after_subscriber, subscriber_shut}
-use Rattle.iox2_store.specs.machine.WellFormed.{LeadsTo}
+use Rattle.iox2_machine.specs.machine.Channel.{Channel}
+use Rattle.iox2_machine.specs.machine.Numbers.{contains, put_at, without, is_nil}
+use Rattle.iox2_machine.specs.machine.Places.{occupant, is_port, vacated, places_kept}
+use Rattle.iox2_machine.specs.machine.Mailbox.{Mailbox, has_numbers, has_data, waiting_dropped}
+use Rattle.iox2_machine.specs.machine.Records.{Publisher, Subscriber}
+use Rattle.iox2_machine.specs.machine.State.{State, is_present, with_mailbox, publishers_due}
+use Rattle.iox2_machine.specs.machine.Releases.{is_connected, pruned, subscriber_pruned}
+use Rattle.iox2_machine.specs.machine.Ports.{mailbox_after_subscriber, subscriber_shut}
+use Rattle.iox2_machine.specs.machine.WellFormed.{LeadsTo}
 use Rattle.iox2_laws.proofs.Puts.{put_at-same, put_at-twice}
 use Rattle.iox2_laws.proofs.MailboxLemmas.{has_numbers_dropped, nothing_borrowed}
 use Rattle.iox2_laws.proofs.FilterLemmas.{contains-filter}

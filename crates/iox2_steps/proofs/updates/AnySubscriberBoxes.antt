@@ -5,17 +5,17 @@ use Rattle.std.specs.Bool.{MatchBool}
 use Rattle.std.specs.Prelude.{MatchOption, nat_lt}
 use Rattle.std.specs.declared.option.Option.{Option}
 use Rattle.std.specs.declared.option.Option.TheVariants.{None, Some}
-use Rattle.iox2_store.specs.machine.Limits.{buffer_limit, expired_limit, last_number}
-use Rattle.iox2_store.specs.machine.Places.{free_place, occupant}
-use Rattle.iox2_store.specs.machine.Ports.{CreatePublisher, CreateSubscriber, MakePublisher, MakeSubscriber, buffer_for, first_segment_fits, new_publisher, new_subscriber, with_new_publisher, with_new_subscriber}
-use Rattle.iox2_store.specs.machine.Receives.{HasSamples, Receive, ReceiveResult}
-use Rattle.iox2_store.specs.machine.Records.{Environment, Handler, Publisher, PublisherSettings, Subscriber, SubscriberSettings}
-use Rattle.iox2_store.specs.machine.State.{State, has_sender_end, receiver_channels_reset}
-use Rattle.iox2_store.specs.machine.SubscriberUpdate.{ReceiverSide, ConnectReceiver, ConnectAtPlace, Retire, UpdateReceiverSide, UpdateSubscriber, after_retirement, is_refused, receiver_side, retirement_of, with_end, with_receiver_side}
-use Rattle.iox2_store.specs.declared.degradation.DegradationAction.{DegradationAction}
-use Rattle.iox2_store.specs.declared.errors.ConnectionFailure.{ConnectionFailure}
-use Rattle.iox2_store.specs.declared.errors.PublisherCreateError.{PublisherCreateError}
-use Rattle.iox2_store.specs.declared.errors.SubscriberCreateError.{SubscriberCreateError}
+use Rattle.iox2_machine.specs.machine.Limits.{buffer_limit, expired_limit, last_number}
+use Rattle.iox2_machine.specs.machine.Places.{free_place, occupant}
+use Rattle.iox2_machine.specs.machine.Ports.{CreatePublisher, CreateSubscriber, MakePublisher, MakeSubscriber, buffer_for, first_segment_fits, new_publisher, new_subscriber, with_new_publisher, with_new_subscriber}
+use Rattle.iox2_machine.specs.machine.Receives.{HasSamples, Receive, ReceiveResult}
+use Rattle.iox2_machine.specs.machine.Records.{Environment, Handler, Publisher, PublisherSettings, Subscriber, SubscriberSettings}
+use Rattle.iox2_machine.specs.machine.State.{State, has_sender_end, receiver_channels_reset}
+use Rattle.iox2_machine.specs.machine.SubscriberUpdate.{ReceiverSide, ConnectReceiver, ConnectAtPlace, Retire, UpdateReceiverSide, UpdateSubscriber, after_retirement, is_refused, receiver_side, retirement_of, with_end, with_receiver_side}
+use Rattle.iox2_machine.specs.declared.degradation.DegradationAction.{DegradationAction}
+use Rattle.iox2_machine.specs.declared.errors.ConnectionFailure.{ConnectionFailure}
+use Rattle.iox2_machine.specs.declared.errors.PublisherCreateError.{PublisherCreateError}
+use Rattle.iox2_machine.specs.declared.errors.SubscriberCreateError.{SubscriberCreateError}
 use Rattle.iox2_laws.proofs.Puts.{put_at-same}
 use Rattle.iox2_steps.proofs.updates.AnyBoxes.{AllowsUpdates, answers-alike, each-place, update-alike}
 

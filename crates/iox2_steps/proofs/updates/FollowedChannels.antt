@@ -5,7 +5,7 @@ use Rattle.std.specs.Option.{option_map}
 use Rattle.slab.specs.Slab.{Slab, get}
 use Rattle.iox2_slots.specs.Link.{Link, channel_at}
 use Rattle.iox2_slots.specs.declared.connection.Home.{Home}
-use Rattle.iox2_store.specs.machine.Channel.{Channel, new_channels}
+use Rattle.iox2_machine.specs.machine.Channel.{Channel, new_channels}
 use Rattle.iox2_ends.specs.Homes.{IsApart, SameHomes, fixed_of}
 use Rattle.iox2_ends.specs.LookUp.{look_up}
 use Rattle.iox2_ends.specs.Mailboxes.{is_between, channels_if_any, channels_in}

@@ -4,12 +4,12 @@ use Rattle.std.proofs.lemmas.List.{map-set, set-set, set-get_or}
 use Rattle.std.specs.declared.option.Option.{Option}
 use Rattle.std.specs.declared.option.Option.TheVariants.{None, Some}
 use Rattle.std.specs.Option.{option_map}
-use Rattle.iox2_store.specs.machine.Places.{occupant}
-use Rattle.iox2_store.specs.machine.PublisherUpdate.{history_for, UpdateSenderPlace, connected, sender_side, with_sender_side}
-use Rattle.iox2_store.specs.machine.Records.{Publisher, Environment}
-use Rattle.iox2_store.specs.machine.State.{State, receiving_buffer, has_receiver_end}
-use Rattle.iox2_store.specs.machine.WellFormed.{IsWellFormed}
-use Rattle.iox2_store.specs.declared.errors.ConnectionFailure.{ConnectionFailure}
+use Rattle.iox2_machine.specs.machine.Places.{occupant}
+use Rattle.iox2_machine.specs.machine.PublisherUpdate.{history_for, UpdateSenderPlace, connected, sender_side, with_sender_side}
+use Rattle.iox2_machine.specs.machine.Records.{Publisher, Environment}
+use Rattle.iox2_machine.specs.machine.State.{State, receiving_buffer, has_receiver_end}
+use Rattle.iox2_machine.specs.machine.WellFormed.{IsWellFormed}
+use Rattle.iox2_machine.specs.declared.errors.ConnectionFailure.{ConnectionFailure}
 use Rattle.iox2_domain.specs.KeptLinks.{ChannelsFollow}
 use Rattle.iox2_domain.specs.Midway.{with_channels_of}
 use Rattle.iox2_domain.specs.Ports.{PublisherFields, SubscriberFields}

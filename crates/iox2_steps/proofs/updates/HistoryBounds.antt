@@ -8,9 +8,9 @@ use Rattle.std.specs.List.{sum_by}
 use Rattle.slab.specs.Slab.{get}
 use Rattle.iox2_slots.specs.Link.{Link}
 use Rattle.iox2_slots.specs.SlotBook.{Book, holders_at}
-use Rattle.iox2_store.specs.machine.Mailbox.{numbers_in, has_numbers}
-use Rattle.iox2_store.specs.machine.Numbers.{IsOnce}
-use Rattle.iox2_store.specs.machine.WellFormed.{LeadsTo}
+use Rattle.iox2_machine.specs.machine.Mailbox.{numbers_in, has_numbers}
+use Rattle.iox2_machine.specs.machine.Numbers.{IsOnce}
+use Rattle.iox2_machine.specs.machine.WellFormed.{LeadsTo}
 use Rattle.iox2_ends.specs.Counters.{times, stands, stands_in}
 use Rattle.iox2_ends.specs.Homes.{IsSenders}
 use Rattle.iox2_ends.specs.Mailboxes.{mailbox_of, subscriber_of_key}

@@ -4,7 +4,7 @@ use Rattle.std.proofs.lemmas.List.{get_or-set_same}
 use Rattle.std.specs.declared.option.Option.{Option}
 use Rattle.std.specs.declared.option.Option.TheVariants.{None, Some}
 use Rattle.std.specs.Option.{option_map}
-use Rattle.iox2_store.specs.machine.Channel.{Channel, is_closed}
+use Rattle.iox2_machine.specs.machine.Channel.{Channel, is_closed}
 use Rattle.iox2_ends.proofs.MailboxChanges.{channels-there, SameHomes-trans}
 use Rattle.iox2_domain.proofs.lemmas.fields.KeptChannels.{but-channels, channels-are}
 use Rattle.iox2_steps.proofs.updates.FollowedChannels.{follow-both, follow-same}
@@ -12,13 +12,13 @@ use Rattle.iox2_domain.specs.Updates.{subscriber_but_room}
 use Rattle.slab.specs.Slab.{Slab, get, with_value, ContainsKey}
 use Rattle.iox2_slots.specs.Link.{channel_at, is_shut, Link, load}
 use Rattle.iox2_slots.specs.SlotBook.{Book, holders_at}
-use Rattle.iox2_store.specs.machine.Mailbox.{Mailbox, with_waiting}
-use Rattle.iox2_store.specs.machine.Numbers.{put_at, last_n}
-use Rattle.iox2_store.specs.machine.Places.{occupant}
-use Rattle.iox2_store.specs.machine.PublisherUpdate.{SenderSide, UpdateSenderPlace, connected, sender_side, with_sender_side}
-use Rattle.iox2_store.specs.machine.Records.{Publisher, Environment}
-use Rattle.iox2_store.specs.machine.State.{State, receiving_buffer, has_receiver_end}
-use Rattle.iox2_store.specs.machine.WellFormed.{IsWellFormed}
+use Rattle.iox2_machine.specs.machine.Mailbox.{Mailbox, with_waiting}
+use Rattle.iox2_machine.specs.machine.Numbers.{put_at, last_n}
+use Rattle.iox2_machine.specs.machine.Places.{occupant}
+use Rattle.iox2_machine.specs.machine.PublisherUpdate.{SenderSide, UpdateSenderPlace, connected, sender_side, with_sender_side}
+use Rattle.iox2_machine.specs.machine.Records.{Publisher, Environment}
+use Rattle.iox2_machine.specs.machine.State.{State, receiving_buffer, has_receiver_end}
+use Rattle.iox2_machine.specs.machine.WellFormed.{IsWellFormed}
 use Rattle.iox2_ends.specs.Counters.{times, with_counters}
 use Rattle.iox2_ends.specs.Mailboxes.{with_box}
 use Rattle.iox2_ends.specs.Receivers.{HasReclaimed}

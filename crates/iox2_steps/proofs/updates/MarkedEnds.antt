@@ -6,10 +6,10 @@ use Rattle.std.specs.Prelude.{IsSomeAnd}
 use Rattle.std.specs.Option.{option_map, option_and_then, option_map_or}
 use Rattle.slab.specs.Slab.{ContainsKey, get, with_value}
 use Rattle.iox2_slots.specs.Link.{Link, is_shut, with_mark}
-use Rattle.iox2_store.specs.declared.errors.ConnectionFailure.{ConnectionFailure}
-use Rattle.iox2_store.specs.machine.Ports.{publisher_closed, subscriber_closed}
-use Rattle.iox2_store.specs.machine.Records.{Environment}
-use Rattle.iox2_store.specs.machine.State.{State}
+use Rattle.iox2_machine.specs.declared.errors.ConnectionFailure.{ConnectionFailure}
+use Rattle.iox2_machine.specs.machine.Ports.{publisher_closed, subscriber_closed}
+use Rattle.iox2_machine.specs.machine.Records.{Environment}
+use Rattle.iox2_machine.specs.machine.State.{State}
 use Rattle.iox2_ends.specs.Homes.{IsSenders}
 use Rattle.iox2_ends.proofs.MailboxChanges.{Updates-with_value, within_if_some}
 use Rattle.iox2_domain.specs.Connects.{ConnectsSender}
@@ -20,7 +20,7 @@ use Rattle.iox2_domain.specs.OpenMarks.{ChangesMarks, ClearsEnd, ClearsMarks, Is
 use Rattle.iox2_domain.specs.Ports.{PublisherFields, SubscriberFields}
 use Rattle.iox2_domain.specs.Reaches.{Reaches}
 use Rattle.iox2_domain.specs.Updates.{is_open_subscriber, sender_key}
-use Rattle.iox2_store.specs.machine.PublisherUpdate.{with_sender_side}
+use Rattle.iox2_machine.specs.machine.PublisherUpdate.{with_sender_side}
 use Rattle.iox2_steps.proofs.updates.FollowedChannels.{follow-both, follow-still}
 use Rattle.iox2_domain.proofs.lemmas.containers.LookUps.{map-at}
 use Rattle.iox2_domain.proofs.lemmas.fields.ChangedMarks.{changes-mark, mark-was}

@@ -5,11 +5,11 @@ use Rattle.std.specs.Bool.{MatchBool}
 use Rattle.std.specs.Prelude.{MatchOption}
 use Rattle.std.specs.declared.option.Option.{Option}
 use Rattle.std.specs.declared.option.Option.TheVariants.{None, Some}
-use Rattle.iox2_store.specs.machine.Places.{occupant}
-use Rattle.iox2_store.specs.machine.Records.{Handler, Environment}
-use Rattle.iox2_store.specs.machine.SubscriberUpdate.{ReceiverSide, ConnectReceiver, ConnectAtPlace, Retire}
-use Rattle.iox2_store.specs.declared.degradation.DegradationAction.{DegradationAction}
-use Rattle.iox2_store.specs.declared.errors.ConnectionFailure.{ConnectionFailure}
+use Rattle.iox2_machine.specs.machine.Places.{occupant}
+use Rattle.iox2_machine.specs.machine.Records.{Handler, Environment}
+use Rattle.iox2_machine.specs.machine.SubscriberUpdate.{ReceiverSide, ConnectReceiver, ConnectAtPlace, Retire}
+use Rattle.iox2_machine.specs.declared.degradation.DegradationAction.{DegradationAction}
+use Rattle.iox2_machine.specs.declared.errors.ConnectionFailure.{ConnectionFailure}
 
 module _ (environment : Environment) (service_id q : ℕ) (handler : Handler DegradationAction) (limit : ℕ) (has_end : ℕ → Bool)
     (place p : ℕ) (at : Option ℕ) (side : ReceiverSide) (stands : at ≡ Some p) where

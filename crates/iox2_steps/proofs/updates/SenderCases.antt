@@ -9,15 +9,15 @@ use Rattle.std.specs.declared.option.Option.{Option}
 use Rattle.std.specs.declared.option.Option.TheVariants.{None, Some}
 use Rattle.std.specs.Option.{option_map, option_map_or}
 use Rattle.slab.specs.Slab.{Slab, get}
-use Rattle.iox2_store.specs.machine.Connections.{DegradationAnswers, failure_of, warnings_after}
-use Rattle.iox2_store.specs.machine.Channel.{new_channel}
-use Rattle.iox2_store.specs.machine.Limits.{channel_count, warning_limit}
+use Rattle.iox2_machine.specs.machine.Connections.{DegradationAnswers, failure_of, warnings_after}
+use Rattle.iox2_machine.specs.machine.Channel.{new_channel}
+use Rattle.iox2_machine.specs.machine.Limits.{channel_count, warning_limit}
 use Rattle.iox2_slots.specs.Link.{Link, empty_link, load}
-use Rattle.iox2_store.specs.machine.Mailbox.{Mailbox, ChannelNumber, other_numbers}
-use Rattle.iox2_store.specs.machine.Places.{occupant, set_place, is_port}
-use Rattle.iox2_store.specs.machine.Records.{Publisher, Subscriber, Environment}
-use Rattle.iox2_store.specs.machine.State.{has_receiver_end}
-use Rattle.iox2_store.specs.declared.degradation.DegradationAction.{DegradationAction}
+use Rattle.iox2_machine.specs.machine.Mailbox.{Mailbox, ChannelNumber, other_numbers}
+use Rattle.iox2_machine.specs.machine.Places.{occupant, set_place, is_port}
+use Rattle.iox2_machine.specs.machine.Records.{Publisher, Subscriber, Environment}
+use Rattle.iox2_machine.specs.machine.State.{has_receiver_end}
+use Rattle.iox2_machine.specs.declared.degradation.DegradationAction.{DegradationAction}
 use Rattle.iox2_ends.specs.LookUp.{look_up}
 use Rattle.iox2_ends.specs.Homes.{IsSenderLinked}
 use Rattle.iox2_ends.proofs.LookUps.{look_up-found}

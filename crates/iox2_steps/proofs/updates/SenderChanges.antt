@@ -6,9 +6,9 @@ use Rattle.std.specs.declared.option.Option.TheVariants.{None, Some}
 use Rattle.std.specs.Option.{option_map}
 use Rattle.slab.specs.Slab.{Slab, get}
 use Rattle.iox2_slots.specs.Link.{Link}
-use Rattle.iox2_store.specs.machine.Limits.{channel_count}
-use Rattle.iox2_store.specs.machine.Numbers.{put_at}
-use Rattle.iox2_store.specs.machine.Records.{Publisher}
+use Rattle.iox2_machine.specs.machine.Limits.{channel_count}
+use Rattle.iox2_machine.specs.machine.Numbers.{put_at}
+use Rattle.iox2_machine.specs.machine.Records.{Publisher}
 use Rattle.iox2_ends.specs.Homes.{IsSenderLinked}
 use Rattle.iox2_ends.specs.Mailboxes.{sender_ends}
 use Rattle.iox2_domain.specs.KeptLinks.{ChannelsFollow}

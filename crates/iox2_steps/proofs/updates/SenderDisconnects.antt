@@ -7,13 +7,13 @@ use Rattle.std.specs.Option.{option_map}
 use Rattle.slab.specs.Slab.{Slab, get}
 use Rattle.iox2_slots.specs.Link.{Link, borrowed_alone}
 use Rattle.iox2_slots.specs.SlotBook.{Book}
-use Rattle.iox2_store.specs.machine.Mailbox.{has_borrows}
-use Rattle.iox2_store.specs.machine.Numbers.{put_at, is_nil}
-use Rattle.iox2_store.specs.machine.Places.{occupant, set_place}
-use Rattle.iox2_store.specs.machine.Records.{Publisher, Subscriber}
-use Rattle.iox2_store.specs.machine.State.{State}
-use Rattle.iox2_store.specs.machine.PublisherUpdate.{SenderSide, dropped, disconnected, sender_side, with_sender_side}
-use Rattle.iox2_store.specs.machine.WellFormed.{IsWellFormed}
+use Rattle.iox2_machine.specs.machine.Mailbox.{has_borrows}
+use Rattle.iox2_machine.specs.machine.Numbers.{put_at, is_nil}
+use Rattle.iox2_machine.specs.machine.Places.{occupant, set_place}
+use Rattle.iox2_machine.specs.machine.Records.{Publisher, Subscriber}
+use Rattle.iox2_machine.specs.machine.State.{State}
+use Rattle.iox2_machine.specs.machine.PublisherUpdate.{SenderSide, dropped, disconnected, sender_side, with_sender_side}
+use Rattle.iox2_machine.specs.machine.WellFormed.{IsWellFormed}
 use Rattle.iox2_ends.specs.Drops.{RemovesConnection}
 use Rattle.iox2_ends.specs.Mailboxes.{mailbox_of}
 use Rattle.iox2_ends.proofs.MailboxChanges.{mailbox-there}

@@ -1,9 +1,9 @@
 -- A subscriber that stands at a place has a record.
 use Rattle.std.proofs.Common.{◌≡◌, ℕ, ap, sym, ◌∙◌, None, Some}
 use Rattle.std.proofs.lemmas.Option.{none-some}
-use Rattle.iox2_store.specs.machine.Places.{occupant}
-use Rattle.iox2_store.specs.machine.Records.{Subscriber}
-use Rattle.iox2_store.specs.machine.WellFormed.{subscriber_place}
+use Rattle.iox2_machine.specs.machine.Places.{occupant}
+use Rattle.iox2_machine.specs.machine.Records.{Subscriber}
+use Rattle.iox2_machine.specs.machine.WellFormed.{subscriber_place}
 use Rattle.std.specs.Option.{option_map}
 use Rattle.iox2_domain.specs.Fields.{Fields, kept_of}
 use Rattle.iox2_domain.specs.Invariant.{IsDomain}

@@ -5,18 +5,18 @@ use Rattle.std.proofs.lemmas.Option.{same_Some}
 use Rattle.std.specs.declared.option.Option.{Option}
 use Rattle.std.specs.declared.option.Option.TheVariants.{None, Some}
 use Rattle.std.specs.Option.{option_map, option_map_or}
-use Rattle.iox2_store.specs.machine.Connections.{ForEachPlace, first_failure}
-use Rattle.iox2_store.specs.machine.Numbers.{put_at}
-use Rattle.iox2_store.specs.machine.Places.{occupant}
-use Rattle.iox2_store.specs.machine.PublisherUpdate.{SenderSide, UpdateSenderPlace, sender_side, with_sender_side}
-use Rattle.iox2_store.specs.machine.Records.{Entry, Publisher, Subscriber, Environment}
-use Rattle.iox2_store.specs.machine.State.{sender_channels_reset, State, receiving_buffer, has_receiver_end}
+use Rattle.iox2_machine.specs.machine.Connections.{ForEachPlace, first_failure}
+use Rattle.iox2_machine.specs.machine.Numbers.{put_at}
+use Rattle.iox2_machine.specs.machine.Places.{occupant}
+use Rattle.iox2_machine.specs.machine.PublisherUpdate.{SenderSide, UpdateSenderPlace, sender_side, with_sender_side}
+use Rattle.iox2_machine.specs.machine.Records.{Entry, Publisher, Subscriber, Environment}
+use Rattle.iox2_machine.specs.machine.State.{sender_channels_reset, State, receiving_buffer, has_receiver_end}
 use Rattle.iox2_laws.proofs.Puts.{put_at-same}
 use Rattle.iox2_laws.proofs.SenderSides.{sender_side_begins}
 use Rattle.iox2_laws.proofs.PublisherUpdates.{with_sender_side_keeps}
-use Rattle.iox2_store.specs.declared.errors.ConnectionFailure.{ConnectionFailure}
+use Rattle.iox2_machine.specs.declared.errors.ConnectionFailure.{ConnectionFailure}
 use Rattle.iox2_ends.proofs.MailboxChanges.{put_at-own}
-use Rattle.iox2_store.specs.machine.Channel.{Channel, is_closed}
+use Rattle.iox2_machine.specs.machine.Channel.{Channel, is_closed}
 use Rattle.iox2_domain.specs.KeptLinks.{ChannelsFollow}
 use Rattle.iox2_domain.specs.Midway.{with_channels_of}
 use Rattle.iox2_domain.proofs.lemmas.fields.KeptChannels.{but-channels, channels-are}

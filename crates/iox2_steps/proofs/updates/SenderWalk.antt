@@ -4,13 +4,13 @@ use Rattle.std.proofs.lemmas.List.{drop_more, drop_all}
 use Rattle.std.specs.declared.option.Option.{Option}
 use Rattle.std.specs.declared.option.Option.TheVariants.{None, Some}
 use Rattle.std.specs.Option.{option_map_or}
-use Rattle.iox2_store.specs.machine.Connections.{ForEachPlace, first_failure}
-use Rattle.iox2_store.specs.machine.Numbers.{put_at}
-use Rattle.iox2_store.specs.machine.Places.{occupant, is_port}
-use Rattle.iox2_store.specs.machine.PublisherUpdate.{history_for, SenderSide, UpdateSenderPlace, sender_side, with_sender_side, UpdatePublisher}
-use Rattle.iox2_store.specs.machine.Records.{Publisher, Subscriber, Environment}
-use Rattle.iox2_store.specs.machine.State.{sender_channels_reset, State, receiving_buffer, has_receiver_end}
-use Rattle.iox2_store.specs.declared.errors.ConnectionFailure.{ConnectionFailure}
+use Rattle.iox2_machine.specs.machine.Connections.{ForEachPlace, first_failure}
+use Rattle.iox2_machine.specs.machine.Numbers.{put_at}
+use Rattle.iox2_machine.specs.machine.Places.{occupant, is_port}
+use Rattle.iox2_machine.specs.machine.PublisherUpdate.{history_for, SenderSide, UpdateSenderPlace, sender_side, with_sender_side, UpdatePublisher}
+use Rattle.iox2_machine.specs.machine.Records.{Publisher, Subscriber, Environment}
+use Rattle.iox2_machine.specs.machine.State.{sender_channels_reset, State, receiving_buffer, has_receiver_end}
+use Rattle.iox2_machine.specs.declared.errors.ConnectionFailure.{ConnectionFailure}
 use Rattle.iox2_laws.proofs.Puts.{put_at-same, put_at-twice}
 use Rattle.iox2_steps.proofs.updates.SenderActions.{update-histories}
 use mathlib.Core.Path.{fun_ext}

@@ -1,12 +1,12 @@
 //! What ports are told of the channels of their connections, and how they change them.
 
 ghost use Rattle.std.specs.Prelude.{◌<◌};
-ghost use Rattle.iox2_store.specs.machine.Limits.{channel_count};
+ghost use Rattle.iox2_machine.specs.machine.Limits.{channel_count};
 
 use crate::tests::fixtures::{copied, next_reading, publisher_of, subscriber_of, update, waits};
 use iox2_fixtures::{Weather, close_publisher, is_ready, settings, smallest};
+use iox2_machine::ServiceConfig;
 use iox2_pubsub::{Domain, Publisher, Subscriber, UpdateConnections};
-use iox2_store::ServiceConfig;
 use std::process::Abort;
 
 // The settings of a domain whose connections have two channels.

@@ -7,11 +7,11 @@ use iox2_fixtures::{
     Reading, Weather, close_publisher, close_subscriber, is_ready, is_single_valued,
     receiver_count, settings,
 };
+use iox2_machine::ServiceConfig;
 use iox2_pubsub::{
     BackpressureAction, BackpressureHandler, Domain, Publisher, SampleMut, SendError, SendOutcome,
     Subscriber, UpdateConnections,
 };
-use iox2_store::ServiceConfig;
 use std::alloc::Global;
 use std::process::Abort;
 

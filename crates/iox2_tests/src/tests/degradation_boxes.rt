@@ -2,11 +2,11 @@
 use crate::tests::fixtures::domain;
 use iox2_fixtures::{Reading, Weather, next_reading, receiver_count, settings};
 use iox2_handler_fixtures::{Patience, SameAnswer};
+use iox2_machine::ServiceConfig;
 use iox2_pubsub::{
     BackpressureAction, BackpressureFn, BackpressureHandler, DegradationAction, DegradationCause,
     DegradationFn, DegradationHandler, DegradationInfo, Domain, UpdateConnections,
 };
-use iox2_store::ServiceConfig;
 use std::alloc::Global;
 use std::process::Abort;
 

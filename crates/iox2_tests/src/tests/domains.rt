@@ -1,6 +1,6 @@
 use iox2_fixtures::{Weather, settings};
+use iox2_machine::{ServiceConfig, TypeVariant};
 use iox2_pubsub::Domain;
-use iox2_store::{ServiceConfig, TypeVariant};
 
 // Any numbers may name the service and the node, of messages of either kind.
 #[test]

@@ -3,8 +3,8 @@
 use crate::tests::fixtures::domain;
 use crate::tests::overrides::lent_twice;
 use iox2_fixtures::{Weather, factory_for};
+use iox2_machine::AllocationStrategy;
 use iox2_pubsub::Publisher;
-use iox2_store::AllocationStrategy;
 use std::process::Abort;
 
 // A publisher with so many loans and slots of one message each time.

@@ -2,8 +2,8 @@ ghost use Rattle.iox2_pubsub.specs.Live.{IsLivePublisher, IsSingleValued, Stays}
 
 use crate::tests::fixtures::domain;
 use iox2_fixtures::{Weather, elsewhere, factory_for};
+use iox2_machine::{Key, LoanError};
 use iox2_pubsub::Publisher;
-use iox2_store::{Key, LoanError};
 
 const FIRST: Key = Key {
     service_id: 7,

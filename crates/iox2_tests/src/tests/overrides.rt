@@ -2,8 +2,8 @@
 
 use crate::tests::fixtures::domain;
 use iox2_fixtures::{Weather, factory_for, is_ready, is_single_valued};
+use iox2_machine::{LoanError, PublisherCreateError};
 use iox2_pubsub::Publisher;
-use iox2_store::{LoanError, PublisherCreateError};
 use std::alloc::Global;
 use std::cell::Cell;
 use std::process::Abort;

@@ -3,8 +3,8 @@ ghost use Rattle.iox2_pubsub.specs.Live.{IsLiveSample, IsLiveSubscriber, IsSingl
 
 use crate::tests::fixtures::{domain, publisher_of, subscriber_of};
 use iox2_fixtures::{Reading, Weather, factory_for, publish};
+use iox2_machine::Key;
 use iox2_pubsub::{Sample, SampleMutUninit, Subscriber};
-use iox2_store::Key;
 use std::process::Abort;
 
 // A loan of the domain's first publisher, which is made for it.

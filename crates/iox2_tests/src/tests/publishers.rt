@@ -1,7 +1,7 @@
 use crate::tests::fixtures::{domain, publisher_of, subscriber_of};
 use iox2_fixtures::{Weather, factory_for, settings};
+use iox2_machine::{Key, PublisherCreateError, ServiceConfig};
 use iox2_pubsub::Domain;
-use iox2_store::{Key, PublisherCreateError, ServiceConfig};
 use std::alloc::Global;
 use std::process::Abort;
 

@@ -2,8 +2,8 @@ use crate::tests::fixtures::{
     assert_borrowed, copied, domain, publisher_of, received, release, subscriber_of,
 };
 use iox2_fixtures::{Weather, is_single_valued};
+use iox2_machine::Header;
 use iox2_pubsub::Sample;
-use iox2_store::Header;
 use std::alloc::Global;
 use std::process::Abort;
 

@@ -1,6 +1,6 @@
 use crate::tests::fixtures::{domain, publisher_of, subscriber_of};
 use iox2_fixtures::elsewhere;
-use iox2_store::Key;
+use iox2_machine::Key;
 
 const FIRST: Key = Key {
     service_id: 7,

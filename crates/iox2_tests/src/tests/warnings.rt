@@ -1,6 +1,6 @@
 use iox2_fixtures::{Weather, settings};
+use iox2_machine::{ServiceConfig, UniqueSubscriberId};
 use iox2_pubsub::{Domain, Warning};
-use iox2_store::{ServiceConfig, UniqueSubscriberId};
 
 // That more departed publishers are kept for this subscriber than the settings say.
 fn raised(subscriber: u128) -> Option<Warning> {

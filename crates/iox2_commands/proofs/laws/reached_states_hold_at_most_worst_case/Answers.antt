@@ -1,6 +1,6 @@
 use Rattle.std.specs.Prelude.{cond}
 use Rattle.iox2_commands.proofs.EnoughRuns.{reached_states_hold_at_most_worst_case}
-use Rattle.iox2_store.specs.machine.Environments.{fixed_handlers, ample_memory}
+use Rattle.iox2_machine.specs.machine.Environments.{fixed_handlers, ample_memory}
 use Rattle.iox2_commands.specs.Runs.{any_defaults}
 use Rattle.iox2_commands.proofs.laws.reached_states_hold_at_most_worst_case.Goals as goal
 

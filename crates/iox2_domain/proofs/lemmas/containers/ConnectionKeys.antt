@@ -3,7 +3,7 @@ use Rattle.std.proofs.Common.{◌≡◌, ◌≢◌, ◌<◌, ℕ, zero, suc, Lis
 use Rattle.std.proofs.lemmas.Bool.{cases_eq}
 use Rattle.std.specs.declared.option.Option.{Option}
 use Rattle.std.specs.declared.option.Option.TheVariants.{None, Some}
-use Rattle.iox2_store.specs.machine.Places.{set_place}
+use Rattle.iox2_machine.specs.machine.Places.{set_place}
 use Rattle.iox2_domain.specs.Placed.{placed}
 
 -- a key is put at its place as a record is

@@ -2,8 +2,8 @@
 use Rattle.std.proofs.Common.{◌≡◌, ◌≢◌, ℕ, zero, suc, Bool, true, false, cond, not, eqb, List, [], ◌∷◌, map, get_or, slice_set, Option, None, Some, Contains, refl, ap, sym, ◌∙◌, arith}
 use Rattle.std.proofs.lemmas.Bool.{eqb-true, eq-eqb, ne_eqb}
 use Rattle.std.proofs.lemmas.Map.Views.{Contains-from_any}
-use Rattle.iox2_store.specs.machine.Numbers.{without}
-use Rattle.iox2_store.specs.machine.Places.{is_port, vacated}
+use Rattle.iox2_machine.specs.machine.Numbers.{without}
+use Rattle.iox2_machine.specs.machine.Places.{is_port, vacated}
 use Rattle.iox2_slots.proofs.LinkLemmas.{contains-from}
 use Rattle.iox2_laws.proofs.FilterLemmas.{contains-filter}
 

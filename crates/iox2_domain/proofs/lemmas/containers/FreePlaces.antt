@@ -6,7 +6,7 @@ use Rattle.std.specs.Prelude.{IsSomeAnd}
 use Rattle.std.specs.declared.option.Option.{Option}
 use Rattle.std.specs.declared.option.Option.TheVariants.{None, Some}
 use Rattle.std.specs.Option.{option_map}
-use Rattle.iox2_store.specs.machine.Places.{lowest_free}
+use Rattle.iox2_machine.specs.machine.Places.{lowest_free}
 use Rattle.iox2_ends.specs.LookUp.{look_up}
 use Rattle.iox2_ends.proofs.LookUps.{look_up-nothing}
 use Rattle.iox2_ends.proofs.MailboxChanges.{within_if_some}

@@ -12,7 +12,7 @@ use Rattle.iox2_ends.specs.LookUp.{look_up}
 use Rattle.iox2_ends.specs.Homes.{IsApart}
 use Rattle.iox2_ends.specs.Counters.{stands}
 use Rattle.iox2_ends.specs.Mailboxes.{is_between, mailboxes_of, mailbox_if_any, channels_if_any, channels_in}
-use Rattle.iox2_store.specs.machine.Channel.{new_channel}
+use Rattle.iox2_machine.specs.machine.Channel.{new_channel}
 use mathlib.Core.Path.{fun_ext}
 use Rattle.iox2_slots.proofs.ChannelLists.{all-new}
 use Rattle.iox2_domain.specs.Updates.{MakesConnection}

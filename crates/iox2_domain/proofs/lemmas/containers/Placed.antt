@@ -3,7 +3,7 @@ use Rattle.std.proofs.Common.{◌≡◌, ◌≢◌, ℕ, zero, suc, List, [], �
 use Rattle.std.specs.declared.option.Option.{Option}
 use Rattle.std.specs.declared.option.Option.TheVariants.{None, Some}
 use Rattle.std.specs.Option.{option_map}
-use Rattle.iox2_store.specs.machine.Places.{set_place}
+use Rattle.iox2_machine.specs.machine.Places.{set_place}
 use Rattle.iox2_domain.specs.Placed.{placed}
 
 module _ {A : Type 0} (x : A) where

@@ -7,8 +7,8 @@ use Rattle.std.specs.Option.{option_map}
 use Rattle.slab.specs.Slab.{Slab, Updates, get, with_value}
 use Rattle.iox2_slots.specs.Link.{Link}
 use Rattle.iox2_slots.specs.declared.connection.Home.{Home}
-use Rattle.iox2_store.specs.machine.WellFormed.{IsWellFormed}
-use Rattle.iox2_store.specs.machine.Limits.{channel_count}
+use Rattle.iox2_machine.specs.machine.WellFormed.{IsWellFormed}
+use Rattle.iox2_machine.specs.machine.Limits.{channel_count}
 use Rattle.iox2_ends.specs.Counters.{stands}
 use Rattle.iox2_ends.specs.Homes.{IsApart}
 use Rattle.iox2_ends.specs.Mailboxes.{is_between}

@@ -4,14 +4,14 @@ use Rattle.std.specs.Option.{option_map}
 use Rattle.slab.specs.Slab.{Slab}
 use Rattle.iox2_slots.specs.Link.{Link, channel_at}
 use Rattle.iox2_slots.specs.declared.connection.Home.{Home}
-use Rattle.iox2_store.specs.machine.Channel.{Channel, new_channels}
+use Rattle.iox2_machine.specs.machine.Channel.{Channel, new_channels}
 use Rattle.iox2_ends.specs.LookUp.{look_up}
 use Rattle.iox2_ends.specs.Homes.{SameHomes, fixed_of}
 use Rattle.iox2_ends.specs.Mailboxes.{is_between, channels_if_any, channels_in}
 use Rattle.iox2_domain.specs.Kept.{state_of, stands_between, channels_if_between}
 use Rattle.iox2_domain.specs.Fields.{Fields, kept_of, between_of}
 use Rattle.iox2_domain.specs.Midway.{with_channels_of}
-use Rattle.iox2_store.specs.machine.State.{State}
+use Rattle.iox2_machine.specs.machine.State.{State}
 use Rattle.iox2_domain.proofs.lemmas.containers.LookUps.{look_up-map}
 use mathlib.Core.Path.{fun_ext}
 

@@ -5,7 +5,7 @@ use Rattle.slab.specs.Slab.{Slab, get}
 use Rattle.iox2_slots.specs.Link.{Link}
 use Rattle.iox2_ends.specs.Homes.{IsApart}
 use Rattle.iox2_slots.specs.SlotBook.{Book}
-use Rattle.iox2_store.specs.machine.WellFormed.{IsWellFormed}
+use Rattle.iox2_machine.specs.machine.WellFormed.{IsWellFormed}
 use Rattle.iox2_domain.specs.Kept.{state_of}
 use Rattle.iox2_domain.specs.Fields.{Fields, kept_of}
 use Rattle.iox2_domain.specs.Shows.{KeepsEntries}
@@ -13,7 +13,7 @@ use Rattle.iox2_domain.specs.Invariant.{IsDomain, IsDomainBut, HasParts, HasBook
 use Rattle.iox2_domain.specs.Midway.{IsMidway}
 use Rattle.iox2_domain.specs.Ports.{PublisherFields}
 use Rattle.iox2_ends.specs.LookUp.{IsOnly}
-use Rattle.iox2_store.specs.machine.Limits.{warning_limit}
+use Rattle.iox2_machine.specs.machine.Limits.{warning_limit}
 
 module _ {T U : Type 0} (f : Fields T U) where
   -- fields that agree are a domain's where each loan has one holder, each book is somebody's or left, and what they keep is

@@ -4,8 +4,8 @@ use Rattle.std.specs.Prelude.{[]}
 use Rattle.std.specs.Option.{option_map}
 use Rattle.slab.specs.Slab.{Slab, get}
 use Rattle.iox2_slots.specs.Link.{Link}
-use Rattle.iox2_store.specs.machine.Channel.{Channel}
-use Rattle.iox2_store.specs.machine.Limits.{channel_count}
+use Rattle.iox2_machine.specs.machine.Channel.{Channel}
+use Rattle.iox2_machine.specs.machine.Limits.{channel_count}
 use Rattle.iox2_slots.specs.declared.connection.Home.{Home}
 use Rattle.iox2_ends.specs.Homes.{SameHomes, fixed_of}
 use Rattle.iox2_ends.specs.Mailboxes.{mailboxes_of, subscriber_of_key, publisher_of_key}

@@ -4,8 +4,8 @@ use Rattle.std.specs.Prelude.{IsSomeAnd, Contains, []}
 use Rattle.std.specs.Option.{option_map}
 use Rattle.slab.specs.Slab.{Slab, get}
 use Rattle.iox2_slots.specs.Link.{Link}
-use Rattle.iox2_store.specs.machine.Limits.{channel_count}
-use Rattle.iox2_store.specs.machine.Places.{occupants}
+use Rattle.iox2_machine.specs.machine.Limits.{channel_count}
+use Rattle.iox2_machine.specs.machine.Places.{occupants}
 use Rattle.iox2_slots.specs.declared.connection.Home.{Home}
 use Rattle.iox2_ends.specs.Homes.{IsSenders}
 use Rattle.iox2_ends.specs.Finds.{IsReceivers}

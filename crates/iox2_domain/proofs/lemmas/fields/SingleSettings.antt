@@ -1,10 +1,10 @@
 -- The settings of a service whose messages are single values.
 use Rattle.std.proofs.Common.{◌≡◌, true, false, ◌==◌, ◌&&◌, refl, ap}
 use Rattle.std.proofs.lemmas.Bool.{eqb-true}
-use Rattle.iox2_store.specs.SingleValues.{is_fixed_size, is_single_valued}
-use Rattle.iox2_store.specs.declared.service_config.ServiceConfig.{ServiceConfig}
-use Rattle.iox2_store.specs.declared.service_config.TypeVariant.{TypeVariant}
-use Rattle.iox2_store.specs.declared.service_config.TypeVariant.TheVariants.{FixedSize, Dynamic}
+use Rattle.iox2_machine.specs.SingleValues.{is_fixed_size, is_single_valued}
+use Rattle.iox2_machine.specs.declared.service_config.ServiceConfig.{ServiceConfig}
+use Rattle.iox2_machine.specs.declared.service_config.TypeVariant.{TypeVariant}
+use Rattle.iox2_machine.specs.declared.service_config.TypeVariant.TheVariants.{FixedSize, Dynamic}
 use Rattle.iox2_ends.proofs.MailboxChanges.{both-true}
 
 module _ (c : ServiceConfig) where

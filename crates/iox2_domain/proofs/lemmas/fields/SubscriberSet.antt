@@ -4,9 +4,9 @@ use Rattle.std.proofs.lemmas.List.{get_or-set_same, get_or-set_other, map-set}
 use Rattle.std.specs.declared.option.Option.{Option}
 use Rattle.std.specs.declared.option.Option.TheVariants.{None, Some}
 use Rattle.std.specs.Option.{option_map}
-use Rattle.iox2_store.specs.machine.Numbers.{put_at}
-use Rattle.iox2_store.specs.machine.Places.{vacated}
-use Rattle.iox2_store.specs.machine.Records.{Subscriber}
+use Rattle.iox2_machine.specs.machine.Numbers.{put_at}
+use Rattle.iox2_machine.specs.machine.Places.{vacated}
+use Rattle.iox2_machine.specs.machine.Records.{Subscriber}
 use Rattle.iox2_ends.specs.LookUp.{IsOnly}
 use Rattle.iox2_ends.proofs.MailboxChanges.{within_if_some}
 use Rattle.iox2_domain.specs.Ports.{SubscriberFields}

@@ -9,14 +9,14 @@ use Rattle.std.specs.Bool.{MatchBool}
 use Rattle.std.specs.Prelude.{slice_index}
 use Rattle.slab.specs.Slab.{Slab}
 use Rattle.iox2_ends.specs.LookUp.{look_up}
-use Rattle.iox2_store.specs.machine.Limits.{last_number}
-use Rattle.iox2_store.specs.machine.Numbers.{put_at, size}
-use Rattle.iox2_store.specs.machine.Records.{Loan, Publisher, Environment}
-use Rattle.iox2_store.specs.machine.State.{State, held}
+use Rattle.iox2_machine.specs.machine.Limits.{last_number}
+use Rattle.iox2_machine.specs.machine.Numbers.{put_at, size}
+use Rattle.iox2_machine.specs.machine.Records.{Loan, Publisher, Environment}
+use Rattle.iox2_machine.specs.machine.State.{State, held}
 use Rattle.iox2_slots.specs.SlotBook.{Book}
-use Rattle.iox2_store.specs.machine.Loans.{is_static, limit_error, StaticLoan, DynamicLoan, GrantLoan, loan_granted}
-use Rattle.iox2_store.specs.declared.errors.LoanError.{LoanError}
-use Rattle.iox2_store.specs.declared.errors.LoanError.TheVariants.{OutOfMemory, ExceedsMaxLoans, ExceedsMaxLoanSize, InternalFailure}
+use Rattle.iox2_machine.specs.machine.Loans.{is_static, limit_error, StaticLoan, DynamicLoan, GrantLoan, loan_granted}
+use Rattle.iox2_machine.specs.declared.errors.LoanError.{LoanError}
+use Rattle.iox2_machine.specs.declared.errors.LoanError.TheVariants.{OutOfMemory, ExceedsMaxLoans, ExceedsMaxLoanSize, InternalFailure}
 use Rattle.iox2_domain.specs.Ports.{PublisherFields}
 use Rattle.iox2_domain.specs.Kept.{state_of}
 use Rattle.iox2_domain.specs.Fields.{Fields, kept_of, publisher_of, numbers_of, is_book_of}

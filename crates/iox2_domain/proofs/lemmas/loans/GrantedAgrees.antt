@@ -10,20 +10,20 @@ use Rattle.std.specs.Prelude.{◌<◌, slice_get, IsSomeAnd}
 use Rattle.std.specs.List.{sum_by}
 use Rattle.circular_buffer.proofs.Places.{slice_get-set_same, slice_get-set_other}
 use Rattle.slab.specs.Slab.{get}
-use Rattle.iox2_store.specs.machine.Records.{Publisher, Environment}
-use Rattle.iox2_store.specs.machine.Numbers.{put_at}
-use Rattle.iox2_store.specs.machine.State.{State}
+use Rattle.iox2_machine.specs.machine.Records.{Publisher, Environment}
+use Rattle.iox2_machine.specs.machine.Numbers.{put_at}
+use Rattle.iox2_machine.specs.machine.State.{State}
 use Rattle.iox2_slots.specs.SlotBook.{Book, holders_at}
 use Rattle.iox2_slots.specs.declared.slots.mark.SlotMark.TheVariants.{Unwritten}
 use Rattle.iox2_contents.specs.SlotContents.{ContentState, unwritten_content}
-use Rattle.iox2_store.specs.machine.Loans.{is_static, loan_granted, GrantLoan}
-use Rattle.iox2_store.specs.machine.WellFormed.{IsWellFormed}
-use Rattle.iox2_store.specs.Stored.{IsHeldMessage}
+use Rattle.iox2_machine.specs.machine.Loans.{is_static, loan_granted, GrantLoan}
+use Rattle.iox2_machine.specs.machine.WellFormed.{IsWellFormed}
+use Rattle.iox2_machine.specs.Stored.{IsHeldMessage}
 use Rattle.iox2_ends.specs.LookUp.{look_up}
 use Rattle.iox2_ends.specs.Counters.{times, stands}
 use Rattle.iox2_ends.proofs.Counts.{times_push, one_if, one_if_same, one_if_other}
 use Rattle.iox2_laws.proofs.LoanLaws.{grant_loan_keeps}
-use Rattle.iox2_store.specs.declared.service_config.TypeVariant.TheVariants.{FixedSize}
+use Rattle.iox2_machine.specs.declared.service_config.TypeVariant.TheVariants.{FixedSize}
 use Rattle.iox2_domain.specs.Ports.{PublisherFields, slot_length}
 use Rattle.iox2_domain.specs.Kept.{KeptMessage, Lent_message, state_of}
 use Rattle.iox2_domain.specs.Fields.{Fields, kept_of, publisher_of, is_book_of}

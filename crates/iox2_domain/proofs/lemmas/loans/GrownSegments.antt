@@ -13,11 +13,11 @@ use Rattle.slab.specs.Slab.{Slab, get}
 use Rattle.iox2_slots.specs.SlotBook.{Book, with_more_slots}
 use Rattle.iox2_slots.specs.declared.slots.mark.SlotMark.TheVariants.{Unwritten}
 use Rattle.iox2_contents.specs.SlotContents.{ContentState}
-use Rattle.iox2_store.specs.machine.Loans.{is_static}
-use Rattle.iox2_store.specs.machine.Records.{Loan}
-use Rattle.iox2_store.specs.machine.WellFormed.{IsWellFormed}
-use Rattle.iox2_store.specs.Stored.{IsHeldMessage}
-use Rattle.iox2_store.specs.machine.State.{State}
+use Rattle.iox2_machine.specs.machine.Loans.{is_static}
+use Rattle.iox2_machine.specs.machine.Records.{Loan}
+use Rattle.iox2_machine.specs.machine.WellFormed.{IsWellFormed}
+use Rattle.iox2_machine.specs.Stored.{IsHeldMessage}
+use Rattle.iox2_machine.specs.machine.State.{State}
 use Rattle.iox2_ends.specs.LookUp.{look_up}
 use Rattle.iox2_ends.proofs.LookUps.{look_up-found}
 use Rattle.iox2_ends.specs.Counters.{times, stands}

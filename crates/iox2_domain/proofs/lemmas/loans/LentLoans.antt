@@ -5,8 +5,8 @@ use Rattle.std.specs.List.{refill, length_refill}
 use Rattle.std.specs.Prelude.{slice_get}
 use Rattle.std.specs.declared.option.Option.{Option}
 use Rattle.std.specs.declared.option.Option.TheVariants.{None, Some}
-use Rattle.iox2_store.specs.machine.Records.{Loan}
-use Rattle.iox2_store.specs.machine.State.{with_loan}
+use Rattle.iox2_machine.specs.machine.Records.{Loan}
+use Rattle.iox2_machine.specs.machine.State.{with_loan}
 use Rattle.iox2_contents.specs.SlotContents.{ContentState, with_first_cell, with_cells, with_first_value, with_values, with_user_header}
 use Rattle.iox2_slots.specs.declared.slots.mark.SlotMark.{SlotMark}
 use Rattle.iox2_slots.specs.declared.slots.mark.SlotMark.TheVariants.{Unwritten, Written}

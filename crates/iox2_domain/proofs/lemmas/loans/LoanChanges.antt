@@ -7,8 +7,8 @@ use Rattle.std.specs.List.{list_all}
 use Rattle.std.specs.Prelude.{slice_index}
 use Rattle.std.specs.declared.option.Option.{Option}
 use Rattle.std.specs.declared.option.Option.TheVariants.{Some}
-use Rattle.iox2_store.specs.machine.Loans.{is_initialized}
-use Rattle.iox2_store.specs.machine.Records.{Loan}
+use Rattle.iox2_machine.specs.machine.Loans.{is_initialized}
+use Rattle.iox2_machine.specs.machine.Records.{Loan}
 use Rattle.iox2_slots.specs.SlotBook.{Book}
 use Rattle.iox2_contents.specs.SlotContents.{ContentState, written_content, with_user_header}
 use Rattle.iox2_slots.specs.declared.slots.mark.SlotMark.{SlotMark}

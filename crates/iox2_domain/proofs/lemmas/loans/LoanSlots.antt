@@ -7,11 +7,11 @@ use Rattle.std.specs.declared.option.Option.{Option}
 use Rattle.std.specs.declared.option.Option.TheVariants.{None, Some}
 use Rattle.std.specs.Option.{option_map_or}
 use Rattle.slab.specs.Slab.{get, ContainsKey}
-use Rattle.iox2_store.specs.machine.Numbers.{contains}
-use Rattle.iox2_store.specs.machine.SingleCalls.{HoldsLoan}
+use Rattle.iox2_machine.specs.machine.Numbers.{contains}
+use Rattle.iox2_machine.specs.machine.SingleCalls.{HoldsLoan}
 use Rattle.iox2_slots.specs.SlotBook.{Book, IsUsedFor, holders_at}
 use Rattle.iox2_contents.specs.SlotContents.{ContentState}
-use Rattle.iox2_store.specs.machine.Records.{Loan}
+use Rattle.iox2_machine.specs.machine.Records.{Loan}
 use Rattle.iox2_slots.specs.declared.slots.mark.SlotMark.{SlotMark}
 use Rattle.iox2_slots.specs.declared.slots.mark.SlotMark.TheVariants.{Unwritten, Written, Sent}
 use Rattle.iox2_ends.specs.Counters.{times, stands}

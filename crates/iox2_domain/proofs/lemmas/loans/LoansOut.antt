@@ -3,7 +3,7 @@ use Rattle.std.proofs.Common.{◌≡◌, ◌↔◌, ℕ, Bool, is_some, sym, ◌
 use Rattle.std.proofs.lemmas.Bool.{true≢false}
 use Rattle.std.specs.declared.option.Option.{Option}
 use Rattle.std.specs.declared.option.Option.TheVariants.{None, Some}
-use Rattle.iox2_store.specs.machine.SingleCalls.{HoldsLoan}
+use Rattle.iox2_machine.specs.machine.SingleCalls.{HoldsLoan}
 use Rattle.iox2_domain.specs.Kept.{state_of}
 use Rattle.iox2_domain.specs.Fields.{Fields, kept_of, contents_at}
 use Rattle.iox2_domain.specs.LoanSlots.{LiesInSlot}

@@ -4,8 +4,8 @@ use Rattle.std.proofs.lemmas.List.Elements.{Contains-append_right}
 use Rattle.std.specs.Option.{option_map}
 use Rattle.slab.specs.Slab.{Slab, get}
 use Rattle.iox2_slots.specs.Link.{Link}
-use Rattle.iox2_store.specs.machine.Channel.{Channel}
-use Rattle.iox2_store.specs.machine.Mailbox.{Mailbox}
+use Rattle.iox2_machine.specs.machine.Channel.{Channel}
+use Rattle.iox2_machine.specs.machine.Mailbox.{Mailbox}
 use Rattle.iox2_slots.specs.declared.connection.Home.{Home}
 use Rattle.iox2_laws.proofs.Puts.{put_at-same}
 use Rattle.iox2_ends.specs.Homes.{IsApart, SameHomes, fixed_of}

@@ -4,20 +4,20 @@ use Rattle.std.specs.Prelude.{IsSomeAnd}
 use Rattle.std.specs.Bool.{MatchBool}
 use Rattle.slab.specs.Slab.{get}
 use Rattle.iox2_slots.specs.Link.{Link}
-use Rattle.iox2_store.specs.machine.Mailbox.{Mailbox, has_data}
-use Rattle.iox2_store.specs.machine.Numbers.{contains}
-use Rattle.iox2_store.specs.machine.Places.{occupants}
-use Rattle.iox2_store.specs.machine.Receives.{has_any_data, can_receive_of, MayReceiveFrom}
-use Rattle.iox2_store.specs.machine.Records.{Environment, Subscriber}
-use Rattle.iox2_store.specs.machine.State.{State, connected_publishers}
-use Rattle.iox2_store.specs.machine.SubscriberUpdate.{UpdateSubscriber}
+use Rattle.iox2_machine.specs.machine.Mailbox.{Mailbox, has_data}
+use Rattle.iox2_machine.specs.machine.Numbers.{contains}
+use Rattle.iox2_machine.specs.machine.Places.{occupants}
+use Rattle.iox2_machine.specs.machine.Receives.{has_any_data, can_receive_of, MayReceiveFrom}
+use Rattle.iox2_machine.specs.machine.Records.{Environment, Subscriber}
+use Rattle.iox2_machine.specs.machine.State.{State, connected_publishers}
+use Rattle.iox2_machine.specs.machine.SubscriberUpdate.{UpdateSubscriber}
 use Rattle.iox2_ends.proofs.MailboxChanges.{both-true}
 use Rattle.iox2_ends.proofs.Searches.{any-contains}
 use Rattle.iox2_ends.specs.Finds.{is_something, Finds, FindsFor}
 use Rattle.iox2_ends.specs.declared.receiver.Found.{Found}
 use Rattle.iox2_laws.proofs.NumberLemmas.{contains_left, contains_right}
 use Rattle.iox2_domain.specs.ReceiverSteps.{UpdatesReceiver}
-use Rattle.iox2_store.specs.declared.errors.ConnectionFailure.{ConnectionFailure}
+use Rattle.iox2_machine.specs.declared.errors.ConnectionFailure.{ConnectionFailure}
 use Rattle.iox2_domain.specs.Fields.{Fields, kept_of, subscriber_of}
 use Rattle.iox2_domain.specs.Invariant.{IsDomain}
 use Rattle.iox2_domain.specs.Kept.{state_of}

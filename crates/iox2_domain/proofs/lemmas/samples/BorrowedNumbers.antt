@@ -2,9 +2,9 @@
 use Rattle.std.proofs.Common.{◌≡◌, ◌↔◌, ℕ, ◌<◌, Bool, true, false, map, length, refl, ap, sym, subst, ◌∙◌, Option, Some, None, is_some, IsTrue, MatchOption, Contains}
 use Rattle.std.proofs.lemmas.Bool.{true≢false, eqb-true}
 use Rattle.iox2_slots.specs.Link.{Link}
-use Rattle.iox2_store.specs.machine.Numbers.{contains}
-use Rattle.iox2_store.specs.machine.Mailbox.{is_borrowed}
-use Rattle.iox2_store.specs.machine.SingleCalls.{HoldsSample}
+use Rattle.iox2_machine.specs.machine.Numbers.{contains}
+use Rattle.iox2_machine.specs.machine.Mailbox.{is_borrowed}
+use Rattle.iox2_machine.specs.machine.SingleCalls.{HoldsSample}
 use Rattle.iox2_slots.specs.SlotBook.{Book}
 use Rattle.iox2_ends.specs.LookUp.{look_up}
 use Rattle.iox2_ends.specs.Mailboxes.{is_between, mailbox_if_any}

@@ -2,13 +2,13 @@
 use Rattle.std.proofs.Common.{◌≡◌, ℕ, ◌<◌, ◌*◌, true, length, refl, ap, sym, ◌∙◌, Some}
 use Rattle.std.proofs.lemmas.Bool.{eq-eqb}
 use Rattle.std.specs.Prelude.{slice_get, slice_index}
-use Rattle.iox2_store.specs.machine.Mailbox.{is_borrowed}
-use Rattle.iox2_store.specs.machine.Records.{Entry}
-use Rattle.iox2_store.specs.Stored.{In_mailbox}
+use Rattle.iox2_machine.specs.machine.Mailbox.{is_borrowed}
+use Rattle.iox2_machine.specs.machine.Records.{Entry}
+use Rattle.iox2_machine.specs.Stored.{In_mailbox}
 use Rattle.iox2_slots.specs.SlotBook.{Book}
 use Rattle.iox2_contents.specs.SlotContents.{ContentState}
-use Rattle.iox2_store.specs.declared.header.Header.{Header}
-use Rattle.iox2_store.specs.declared.service_config.TypeVariant.TheVariants.{FixedSize}
+use Rattle.iox2_machine.specs.declared.header.Header.{Header}
+use Rattle.iox2_machine.specs.declared.service_config.TypeVariant.TheVariants.{FixedSize}
 use Rattle.iox2_slots.specs.declared.slots.mark.SlotMark.{SlotMark}
 use Rattle.iox2_slots.specs.declared.slots.mark.SlotMark.TheVariants.{Unwritten, Written, Sent}
 use Rattle.iox2_ends.proofs.Counts.{in_range}

@@ -2,8 +2,8 @@
 use Rattle.std.proofs.Common.{◌≡◌, ℕ, ◌+◌, ◌<◌, true, List, [], ◌++◌, map, ap, sym, ◌∙◌, arith}
 use Rattle.std.proofs.lemmas.List.{map-append}
 use Rattle.iox2_slots.specs.Link.{Link, other_slots}
-use Rattle.iox2_store.specs.machine.Numbers.{contains}
-use Rattle.iox2_store.specs.machine.Mailbox.{numbers_in}
+use Rattle.iox2_machine.specs.machine.Numbers.{contains}
+use Rattle.iox2_machine.specs.machine.Mailbox.{numbers_in}
 use Rattle.iox2_ends.specs.Counters.{times, stands_in}
 use Rattle.iox2_ends.specs.Mailboxes.{mailbox_of}
 use Rattle.iox2_ends.proofs.Histories.{times-append}

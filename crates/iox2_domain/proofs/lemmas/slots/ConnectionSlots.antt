@@ -5,7 +5,7 @@ use Rattle.std.specs.Prelude.{slice_get, slice_index}
 use Rattle.std.specs.Option.{option_map_or}
 use Rattle.slab.specs.Slab.{get}
 use Rattle.iox2_slots.specs.Link.{Link}
-use Rattle.iox2_store.specs.machine.Numbers.{contains}
+use Rattle.iox2_machine.specs.machine.Numbers.{contains}
 use Rattle.iox2_slots.specs.SlotBook.{Book, holders_at}
 use Rattle.iox2_ends.specs.Counters.{times, IsCovered}
 use Rattle.iox2_ends.specs.LookUp.{look_up}

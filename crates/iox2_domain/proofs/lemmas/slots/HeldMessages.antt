@@ -10,10 +10,10 @@ use Rattle.std.specs.List.{sum_by}
 use Rattle.slab.specs.Slab.{get}
 use Rattle.iox2_slots.specs.Link.{Link}
 use Rattle.iox2_slots.specs.SlotBook.{Book, holders_at}
-use Rattle.iox2_store.specs.machine.Numbers.{contains}
-use Rattle.iox2_store.specs.machine.Mailbox.{numbers_in}
-use Rattle.iox2_store.specs.machine.Records.{Publisher, BlockedSend}
-use Rattle.iox2_store.specs.Stored.{IsHeldMessage, In_history, In_mailbox, In_blocked_send}
+use Rattle.iox2_machine.specs.machine.Numbers.{contains}
+use Rattle.iox2_machine.specs.machine.Mailbox.{numbers_in}
+use Rattle.iox2_machine.specs.machine.Records.{Publisher, BlockedSend}
+use Rattle.iox2_machine.specs.Stored.{IsHeldMessage, In_history, In_mailbox, In_blocked_send}
 use Rattle.iox2_ends.specs.LookUp.{look_up, IsOnly}
 use Rattle.iox2_ends.specs.Counters.{times, stands_in, stands}
 use Rattle.iox2_ends.specs.Mailboxes.{is_between, mailbox_if_any, sender_ends}

@@ -8,8 +8,8 @@ use Rattle.std.specs.declared.option.Option.TheVariants.{None, Some}
 use Rattle.std.specs.Option.{option_and_then}
 use Rattle.slab.specs.Slab.{get}
 use Rattle.iox2_slots.specs.SlotBook.{Book, IsAligned, holders_at}
-use Rattle.iox2_store.specs.machine.Numbers.{put_at}
-use Rattle.iox2_store.specs.machine.Records.{Entry, Loan}
+use Rattle.iox2_machine.specs.machine.Numbers.{put_at}
+use Rattle.iox2_machine.specs.machine.Records.{Entry, Loan}
 use Rattle.iox2_ends.proofs.Counts.{one_if, one_if_same, get_or-one_holder_less}
 use Rattle.iox2_domain.specs.Discards.{with_holder_gone}
 use Rattle.iox2_domain.specs.LeftBooks.{with_holder_left}

@@ -4,9 +4,9 @@ use Rattle.std.specs.declared.option.Option.TheVariants.{None, Some}
 use Rattle.slab.specs.Slab.{Slab, get, with_value}
 use Rattle.iox2_slots.specs.Link.{Link}
 use Rattle.iox2_slots.specs.SlotBook.{Book}
-use Rattle.iox2_store.specs.Stored.{IsHeldMessage}
-use Rattle.iox2_store.specs.machine.Mailbox.{Mailbox}
-use Rattle.iox2_store.specs.machine.WellFormed.{IsWellFormed}
+use Rattle.iox2_machine.specs.Stored.{IsHeldMessage}
+use Rattle.iox2_machine.specs.machine.Mailbox.{Mailbox}
+use Rattle.iox2_machine.specs.machine.WellFormed.{IsWellFormed}
 use Rattle.iox2_ends.specs.Counters.{with_counters}
 use Rattle.iox2_ends.specs.Reclaims.{Reclaims}
 use Rattle.iox2_domain.specs.Ports.{PublisherFields}

@@ -10,9 +10,9 @@ use Rattle.slab.specs.Slab.{Slab, get}
 use Rattle.iox2_slots.specs.Link.{Link}
 use Rattle.iox2_slots.specs.SlotBook.{Book, holders_at}
 use Rattle.iox2_contents.specs.SlotContents.{ContentState}
-use Rattle.iox2_store.specs.machine.Numbers.{contains}
-use Rattle.iox2_store.specs.machine.Records.{Entry, Loan}
-use Rattle.iox2_store.specs.Stored.{IsHeldMessage}
+use Rattle.iox2_machine.specs.machine.Numbers.{contains}
+use Rattle.iox2_machine.specs.machine.Records.{Entry, Loan}
+use Rattle.iox2_machine.specs.Stored.{IsHeldMessage}
 use Rattle.iox2_slots.specs.declared.slots.mark.SlotMark.{SlotMark}
 use Rattle.iox2_slots.specs.declared.slots.mark.SlotMark.TheVariants.{Unwritten, Written, Sent}
 use Rattle.iox2_laws.proofs.NumberLemmas.{false_from as false-from}

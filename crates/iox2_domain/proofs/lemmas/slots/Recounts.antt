@@ -8,7 +8,7 @@ use Rattle.std.specs.Option.{option_map, option_map_or}
 use Rattle.std.specs.List.{sum_by}
 use Rattle.slab.specs.Slab.{Slab, get, with_value}
 use Rattle.iox2_slots.specs.Link.{Link}
-use Rattle.iox2_store.specs.machine.Channel.{Channel}
+use Rattle.iox2_machine.specs.machine.Channel.{Channel}
 use Rattle.iox2_slots.specs.SlotBook.{Book, IsAligned, holders_at}
 use Rattle.iox2_slots.specs.declared.connection.Home.{Home}
 use Rattle.iox2_ends.specs.LookUp.{look_up}

@@ -8,11 +8,11 @@ use Rattle.std.specs.Prelude.{slice_index}
 use Rattle.std.specs.List.{All, sum_by, flat_map}
 use Rattle.slab.specs.Slab.{get}
 use Rattle.iox2_slots.specs.Link.{Link}
-use Rattle.iox2_store.specs.machine.Mailbox.{numbers_in, Mailbox}
-use Rattle.iox2_store.specs.machine.Numbers.{contains, size}
-use Rattle.iox2_store.specs.machine.Places.{occupants}
-use Rattle.iox2_store.specs.machine.Records.{Publisher}
-use Rattle.iox2_store.specs.machine.State.{State, held}
+use Rattle.iox2_machine.specs.machine.Mailbox.{numbers_in, Mailbox}
+use Rattle.iox2_machine.specs.machine.Numbers.{contains, size}
+use Rattle.iox2_machine.specs.machine.Places.{occupants}
+use Rattle.iox2_machine.specs.machine.Records.{Publisher}
+use Rattle.iox2_machine.specs.machine.State.{State, held}
 use Rattle.iox2_slots.specs.SlotBook.{Book, holders_at}
 use Rattle.iox2_ends.specs.Counters.{times, stands, stands_in}
 use Rattle.iox2_ends.specs.LookUp.{look_up}

@@ -1,7 +1,7 @@
 use Rattle.std.proofs.Common.{◌≡◌, Some, subst, sym}
 use Rattle.slab.specs.Slab.{get, with_value}
 use Rattle.iox2_slots.specs.Link.{Link, without_borrowed}
-use Rattle.iox2_store.specs.machine.Numbers.{IsOnce}
+use Rattle.iox2_machine.specs.machine.Numbers.{IsOnce}
 use Rattle.iox2_ends.specs.Counters.{one_holder_less}
 use Rattle.iox2_ends.specs.Recounts.{Recounts}
 use Rattle.iox2_ends.specs.Takes.{ReleasesSlot}

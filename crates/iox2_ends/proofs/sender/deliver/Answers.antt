@@ -10,7 +10,7 @@ use Rattle.iox2_slots.specs.SlotBook.{Book}
 use Rattle.iox2_ends.specs.Counters.{with_counters}
 use Rattle.std.specs.Prelude.{map}
 use Rattle.std.specs.Option.{option_map}
-use Rattle.iox2_store.specs.machine.Delivery.{accepted_count}
+use Rattle.iox2_machine.specs.machine.Delivery.{accepted_count}
 use Rattle.iox2_ends.specs.Handlers.{asked}
 use Rattle.iox2_ends.specs.Deliveries.{result_of}
 use Rattle.iox2_ends.specs.Receivers.{taking_buffers}

@@ -1,6 +1,6 @@
 use Rattle.std.proofs.Common.{◌≡◌, ℕ, ◌+◌, ◌≤◌, drop, slice_index}
-use Rattle.iox2_store.specs.machine.Mailbox.{Mailbox}
-use Rattle.iox2_store.specs.machine.Delivery.{DeliveryEnd, DeliverIn}
+use Rattle.iox2_machine.specs.machine.Mailbox.{Mailbox}
+use Rattle.iox2_machine.specs.machine.Delivery.{DeliveryEnd, DeliverIn}
 use Rattle.iox2_ends.specs.Handlers.{asked, marks_of}
 use Rattle.iox2_ends.specs.Mailboxes.{mailboxes_of, sender_ends}
 use Rattle.iox2_ends.specs.Receivers.{HaveChannel, IsReadyToDeliver, taking_buffers}

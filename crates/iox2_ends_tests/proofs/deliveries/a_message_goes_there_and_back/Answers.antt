@@ -1,7 +1,7 @@
 use Rattle.std.proofs.Common.{Err, List, None, Ok, Option, Result, Some, ap, refl, rules, subst, sym, ℕ, ◌∙◌}
 use Rattle.slab.specs.Slab.{Slab}
 use Rattle.iox2_slots.specs.Link.{Link}
-use Rattle.iox2_store.specs.declared.errors.ReceiveError.{ReceiveError}
+use Rattle.iox2_machine.specs.declared.errors.ReceiveError.{ReceiveError}
 use Rattle.iox2_ends.specs.Takes.{SameStands, ReceivesSlot}
 use Rattle.iox2_ends.specs.declared.receiver.Taken.{Taken}
 use Rattle.iox2_ends.proofs.Counts.{IsCovered-follows}

@@ -1,7 +1,7 @@
 use Rattle.std.proofs.Common.{ℕ, ◌≡◌, ◌≤◌, ◌+◌, None, Some, slice_index_or, length, sym, ◌∙◌, ap, subst, arith}
 use Rattle.std.specs.declared.time.Duration.{Duration}
 use Rattle.iox2_slots.specs.SlotBook.{holders_at}
-use Rattle.iox2_store.specs.machine.Records.{Environment}
+use Rattle.iox2_machine.specs.machine.Records.{Environment}
 use Rattle.iox2_ends.specs.declared.sender.Progress.{Progress}
 use Rattle.iox2_ends.specs.declared.sender.DeliveryOutcome.{DeliveryOutcome}
 use Rattle.iox2_ends.specs.Receivers.{HasReclaimed}

@@ -1,5 +1,5 @@
 use Rattle.std.proofs.Common.{None, get_or, ◌∙◌, ap}
-use Rattle.iox2_store.specs.machine.Sends.{more_retries}
+use Rattle.iox2_machine.specs.machine.Sends.{more_retries}
 use Rattle.iox2_ends.specs.declared.sender.Progress.{Progress}
 use Rattle.iox2_domain.specs.Boxes.{answers_of}
 use Rattle.iox2_domain.specs.Fields.{Fields}

@@ -1,5 +1,5 @@
 use Rattle.std.proofs.Common.{◌∙◌}
-use Rattle.iox2_store.specs.machine.Channel.{is_hinted}
+use Rattle.iox2_machine.specs.machine.Channel.{is_hinted}
 use Rattle.iox2_messages.proofs.AskedChannels.{asked-sent}
 use Rattle.iox2_messages.proofs.channels.is_sent_hinted.Goals as goal
 

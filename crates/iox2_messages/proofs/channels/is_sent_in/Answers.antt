@@ -1,5 +1,5 @@
 use Rattle.std.proofs.Common.{◌∙◌}
-use Rattle.iox2_store.specs.machine.Channel.{is_in_state}
+use Rattle.iox2_machine.specs.machine.Channel.{is_in_state}
 use Rattle.iox2_messages.proofs.AskedChannels.{asked-sent}
 use Rattle.iox2_messages.proofs.channels.is_sent_in.Goals as goal
 

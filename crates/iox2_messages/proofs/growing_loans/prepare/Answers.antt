@@ -1,6 +1,6 @@
 use Rattle.std.proofs.Common.{◌<◌, slice_index_or, None, refl, sym, subst, ap, ◌∙◌, arith}
 use Rattle.std.proofs.lemmas.Result.{err_from_is_err_and}
-use Rattle.iox2_store.specs.machine.Limits.{last_number}
+use Rattle.iox2_machine.specs.machine.Limits.{last_number}
 use Rattle.iox2_domain.specs.Fields.{Fields}
 use Rattle.iox2_domain.proofs.lemmas.fields.ReachesShows.{reaches-same}
 use Rattle.iox2_messages.proofs.GrowingPass.{comes-limited, comes-last, comes-free, stands-some, comes-failed, stands-fewer, comes-grown}

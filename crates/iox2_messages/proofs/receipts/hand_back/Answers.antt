@@ -3,7 +3,7 @@ use Rattle.std.proofs.lemmas.Bool.{true≢false}
 use denote.Param.{param}
 use Rattle.slab.specs.Slab.{ContainsKey, get, with_value}
 use Rattle.iox2_slots.specs.Link.{Link}
-use Rattle.iox2_store.specs.machine.Numbers.{IsOnce}
+use Rattle.iox2_machine.specs.machine.Numbers.{IsOnce}
 use Rattle.iox2_ends.proofs.MailboxChanges.{within_if_some}
 use Rattle.iox2_domain.specs.Fields.{Fields}
 use Rattle.iox2_domain.specs.contracts.state.DomainState.{the_view}

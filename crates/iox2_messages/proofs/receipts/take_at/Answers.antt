@@ -1,4 +1,4 @@
-use Rattle.iox2_store.specs.declared.errors.ReceiveError.{ReceiveError}
+use Rattle.iox2_machine.specs.declared.errors.ReceiveError.{ReceiveError}
 use Rattle.iox2_ends.specs.Takes.{ReceivesSlot}
 use Rattle.iox2_ends.specs.declared.receiver.Taken.{Taken}
 use denote.Param.{param}

@@ -1,4 +1,4 @@
-use Rattle.iox2_store.specs.machine.Environments.{fixed_handlers}
+use Rattle.iox2_machine.specs.machine.Environments.{fixed_handlers}
 use Rattle.std.proofs.Common.{◌≡◌, List, Option, None, Some, slice_index_or, le_refl, sym, ◌∙◌, ap}
 use Rattle.iox2_domain.specs.Ports.{PublisherFields}
 use Rattle.iox2_domain.specs.Fields.{Fields}

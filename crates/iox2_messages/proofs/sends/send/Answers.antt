@@ -1,5 +1,5 @@
 use Rattle.std.proofs.Common.{sym, ◌∙◌}
-use Rattle.iox2_store.specs.machine.Environments.{fixed_handlers}
+use Rattle.iox2_machine.specs.machine.Environments.{fixed_handlers}
 use Rattle.iox2_domain.specs.Boxes.{answers_of}
 use Rattle.iox2_steps.proofs.sends.AskedBoxes.{ready-boxes, unasked, unhandled}
 use Rattle.iox2_steps.proofs.sends.DeliverySteps.{sends-alike}

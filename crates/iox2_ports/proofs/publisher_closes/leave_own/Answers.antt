@@ -5,7 +5,7 @@ use Rattle.std.specs.Option.{option_and_then}
 use Rattle.std.proofs.lemmas.Bool.{eq-eqb}
 use Rattle.std.proofs.lemmas.List.Sums.{sum_by-set}
 use Rattle.slab.specs.Slab.{Slab, get, Updates, with_value}
-use Rattle.iox2_store.specs.machine.Numbers.{is_nil}
+use Rattle.iox2_machine.specs.machine.Numbers.{is_nil}
 use Rattle.iox2_slots.specs.Link.{Link, other_slots}
 use Rattle.iox2_ends.specs.Counters.{times, stands_in, stands, CountersFollow}
 use Rattle.iox2_ends.specs.Leaves.{left_link, holds_slots, ReleasesFrom}

@@ -3,7 +3,7 @@ use Rattle.std.proofs.lemmas.List.{with_items_is}
 use Rattle.std.specs.Option.{option_map}
 use Rattle.std.specs.declared.option.Option.TheVariants.{None}
 use Rattle.circular_buffer.specs.Buffer.{buffer}
-use Rattle.iox2_store.specs.machine.Limits.{last_number, segment_fits}
+use Rattle.iox2_machine.specs.machine.Limits.{last_number, segment_fits}
 use Rattle.iox2_contents.specs.SlotContents.{ContentState, lists_for}
 use denote.Param.{param}
 use Rattle.iox2_domain.specs.contracts.state.DomainState.{the_view}

@@ -3,11 +3,11 @@ use Rattle.std.specs.declared.option.Option.{Option}
 use Rattle.std.proofs.lemmas.Result.{err_from_is_err_and}
 use Rattle.std.specs.Prelude.{IsTrue}
 use Rattle.std.specs.declared.option.Option.TheVariants.{None, Some}
-use Rattle.iox2_store.specs.machine.Limits.{segment_fits}
-use Rattle.iox2_store.specs.machine.Ports.{first_segment_fits, slots_for, with_new_publisher}
-use Rattle.iox2_store.specs.machine.Records.{Handler}
-use Rattle.iox2_store.specs.declared.backpressure.BackpressureAction.{BackpressureAction}
-use Rattle.iox2_store.specs.declared.errors.PublisherCreateError.TheVariants.{FailedToDeployThreadsafetyPolicy}
+use Rattle.iox2_machine.specs.machine.Limits.{segment_fits}
+use Rattle.iox2_machine.specs.machine.Ports.{first_segment_fits, slots_for, with_new_publisher}
+use Rattle.iox2_machine.specs.machine.Records.{Handler}
+use Rattle.iox2_machine.specs.declared.backpressure.BackpressureAction.{BackpressureAction}
+use Rattle.iox2_machine.specs.declared.errors.PublisherCreateError.TheVariants.{FailedToDeployThreadsafetyPolicy}
 use Rattle.iox2_ends.proofs.MailboxChanges.{both-true}
 use Rattle.iox2_domain.specs.Boxes.{answers_of, boxes_of}
 use Rattle.iox2_domain.specs.Kept.{state_of}

@@ -1,7 +1,7 @@
 use Rattle.std.proofs.Common.{ap, refl, sym, ◌∙◌, Some, List}
 use Rattle.std.proofs.lemmas.Result.{err_from_is_err_and}
 use Rattle.iox2_domain.specs.Boxes.{answers_of, boxes_of}
-use Rattle.iox2_store.specs.declared.errors.SubscriberCreateError.TheVariants.{FailedToDeployThreadsafetyPolicy}
+use Rattle.iox2_machine.specs.declared.errors.SubscriberCreateError.TheVariants.{FailedToDeployThreadsafetyPolicy}
 use Rattle.iox2_domain.specs.declared.boxes.PortBox.{PortBox}
 use Rattle.iox2_domain.specs.SubscriberEntry.{asked_for}
 use Rattle.iox2_domain.specs.Kept.{state_of}

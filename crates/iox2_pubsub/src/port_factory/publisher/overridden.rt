@@ -1,9 +1,9 @@
 //! A publisher is made with as many slots as an override says.
 ghost use Rattle.std.specs.Prelude.{◌≡◌, ◌≤◌, ℕ, true, false, None, Some, IfOk, OnErr, MatchResult};
 ghost use Rattle.std.specs.declared.option.Option.{Option};
-ghost use Rattle.iox2_store.specs.machine.Limits.{worst_case};
-ghost use Rattle.iox2_store.specs.machine.Ports.{CreatePublisher};
-ghost use Rattle.iox2_store.specs.machine.State.{State, Messages};
+ghost use Rattle.iox2_machine.specs.machine.Limits.{worst_case};
+ghost use Rattle.iox2_machine.specs.machine.Ports.{CreatePublisher};
+ghost use Rattle.iox2_machine.specs.machine.State.{State, Messages};
 ghost use Rattle.iox2_domain.specs.Boxes.{answers_of};
 ghost use Rattle.iox2_domain.specs.Handlers.{may_fail, may_fail_update};
 ghost use Rattle.iox2_domain.specs.Shows.{Shows};
@@ -19,7 +19,7 @@ use crate::port_factory::handles::PortHandle;
 use crate::port_factory::preallocation::PreallocatedSamplesOverride;
 use crate::port_factory::publisher::{PortFactoryPublisher, create_plain};
 use crate::publisher::Publisher;
-use iox2_store::{BackpressureFn, BackpressureStrategy, DegradationFn, PublisherCreateError};
+use iox2_machine::{BackpressureFn, BackpressureStrategy, DegradationFn, PublisherCreateError};
 
 impl<
     F: BackpressureFn,

@@ -4,9 +4,9 @@ ghost use Rattle.std.specs.List.{All};
 
 use crate::domain::Domain;
 use crate::slice::{Publisher, SampleMut};
-use iox2_messages::{fill_from_fn, fill_unspecified, loan};
 use iox2_domain::LoanAt;
-use iox2_store::{BackpressureFn, DegradationFn, LoanError};
+use iox2_machine::{BackpressureFn, DegradationFn, LoanError};
+use iox2_messages::{fill_from_fn, fill_unspecified, loan};
 use std::ptr::NonNull;
 
 /// A written loan of a slice, and where its values begin. This library's own.
@@ -28,8 +28,8 @@ pub struct LocatedLoan<T> {
 }
 
 impl Publisher {
-    ghost use Rattle.iox2_store.specs.machine.State.{State, Messages};
-    ghost use Rattle.iox2_store.specs.declared.service_config.TypeVariant.TheVariants.{Dynamic};
+    ghost use Rattle.iox2_machine.specs.machine.State.{State, Messages};
+    ghost use Rattle.iox2_machine.specs.declared.service_config.TypeVariant.TheVariants.{Dynamic};
     ghost use Rattle.iox2_domain.specs.Shows.{Shows};
     ghost use Rattle.iox2_pubsub.specs.Live.{HasLender, IsNewIn, IsReadyPublisher, IsUnblocked, IsWritten, IsWrittenLoan, NeverWaits, Stays, UpToDateStay, WaitingStays, lender_key, publisher_key, written_key, written_loan};
     ghost use Rattle.iox2_pubsub.specs.LoansLeft.{HasLoansLeft, HasNumbersLeft, LoansLeftStay, TakesOneLeft};

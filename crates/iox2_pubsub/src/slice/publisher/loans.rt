@@ -5,11 +5,11 @@ ghost use Rattle.std.specs.List.{All};
 use crate::custom_markers::{CustomHeaderMarker, CustomPayloadMarker};
 use crate::domain::Domain;
 use crate::slice::{Publisher, SampleMut, SampleMutUninit};
-use iox2_store::{BackpressureFn, DegradationFn, LoanError};
+use iox2_machine::{BackpressureFn, DegradationFn, LoanError};
 
 impl Publisher {
-    ghost use Rattle.iox2_store.specs.machine.State.{State, Messages};
-    ghost use Rattle.iox2_store.specs.declared.service_config.TypeVariant.TheVariants.{Dynamic};
+    ghost use Rattle.iox2_machine.specs.machine.State.{State, Messages};
+    ghost use Rattle.iox2_machine.specs.declared.service_config.TypeVariant.TheVariants.{Dynamic};
     ghost use Rattle.iox2_domain.specs.Lending.{LoanCall, header_for};
     ghost use Rattle.iox2_domain.specs.Shows.{Shows};
     ghost use Rattle.iox2_pubsub.specs.Live.{HasLender, IsNewIn, IsReadyPublisher, IsUnblocked, IsUnwritten, IsUnwrittenLoan, LoanHasHeader, NeverWaits, Stays, UpToDateStay, lender_key, publisher_key, unwritten_key, unwritten_loan, WaitingStays};
@@ -76,8 +76,8 @@ impl Publisher {
 }
 
 impl Publisher {
-    ghost use Rattle.iox2_store.specs.machine.State.{State, Messages};
-    ghost use Rattle.iox2_store.specs.declared.service_config.TypeVariant.TheVariants.{Dynamic};
+    ghost use Rattle.iox2_machine.specs.machine.State.{State, Messages};
+    ghost use Rattle.iox2_machine.specs.declared.service_config.TypeVariant.TheVariants.{Dynamic};
     ghost use Rattle.iox2_domain.specs.Shows.{Shows};
     ghost use Rattle.iox2_pubsub.specs.Live.{HasLender, IsNewIn, IsReadyPublisher, IsUnblocked, IsWritten, IsWrittenLoan, NeverWaits, Stays, UpToDateStay, lender_key, publisher_key, written_key, written_loan, WaitingStays};
     ghost use Rattle.iox2_pubsub.specs.LoansLeft.{HasLoansLeft, HasNumbersLeft, LoansLeftStay, TakesOneLeft};
@@ -125,8 +125,8 @@ impl Publisher {
 }
 
 impl Publisher {
-    ghost use Rattle.iox2_store.specs.machine.State.{State, Messages};
-    ghost use Rattle.iox2_store.specs.declared.service_config.TypeVariant.TheVariants.{FixedSize};
+    ghost use Rattle.iox2_machine.specs.machine.State.{State, Messages};
+    ghost use Rattle.iox2_machine.specs.declared.service_config.TypeVariant.TheVariants.{FixedSize};
     ghost use Rattle.iox2_domain.specs.Lending.{LoanCall, header_for};
     ghost use Rattle.iox2_domain.specs.Shows.{Shows};
     ghost use Rattle.iox2_pubsub.specs.Live.{HasLender, IsNewIn, IsReadyPublisher, IsUnblocked, IsUnwritten, IsUnwrittenLoan, LoanHasHeader, NeverWaits, Stays, UpToDateStay, lender_key, publisher_key, unwritten_key, unwritten_loan, WaitingStays};

@@ -3,7 +3,7 @@
 use crate::domain::Domain;
 use crate::slice::Publisher;
 use crate::update_connections::UpdateConnections;
-use iox2_store::{BackpressureFn, ConnectionFailure, DegradationFn};
+use iox2_machine::{BackpressureFn, ConnectionFailure, DegradationFn};
 
 /// A publisher gets its connections with new subscribers, which a send does too.
 ///
@@ -11,7 +11,7 @@ use iox2_store::{BackpressureFn, ConnectionFailure, DegradationFn};
 impl<T: Drop, U: Default + Drop, F: BackpressureFn, G: DegradationFn> UpdateConnections<T, U, F, G>
     for Publisher {
     ghost use Rattle.iox2_domain.specs.Boxes.{answers_of};
-    ghost use Rattle.iox2_store.specs.machine.PublisherUpdate.{UpdatePublisher};
+    ghost use Rattle.iox2_machine.specs.machine.PublisherUpdate.{UpdatePublisher};
     ghost use Rattle.iox2_pubsub.specs.Live.{IsReadyPublisher, publisher_key, Connected};
     ghost use Rattle.iox2_pubsub.specs.Handles.{as_publisher, publisher_id};
 

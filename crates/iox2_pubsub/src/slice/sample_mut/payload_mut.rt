@@ -3,15 +3,15 @@ ghost use Rattle.std.specs.Prelude.{◌≡◌};
 
 use crate::domain::Domain;
 use crate::slice::SampleMut;
+use iox2_machine::{BackpressureFn, DegradationFn};
 use iox2_messages::values_at_mut;
-use iox2_store::{BackpressureFn, DegradationFn};
 
 impl SampleMut {
     ghost use Rattle.std.specs.Prelude.{Some, List, length, map};
     ghost use Rattle.std.specs.Borrow.{sem};
-    ghost use Rattle.iox2_store.specs.declared.header.Header.{Header};
-    ghost use Rattle.iox2_store.specs.machine.Records.{Loan};
-    ghost use Rattle.iox2_store.specs.machine.State.{State, Messages, with_loan};
+    ghost use Rattle.iox2_machine.specs.declared.header.Header.{Header};
+    ghost use Rattle.iox2_machine.specs.machine.Records.{Loan};
+    ghost use Rattle.iox2_machine.specs.machine.State.{State, Messages, with_loan};
     ghost use Rattle.iox2_domain.specs.LoanCalls.{cells_changed};
     ghost use Rattle.iox2_domain.specs.Shows.{Shows};
     ghost use Rattle.iox2_pubsub.specs.ChangedLoans.{with_payloads};

@@ -3,15 +3,15 @@ ghost use Rattle.std.specs.Prelude.{◌≡◌};
 
 use crate::domain::Domain;
 use crate::slice::{SampleMut, SampleMutUninit};
+use iox2_machine::{BackpressureFn, DegradationFn};
 use iox2_messages::write_loan_unspecified;
-use iox2_store::{BackpressureFn, DegradationFn};
 
 impl SampleMutUninit {
     ghost use Rattle.std.specs.Prelude.{Some, Option, List, length};
-    ghost use Rattle.iox2_store.specs.declared.header.Header.{Header};
-    ghost use Rattle.iox2_store.specs.machine.Records.{Loan};
-    ghost use Rattle.iox2_store.specs.machine.State.{State, Messages};
-    ghost use Rattle.iox2_store.specs.machine.SingleCalls.{WriteAllFrom};
+    ghost use Rattle.iox2_machine.specs.declared.header.Header.{Header};
+    ghost use Rattle.iox2_machine.specs.machine.Records.{Loan};
+    ghost use Rattle.iox2_machine.specs.machine.State.{State, Messages};
+    ghost use Rattle.iox2_machine.specs.machine.SingleCalls.{WriteAllFrom};
     ghost use Rattle.iox2_domain.specs.Shows.{Shows};
     ghost use Rattle.iox2_pubsub.specs.Live.{HasLender, IsUnblocked, IsUnwritten, IsWritten, IsWrittenLoan, LoanHasHeader, LoanHasUserHeader, NeverWaits, unwritten_key, unwritten_loan, written_key};
     ghost use Rattle.iox2_pubsub.specs.Leaves.{LeavesBut};

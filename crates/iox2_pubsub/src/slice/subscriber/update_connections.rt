@@ -3,7 +3,7 @@
 use crate::domain::Domain;
 use crate::slice::Subscriber;
 use crate::update_connections::UpdateConnections;
-use iox2_store::{BackpressureFn, ConnectionFailure, DegradationFn};
+use iox2_machine::{BackpressureFn, ConnectionFailure, DegradationFn};
 
 /// A subscriber gets its connections with new publishers, which a receive does too.
 ///
@@ -11,7 +11,7 @@ use iox2_store::{BackpressureFn, ConnectionFailure, DegradationFn};
 impl<T: Drop, U: Default + Drop, F: BackpressureFn, G: DegradationFn> UpdateConnections<T, U, F, G>
     for Subscriber {
     ghost use Rattle.iox2_domain.specs.Boxes.{answers_of};
-    ghost use Rattle.iox2_store.specs.machine.SubscriberUpdate.{UpdateSubscriber};
+    ghost use Rattle.iox2_machine.specs.machine.SubscriberUpdate.{UpdateSubscriber};
     ghost use Rattle.iox2_pubsub.specs.Live.{IsLiveSubscriber, IsUpToDate, KeepsAll, subscriber_key, WaitingStays};
     ghost use Rattle.iox2_pubsub.specs.Handles.{as_subscriber, subscriber_id};
 

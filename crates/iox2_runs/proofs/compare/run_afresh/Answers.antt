@@ -1,4 +1,4 @@
-use Rattle.iox2_store.specs.machine.State.{fresh, no_messages}
+use Rattle.iox2_machine.specs.machine.State.{fresh, no_messages}
 use Rattle.iox2_runs.proofs.compare.run_afresh.Goals as goal
 
 pub returns-clause-ran : goal.returns-clause-ran

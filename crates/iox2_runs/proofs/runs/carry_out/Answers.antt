@@ -1,7 +1,7 @@
 use Rattle.iox2_domain.specs.Shows.{Shows}
 use Rattle.iox2_runs.specs.Carries.{entry_for}
 use Rattle.std.proofs.Common.{map, refl}
-use Rattle.iox2_store.specs.machine.Environments.{fixed_handlers}
+use Rattle.iox2_machine.specs.machine.Environments.{fixed_handlers}
 use Rattle.iox2_runs.proofs.TableCalls.{nothing_comes}
 use Rattle.iox2_runs.proofs.LeavingSteps.{leaves-all}
 use Rattle.iox2_runs.proofs.Turned.{carried, carried-here, taken-held}

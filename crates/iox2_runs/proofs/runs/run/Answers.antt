@@ -1,6 +1,6 @@
 use Rattle.std.proofs.Common.{◌≡◌, ◌<◌, ◌+◌, arith, length, List, [], ◌∷◌, ◌++◌, take, get_or, refl, sym, ap, ◌∙◌}
 use Rattle.std.proofs.lemmas.List.{take_more, take_all}
-use Rattle.iox2_store.specs.machine.Environments.{fixed_handlers}
+use Rattle.iox2_machine.specs.machine.Environments.{fixed_handlers}
 use Rattle.iox2_runs.specs.Carries.{defaults_of}
 use Rattle.iox2_commands.specs.declared.command.Command.{Command}
 use Rattle.iox2_runs.proofs.RunLoop.{has_run_none, has_run_more, still_keeps, is_run, runs_on_domain}

@@ -3,7 +3,7 @@ use Rattle.std.proofs.lemmas.List.{with_items_is}
 use Rattle.std.specs.declared.option.Option.TheVariants.{None}
 use Rattle.std.specs.Prelude.{IfOk}
 use Rattle.iox2_domain.specs.Fields.{Fields}
-use Rattle.iox2_store.specs.machine.Limits.{channel_count}
+use Rattle.iox2_machine.specs.machine.Limits.{channel_count}
 use Rattle.iox2_domain.specs.Invariant.{connection_count}
 use Rattle.iox2_domain.specs.Updates.{MakesConnection}
 use Rattle.iox2_steps.proofs.updates.MadeRoom.{always, gets-sender-room, gets-receiver-room, keeps-receiver-room, makes-room}

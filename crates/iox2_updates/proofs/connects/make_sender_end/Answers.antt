@@ -2,8 +2,8 @@ use Rattle.std.proofs.Common.{◌≡◌, ◌∙◌, ap, sym, slice_index_or}
 use Rattle.std.proofs.lemmas.List.{with_items_is}
 use Rattle.std.specs.declared.option.Option.TheVariants.{None}
 use Rattle.iox2_domain.specs.Boxes.{answers_of}
-use Rattle.iox2_store.specs.machine.Limits.{warning_limit}
-use Rattle.iox2_store.specs.machine.Connections.{warnings_after}
+use Rattle.iox2_machine.specs.machine.Limits.{warning_limit}
+use Rattle.iox2_machine.specs.machine.Connections.{warnings_after}
 use Rattle.iox2_domain.specs.WarningRing.{warning_ring}
 use Rattle.iox2_domain.specs.Fields.{Fields}
 use Rattle.iox2_domain.specs.Updates.{receiver_key, changed_at, key_from, with_sender_key}

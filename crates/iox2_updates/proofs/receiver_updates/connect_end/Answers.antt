@@ -3,8 +3,8 @@ use Rattle.std.proofs.lemmas.List.{with_items_is}
 use Rattle.std.specs.Prelude.{MatchOption}
 use Rattle.std.specs.declared.option.Option.TheVariants.{None, Some}
 use Rattle.iox2_domain.specs.Boxes.{answers_of}
-use Rattle.iox2_store.specs.machine.Limits.{warning_limit}
-use Rattle.iox2_store.specs.machine.Connections.{warnings_after}
+use Rattle.iox2_machine.specs.machine.Limits.{warning_limit}
+use Rattle.iox2_machine.specs.machine.Connections.{warnings_after}
 use Rattle.iox2_slots.specs.declared.connection.Home.{Home}
 use Rattle.slab.specs.Slab.{get}
 use Rattle.iox2_slots.specs.Link.{Link}

@@ -1,7 +1,7 @@
 use Rattle.std.proofs.Common.{◌≡◌, ◌∙◌, true, ap, sym, refl}
 use Rattle.std.proofs.lemmas.List.{with_items_is}
-use Rattle.iox2_store.specs.machine.Limits.{expired_limit}
-use Rattle.iox2_store.specs.machine.SubscriberUpdate.{Keep_expired, Evict, Discard_data}
+use Rattle.iox2_machine.specs.machine.Limits.{expired_limit}
+use Rattle.iox2_machine.specs.machine.SubscriberUpdate.{Keep_expired, Evict, Discard_data}
 use Rattle.iox2_ends.specs.declared.retirement.Retirement.TheVariants.{KeepExpired, Evict as EvictKey, DiscardData}
 use Rattle.iox2_domain.specs.Ports.{SubscriberFields}
 use Rattle.iox2_domain.specs.Fields.{Fields}

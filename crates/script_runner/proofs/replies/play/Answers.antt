@@ -1,7 +1,7 @@
 use Rattle.std.proofs.Common.{ℕ, ap, refl, sym, ◌∙◌}
 use Rattle.circular_buffer.specs.Buffer.{Buffer}
-use Rattle.iox2_store.specs.declared.warning.Warning.{Warning}
-use Rattle.iox2_store.specs.machine.State.{State, fresh, no_messages}
+use Rattle.iox2_machine.specs.declared.warning.Warning.{Warning}
+use Rattle.iox2_machine.specs.machine.State.{State, fresh, no_messages}
 use Rattle.script_text.specs.Warnings.{warning_lines}
 use Rattle.script_runner.proofs.replies.play.Goals as goal
 

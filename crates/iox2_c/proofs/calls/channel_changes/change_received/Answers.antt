@@ -1,5 +1,5 @@
 use Rattle.std.proofs.Common.{ap, subst, sym, ◌∙◌}
-use Rattle.iox2_store.specs.machine.ChannelCalls.{received_closed, received_hinted}
+use Rattle.iox2_machine.specs.machine.ChannelCalls.{received_closed, received_hinted}
 use Rattle.iox2_pubsub.specs.declared.subscriber.Subscriber.{Subscriber}
 use Rattle.iox2_c.specs.Channels.{ChangesReceived, ClosesReceived, ComesTo, HintsReceived}
 use Rattle.iox2_c.specs.Numbers.{wide}

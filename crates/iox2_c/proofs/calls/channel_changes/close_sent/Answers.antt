@@ -1,5 +1,5 @@
 use Rattle.std.proofs.Common.{ap}
-use Rattle.iox2_store.specs.machine.ChannelCalls.{sent_closed}
+use Rattle.iox2_machine.specs.machine.ChannelCalls.{sent_closed}
 use Rattle.iox2_c.specs.Channels.{ComesTo}
 use Rattle.iox2_c.specs.Numbers.{wide}
 use Rattle.iox2_c.specs.Serving.{Serving}

@@ -1,5 +1,5 @@
 use Rattle.std.proofs.Common.{ap, ◌∙◌}
-use Rattle.iox2_store.specs.machine.ChannelCalls.{SetChannelState}
+use Rattle.iox2_machine.specs.machine.ChannelCalls.{SetChannelState}
 use Rattle.iox2_pubsub.specs.declared.subscriber.Subscriber.{Subscriber}
 use Rattle.iox2_c.specs.Numbers.{wide}
 use Rattle.iox2_c.specs.Serving.{Serving}

@@ -1,5 +1,5 @@
 use Rattle.std.proofs.Common.{ap}
-use Rattle.iox2_store.specs.machine.ChannelCalls.{has_disconnect_hint}
+use Rattle.iox2_machine.specs.machine.ChannelCalls.{has_disconnect_hint}
 use Rattle.iox2_c.specs.Numbers.{wide}
 use Rattle.iox2_c.specs.Serving.{Serving}
 use Rattle.iox2_c.proofs.ChannelSteps.{told-number}

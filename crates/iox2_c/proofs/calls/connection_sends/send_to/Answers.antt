@@ -1,6 +1,6 @@
 use Rattle.std.proofs.Common.{rules, ap, subst}
 use Rattle.std.specs.declared.result.Result.{Result}
-use Rattle.iox2_store.specs.declared.errors.SendError.{SendError}
+use Rattle.iox2_machine.specs.declared.errors.SendError.{SendError}
 use Rattle.iox2_pubsub.specs.declared.send_outcome.SendOutcome.{SendOutcome}
 use Rattle.iox2_c.specs.ConnectionSends.{SendsLoanTo}
 use Rattle.iox2_c.specs.Numbers.{wide}

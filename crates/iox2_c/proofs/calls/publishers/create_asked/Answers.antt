@@ -1,9 +1,9 @@
 use Rattle.std.proofs.Common.{rules, ◌≡◌, ℕ, ap, subst, sym, Option, None, Some}
 use Rattle.std.specs.Prelude.{MatchResult}
-use Rattle.iox2_store.specs.machine.Limits.{fits, worst_case}
-use Rattle.iox2_store.specs.machine.Ports.{CreatePublisher}
-use Rattle.iox2_store.specs.machine.State.{Messages}
-use Rattle.iox2_store.specs.declared.service_config.ServiceConfig.{ServiceConfig}
+use Rattle.iox2_machine.specs.machine.Limits.{fits, worst_case}
+use Rattle.iox2_machine.specs.machine.Ports.{CreatePublisher}
+use Rattle.iox2_machine.specs.machine.State.{Messages}
+use Rattle.iox2_machine.specs.declared.service_config.ServiceConfig.{ServiceConfig}
 use Rattle.iox2_domain.specs.Shows.{Shows}
 use Rattle.iox2_pubsub.specs.Factories.{AsksFor, PublisherFactory, callback_of, with_slots}
 use Rattle.iox2_pubsub.specs.Handles.{as_publisher, publisher_id}

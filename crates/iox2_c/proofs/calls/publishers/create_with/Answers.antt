@@ -1,5 +1,5 @@
 use Rattle.std.proofs.Common.{ap}
-use Rattle.iox2_store.specs.machine.Records.{PublisherSettings}
+use Rattle.iox2_machine.specs.machine.Records.{PublisherSettings}
 use Rattle.iox2_pubsub.specs.Factories.{with_slots}
 use Rattle.iox2_c.specs.Calls.{publisher_made}
 use Rattle.iox2_c.specs.Codes.{slots_numbered}

@@ -1,5 +1,5 @@
 use Rattle.std.proofs.Common.{ℕ, ap, inl, subst, ◌∙◌}
-use Rattle.iox2_store.specs.declared.key.Key.{Key}
+use Rattle.iox2_machine.specs.declared.key.Key.{Key}
 use Rattle.iox2_c.specs.Steps.{SendsLoan, Writes}
 use Rattle.iox2_c.proofs.calls.sends.send_bytes.Goals as goal
 

@@ -2,8 +2,8 @@ use Rattle.std.proofs.Common.{◌≡◌, ℕ, ap, refl, subst, sym, ◌∙◌}
 use Rattle.std.specs.Prelude.{IfSome}
 use Rattle.std.specs.declared.option.Option.{Option}
 use Rattle.std.specs.declared.result.Result.TheVariants.{Ok}
-use Rattle.iox2_store.specs.declared.key.Key.{Key}
-use Rattle.iox2_store.specs.machine.Receives.{Got_sample, No_sample, Receive_error}
+use Rattle.iox2_machine.specs.declared.key.Key.{Key}
+use Rattle.iox2_machine.specs.machine.Receives.{Got_sample, No_sample, Receive_error}
 use Rattle.iox2_pubsub.specs.Handles.{as_sample, as_subscriber, origin_of, receiver_of, sample_number, subscriber_id}
 use Rattle.iox2_pubsub.specs.Live.{IsLiveSample, sample_key}
 use Rattle.iox2_pubsub.specs.ReceivedSamples.{received_slice}

@@ -1,5 +1,5 @@
 use Rattle.std.proofs.Common.{◌<◌, ◌++◌, [], ◌∷◌, ◌∙◌, length, ap, sym, subst, None}
-use Rattle.iox2_store.specs.machine.Places.{set_place}
+use Rattle.iox2_machine.specs.machine.Places.{set_place}
 use Rattle.iox2_domain.specs.Ports.{SubscriberFields}
 use Rattle.iox2_domain.proofs.lemmas.containers.ConnectionKeys.{set_place-within}
 use Rattle.iox2_domain.proofs.subscriber_state.SubscriberState.expire.Goals as goal

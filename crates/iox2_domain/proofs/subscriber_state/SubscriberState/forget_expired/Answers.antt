@@ -1,6 +1,6 @@
 use Rattle.std.proofs.Common.{rules, ◌∙◌, ap}
 use Rattle.std.proofs.lemmas.Fn.{filter_same}
-use Rattle.iox2_store.specs.machine.Numbers.{without}
+use Rattle.iox2_machine.specs.machine.Numbers.{without}
 use Rattle.iox2_domain.specs.Ports.{SubscriberFields}
 use Rattle.iox2_domain.proofs.subscriber_state.SubscriberState.forget_expired.Goals as goal
 

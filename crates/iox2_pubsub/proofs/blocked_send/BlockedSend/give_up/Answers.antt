@@ -1,7 +1,7 @@
 use Rattle.std.proofs.Common.{◌<◌, refl, sym, subst, ◌∙◌}
 use Rattle.iox2_domain.specs.Boxes.{answers_of}
-use Rattle.iox2_store.specs.machine.Sends.{GiveUp}
-use Rattle.iox2_store.specs.machine.State.{State}
+use Rattle.iox2_machine.specs.machine.Sends.{GiveUp}
+use Rattle.iox2_machine.specs.machine.State.{State}
 use Rattle.iox2_laws.proofs.SendsRemain.{give_up_waits_with}
 use Rattle.iox2_messages.specs.SendEnds.{end_result}
 use Rattle.iox2_domain.specs.Fields.{kept_of, keeping}

@@ -1,5 +1,5 @@
 use Rattle.std.proofs.Common.{ap, sym, ◌∙◌}
-use Rattle.iox2_store.specs.declared.service_config.ServiceConfig.{ServiceConfig}
+use Rattle.iox2_machine.specs.declared.service_config.ServiceConfig.{ServiceConfig}
 use Rattle.iox2_pubsub.proofs.LiveParts.{single-valued}
 use Rattle.iox2_pubsub.proofs.SliceParts.{dynamic-holds, dynamic-sliced}
 use Rattle.iox2_domain.specs.Fields.{kept_of}

@@ -1,5 +1,5 @@
-use Rattle.iox2_store.specs.machine.SingleCalls.{HoldsLoan}
-use Rattle.iox2_store.specs.machine.State.{State}
+use Rattle.iox2_machine.specs.machine.SingleCalls.{HoldsLoan}
+use Rattle.iox2_machine.specs.machine.State.{State}
 use Rattle.iox2_pubsub.specs.Live.{IsLoanKey}
 use Rattle.iox2_pubsub.proofs.HeldKeys.{held-message, same-service}
 use Rattle.iox2_pubsub.proofs.domain.Domain.holds_loan.Goals as goal

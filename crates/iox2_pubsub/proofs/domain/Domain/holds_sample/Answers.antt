@@ -1,6 +1,6 @@
 use Rattle.std.proofs.Common.{subst}
-use Rattle.iox2_store.specs.machine.SingleCalls.{HoldsSample}
-use Rattle.iox2_store.specs.machine.State.{State}
+use Rattle.iox2_machine.specs.machine.SingleCalls.{HoldsSample}
+use Rattle.iox2_machine.specs.machine.State.{State}
 use Rattle.iox2_domain.specs.Kept.{Kept}
 use Rattle.iox2_domain.specs.Shows.{KeepsEntries}
 use Rattle.iox2_pubsub.specs.Live.{IsSampleKey}

@@ -1,5 +1,5 @@
-use Rattle.iox2_store.specs.machine.SingleCalls.{HoldsSubscriber}
-use Rattle.iox2_store.specs.machine.State.{State}
+use Rattle.iox2_machine.specs.machine.SingleCalls.{HoldsSubscriber}
+use Rattle.iox2_machine.specs.machine.State.{State}
 use Rattle.iox2_pubsub.specs.Live.{IsSubscriberKey}
 use Rattle.iox2_pubsub.proofs.HeldKeys.{held-port, same-service}
 use Rattle.iox2_pubsub.proofs.domain.Domain.holds_subscriber.Goals as goal

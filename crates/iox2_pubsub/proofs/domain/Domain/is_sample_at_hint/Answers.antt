@@ -1,5 +1,5 @@
 use Rattle.std.proofs.Common.{◌≡◌, ap, subst}
-use Rattle.iox2_store.specs.machine.SingleCalls.{HoldsSample}
+use Rattle.iox2_machine.specs.machine.SingleCalls.{HoldsSample}
 use Rattle.iox2_domain.specs.Kept.{Kept, state_of}
 use Rattle.iox2_domain.proofs.lemmas.samples.BorrowedNumbers.{lies-live}
 use Rattle.iox2_pubsub.specs.Parts.{sample_named}

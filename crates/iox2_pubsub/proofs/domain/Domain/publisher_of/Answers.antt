@@ -1,5 +1,5 @@
 use Rattle.std.proofs.Common.{refl, subst, sym}
-use Rattle.iox2_store.specs.machine.SingleCalls.{HoldsPublisher}
+use Rattle.iox2_machine.specs.machine.SingleCalls.{HoldsPublisher}
 use Rattle.iox2_domain.specs.Fields.{kept_of}
 use Rattle.iox2_domain.specs.Kept.{state_of}
 use Rattle.iox2_domain.proofs.lemmas.fields.OpenPorts.{absent-publisher, present-publisher}

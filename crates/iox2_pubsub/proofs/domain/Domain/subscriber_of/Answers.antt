@@ -1,5 +1,5 @@
 use Rattle.std.proofs.Common.{refl, subst, sym}
-use Rattle.iox2_store.specs.machine.SingleCalls.{HoldsSubscriber}
+use Rattle.iox2_machine.specs.machine.SingleCalls.{HoldsSubscriber}
 use Rattle.iox2_domain.specs.Fields.{kept_of}
 use Rattle.iox2_domain.specs.Kept.{state_of}
 use Rattle.iox2_pubsub.specs.Live.{subscriber_key}

@@ -1,5 +1,5 @@
 use Rattle.std.proofs.Common.{ap, ◌∙◌}
-use Rattle.iox2_store.specs.declared.service_config.ServiceConfig.{ServiceConfig}
+use Rattle.iox2_machine.specs.declared.service_config.ServiceConfig.{ServiceConfig}
 use Rattle.iox2_domain.specs.Kept.{Kept}
 use Rattle.iox2_pubsub.proofs.domain.Domain.variant.Goals as goal
 

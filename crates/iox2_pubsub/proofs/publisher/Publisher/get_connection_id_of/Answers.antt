@@ -1,6 +1,6 @@
 use Rattle.std.proofs.Common.{ℕ}
-use Rattle.iox2_store.specs.machine.ChannelCalls.{connection_place}
-use Rattle.iox2_store.specs.machine.State.{State}
+use Rattle.iox2_machine.specs.machine.ChannelCalls.{connection_place}
+use Rattle.iox2_machine.specs.machine.State.{State}
 use Rattle.iox2_pubsub.proofs.ChannelsShown.{publisher-answer}
 use Rattle.iox2_pubsub.proofs.PlacedHandles.{publisher-there}
 use Rattle.iox2_pubsub.proofs.publisher.Publisher.get_connection_id_of.Goals as goal

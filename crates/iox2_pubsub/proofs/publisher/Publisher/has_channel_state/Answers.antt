@@ -1,6 +1,6 @@
 use Rattle.std.proofs.Common.{ℕ}
-use Rattle.iox2_store.specs.machine.ChannelCalls.{has_channel_state}
-use Rattle.iox2_store.specs.machine.State.{State}
+use Rattle.iox2_machine.specs.machine.ChannelCalls.{has_channel_state}
+use Rattle.iox2_machine.specs.machine.State.{State}
 use Rattle.iox2_pubsub.proofs.ChannelsShown.{publisher-answer}
 use Rattle.iox2_pubsub.proofs.publisher.Publisher.has_channel_state.Goals as goal
 

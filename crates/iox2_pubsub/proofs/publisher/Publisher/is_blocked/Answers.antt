@@ -1,5 +1,5 @@
 use Rattle.std.proofs.Common.{◌<◌, ap, subst, ◌∙◌}
-use Rattle.iox2_store.specs.machine.State.{is_blocked}
+use Rattle.iox2_machine.specs.machine.State.{is_blocked}
 use Rattle.iox2_domain.specs.Kept.{Kept, state_of}
 use Rattle.iox2_pubsub.specs.Live.{publisher_key}
 use Rattle.iox2_pubsub.proofs.LiveParts.{publisher-parts, unblocked-tests}

@@ -1,6 +1,6 @@
 use Rattle.std.proofs.Common.{ap, sym, ◌∙◌}
 use Rattle.std.proofs.lemmas.Result.{err_from_is_err_and}
-use Rattle.iox2_store.specs.machine.State.{State}
+use Rattle.iox2_machine.specs.machine.State.{State}
 use Rattle.iox2_pubsub.proofs.WrittenLoanCalls.{with_value, written-grants, written-refused}
 use Rattle.iox2_pubsub.proofs.publisher.Publisher.loan.Goals as goal
 

@@ -1,15 +1,15 @@
 use Rattle.std.proofs.Common.{ap, inl, inr, refl, sym, ◌∙◌, List, [], ◌∷◌, ◌++◌, ℕ}
 use Rattle.std.proofs.lemmas.Result.{err_from_is_err_and}
-use Rattle.iox2_store.specs.declared.key.Key.{Key}
-use Rattle.iox2_store.specs.machine.Loans.{written}
-use Rattle.iox2_store.specs.machine.State.{State}
+use Rattle.iox2_machine.specs.declared.key.Key.{Key}
+use Rattle.iox2_machine.specs.machine.Loans.{written}
+use Rattle.iox2_machine.specs.machine.State.{State}
 use Rattle.iox2_domain.specs.Boxes.{answers_of}
 use Rattle.iox2_pubsub.specs.Live.{publisher_key, written_key}
 use Rattle.iox2_pubsub.proofs.BoxesAlike.{sends-kept, written-lender}
 use Rattle.iox2_pubsub.proofs.SendShown.{fails-copy, fails-there, whose-blocked}
 use Rattle.iox2_pubsub.specs.SendCalls.{FailsCopy}
 use Rattle.iox2_pubsub.proofs.WrittenLoanCalls.{with_value, written-out, copy-sent, written-refused}
-use Rattle.iox2_store.specs.declared.service_config.ServiceConfig.{ServiceConfig}
+use Rattle.iox2_machine.specs.declared.service_config.ServiceConfig.{ServiceConfig}
 use Rattle.iox2_pubsub.proofs.CopiesServe.{all-since, connected-as, copy-arrives, copy-others, copy-serves, none-are-all, none-still, waits-both}
 use Rattle.iox2_pubsub.specs.declared.subscriber.Subscriber.{Subscriber}
 use Rattle.iox2_pubsub.proofs.publisher.Publisher.send_copy.Goals as goal

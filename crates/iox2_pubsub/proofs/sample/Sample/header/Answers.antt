@@ -1,6 +1,6 @@
 use Rattle.std.specs.Prelude.{IsTrue}
 use Rattle.std.proofs.Common.{sym, subst}
-use Rattle.iox2_store.specs.machine.Mailbox.{is_borrowed}
+use Rattle.iox2_machine.specs.machine.Mailbox.{is_borrowed}
 use Rattle.iox2_domain.specs.Kept.{Kept, state_of}
 use Rattle.iox2_pubsub.specs.Live.{sample_key}
 use Rattle.iox2_pubsub.proofs.SampleOrigins.{entry-origin}

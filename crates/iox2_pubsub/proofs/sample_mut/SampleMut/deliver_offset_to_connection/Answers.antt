@@ -1,9 +1,9 @@
 use Rattle.std.proofs.Common.{◌≡◌, ◌<◌, ℕ, List, false, ap, sym, subst, ◌∙◌, refl}
-use Rattle.iox2_store.specs.machine.Limits.{channel_count}
-use Rattle.iox2_store.specs.machine.Sends.{SendToConnection}
-use Rattle.iox2_store.specs.machine.SingleCalls.{HoldsBlocked}
-use Rattle.iox2_store.specs.machine.State.{State, is_blocked}
-use Rattle.iox2_store.specs.declared.service_config.ServiceConfig.{ServiceConfig}
+use Rattle.iox2_machine.specs.machine.Limits.{channel_count}
+use Rattle.iox2_machine.specs.machine.Sends.{SendToConnection}
+use Rattle.iox2_machine.specs.machine.SingleCalls.{HoldsBlocked}
+use Rattle.iox2_machine.specs.machine.State.{State, is_blocked}
+use Rattle.iox2_machine.specs.declared.service_config.ServiceConfig.{ServiceConfig}
 use Rattle.iox2_laws.proofs.ConnectionSendsLeave.{send_to_connection_waits_with}
 use Rattle.iox2_domain.specs.Boxes.{answers_of}
 use Rattle.iox2_domain.specs.declared.boxes.PortBox.{PortBox}

@@ -1,5 +1,5 @@
 use Rattle.std.proofs.Common.{◌<◌, ℕ, ap, subst, ◌∙◌}
-use Rattle.iox2_store.specs.machine.State.{is_blocked}
+use Rattle.iox2_machine.specs.machine.State.{is_blocked}
 use Rattle.iox2_domain.specs.Fields.{kept_of}
 use Rattle.iox2_domain.specs.Kept.{Kept, state_of}
 use Rattle.iox2_pubsub.specs.Live.{written_key}

@@ -1,6 +1,6 @@
 use Rattle.std.proofs.Common.{ℕ, ap, ◌∙◌}
-use Rattle.iox2_store.specs.machine.ChannelCalls.{some_channel_has_state}
-use Rattle.iox2_store.specs.machine.State.{State}
+use Rattle.iox2_machine.specs.machine.ChannelCalls.{some_channel_has_state}
+use Rattle.iox2_machine.specs.machine.State.{State}
 use Rattle.iox2_domain.specs.Fields.{kept_of}
 use Rattle.iox2_domain.specs.Kept.{state_of}
 use Rattle.iox2_pubsub.proofs.ChannelsShown.{shown-answer}

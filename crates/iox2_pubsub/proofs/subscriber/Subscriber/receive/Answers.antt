@@ -1,7 +1,7 @@
 use Rattle.std.proofs.Common.{◌≡◌, ℕ, ap, sym, subst, ◌∙◌, Ok, Err, Some, None, refl, Option}
 use Rattle.iox2_domain.specs.Boxes.{answers_of}
 use Rattle.iox2_pubsub.proofs.KeptAnswers.{received}
-use Rattle.iox2_store.specs.machine.Receives.{Got_sample, No_sample, Receive_error}
+use Rattle.iox2_machine.specs.machine.Receives.{Got_sample, No_sample, Receive_error}
 use Rattle.iox2_domain.specs.Fields.{keeping}
 use Rattle.iox2_pubsub.specs.Live.{A_sample, IsNewIn, LeavesLater, TakesFirst}
 use Rattle.iox2_pubsub.specs.ReceivedSamples.{received_result}

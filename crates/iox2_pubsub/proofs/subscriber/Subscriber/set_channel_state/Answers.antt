@@ -1,8 +1,8 @@
 use Rattle.std.proofs.Common.{ℕ, Bool, ap, inl, refl, ◌∙◌}
 use Rattle.std.specs.List.{list_all}
-use Rattle.iox2_store.specs.machine.Channel.{closed_state, is_closed, with_state}
-use Rattle.iox2_store.specs.machine.ChannelCalls.{received_changed, senders_of}
-use Rattle.iox2_store.specs.machine.State.{State}
+use Rattle.iox2_machine.specs.machine.Channel.{closed_state, is_closed, with_state}
+use Rattle.iox2_machine.specs.machine.ChannelCalls.{received_changed, senders_of}
+use Rattle.iox2_machine.specs.machine.State.{State}
 use Rattle.iox2_domain.specs.Fields.{kept_of}
 use Rattle.iox2_domain.specs.Kept.{state_of}
 use Rattle.iox2_pubsub.proofs.ChangedChannels.{open-leaves}

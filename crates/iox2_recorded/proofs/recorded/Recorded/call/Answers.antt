@@ -1,6 +1,6 @@
 use Rattle.std.proofs.Common.{refl, sym, arith, ◌∙◌, [], ◌∷◌, ◌++◌}
-use Rattle.iox2_store.specs.machine.Environments.{fixed_handlers}
-use Rattle.iox2_store.specs.machine.State.{fresh, no_messages}
+use Rattle.iox2_machine.specs.machine.Environments.{fixed_handlers}
+use Rattle.iox2_machine.specs.machine.State.{fresh, no_messages}
 use Rattle.iox2_runs.specs.Carries.{defaults_of}
 use Rattle.iox2_runs.proofs.LeavingSteps.{push-placed}
 use Rattle.iox2_runs.proofs.RunLoop.{still_keeps}

@@ -1,7 +1,7 @@
 use Rattle.std.proofs.Common.{◌≡◌, rules, sym, subst, ◌∙◌, Some}
-use Rattle.iox2_store.specs.machine.Loans.{written}
-use Rattle.iox2_store.specs.machine.Records.{Loan}
-use Rattle.iox2_store.specs.machine.State.{State, Messages, with_loan}
+use Rattle.iox2_machine.specs.machine.Loans.{written}
+use Rattle.iox2_machine.specs.machine.Records.{Loan}
+use Rattle.iox2_machine.specs.machine.State.{State, Messages, with_loan}
 use Rattle.iox2_domain.specs.Shows.{Shows}
 use Rattle.iox2_pubsub.specs.declared.sample_mut_uninit.SampleMutUninit.{SampleMutUninit}
 use Rattle.iox2_runs.proofs.CellViews.{answers-alike, all-written}

@@ -7,7 +7,7 @@ use Rattle.iox2_runs.proofs.LiveEntries.{shown_free}
 use Rattle.iox2_runs.proofs.Services.{single-here}
 use Rattle.iox2_runs.proofs.Turned.{keeps, looks, makes, unready}
 use Rattle.iox2_runs.specs.declared.runs.made.Made.TheVariants.{Nothing, Unwritten}
-use Rattle.iox2_store.specs.machine.Environments.{fixed_handlers}
+use Rattle.iox2_machine.specs.machine.Environments.{fixed_handlers}
 use Rattle.std.proofs.Common.{ℕ, refl, sym, ap, ◌∙◌}
 use Rattle.iox2_runs.proofs.runs.lends.loan_uninit.Goals as goal
 

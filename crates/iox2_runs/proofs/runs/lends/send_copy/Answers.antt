@@ -6,7 +6,7 @@ use Rattle.iox2_runs.proofs.LeavingSteps.{leaves-copying}
 use Rattle.iox2_runs.proofs.LiveEntries.{shown_free}
 use Rattle.iox2_runs.proofs.Services.{single-here}
 use Rattle.iox2_runs.proofs.Turned.{keeps, looks, unready}
-use Rattle.iox2_store.specs.declared.key.Key.{Key}
+use Rattle.iox2_machine.specs.declared.key.Key.{Key}
 use Rattle.std.proofs.Common.{sym, ap, ◌∙◌}
 use Rattle.iox2_runs.proofs.runs.lends.send_copy.Goals as goal
 

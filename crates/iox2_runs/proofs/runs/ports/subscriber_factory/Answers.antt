@@ -1,6 +1,6 @@
 use Rattle.std.proofs.Common.{ℕ, sym, ap, ◌∙◌, Option}
-use Rattle.iox2_store.specs.machine.Limits.{buffer_limit}
-use Rattle.iox2_store.specs.machine.Records.{SubscriberSettings, Fixed}
+use Rattle.iox2_machine.specs.machine.Limits.{buffer_limit}
+use Rattle.iox2_machine.specs.machine.Records.{SubscriberSettings, Fixed}
 use Rattle.iox2_pubsub.specs.Factories.{SubscriberFactory}
 use Rattle.iox2_runs.specs.Services.{given_for}
 use Rattle.iox2_runs.proofs.runs.ports.subscriber_factory.Goals as goal

@@ -1,10 +1,10 @@
 use Rattle.std.proofs.Common.{◌≡◌, ℕ, ap, subst, sym, Option, None, Some}
 use Rattle.std.specs.Prelude.{MatchResult}
 use Rattle.iox2_domain.specs.Boxes.{answers_of}
-use Rattle.iox2_store.specs.machine.Limits.{fits, worst_case}
-use Rattle.iox2_store.specs.machine.Ports.{CreatePublisher}
-use Rattle.iox2_store.specs.machine.State.{Messages, State}
-use Rattle.iox2_store.specs.declared.service_config.ServiceConfig.{ServiceConfig}
+use Rattle.iox2_machine.specs.machine.Limits.{fits, worst_case}
+use Rattle.iox2_machine.specs.machine.Ports.{CreatePublisher}
+use Rattle.iox2_machine.specs.machine.State.{Messages, State}
+use Rattle.iox2_machine.specs.declared.service_config.ServiceConfig.{ServiceConfig}
 use Rattle.iox2_domain.specs.Shows.{Shows}
 use Rattle.iox2_pubsub.specs.Factories.{AsksFor, PublisherFactory, callback_of, with_slots}
 use Rattle.iox2_pubsub.specs.Handles.{publisher_id}

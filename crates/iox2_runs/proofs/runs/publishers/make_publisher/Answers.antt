@@ -2,8 +2,8 @@ use Rattle.std.proofs.Common.{◌≡◌, sym, ap, subst, ◌∙◌, None, Some}
 use Rattle.std.specs.Prelude.{MatchResult}
 use Rattle.std.proofs.lemmas.Result.{err_from_is_err_and}
 use Rattle.iox2_domain.specs.Boxes.{answers_of}
-use Rattle.iox2_store.specs.machine.Ports.{CreatePublisher}
-use Rattle.iox2_store.specs.machine.Records.{PublisherSettings}
+use Rattle.iox2_machine.specs.machine.Ports.{CreatePublisher}
+use Rattle.iox2_machine.specs.machine.Records.{PublisherSettings}
 use Rattle.iox2_pubsub.specs.declared.publisher.Publisher.{Publisher}
 use Rattle.iox2_runs.proofs.CarriedPorts.{fixed-settings, settings_of, slice-settings}
 use Rattle.iox2_runs.proofs.FixedCalls.{creation_told, publisher_created}

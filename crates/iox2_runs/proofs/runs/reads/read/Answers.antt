@@ -5,7 +5,7 @@ use Rattle.iox2_runs.proofs.TableLooks.{is_sample_entry, is_loan_entry}
 use Rattle.iox2_runs.proofs.Turned.{looks}
 use Rattle.iox2_runs.specs.Carries.{entry_for}
 use Rattle.iox2_runs.specs.declared.runs.made.Made.{Made}
-use Rattle.iox2_store.specs.machine.Environments.{fixed_handlers}
+use Rattle.iox2_machine.specs.machine.Environments.{fixed_handlers}
 use Rattle.std.proofs.Common.{ap, ◌∙◌}
 use Rattle.iox2_runs.proofs.runs.reads.read.Goals as goal
 

@@ -11,7 +11,7 @@ use Rattle.iox2_runs.proofs.Turned.{makes, unready}
 use Rattle.iox2_runs.specs.Carries.{entry_for}
 use Rattle.iox2_runs.specs.declared.runs.made.Made.TheVariants.{Nothing}
 use Rattle.iox2_runs.specs.declared.runs.made.Made.{Made}
-use Rattle.iox2_store.specs.machine.Environments.{fixed_handlers}
+use Rattle.iox2_machine.specs.machine.Environments.{fixed_handlers}
 use Rattle.std.proofs.Common.{ap, ◌∙◌}
 use Rattle.iox2_runs.proofs.runs.updates.update.Goals as goal
 

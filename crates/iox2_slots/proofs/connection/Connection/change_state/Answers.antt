@@ -1,5 +1,5 @@
 use Rattle.std.proofs.Common.{◌-◌, arith}
-use Rattle.iox2_store.specs.machine.Channel.{with_state}
+use Rattle.iox2_machine.specs.machine.Channel.{with_state}
 use Rattle.iox2_slots.proofs.FurtherFields.{further-is, room-at, status-changed-at}
 use Rattle.iox2_slots.proofs.connection.Connection.change_state.Goals as goal
 

@@ -1,5 +1,5 @@
 use Rattle.std.proofs.Common.{◌-◌, arith}
-use Rattle.iox2_store.specs.machine.Channel.{with_hint}
+use Rattle.iox2_machine.specs.machine.Channel.{with_hint}
 use Rattle.iox2_slots.proofs.FurtherFields.{further-is, room-at, status-changed-at}
 use Rattle.iox2_slots.proofs.connection.Connection.set_disconnect_hint.Goals as goal
 

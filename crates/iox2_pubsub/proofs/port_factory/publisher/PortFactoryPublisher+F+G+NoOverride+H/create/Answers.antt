@@ -1,7 +1,7 @@
 use Rattle.std.proofs.Common.{◌∙◌, ap, subst}
 use Rattle.std.specs.declared.option.Option.TheVariants.{None, Some}
 use Rattle.iox2_domain.specs.Boxes.{answers_of}
-use Rattle.iox2_store.specs.machine.Ports.{CreatePublisher}
+use Rattle.iox2_machine.specs.machine.Ports.{CreatePublisher}
 use Rattle.iox2_pubsub.specs.Factories.{PublisherFactory}
 use Rattle.iox2_pubsub.specs.declared.port_factory.preallocation.NoOverride.{NoOverride}
 use Rattle.iox2_pubsub.specs.declared.publisher.Publisher.{Publisher}

@@ -3,7 +3,7 @@ use Rattle.std.proofs.lemmas.Result.{err_from_is_err_and}
 use Rattle.std.specs.declared.option.Option.TheVariants.{None, Some}
 use Rattle.iox2_domain.specs.Boxes.{answers_of}
 use Rattle.iox2_domain.specs.SubscriberEntry.{asked_for}
-use Rattle.iox2_store.specs.declared.service_config.ServiceConfig.{ServiceConfig}
+use Rattle.iox2_machine.specs.declared.service_config.ServiceConfig.{ServiceConfig}
 use Rattle.iox2_pubsub.proofs.DepartedShown.{subscriber-made-room}
 use Rattle.iox2_pubsub.proofs.SubscribersShown.{made-buffer, made-shown, made-live, refused-shown}
 use Rattle.iox2_pubsub.proofs.CallsStay.{always-shown, subscriber-apart-from-next, subscriber-creation-stays, subscriber-is-new}

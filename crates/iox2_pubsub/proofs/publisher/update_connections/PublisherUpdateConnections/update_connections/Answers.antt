@@ -1,11 +1,11 @@
 use Rattle.std.proofs.Common.{◌≡◌, ap, sym, subst, ◌∙◌, false, Option, Some}
-use Rattle.iox2_store.specs.machine.State.{is_blocked}
+use Rattle.iox2_machine.specs.machine.State.{is_blocked}
 use Rattle.iox2_domain.specs.Kept.{Kept, state_of}
 use Rattle.iox2_domain.specs.Ports.{PublisherFields}
 use Rattle.iox2_domain.proofs.lemmas.fields.ConnectionEnds.{free-of}
 use Rattle.iox2_pubsub.proofs.LiveParts.{unblocked-test}
 use Rattle.iox2_pubsub.proofs.StaysBut.{same-boxes}
-use Rattle.iox2_store.specs.declared.errors.ConnectionFailure.{ConnectionFailure}
+use Rattle.iox2_machine.specs.declared.errors.ConnectionFailure.{ConnectionFailure}
 use Rattle.iox2_domain.specs.Boxes.{answers_of}
 use Rattle.iox2_pubsub.proofs.KeptAnswers.{publisher-updated}
 use Rattle.iox2_domain.specs.Connects.{UpdatesPublisher}

@@ -1,7 +1,7 @@
 use Rattle.std.proofs.Common.{rules, ap, sym, ◌∙◌, replicate, Option, None}
 use Rattle.std.proofs.lemmas.List.{length-replicate}
-use Rattle.iox2_store.specs.machine.State.{State}
-use Rattle.iox2_store.specs.declared.service_config.ServiceConfig.{ServiceConfig}
+use Rattle.iox2_machine.specs.machine.State.{State}
+use Rattle.iox2_machine.specs.declared.service_config.ServiceConfig.{ServiceConfig}
 use Rattle.iox2_pubsub.proofs.DefaultSlices.{all-answers}
 use Rattle.iox2_pubsub.proofs.SliceParts.{dynamic-holds}
 use Rattle.iox2_pubsub.proofs.WrittenLoanCalls.{default-grants, default-refused}

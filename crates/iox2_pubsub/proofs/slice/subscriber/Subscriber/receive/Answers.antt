@@ -2,10 +2,10 @@ use Rattle.std.proofs.Common.{ℕ, ap, subst, ◌∙◌, Option, Result, Ok}
 use Rattle.iox2_domain.specs.Boxes.{answers_of}
 use Rattle.iox2_domain.specs.Kept.{Kept}
 use Rattle.iox2_domain.specs.Shows.{Shows}
-use Rattle.iox2_store.specs.machine.Receives.{Receive}
-use Rattle.iox2_store.specs.machine.Records.{Environment}
-use Rattle.iox2_store.specs.machine.State.{State, Messages}
-use Rattle.iox2_store.specs.declared.errors.ReceiveError.{ReceiveError}
+use Rattle.iox2_machine.specs.machine.Receives.{Receive}
+use Rattle.iox2_machine.specs.machine.Records.{Environment}
+use Rattle.iox2_machine.specs.machine.State.{State, Messages}
+use Rattle.iox2_machine.specs.declared.errors.ReceiveError.{ReceiveError}
 use Rattle.iox2_pubsub.specs.ReceivedSamples.{received_result}
 use Rattle.iox2_pubsub.specs.declared.sample.Sample.{Sample}
 use Rattle.iox2_pubsub.proofs.slice.subscriber.Subscriber.receive.Goals as goal

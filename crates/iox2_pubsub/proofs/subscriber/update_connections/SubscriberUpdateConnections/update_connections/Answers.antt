@@ -1,7 +1,7 @@
 use Rattle.std.proofs.Common.{Option, subst, sym}
 use Rattle.iox2_domain.specs.ReceiverSteps.{UpdatesReceiver}
 use Rattle.iox2_pubsub.specs.UpdateCalls.{returned_failure}
-use Rattle.iox2_store.specs.declared.errors.ConnectionFailure.{ConnectionFailure}
+use Rattle.iox2_machine.specs.declared.errors.ConnectionFailure.{ConnectionFailure}
 use Rattle.iox2_domain.specs.Boxes.{answers_of}
 use Rattle.iox2_pubsub.proofs.KeptAnswers.{subscriber-updated}
 use Rattle.iox2_domain.specs.Fields.{keeping}

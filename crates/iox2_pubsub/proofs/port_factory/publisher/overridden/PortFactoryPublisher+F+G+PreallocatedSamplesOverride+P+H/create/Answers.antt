@@ -1,12 +1,12 @@
 use Rattle.std.proofs.Common.{◌≡◌, ◌∙◌, ℕ, ap, subst, sym, Option}
 use Rattle.std.specs.declared.option.Option.TheVariants.{None, Some}
 use Rattle.iox2_domain.specs.Boxes.{answers_of}
-use Rattle.iox2_store.specs.machine.Limits.{worst_case}
-use Rattle.iox2_store.specs.machine.Ports.{CreatePublisher}
-use Rattle.iox2_store.specs.machine.Records.{PublisherSettings}
-use Rattle.iox2_store.specs.machine.State.{Messages, State}
-use Rattle.iox2_store.specs.declared.allocation.AllocationStrategy.{AllocationStrategy}
-use Rattle.iox2_store.specs.declared.service_config.ServiceConfig.{ServiceConfig}
+use Rattle.iox2_machine.specs.machine.Limits.{worst_case}
+use Rattle.iox2_machine.specs.machine.Ports.{CreatePublisher}
+use Rattle.iox2_machine.specs.machine.Records.{PublisherSettings}
+use Rattle.iox2_machine.specs.machine.State.{Messages, State}
+use Rattle.iox2_machine.specs.declared.allocation.AllocationStrategy.{AllocationStrategy}
+use Rattle.iox2_machine.specs.declared.service_config.ServiceConfig.{ServiceConfig}
 use Rattle.iox2_domain.specs.Kept.{Kept}
 use Rattle.iox2_domain.specs.Shows.{Shows}
 use Rattle.iox2_ends.specs.Handlers.{marks_of}

@@ -1,0 +1,33 @@
+//! How many slots a publisher needs.
+ghost use Rattle.std.specs.Prelude.{◌+◌, ◌*◌, IsTrue, SomeIff};
+ghost use Rattle.iox2_machine.specs.machine.Limits.{buffer_limit, worst_case, fits};
+
+use crate::service_config::ServiceConfig;
+
+/// How many slots a publisher needs in a service with these settings if so many of its loans may be
+/// out at a time, whatever its subscribers hold: for each channel of each subscriber that there may
+/// be, its buffer and what it may borrow; then the history; then the loans. This library's own.
+///
+/// With so many slots the publisher is never refused a loan for want of one; with fewer it can be,
+/// without overflow and where a connection has one channel. `None` where the number doesn't fit
+/// `usize`, and only there: no part of the sum is formed that is larger than the sum.
+pub fn worst_case_slots(config: &ServiceConfig, loans: usize) -> Option<usize>
+    ensures { SomeIff result (IsTrue (fits (worst_case config.now loans))) (worst_case config.now loans) }
+{
+    let channels = config
+        .max_subscribers
+        .checked_mul(config.number_of_channels.max(1))?;
+    slots_for_channels(channels, config, loans)
+}
+
+// The same where the subscribers that there may be have so many channels together.
+fn slots_for_channels(channels: usize, config: &ServiceConfig, loans: usize) -> Option<usize>
+    ensures { let slots = channels * (buffer_limit config.now + config.now.subscriber_max_borrowed_samples) + config.now.history_size + loans in SomeIff result (IsTrue (fits slots)) slots }
+{
+    let waiting = channels.checked_mul(config.subscriber_max_buffer_size.max(1))?;
+    let borrowed = channels.checked_mul(config.subscriber_max_borrowed_samples)?;
+    let delivered = waiting.checked_add(borrowed)?;
+    delivered
+        .checked_add(config.history_size)?
+        .checked_add(loans)
+}

@@ -1,0 +1,6 @@
+//! Tests of `iox2_machine`, `iox2_contents` and `iox2_slots`, which call their public items as a user
+//! does. It holds nothing else: a crate with tests is proved twice, so the libraries have none.
+#![tactic(auto)]
+
+#[cfg(test)]
+mod tests;

@@ -1,5 +1,0 @@
-use Rattle.std.proofs.Common.{refl}
-use Rattle.iox2_store.proofs.errors.ReceiveErrorFromConnectionFailure.from.Goals as goal
-
-pub returns : goal.returns
-returns c = refl

@@ -1,4 +1,0 @@
-use Rattle.iox2_store.proofs.errors.texts.ConnectionFailureDisplay.fmt.Goals as goal
-
-pub returns-clause-writes : goal.returns-clause-writes
-returns-clause-writes g c = rw (← c.name.ensures) c.write.ensures.writes

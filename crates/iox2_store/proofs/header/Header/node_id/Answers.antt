@@ -1,5 +1,0 @@
-use Rattle.iox2_store.proofs.header.Header.node_id.Goals as goal
-use Rattle.std.proofs.Common.{refl}
-
-pub returns : goal.returns
-returns c = refl

@@ -1,5 +1,0 @@
-use Rattle.std.proofs.Common.{refl}
-use Rattle.iox2_store.proofs.header.Header.number_of_elements.Goals as goal
-
-pub returns : goal.returns
-returns c = refl

@@ -1,4 +1,0 @@
-use Rattle.iox2_store.proofs.ids.UniqueNodeId.value.Goals as goal
-
-pub returns : goal.returns
-returns c = c.self.view_is
