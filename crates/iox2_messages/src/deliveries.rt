@@ -87,7 +87,10 @@ fn conclude(
 
 /// Whether anything answers for the publisher at a place at a full buffer.
 #[inline(always)]
-pub fn has_handler_at<T: Drop, U: Default + Drop>(state: &DomainState<T, U>, place: usize) -> bool
+pub(crate) fn has_handler_at<T: Drop, U: Default + Drop>(
+    state: &DomainState<T, U>,
+    place: usize,
+) -> bool
     requires { (x : PublisherFields) × (slice_index_or state.now.publishers place None ≡ Some x) }
     ensures { (x : PublisherFields) → slice_index_or state.now.publishers place None ≡ Some x → result ≡ is_some x.backpressure_handler }
 {
@@ -157,7 +160,7 @@ fn send_slot<T: Drop, U: Default + Drop, X: BackpressureFn>(
 /// all receivers it is out no more afterwards, else its publisher waits for a receiver. Nothing of a
 /// handler is on the path of the message.
 #[inline(always)]
-pub fn send_unasked<T: Drop, U: Default + Drop>(
+pub(crate) fn send_unasked<T: Drop, U: Default + Drop>(
     state: &mut DomainState<T, U>,
     place: usize,
     slot: usize,

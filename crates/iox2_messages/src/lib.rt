@@ -30,7 +30,6 @@ pub use channels::{
 };
 pub use connection_sends::send_to_connection;
 pub use contents::{cell_at_mut, cells_at_mut, user_header_at_mut, value_at_mut, values_at_mut};
-pub use deliveries::{has_handler_at, send_unasked};
 pub use discards::discard_loan;
 pub use fills::{fill_from_fn, fill_unspecified};
 pub use loan_calls::{
