@@ -8,7 +8,7 @@ use Rattle.iox2_machine.specs.machine.SingleCalls.{HoldsBlocked}
 use Rattle.iox2_machine.specs.machine.Sends.{SendResult, Send_error, Blocked_send, SendToConnection}
 use Rattle.iox2_laws.proofs.Cases.{by_option}
 use Rattle.iox2_laws.proofs.OperationWalks.{connection_send_by_steps}
-use Rattle.iox2_laws.proofs.LoanKeeping.{LoansFollow, removed_loans_follow, deliver_and_conclude_loans}
+use Rattle.iox2_laws.proofs.LoanKeeping.{deliver_and_conclude_loans}
 use Rattle.iox2_laws.proofs.LoansLeft.{LoansKept, LoanEnds, kept_trans, kept_ends, kept_gone, set_kept, deliveries_keep, deliveries_end}
 use Rattle.iox2_laws.proofs.PortsStay.{PortsStay, ports_stay_trans, loan_set_stays, deliveries_stay}
 use Rattle.iox2_laws.proofs.SendsRemain.{PortsRemain, ports_remain, ports_remain_trans, deliveries_remain, delivered_waits_with}
@@ -31,10 +31,6 @@ module _ {T U : Type 0} (environment : Environment) (s : State T U) (n : ℕ) (l
       by_option (s'.loans ≡ put_at s.loans n None) (s.publishers l.publisher) _ _ h
       (λ _ k. ap (λ (t : State T U). t.loans) k.0)
       (λ x _ k. deliver_and_conclude_loans environment before l.publisher n channel 0 no_time place (end_of x) 0 false s' result k)
-
-  -- No loan appears.
-  pub send_to_connection_follows : LoansFollow s s'
-  send_to_connection_follows = removed_loans_follow s s' n send_to_connection_loans
 
   -- Where it isn't blocked it no longer counts as a loan of its publisher.
   pub send_to_connection_ends : (result ≡ Blocked_send → ⊥) → LoanEnds l.publisher n s s'

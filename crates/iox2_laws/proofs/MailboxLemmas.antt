@@ -1,5 +1,5 @@
 -- What each change of a mailbox keeps.
-use Rattle.std.proofs.Common.{◌≡◌, ◌≢◌, ℕ, Bool, zero, suc, ◌+◌, ◌*◌, ◌≤◌, ◌<◌, true, false, cond, List, [], ◌∷◌, ◌++◌, length, drop, not, ◌&&◌, refl, sym, ap, subst, ◌∙◌, arith, eqb, ltb, ◌⊎◌, inl, inr, ⊎_elim}
+use Rattle.std.proofs.Common.{◌≡◌, ℕ, Bool, zero, suc, ◌+◌, ◌*◌, ◌≤◌, ◌<◌, true, false, cond, List, [], ◌∷◌, ◌++◌, length, drop, not, ◌&&◌, refl, sym, ap, subst, ◌∙◌, arith, eqb, ltb, ◌⊎◌, inl, inr, ⊎_elim}
 use Rattle.std.proofs.lemmas.Bool.{true≢false, cond_both, ltb-true, and_parts, eq-eqb, eqb-true, eqb-false, or_left, lt-ltb, le-ltb}
 use Rattle.std.proofs.lemmas.List.{length-append, length-drop, append_assoc}
 use Rattle.iox2_laws.proofs.NumberLemmas.{contains_in_append, contains_left, contains_right, absent_left, absent_right, contains_one, contains_later, contains_in_drop, contains_in_last_n, contains_in_without, absent_from}
@@ -84,23 +84,6 @@ nothing_anywhere box h = at (other_numbers box) box.waiting box.borrowed h
 pub nothing_borrowed : (box : Mailbox) → has_numbers box ≡ false → box.borrowed ≡ []
 nothing_borrowed box h = (nothing_anywhere box h).2
 
--- a number put between those that wait and those that are borrowed
-pub IsOnce-between : (ws bs : List ℕ) (n : ℕ) → IsOnce (ws ++ bs) → contains (ws ++ bs) n ≡ false → IsOnce ((ws ++ n ∷ []) ++ bs)
-IsOnce-between ws bs n o absent =
-    IsOnce-append (ws ++ n ∷ []) bs (IsOnce-push ws n (IsOnce-left ws bs o) (absent_left ws bs n absent)) (IsOnce-right ws bs o)
-    (λ m h. ⊎_elim (λ there. IsOnce-apart ws bs o m there) (λ here. ap (contains bs) (sym (contains_one n m here)) ∙ absent_right ws bs n absent)
-    (contains_in_append ws (n ∷ []) m h))
-
--- a list's end before another list has no number more than the whole
-pub contains_in_dropped_part : (k : ℕ) (ws bs : List ℕ) (m : ℕ) → contains (drop k ws ++ bs) m ≡ true → contains (ws ++ bs) m ≡ true
-contains_in_dropped_part k ws bs m h =
-    ⊎_elim (λ left. contains_left ws bs m (contains_in_drop k ws m left)) (λ right. contains_right ws bs m right) (contains_in_append (drop k ws) bs m h)
-
--- a list's end before another list has no repetition where the whole has none
-pub IsOnce-dropped_part : (k : ℕ) (ws bs : List ℕ) → IsOnce (ws ++ bs) → IsOnce (drop k ws ++ bs)
-IsOnce-dropped_part k ws bs o =
-    IsOnce-append (drop k ws) bs (IsOnce-drop k ws (IsOnce-left ws bs o)) (IsOnce-right ws bs o) (λ n h. IsOnce-apart ws bs o n (contains_in_drop k ws n h))
-
 -- an empty mailbox is within any bounds
 pub IsWithin-empty : (buffer borrow_limit : ℕ) → IsWithin buffer borrow_limit empty_mailbox
 IsWithin-empty buffer borrow_limit = record { waiting = omega arith; borrowed = omega arith; once = tt }
@@ -113,18 +96,6 @@ appended_count buffer n ws some room =
     (λ e. omega (arith, length-append (drop 1 ws) (n ∷ []), length-drop 1 ws))
 
 -- ---- one channel
-
--- with these numbers in a channel, they wait there
-waiting_in-same : (channel : ℕ) (ns : List ℕ) (box : Mailbox) → waiting_in channel (with_waiting_in channel ns box) ≡ ns
-waiting_in-same zero ns box = refl
-waiting_in-same (suc k) ns box = numbers_of-same (suc k) ns box.others
-
--- and elsewhere those that did
-waiting_in-other : (other channel : ℕ) → other ≢ channel → (ns : List ℕ) (box : Mailbox) → waiting_in other (with_waiting_in channel ns box) ≡ waiting_in other box
-waiting_in-other zero zero apart ns box = absurd (apart refl)
-waiting_in-other zero (suc k) apart ns box = refl
-waiting_in-other (suc j) zero apart ns box = refl
-waiting_in-other (suc j) (suc k) apart ns box = numbers_of-other (suc j) (suc k) apart ns box.others
 
 -- what is borrowed stays
 borrowed-waiting_in : (channel : ℕ) (ns : List ℕ) (box : Mailbox) → (with_waiting_in channel ns box).borrowed ≡ box.borrowed

@@ -1,10 +1,9 @@
 -- Subscribers and mailboxes in which nothing is new: a released sample keeps a state well-formed.
-use Rattle.std.proofs.Common.{◌≡◌, ℕ, ◌≤◌, Bool, true, false, cond, ◌||◌, List, ◌++◌, length, refl, sym, ap, subst, ◌∙◌, arith, eqb, Option, None, Some, ◌⊎◌, inl, inr, ⊎_elim, MatchOption, is_some, le_trans, le_refl}
-use Rattle.std.specs.List.{flat_map, filter}
+use Rattle.std.proofs.Common.{◌≡◌, ℕ, ◌≤◌, Bool, true, false, cond, ◌||◌, length, refl, sym, ap, subst, ◌∙◌, arith, eqb, Option, None, Some, ◌⊎◌, inl, inr, ⊎_elim, MatchOption, is_some, le_trans, le_refl}
+use Rattle.std.specs.List.{filter}
 use Rattle.std.specs.Option.{option_map}
 use Rattle.std.proofs.lemmas.Bool.{true≢false, or_right, eqb-true, eqb-false}
 use Rattle.iox2_laws.proofs.Puts.{put_at-other, at_each, found_mapped}
-use Rattle.iox2_laws.proofs.NumberLemmas.{contains_in_append, contains_left, contains_right, absent_from, contains_in_flat_map, contains-flat_map}
 use Rattle.iox2_laws.proofs.PortChanges.{publisher_in, subscriber_in, loan_kept, RestIsWellFormed, IsNearlyWellFormed, with_rest, receiver_reset_keeps}
 use Rattle.iox2_laws.proofs.Freed.{freed_if_unused_keeps, freed_if_unused_advances}
 use Rattle.iox2_laws.proofs.FilterLemmas.{contains_in_filter, contains-filter, IsOnce-filter, length-filter_le}
@@ -33,16 +32,6 @@ pub record Shrinks (limit borrow_limit : ℕ) (box box' : Mailbox) : Type 0 wher
 -- A mailbox that stays the same has nothing new.
 pub shrinks_same : (limit borrow_limit : ℕ) (box : Mailbox) → IsWithin limit borrow_limit box → Shrinks limit borrow_limit box box
 shrinks_same limit borrow_limit box w = record { within = w; waiting = omega arith; others = λ channels buffer h. h; numbers = λ n h. h; some = λ h. h }
-
-held_shrinks : (loans history ids : List ℕ) (f g : ℕ → List ℕ) → ((q n : ℕ) → contains (f q) n ≡ true → contains (g q) n ≡ true)
-    → (n : ℕ) → contains (loans ++ history ++ flat_map f ids) n ≡ true → contains (loans ++ history ++ flat_map g ids) n ≡ true
-held_shrinks loans history ids f g each n h =
-    ⊎_elim
-    (λ left. contains_left (loans ++ history) (flat_map g ids) n left)
-    (λ in_boxes.
-    let at : (q : ℕ) × (contains ids q ≡ true) × (contains (f q) n ≡ true) = contains_in_flat_map f ids n in_boxes in
-    contains_right (loans ++ history) (flat_map g ids) n (contains-flat_map g ids at.0 n at.1 (each at.0 n at.2)))
-    (contains_in_append (loans ++ history) (flat_map f ids) n h)
 
 -- ---- publishers that become due, and what is read of them
 
@@ -88,11 +77,6 @@ module _ {T U : Type 0} where
         → (y : Subscriber) × (subscribers q ≡ Some y) × ((contains y.expired p ≡ true) ⊎ LeadsTo y.ends p)
     pub departed : (p q : ℕ) → s.publishers p ≡ None → has_waiting (boxes p q) ≡ true
         → (y : Subscriber) × (subscribers q ≡ Some y) × (y.is_open ≡ true) × ((contains y.expired p ≡ true) ⊎ LeadsTo y.ends p)
-
-  absent_still : (s : State T U) (boxes : ℕ → ℕ → Mailbox) (p q n : ℕ)
-      → Shrinks (buffer_limit s.config) (s.config).subscriber_max_borrowed_samples (s.mailboxes p q) (boxes p q)
-      → contains (numbers_in (s.mailboxes p q)) n ≡ false → contains (numbers_in (boxes p q)) n ≡ false
-  absent_still s boxes p q n a h = absent_from (numbers_in (boxes p q)) n (λ k. true≢false (sym (a.numbers n k) ∙ h))
 
   publisher_agrees : (s : State T U) (subscribers : ℕ → Option Subscriber) (boxes : ℕ → ℕ → Mailbox) (warnings : Warnings)
       → ReceiversAgree s subscribers boxes warnings

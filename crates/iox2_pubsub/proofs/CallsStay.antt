@@ -66,9 +66,6 @@ module _ {T U F G : Type 0} {boxes : DomainBoxes F G} (f : Fields T U) (kept : K
     pub loan-shown : IsLoanKey kept key → (m : Messages T U) × (s : State T U) × Shows kept m s × HoldsLoan s key.port key.message
     loan-shown live = shown-with (λ (s : State T U). HoldsLoan s key.port key.message) (loan-parts kept key live).1
 
-    pub blocked-shown : IsBlockedKey kept key → (m : Messages T U) × (s : State T U) × Shows kept m s × HoldsBlocked s key.port key.message
-    blocked-shown live = shown-with (λ (s : State T U). HoldsBlocked s key.port key.message) (blocked-parts kept key live).1
-
     pub sample-shown : IsSampleKey kept key → (m : Messages T U) × (s : State T U) × Shows kept m s × HoldsSample s key.port key.message
     sample-shown live = shown-with (λ (s : State T U). HoldsSample s key.port key.message) (sample-parts kept key live).1
 

@@ -80,15 +80,6 @@ not_sample (Written h) other = refl
 not_sample (Blocked h) other = refl
 not_sample (MadeSample h) other = absurd (other h refl)
 
-pub not_publisher : (made : Made) → ((h : Publisher) → made ≡ MadePublisher h → ⊥) → is_publisher_entry (entry_for made) ≡ false
-not_publisher Nothing other = refl
-not_publisher (MadePublisher h) other = absurd (other h refl)
-not_publisher (MadeSubscriber h) other = refl
-not_publisher (Unwritten h) other = refl
-not_publisher (Written h) other = refl
-not_publisher (Blocked h) other = refl
-not_publisher (MadeSample h) other = refl
-
 pub not_subscriber : (made : Made) → ((h : Subscriber) → made ≡ MadeSubscriber h → ⊥) → is_subscriber_entry (entry_for made) ≡ false
 not_subscriber Nothing other = refl
 not_subscriber (MadePublisher h) other = refl

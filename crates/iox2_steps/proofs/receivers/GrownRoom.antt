@@ -28,9 +28,6 @@ module _ {T U : Type 0} (f : Fields T U) (sound : IsDomain f) (i j : ℕ) (x : P
   pub grown-state : state_of (kept_of (grown f i j x y n m e)) ≡ state_of (kept_of f)
   grown-state = room.grown-state f i j x y n m e sound at_x at_y more_x more_y more_e
 
-  pub grown-agrees : IsDomain (grown f i j x y n m e)
-  grown-agrees = room.grown-agrees f i j x y n m e sound at_x at_y more_x more_y more_e
-
   -- what a subscriber changes from there it changes from here
   pub from-grown : (side : ReceiverSide) (f' : Fields T U) → ChangesReceiver (grown f i j x y n m e) j (with_receiver_rooms m e y) side f' → ChangesReceiver f j y side f'
   from-grown side f' ch = record {
