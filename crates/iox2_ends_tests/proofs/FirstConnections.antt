@@ -4,14 +4,12 @@ use Rattle.std.proofs.lemmas.Bool.{cases_eq}
 use Rattle.std.proofs.lemmas.List.Elements.{All-head}
 use Rattle.std.proofs.lemmas.List.Sums.{sum_by-cons}
 use Rattle.std.specs.List.{All, sum_by}
-use Rattle.std.specs.Option.{option_map}
 use Rattle.std.specs.Prelude.{◌↔◌, IsSome, IsNone, IsSomeAnd}
 use Rattle.slab.specs.Slab.{Slab, get, Updates}
 use Rattle.iox2_slots.specs.Link.{Link, empty_link}
 use Rattle.iox2_slots.specs.declared.connection.Home.{Home}
-use Rattle.iox2_machine.specs.machine.Channel.{Channel}
 use Rattle.iox2_ends.specs.Counters.{stands, IsCovered, HoldsItself}
-use Rattle.iox2_ends.specs.Homes.{SameHomes, fixed_of}
+use Rattle.iox2_ends.specs.Homes.{IsSenderLinked, IsSenders}
 
 -- a sum of nothing
 sum-zero : {A : Type 0} (f : Option A → ℕ) (xs : List (Option A)) → ((i : ℕ) → f (get_or xs i None) ≡ 0) → sum_by f xs ≡ 0
@@ -48,9 +46,9 @@ pub some-taken : (slot : Option ℕ) (holders : List ℕ) → holders ≡ replic
 some-taken (Some slot) holders unused none = refl
 some-taken None holders unused none = absurd (omega (arith, All-head (λ n. 0 < n) 0 [] (subst (All (λ n. 0 < n)) unused (none.0 refl))))
 
--- it is still the publisher's after a delivery
-pub own-after : (old new after : Slab Link) (key p : ℕ) (c : Link) → Updates old new key (Some c) → SameHomes new after → c.home.publisher ≡ p → IsSomeAnd (get after key) (λ (x : Link). x.home.publisher ≡ p)
-own-after old new after key p c u homes mine = by (get after key) (homes.same key ∙ ap (option_map fixed_of) u.changed) where
-  by : (o : Option Link) → option_map fixed_of o ≡ Some (fixed_of c) → IsSomeAnd o (λ (x : Link). x.home.publisher ≡ p)
-  by None e = absurd cc
-  by (Some d) e = let same : fixed_of d ≡ fixed_of c = cc in ap (λ (t : Home × ℕ × ℕ × Bool × List Channel). t.0.publisher) same ∙ mine
+-- a connection that its publisher knows is the publisher's
+pub own-linked : (slab : Slab Link) (key p : ℕ) → IsSenderLinked p slab (Some key ∷ []) → IsSomeAnd (get slab key) (λ (c : Link). c.home.publisher ≡ p)
+own-linked slab key p linked = by (get slab key) (linked.at 0 key refl) where
+  by : (o : Option Link) → IsSomeAnd o (IsSenders p 0) → IsSomeAnd o (λ (c : Link). c.home.publisher ≡ p)
+  by None none = none
+  by (Some c) mine = mine.publisher

@@ -1,22 +1,80 @@
+ghost use Rattle.std.specs.Prelude.{◌<◌, [], ◌∷◌, IfOk, Some};
+ghost use Rattle.iox2_ends.specs.Counters.{IsCovered};
+ghost use Rattle.iox2_ends.specs.Finds.{HasConnections};
+ghost use Rattle.iox2_ends.specs.Homes.{IsApart, IsSenderLinked};
+
+use crate::fixtures::{HOME, receiver, taken_slot};
 use iox2_ends::receiver::{has_samples, receive, release};
-use iox2_ends::sender::{
-    Delivery, DeliveryOutcome, Progress, ReceiverDetails, deliver, drop_all, reclaim_all,
-};
-use iox2_machine::{
-    BackpressureHandler, BackpressureStrategy, ServiceConfig, UniqueNodeId, UniquePublisherId,
-};
-use iox2_slots::{Connection, Home, SlotBook};
+use iox2_ends::sender::{Delivery, DeliveryOutcome, Progress, deliver, drop_all, reclaim_all};
+use iox2_machine::{BackpressureHandler, BackpressureStrategy, ServiceConfig};
+use iox2_slots::{Connection, SlotBook};
 use slab::Slab;
+use std::alloc::Global;
 use std::test::Fail;
 use std::time::Duration;
 
-const HOME: Home = Home {
-    publisher: 1,
-    subscriber: 2,
-    publisher_place: 0,
-    subscriber_place: 0,
-    book: 0,
-};
+// Both ends after a delivery, and what it came to.
+#[derive(Drop)]
+struct Delivered {
+    outcome: DeliveryOutcome,
+    book: SlotBook,
+    slot: usize,
+    connections: Slab<Connection>,
+    key: usize,
+}
+
+// Delivers the publisher's slot into a channel of the connection, which has two, where the settings are
+// these.
+fn deliver_slot(alloc: Global, config: &ServiceConfig, channel: usize) -> Result<Delivered, Fail>
+    requires { channel < 2 }
+    ensures linked { IfOk result (λ it. IsSenderLinked 1 it.connections (Some it.key ∷ [])) }
+    ensures connected { IfOk result (λ it. HasConnections it.connections (Some it.key ∷ [])) }
+    ensures apart { IfOk result (λ it. IsApart it.connections) }
+    ensures covered { IfOk result (λ it. IsCovered 1 it.book.holders it.connections.slots) }
+{
+    let connection = Connection::new(alloc, HOME, 2, 1, 2)?;
+    let (mut book, slot) = taken_slot(alloc)?;
+    let mut connections = Slab::new(alloc);
+    connections.reserve(1)?;
+    let key = connections.insert_reserved(connection);
+    let mut receivers = Vec::new(alloc);
+    receivers.push(Some(receiver(2, true)))?;
+    let handler: Option<BackpressureHandler> = None;
+    let outcome = deliver(
+        config,
+        &Delivery {
+            publisher: 1,
+            slot,
+            channel,
+            strategy: config.backpressure_strategy,
+            start: Progress::begun(),
+            elapsed: Duration::ZERO,
+        },
+        &handler,
+        &mut connections,
+        &mut book,
+        &[Some(key)],
+        &receivers,
+    );
+    Ok(Delivered {
+        outcome,
+        book,
+        slot,
+        connections,
+        key,
+    })
+}
+
+// Whether the one subscriber took the message.
+fn is_taken(outcome: DeliveryOutcome) -> bool {
+    matches!(
+        outcome,
+        DeliveryOutcome::Complete {
+            count: 1,
+            has_failed: false
+        }
+    )
+}
 
 #[test]
 fn a_message_goes_there_and_back(rt: HostRuntime) -> Result<(), Fail> {
@@ -26,40 +84,14 @@ fn a_message_goes_there_and_back(rt: HostRuntime) -> Result<(), Fail> {
         backpressure_strategy: BackpressureStrategy::DiscardData,
         ..ServiceConfig::new(1)
     };
-    let connection = Connection::new(rt.alloc(), HOME, 2, 1, 1)?;
-    let node = UniqueNodeId::new(1);
-    let mut book = SlotBook::new(rt.alloc(), node, UniquePublisherId::new(1), 1)?;
-    let mut connections = Slab::new(rt.alloc());
-    connections.reserve(1)?;
-    let key = connections.insert_reserved(connection);
-    let keys = [Some(key)];
-    let slot = book.take(1, 1).unwrap();
-    let receiver = ReceiverDetails {
-        port_id: 2,
-        buffer_size: 2,
-        is_open: true,
-    };
-    let delivery = Delivery {
-        publisher: 1,
+    let Delivered {
+        outcome,
+        mut book,
         slot,
-        channel: 0,
-        strategy: config.backpressure_strategy,
-        start: Progress::begun(),
-        elapsed: Duration::ZERO,
-    };
-    let mut receivers = Vec::new(rt.alloc());
-    receivers.push(Some(receiver))?;
-    let handler: Option<BackpressureHandler> = None;
-
-    let outcome = deliver(
-        &config,
-        &delivery,
-        &handler,
-        &mut connections,
-        &mut book,
-        &keys,
-        &receivers,
-    );
+        mut connections,
+        key,
+    } = deliver_slot(rt.alloc(), &config, 0)?;
+    let keys = [Some(key)];
     let mut last_place = 0;
     let answer = receive(&mut connections, &[], &keys, &mut last_place).expect(&rt, "an answer");
     let taken = answer.expect(&rt, "a message");
@@ -76,14 +108,7 @@ fn a_message_goes_there_and_back(rt: HostRuntime) -> Result<(), Fail> {
     let reclaimed = book.holders(slot);
     drop(connections);
     drop(book);
-    let is_taken = matches!(
-        outcome,
-        DeliveryOutcome::Complete {
-            count: 1,
-            has_failed: false
-        }
-    );
-    assert!(rt; is_taken);
+    assert!(rt; is_taken(outcome));
     assert!(rt; received == slot);
     assert!(rt; [delivered, reclaimed] == [2, 1]);
     Ok(())
@@ -93,42 +118,14 @@ fn a_message_goes_there_and_back(rt: HostRuntime) -> Result<(), Fail> {
 fn a_message_in_another_channel_waits_until_its_connection_is_emptied(
     rt: HostRuntime,
 ) -> Result<(), Fail> {
-    let config = ServiceConfig::new(1);
-    let connection = Connection::new(rt.alloc(), HOME, 2, 1, 2)?;
-    let node = UniqueNodeId::new(1);
-    let mut book = SlotBook::new(rt.alloc(), node, UniquePublisherId::new(1), 1)?;
-    let mut connections = Slab::new(rt.alloc());
-    connections.reserve(1)?;
-    let key = connections.insert_reserved(connection);
-    let keys = [Some(key)];
-    let slot = book.take(1, 1).unwrap();
-    let receiver = ReceiverDetails {
-        port_id: 2,
-        buffer_size: 2,
-        is_open: true,
-    };
-    let delivery = Delivery {
-        publisher: 1,
+    let Delivered {
+        outcome,
+        mut book,
         slot,
-        channel: 1,
-        strategy: config.backpressure_strategy,
-        start: Progress::begun(),
-        elapsed: Duration::ZERO,
-    };
-    let mut receivers = Vec::new(rt.alloc());
-    receivers.push(Some(receiver))?;
-    let handler: Option<BackpressureHandler> = None;
-
-    let outcome = deliver(
-        &config,
-        &delivery,
-        &handler,
-        &mut connections,
-        &mut book,
-        &keys,
-        &receivers,
-    );
-    let is_offered = has_samples(&connections, &[], &keys);
+        mut connections,
+        key,
+    } = deliver_slot(rt.alloc(), &ServiceConfig::new(1), 1)?;
+    let is_offered = has_samples(&connections, &[], &[Some(key)]);
     assert!(rt; slot < book.len());
     let delivered = book.holders(slot);
     drop_all(1, &mut connections, &mut book, key);
@@ -136,14 +133,7 @@ fn a_message_in_another_channel_waits_until_its_connection_is_emptied(
     let dropped = book.holders(slot);
     drop(connections);
     drop(book);
-    let is_taken = matches!(
-        outcome,
-        DeliveryOutcome::Complete {
-            count: 1,
-            has_failed: false
-        }
-    );
-    assert!(rt; is_taken && !is_offered);
+    assert!(rt; is_taken(outcome) && !is_offered);
     assert!(rt; [delivered, dropped] == [2, 1]);
     Ok(())
 }

@@ -3,25 +3,17 @@ ghost use Rattle.std.specs.Prelude.{◌≡◌, ◌<◌, ◌∷◌, [], IfOk};
 ghost use Rattle.iox2_slots.specs.Link.{empty_link};
 ghost use Rattle.iox2_ends.specs.Deliveries.{begun};
 
+use crate::fixtures::{HOME, receiver, taken_slot};
 use iox2_ends::sender::{Delivery, DeliveryOutcome, Progress, ReceiverDetails, deliver};
 use iox2_handler_fixtures::Patience;
 use iox2_machine::{
     BackpressureAction, BackpressureFn, BackpressureHandler, BackpressureStrategy, ServiceConfig,
-    UniqueNodeId, UniquePublisherId,
 };
-use iox2_slots::{Connection, Home, SlotBook};
+use iox2_slots::Connection;
 use slab::Slab;
 use std::alloc::{AllocError, Global};
 use std::test::Fail;
 use std::time::Duration;
-
-const HOME: Home = Home {
-    publisher: 1,
-    subscriber: 2,
-    publisher_place: 0,
-    subscriber_place: 0,
-    book: 0,
-};
 
 // The connection, in which the slot waits.
 fn connection_with(alloc: Global, buffer_size: usize, slot: usize) -> Result<Connection, AllocError>
@@ -63,9 +55,7 @@ fn outcome_at(
     requires receiver { receiver.port_id ≡ 2 }
     requires buffer { 0 < receiver.buffer_size }
 {
-    let node = UniqueNodeId::new(1);
-    let mut book = SlotBook::new(alloc, node, UniquePublisherId::new(1), 1)?;
-    let slot = book.take(1, 1).unwrap();
+    let (mut book, slot) = taken_slot(alloc)?;
     book.hold(slot);
     let connection = connection_with(alloc, receiver.buffer_size, slot)?;
     let mut connections = Slab::new(alloc);
@@ -121,11 +111,7 @@ fn ended(outcome: DeliveryOutcome) -> Option<(usize, bool)> {
 
 #[test]
 fn a_handler_tries_twice_and_fails_the_message_then(rt: HostRuntime) -> Result<(), Fail> {
-    let full = ReceiverDetails {
-        port_id: 2,
-        buffer_size: 1,
-        is_open: true,
-    };
+    let full = receiver(1, true);
     let first = outcome_at(rt.alloc(), full, 0)?;
     let second = outcome_at(rt.alloc(), full, 1)?;
     let third = outcome_at(rt.alloc(), full, 2)?;
@@ -139,18 +125,8 @@ fn a_handler_tries_twice_and_fails_the_message_then(rt: HostRuntime) -> Result<(
 fn a_handler_is_not_asked_where_the_message_has_room_or_the_receiver_is_closed(
     rt: HostRuntime,
 ) -> Result<(), Fail> {
-    let roomy = ReceiverDetails {
-        port_id: 2,
-        buffer_size: 2,
-        is_open: true,
-    };
-    let closed = ReceiverDetails {
-        port_id: 2,
-        buffer_size: 1,
-        is_open: false,
-    };
-    let taken = outcome_at(rt.alloc(), roomy, 0)?;
-    let passed = outcome_at(rt.alloc(), closed, 0)?;
+    let taken = outcome_at(rt.alloc(), receiver(2, true), 0)?;
+    let passed = outcome_at(rt.alloc(), receiver(1, false), 0)?;
     assert!(rt; ended(taken) == Some((1, false)));
     assert!(rt; ended(passed) == Some((0, false)));
     Ok(())

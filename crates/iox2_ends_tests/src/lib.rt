@@ -5,4 +5,6 @@
 #[cfg(test)]
 mod deliveries;
 #[cfg(test)]
+mod fixtures;
+#[cfg(test)]
 mod handlers;
