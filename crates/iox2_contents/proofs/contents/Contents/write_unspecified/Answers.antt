@@ -9,8 +9,8 @@ index-requires g c = rw c.self.inside.slots.ok.0 (some_slot_within _ c.self.insi
 pub index_mut-requires : goal.index_mut-requires
 index_mut-requires g c = rw c.self.inside.slots.ok.0 (some_slot_within _ c.self.inside.slots.items _ c.args.slot (λ content. content.is_in_place ≡ false) c.self.view_is c.requires)
 
-pub write_unspecified-requires-clause-in_lists : goal.write_unspecified-requires-clause-in_lists
-write_unspecified-requires-clause-in_lists g c = (content_read _ c.self.inside.slots.items _ c.args.slot (λ content. content.is_in_place ≡ false) _ c.self.view_is c.requires c.index_mut.ensures.value).1
+pub write_unspecified-requires : goal.write_unspecified-requires
+write_unspecified-requires g c = record { in_lists = (content_read _ c.self.inside.slots.items _ c.args.slot (λ content. content.is_in_place ≡ false) _ c.self.view_is c.requires c.index_mut.ensures.value).1 }
 
 pub invariant_of-self : goal.invariant_of-self
 invariant_of-self g c = c.settle.ensures.lists
