@@ -1,4 +1,4 @@
-use Rattle.std.proofs.Common.{◌∙◌, ap, refl, sym, ◌∷◌, [], ◌++◌, take, arith}
+use Rattle.std.proofs.Common.{◌∙◌, ap, refl, ◌∷◌, [], ◌++◌, take}
 use Rattle.std.proofs.lemmas.List.{take_more}
 use Rattle.iox2_contents.proofs.values.push_copies.Goals as goal
 

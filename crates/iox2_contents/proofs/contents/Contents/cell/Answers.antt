@@ -1,4 +1,4 @@
-use Rattle.std.proofs.Common.{◌≡◌, ◌<◌, false, length, arith}
+use Rattle.std.proofs.Common.{◌<◌, length, arith}
 use Rattle.iox2_contents.specs.SlotRooms.{ShowsAtMost}
 use Rattle.iox2_contents.proofs.SlotReads.{all_read, content_read, some_slot_within}
 use Rattle.iox2_contents.proofs.SlotLists.{content-at}

@@ -1,4 +1,4 @@
-use Rattle.std.proofs.Common.{◌≡◌, ◌<◌, Some, ap, sym, arith}
+use Rattle.std.proofs.Common.{◌<◌, Some, ap, sym, arith}
 use Rattle.iox2_contents.specs.SlotRooms.{ShowsAtMost}
 use Rattle.iox2_contents.proofs.OpenSlots.{from-shown}
 use Rattle.iox2_contents.proofs.SlotReads.{all_read, content_read, some_slot_within}
