@@ -7,7 +7,7 @@ use Rattle.std.proofs.lemmas.Option.{none-some, same_Some}
 use Rattle.iox2_machine.specs.machine.Limits.{buffer_limit}
 use Rattle.iox2_machine.specs.machine.Numbers.{put_at}
 use Rattle.iox2_machine.specs.machine.Mailbox.{is_borrowed}
-use Rattle.iox2_machine.specs.machine.Records.{Loan, Publisher, Subscriber, BlockedSend, PublisherSettings, SubscriberSettings, Fixed}
+use Rattle.iox2_machine.specs.machine.Records.{Entry, Loan, Publisher, Subscriber, BlockedSend, PublisherSettings, SubscriberSettings, Fixed}
 use Rattle.iox2_machine.specs.machine.State.{State, Messages, with_loan}
 use Rattle.iox2_machine.specs.machine.SubscriberUpdate.{UpdateSubscriber}
 use Rattle.iox2_machine.specs.machine.Loans.{GrantLoan, written, with_cell, is_initialized, initialized, entry_of}
@@ -28,7 +28,7 @@ use Rattle.iox2_commands.specs.Outcomes.{Handle, Publisher_handle, Subscriber_ha
 use Rattle.iox2_commands.specs.Step.{Step, after_publisher, after_subscriber, after_loan, after_send, after_receive, after_update, publisher_settings, unblocked_at, subscriber_at, loan_at, unwritten_at, written_at, with_cell_at, sendable_at, blocked_at, sample_at, if_single_units, if_fixed_size, if_dynamic}
 use Rattle.iox2_commands.specs.declared.command.Command.{Command}
 use Rattle.iox2_commands.specs.declared.command.Command.TheVariants.{Nothing, CreatePublisher as PublisherCommand, CreateSubscriber as SubscriberCommand, LoanUninit, Loan as LoanDefault, LoanSlice, WriteCell, WriteAll, AssumeInit, WriteHeader, SetPayload, Send as SendLoan, SendCopy, Discard, Retry, GiveUp, Update, Receive, HasSamples, Read, ReadHeader, ReadUserHeader, Release, Close}
-use Rattle.iox2_commands.specs.declared.reply.Reply.TheVariants.{Unwritten, SendRefused, Cell, Header, UserHeader}
+use Rattle.iox2_commands.specs.declared.reply.Reply.TheVariants.{Unwritten, SendRefused, Cell}
 use Rattle.iox2_commands.proofs.Named.{blocked_is, kept_if, in_single_units}
 use Rattle.iox2_commands.proofs.AlikeViews.{View, view_of}
 use Rattle.iox2_commands.proofs.AlikeUpdates.{update_publisher_alike}
@@ -40,7 +40,9 @@ use Rattle.iox2_commands.proofs.AlikeNamed.{names_subscriber, names_sample, name
 use Rattle.iox2_commands.proofs.AlikeCloses.{subscriber_closed_alike}
 use Rattle.iox2_commands.proofs.AlikeIndependent.{StaysOpen, grant_written_loan_open}
 use Rattle.iox2_machine.specs.machine.Receives.{Receive as Receives}
-use Rattle.iox2_commands.proofs.ApartCalls.{read_quiet, read_header_quiet, read_user_header_quiet, receive_of_other, question_of_other, update_of_other, release_of_other}
+use Rattle.iox2_commands.specs.declared.reply.Reply.{Reply}
+use Rattle.iox2_commands.proofs.HeaderReads.{ReadsHeader}
+use Rattle.iox2_commands.proofs.ApartCalls.{read_quiet, header_quiet, receive_of_other, question_of_other, update_of_other, release_of_other}
 
 -- a subscriber that is named under its own id
 own_id : (q : ℕ) (o : Option Subscriber) (named : ℕ × Subscriber) → option_and_then {U = ℕ × Subscriber} (λ y. cond y.is_open (Some (q, y)) None) o ≡ Some named
@@ -312,8 +314,8 @@ module _ {T U : Type 0} where
           alike_equal q o _ o' _ x.4 y.4 (after_question_alike q x.0 y.0 x.1 y.1 x.2 y.2 updated.0)))
           (λ f g. both_quiet o o' (question_of_other q default_value default_header m a handles of o f h) (question_of_other q default_value default_header m' b handles' of o' g k))
       step_alike (Read of at) o o' closes h k replies = both_quiet o o' (read_quiet q default_value default_header m a handles of at o h) (read_quiet q default_value default_header m' b handles' of at o' k)
-      step_alike (ReadHeader of) o o' closes h k replies = both_quiet o o' (read_header_quiet q default_value default_header m a handles of o h) (read_header_quiet q default_value default_header m' b handles' of o' k)
-      step_alike (ReadUserHeader of) o o' closes h k replies = both_quiet o o' (read_user_header_quiet q default_value default_header m a handles of o h) (read_user_header_quiet q default_value default_header m' b handles' of o' k)
+      step_alike (ReadHeader of) o o' closes h k replies = both_quiet o o' (header_quiet q default_value default_header m a handles of _ _ o h) (header_quiet q default_value default_header m' b handles' of _ _ o' k)
+      step_alike (ReadUserHeader of) o o' closes h k replies = both_quiet o o' (header_quiet q default_value default_header m a handles of _ _ o h) (header_quiet q default_value default_header m' b handles' of _ _ o' k)
       step_alike (Release of) o o' closes h k replies =
           by_sample of (IsAlike q o o')
           (λ t. release_own of o o' t h k)
@@ -349,6 +351,18 @@ module _ {T U : Type 0} where
       reply_of : (o o' x x' : Outcome T U) → o ≡ x → o' ≡ x' → x.reply ≡ x'.reply → o.reply ≡ o'.reply
       reply_of o o' x x' h k f = ap (λ (v : Outcome T U). v.reply) h ∙ f ∙ sym (ap (λ (v : Outcome T U). v.reply) k)
 
+      -- a read of a header
+      header_same : (of named : ℕ) (of_loan : ℕ × Loan T U → Reply T U) (of_entry : Entry T U → Reply T U) (o o' : Outcome T U) → m ≡ m' → NamesOwn handles of → NamesOwn handles' of → named ≡ of
+          → ReadsHeader m a handles named of_loan of_entry o → ReadsHeader m' b handles' named of_loan of_entry o' → o.reply ≡ o'.reply
+      header_same of named of_loan of_entry o o' f own own' is h k =
+          by_options (o.reply ≡ o'.reply) (sample_at a handles named) (sample_at b handles' named) _ _ _ _
+          (subst (λ i. sample_at a handles i ≡ sample_at b handles' i) (sym is) (sample_same of own own')) h k
+          (λ _ j l. by_options (o.reply ≡ o'.reply) (loan_at a handles named) (loan_at b handles' named) _ _ _ _ (loan_at_same q a b handles handles' e same named) j l
+          (λ _ x y. reply_of o o' (skipped a) (skipped b) x y refl)
+          (λ loan _ x y. reply_of o o' (replied (of_loan loan) a) (replied (of_loan loan) b) x y refl))
+          (λ sample _ j l. by_options (o.reply ≡ o'.reply) (m sample.2) (m' sample.2) _ _ _ _ (ap (λ (h : Messages T U). h sample.2) f) j l (λ _ v _. absurd v)
+          (λ entry _ x y. reply_of o o' (replied (of_entry entry) a) (replied (of_entry entry) b) x y refl))
+
       -- A read where the subscriber's own samples alone are named replies the same in both.
       pub read_same : (of : ℕ) (command : Command T U) (o o' : Outcome T U) → m ≡ m' → NamesOwn handles of → NamesOwn handles' of → reads_at of command ≡ true
           → StepA command o → StepB command o' → o.reply ≡ o'.reply
@@ -365,22 +379,6 @@ module _ {T U : Type 0} where
           (λ entry _ x y. by_options (o.reply ≡ o'.reply) (slice_get entry.values at) (slice_get entry.values at) _ _ _ _ refl x y
           (λ _ v w. reply_of o o' (skipped a) (skipped b) v w refl)
           (λ value _ v w. reply_of o o' (replied (Cell (Some value)) a) (replied (Cell (Some value)) b) v w refl)))
-      read_same of (ReadHeader named) o o' f own own' t h k =
-          let is : named ≡ of = eqb-true named of t in
-          by_options (o.reply ≡ o'.reply) (sample_at a handles named) (sample_at b handles' named) _ _ _ _
-          (subst (λ i. sample_at a handles i ≡ sample_at b handles' i) (sym is) (sample_same of own own')) h k
-          (λ _ j l. by_options (o.reply ≡ o'.reply) (loan_at a handles named) (loan_at b handles' named) _ _ _ _ (loan_at_same q a b handles handles' e same named) j l
-          (λ _ x y. reply_of o o' (skipped a) (skipped b) x y refl)
-          (λ loan _ x y. reply_of o o' (replied (Header (loan.1).header) a) (replied (Header (loan.1).header) b) x y refl))
-          (λ sample _ j l. by_options (o.reply ≡ o'.reply) (m sample.2) (m' sample.2) _ _ _ _ (ap (λ (h : Messages T U). h sample.2) f) j l (λ _ v _. absurd v)
-          (λ entry _ x y. reply_of o o' (replied (Header entry.header) a) (replied (Header entry.header) b) x y refl))
-      read_same of (ReadUserHeader named) o o' f own own' t h k =
-          let is : named ≡ of = eqb-true named of t in
-          by_options (o.reply ≡ o'.reply) (sample_at a handles named) (sample_at b handles' named) _ _ _ _
-          (subst (λ i. sample_at a handles i ≡ sample_at b handles' i) (sym is) (sample_same of own own')) h k
-          (λ _ j l. by_options (o.reply ≡ o'.reply) (loan_at a handles named) (loan_at b handles' named) _ _ _ _ (loan_at_same q a b handles handles' e same named) j l
-          (λ _ x y. reply_of o o' (skipped a) (skipped b) x y refl)
-          (λ loan _ x y. reply_of o o' (replied (UserHeader (loan.1).user_header) a) (replied (UserHeader (loan.1).user_header) b) x y refl))
-          (λ sample _ j l. by_options (o.reply ≡ o'.reply) (m sample.2) (m' sample.2) _ _ _ _ (ap (λ (h : Messages T U). h sample.2) f) j l (λ _ v _. absurd v)
-          (λ entry _ x y. reply_of o o' (replied (UserHeader entry.user_header) a) (replied (UserHeader entry.user_header) b) x y refl))
+      read_same of (ReadHeader named) o o' f own own' t h k = header_same of named _ _ o o' f own own' (eqb-true named of t) h k
+      read_same of (ReadUserHeader named) o o' f own own' t h k = header_same of named _ _ o o' f own own' (eqb-true named of t) h k
       read_same of _ o o' f own own' t h k = absurd (true≢false (sym t))
