@@ -18,13 +18,11 @@ use Rattle.iox2_machine.specs.declared.service_config.ServiceConfig.{ServiceConf
 use Rattle.iox2_machine.specs.declared.errors.ConnectionFailure.{ConnectionFailure}
 use Rattle.iox2_machine.specs.declared.errors.LoanError.{LoanError}
 use Rattle.iox2_machine.specs.declared.errors.SendError.TheVariants.{LoanError as NotLoaned}
-use Rattle.iox2_machine.specs.declared.errors.PublisherCreateError.{PublisherCreateError}
-use Rattle.iox2_machine.specs.declared.errors.SubscriberCreateError.{SubscriberCreateError}
 use Rattle.iox2_laws.proofs.Cases.{by_option, by_options}
 use Rattle.iox2_machine.specs.machine.Environments.{ample_memory}
 use Rattle.iox2_commands.specs.Views.{seen_handle}
 use Rattle.iox2_commands.specs.Isolation.{IsIndependent, IsIndependentPublisher, HasBorrowedNothing, ClosesUnborrowed, reads_at}
-use Rattle.iox2_commands.specs.Outcomes.{Handle, Publisher_handle, Subscriber_handle, Loan_handle, Sample_handle, Outcome, replied, done, skipped}
+use Rattle.iox2_commands.specs.Outcomes.{Handle, Subscriber_handle, Sample_handle, Outcome, replied, done, skipped}
 use Rattle.iox2_commands.specs.Step.{Step, after_publisher, after_subscriber, after_loan, after_send, after_receive, after_update, publisher_settings, unblocked_at, subscriber_at, loan_at, unwritten_at, written_at, with_cell_at, sendable_at, blocked_at, sample_at, if_single_units, if_fixed_size, if_dynamic}
 use Rattle.iox2_commands.specs.declared.command.Command.{Command}
 use Rattle.iox2_commands.specs.declared.command.Command.TheVariants.{Nothing, CreatePublisher as PublisherCommand, CreateSubscriber as SubscriberCommand, LoanUninit, Loan as LoanDefault, LoanSlice, WriteCell, WriteAll, AssumeInit, WriteHeader, SetPayload, Send as SendLoan, SendCopy, Discard, Retry, GiveUp, Update, Receive, HasSamples, Read, ReadHeader, ReadUserHeader, Release, Close}
@@ -75,26 +73,21 @@ module _ {T U : Type 0} where
     done_alike : (a' b' : State T U) → view_of q a' ≡ view_of q b' → IsAlike q (done a') (done b')
     done_alike a' b' e = record { state = e; event = refl; handle = refl }
 
-    after_publisher_alike : (a' b' : State T U) (n n' : ℕ) (refusal refusal' : Option PublisherCreateError) → view_of q a' ≡ view_of q b' → n ≡ n'
-        → refusal ≡ refusal' → IsAlike q (after_publisher a' n refusal) (after_publisher b' n' refusal')
-    after_publisher_alike a' b' n n' None None e f g = record { state = e; event = refl; handle = ap Publisher_handle f }
-    after_publisher_alike a' b' n n' (Some x) (Some x') e f g = record { state = e; event = refl; handle = refl }
-    after_publisher_alike a' b' n n' None (Some x) e f g = absurd (none-some x g)
-    after_publisher_alike a' b' n n' (Some x) None e f g = absurd (none-some x (sym g))
-
-    after_subscriber_alike : (a' b' : State T U) (n n' : ℕ) (refusal refusal' : Option SubscriberCreateError) → view_of q a' ≡ view_of q b' → n ≡ n'
-        → refusal ≡ refusal' → IsAlike q (after_subscriber a' n refusal) (after_subscriber b' n' refusal')
-    after_subscriber_alike a' b' n n' None None e f g = record { state = e; event = refl; handle = ap Subscriber_handle f }
-    after_subscriber_alike a' b' n n' (Some x) (Some x') e f g = record { state = e; event = refl; handle = refl }
-    after_subscriber_alike a' b' n n' None (Some x) e f g = absurd (none-some x g)
-    after_subscriber_alike a' b' n n' (Some x) None e f g = absurd (none-some x (sym g))
+    -- outcomes of a call that makes something, or is refused that
+    after_alike : {R : Type 0} (after : State T U → ℕ → Option R → Outcome T U) (a' b' : State T U) (n n' : ℕ) (refusal refusal' : Option R)
+        → ((k : ℕ) → IsAlike q (after a' k None) (after b' k None)) → ((k : ℕ) (x : R) → IsAlike q (after a' k (Some x)) (after b' k (Some x)))
+        → n ≡ n' → refusal ≡ refusal' → IsAlike q (after a' n refusal) (after b' n' refusal')
+    after_alike {R} after a' b' n n' refusal refusal' made refused f g =
+        subst (λ k. IsAlike q (after a' n refusal) (after b' k refusal')) f (subst (λ r. IsAlike q (after a' n refusal) (after b' n r)) g (at refusal))
+      where
+        at : (r : Option R) → IsAlike q (after a' n r) (after b' n r)
+        at None = made n
+        at (Some x) = refused n x
 
     after_loan_alike : (a' b' : State T U) (n n' : ℕ) (refusal refusal' : Option LoanError) → view_of q a' ≡ view_of q b' → n ≡ n' → refusal ≡ refusal'
         → IsAlike q (after_loan a' n refusal) (after_loan b' n' refusal')
-    after_loan_alike a' b' n n' None None e f g = record { state = e; event = refl; handle = ap Loan_handle f }
-    after_loan_alike a' b' n n' (Some x) (Some x') e f g = record { state = e; event = refl; handle = refl }
-    after_loan_alike a' b' n n' None (Some x) e f g = absurd (none-some x g)
-    after_loan_alike a' b' n n' (Some x) None e f g = absurd (none-some x (sym g))
+    after_loan_alike a' b' n n' refusal refusal' e =
+        after_alike after_loan a' b' n n' refusal refusal' (λ k. record { state = e; event = refl; handle = refl }) (λ k x. record { state = e; event = refl; handle = refl })
 
     -- a loan is written in both
     loan_put : (a b : State T U) (n : ℕ) (l : Option (Loan T U)) → view_of q a ≡ view_of q b → view_of q (with_loan a n l) ≡ view_of q (with_loan b n l)
@@ -222,13 +215,15 @@ module _ {T U : Type 0} where
           let config : b.config ≡ a.config = ap (λ (v : View T U). v.config) (sym e) in
           let made : (view_of q h.0 ≡ view_of q k.0) × (h.1 ≡ k.1) = create_publisher_alike q a b h.0 k.0 (settings a.config) h.1 k.1 e h.2
           (subst (λ (c : ServiceConfig). CreatePublisher ample_memory b (settings c) k.0 k.1) config k.2) in
-          alike_equal q o _ o' _ h.3 k.3 (after_publisher_alike h.0 k.0 a.next_port b.next_port h.1 k.1 made.0 (ap (λ (v : View T U). v.next_port) e) made.1)
+          alike_equal q o _ o' _ h.3 k.3 (after_alike after_publisher h.0 k.0 a.next_port b.next_port h.1 k.1
+          (λ i. record { state = made.0; event = refl; handle = refl }) (λ i x. record { state = made.0; event = refl; handle = refl }) (ap (λ (v : View T U). v.next_port) e) made.1)
       step_alike (SubscriberCommand buffer degradation) o o' closes h k replies =
           let settings : ServiceConfig → SubscriberSettings = λ (c : ServiceConfig). record { buffer_size = elim buffer [ None ↦ buffer_limit c | Some size ↦ size ]; degradation_handler = Fixed degradation } in
           let config : b.config ≡ a.config = ap (λ (v : View T U). v.config) (sym e) in
           let made : (view_of q h.0 ≡ view_of q k.0) × (h.1 ≡ k.1) = create_subscriber_alike q a b h.0 k.0 (settings a.config) h.1 k.1 e h.2
           (subst (λ (c : ServiceConfig). CreateSubscriber ample_memory b (settings c) k.0 k.1) config k.2) in
-          alike_equal q o _ o' _ h.3 k.3 (after_subscriber_alike h.0 k.0 a.next_port b.next_port h.1 k.1 made.0 (ap (λ (v : View T U). v.next_port) e) made.1)
+          alike_equal q o _ o' _ h.3 k.3 (after_alike after_subscriber h.0 k.0 a.next_port b.next_port h.1 k.1
+          (λ i. record { state = made.0; event = refl; handle = refl }) (λ i x. record { state = made.0; event = refl; handle = refl }) (ap (λ (v : View T U). v.next_port) e) made.1)
       step_alike (LoanUninit of) o o' closes h k replies =
           loan_alike false 1 (if_fixed_size a (unblocked_at a handles of)) (if_fixed_size b (unblocked_at b handles' of)) o o' (fixed_size_same q a b handles handles' e same of _ _ (unblocked_at_same q a b handles handles' e same of)) h k
       step_alike (LoanDefault of) o o' closes h k replies =
