@@ -12,7 +12,7 @@ use Rattle.iox2_machine.specs.machine.SubscriberUpdate.{UpdateSubscriber}
 use Rattle.iox2_machine.specs.machine.Loans.{GrantLoan, is_static, loan_discarded}
 use Rattle.iox2_machine.specs.machine.SingleCalls.{GrantWrittenLoan}
 use Rattle.iox2_machine.specs.machine.Sends.{Send, SendResult, Publish}
-use Rattle.iox2_machine.specs.machine.Receives.{Receive, TakeSample, ReceiveResult, Got_sample, No_sample, Receive_error}
+use Rattle.iox2_machine.specs.machine.Receives.{Receive, ReceiveResult}
 use Rattle.iox2_machine.specs.machine.Releases.{released, pruned, unborrowed, subscriber_pruned, is_unused, place_freed, freed_if_unused}
 use Rattle.iox2_machine.specs.machine.Ports.{FirstPublisherUpdate, FirstSubscriberUpdate, new_publisher, new_subscriber, with_new_publisher, with_new_subscriber, with_failure_warning, CreatePublisher, CreateSubscriber, slots_for, publisher_gone, publisher_closed, subscribers_pruned, subscriber_shut, subscriber_closed}
 use Rattle.iox2_machine.specs.declared.service_config.ServiceConfig.{ServiceConfig}
@@ -21,7 +21,8 @@ use Rattle.iox2_machine.specs.declared.errors.ConnectionFailure.{ConnectionFailu
 use Rattle.iox2_machine.specs.declared.errors.LoanError.{LoanError}
 use Rattle.iox2_machine.specs.declared.errors.PublisherCreateError.{PublisherCreateError}
 use Rattle.iox2_machine.specs.declared.errors.SubscriberCreateError.{SubscriberCreateError}
-use Rattle.iox2_laws.proofs.Cases.{by_option, by_bool}
+use Rattle.iox2_laws.proofs.Cases.{by_option}
+use Rattle.iox2_laws.proofs.OperationWalks.{publisher_update_by_steps, subscriber_update_by_steps, receive_by_steps}
 use Rattle.iox2_laws.proofs.CallCases.{grant_cases, publisher_cases, subscriber_cases}
 use Rattle.iox2_laws.proofs.PublisherUpdates.{update_publisher_changes}
 use Rattle.iox2_laws.proofs.Puts.{found_put, found_removed, found_mapped, at_each, put_at-other}
@@ -31,6 +32,7 @@ use Rattle.iox2_commands.proofs.AlikeViews.{View, view_of}
 use Rattle.iox2_commands.proofs.AlikeCloses.{before_going, closed_at_once}
 use Rattle.iox2_commands.proofs.AlikeSends.{delivered_view, published_view, publish_is}
 use Rattle.iox2_commands.proofs.ApartSteps.{AllOpen, changed_open}
+use Rattle.iox2_commands.proofs.Keeping.{keeping}
 
 -- a change of what independence doesn't look at leaves a publisher independent
 independent_changed : (c : ServiceConfig) (x x' : Publisher) → x'.allocation_strategy ≡ x.allocation_strategy → x'.slots ≡ x.slots
@@ -91,39 +93,26 @@ module _ {T U : Type 0} (q : ℕ) where
 
   -- a publisher's update
   pub update_publisher_open : (s s' : State T U) (p : ℕ) (failure : Option ConnectionFailure) → UpdatePublisher ample_memory s p s' failure → StaysOpen s → StaysOpen s'
-  update_publisher_open s s' p failure h k =
-      by_option (StaysOpen s') (s.publishers p) _ _ h (λ _ v. absurd v) (λ x e h.
-      by_bool (StaysOpen s') x.is_due _ _ h
-      (λ _ h. subst StaysOpen (sym h.2) (record {
-        publishers = put_independent s.config s.publishers p (record x { ends = (h.0).ends; is_due = false }) k.publishers (independent_changed s.config x _ refl refl refl refl refl refl (k.publishers p x e));
+  update_publisher_open s s' p failure =
+      publisher_update_by_steps _ (keeping StaysOpen) ample_memory s p s' failure (λ x e side _ k. record {
+        publishers = put_independent s.config s.publishers p (record x { ends = side.ends; is_due = false }) k.publishers (independent_changed s.config x _ refl refl refl refl refl refl (k.publishers p x e));
         all_open = k.all_open;
-      }))
-      (λ _ h. subst StaysOpen (sym h.0) k))
+      })
 
   -- a subscriber's update
   pub update_subscriber_open : (environment : Environment) (s s' : State T U) (r : ℕ) (failure : Option ConnectionFailure)
       → UpdateSubscriber environment s r s' failure → StaysOpen s → StaysOpen s'
-  update_subscriber_open environment s s' r failure h k =
-      by_option (StaysOpen s') (s.subscribers r) _ _ h (λ _ v. absurd v) (λ y e h.
-      by_bool (StaysOpen s') y.is_due _ _ h
-      (λ _ h. subst StaysOpen (sym h.2) (record {
+  update_subscriber_open environment s s' r failure =
+      subscriber_update_by_steps _ (keeping StaysOpen) environment s r s' failure (λ y e side _ k. record {
         publishers = k.publishers;
-        all_open = put_open s r (record y { ends = (h.0).ends; expired = (h.0).expired; is_due = (h.0).is_due }) (λ apart. k.all_open r y apart e) k.all_open;
-      }))
-      (λ _ h. subst StaysOpen (sym h.0) k))
-
-  take_open : (s s' : State T U) (r : ℕ) (y : Subscriber) (result : ReceiveResult) → TakeSample s r y s' result → StaysOpen s → StaysOpen s'
-  take_open s s' r y (Got_sample p n) h k = subst StaysOpen (sym h.3) (record { publishers = k.publishers; all_open = k.all_open })
-  take_open s s' r y No_sample h k = subst StaysOpen (sym h.1) k
-  take_open s s' r y (Receive_error e) h k = subst StaysOpen (sym h.3) k
+        all_open = put_open s r (record y { ends = side.ends; expired = side.expired; is_due = side.is_due }) (λ apart. k.all_open r y apart e) k.all_open;
+      })
 
   -- a receive
   pub receive_open : (environment : Environment) (s s' : State T U) (r : ℕ) (result : ReceiveResult) → Receive environment s r s' result → StaysOpen s → StaysOpen s'
-  receive_open environment s s' r result h k =
-      let mid : StaysOpen h.0 = update_subscriber_open environment s h.0 r h.1 h.2 k in
-      by_option (StaysOpen s') h.1 _ _ h.3
-      (λ _ j. by_option (StaysOpen s') ((h.0).subscribers r) _ _ j (λ _ v. absurd v) (λ y _ j. take_open h.0 s' r y result j mid))
-      (λ f _ j. subst StaysOpen (sym j.0) mid)
+  receive_open environment s s' r result =
+      receive_by_steps _ (keeping StaysOpen) environment s r s' result (λ t failure. update_subscriber_open environment s t r failure)
+      (λ t p box k. record { publishers = k.publishers; all_open = k.all_open })
 
   -- what is left where a closed subscriber goes, if it has to
   freed_open : (s : State T U) (r : ℕ) → StaysOpen s → StaysOpen (receiver_channels_reset (freed_if_unused s r) r)

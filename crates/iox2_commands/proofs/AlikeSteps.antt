@@ -7,7 +7,7 @@ use Rattle.std.proofs.lemmas.Option.{none-some, same_Some}
 use Rattle.iox2_machine.specs.machine.Limits.{buffer_limit}
 use Rattle.iox2_machine.specs.machine.Numbers.{put_at}
 use Rattle.iox2_machine.specs.machine.Mailbox.{is_borrowed}
-use Rattle.iox2_machine.specs.machine.Records.{Loan, Publisher, Subscriber, BlockedSend, PublisherSettings, SubscriberSettings, Fixed}
+use Rattle.iox2_machine.specs.machine.Records.{Entry, Loan, Publisher, Subscriber, BlockedSend, PublisherSettings, SubscriberSettings, Fixed}
 use Rattle.iox2_machine.specs.machine.State.{State, Messages, with_loan}
 use Rattle.iox2_machine.specs.machine.SubscriberUpdate.{UpdateSubscriber}
 use Rattle.iox2_machine.specs.machine.Loans.{GrantLoan, written, with_cell, is_initialized, initialized, entry_of}
@@ -18,17 +18,15 @@ use Rattle.iox2_machine.specs.declared.service_config.ServiceConfig.{ServiceConf
 use Rattle.iox2_machine.specs.declared.errors.ConnectionFailure.{ConnectionFailure}
 use Rattle.iox2_machine.specs.declared.errors.LoanError.{LoanError}
 use Rattle.iox2_machine.specs.declared.errors.SendError.TheVariants.{LoanError as NotLoaned}
-use Rattle.iox2_machine.specs.declared.errors.PublisherCreateError.{PublisherCreateError}
-use Rattle.iox2_machine.specs.declared.errors.SubscriberCreateError.{SubscriberCreateError}
 use Rattle.iox2_laws.proofs.Cases.{by_option, by_options}
 use Rattle.iox2_machine.specs.machine.Environments.{ample_memory}
 use Rattle.iox2_commands.specs.Views.{seen_handle}
 use Rattle.iox2_commands.specs.Isolation.{IsIndependent, IsIndependentPublisher, HasBorrowedNothing, ClosesUnborrowed, reads_at}
-use Rattle.iox2_commands.specs.Outcomes.{Handle, Publisher_handle, Subscriber_handle, Loan_handle, Sample_handle, Outcome, replied, done, skipped}
+use Rattle.iox2_commands.specs.Outcomes.{Handle, Subscriber_handle, Sample_handle, Outcome, replied, done, skipped}
 use Rattle.iox2_commands.specs.Step.{Step, after_publisher, after_subscriber, after_loan, after_send, after_receive, after_update, publisher_settings, unblocked_at, subscriber_at, loan_at, unwritten_at, written_at, with_cell_at, sendable_at, blocked_at, sample_at, if_single_units, if_fixed_size, if_dynamic}
 use Rattle.iox2_commands.specs.declared.command.Command.{Command}
 use Rattle.iox2_commands.specs.declared.command.Command.TheVariants.{Nothing, CreatePublisher as PublisherCommand, CreateSubscriber as SubscriberCommand, LoanUninit, Loan as LoanDefault, LoanSlice, WriteCell, WriteAll, AssumeInit, WriteHeader, SetPayload, Send as SendLoan, SendCopy, Discard, Retry, GiveUp, Update, Receive, HasSamples, Read, ReadHeader, ReadUserHeader, Release, Close}
-use Rattle.iox2_commands.specs.declared.reply.Reply.TheVariants.{Unwritten, SendRefused, Cell, Header, UserHeader}
+use Rattle.iox2_commands.specs.declared.reply.Reply.TheVariants.{Unwritten, SendRefused, Cell}
 use Rattle.iox2_commands.proofs.Named.{blocked_is, kept_if, in_single_units}
 use Rattle.iox2_commands.proofs.AlikeViews.{View, view_of}
 use Rattle.iox2_commands.proofs.AlikeUpdates.{update_publisher_alike}
@@ -40,7 +38,9 @@ use Rattle.iox2_commands.proofs.AlikeNamed.{names_subscriber, names_sample, name
 use Rattle.iox2_commands.proofs.AlikeCloses.{subscriber_closed_alike}
 use Rattle.iox2_commands.proofs.AlikeIndependent.{StaysOpen, grant_written_loan_open}
 use Rattle.iox2_machine.specs.machine.Receives.{Receive as Receives}
-use Rattle.iox2_commands.proofs.ApartCalls.{read_quiet, read_header_quiet, read_user_header_quiet, receive_of_other, question_of_other, update_of_other, release_of_other}
+use Rattle.iox2_commands.specs.declared.reply.Reply.{Reply}
+use Rattle.iox2_commands.proofs.HeaderReads.{ReadsHeader}
+use Rattle.iox2_commands.proofs.ApartCalls.{read_quiet, header_quiet, receive_of_other, question_of_other, update_of_other, release_of_other}
 
 -- a subscriber that is named under its own id
 own_id : (q : ℕ) (o : Option Subscriber) (named : ℕ × Subscriber) → option_and_then {U = ℕ × Subscriber} (λ y. cond y.is_open (Some (q, y)) None) o ≡ Some named
@@ -73,26 +73,21 @@ module _ {T U : Type 0} where
     done_alike : (a' b' : State T U) → view_of q a' ≡ view_of q b' → IsAlike q (done a') (done b')
     done_alike a' b' e = record { state = e; event = refl; handle = refl }
 
-    after_publisher_alike : (a' b' : State T U) (n n' : ℕ) (refusal refusal' : Option PublisherCreateError) → view_of q a' ≡ view_of q b' → n ≡ n'
-        → refusal ≡ refusal' → IsAlike q (after_publisher a' n refusal) (after_publisher b' n' refusal')
-    after_publisher_alike a' b' n n' None None e f g = record { state = e; event = refl; handle = ap Publisher_handle f }
-    after_publisher_alike a' b' n n' (Some x) (Some x') e f g = record { state = e; event = refl; handle = refl }
-    after_publisher_alike a' b' n n' None (Some x) e f g = absurd (none-some x g)
-    after_publisher_alike a' b' n n' (Some x) None e f g = absurd (none-some x (sym g))
-
-    after_subscriber_alike : (a' b' : State T U) (n n' : ℕ) (refusal refusal' : Option SubscriberCreateError) → view_of q a' ≡ view_of q b' → n ≡ n'
-        → refusal ≡ refusal' → IsAlike q (after_subscriber a' n refusal) (after_subscriber b' n' refusal')
-    after_subscriber_alike a' b' n n' None None e f g = record { state = e; event = refl; handle = ap Subscriber_handle f }
-    after_subscriber_alike a' b' n n' (Some x) (Some x') e f g = record { state = e; event = refl; handle = refl }
-    after_subscriber_alike a' b' n n' None (Some x) e f g = absurd (none-some x g)
-    after_subscriber_alike a' b' n n' (Some x) None e f g = absurd (none-some x (sym g))
+    -- outcomes of a call that makes something, or is refused that
+    after_alike : {R : Type 0} (after : State T U → ℕ → Option R → Outcome T U) (a' b' : State T U) (n n' : ℕ) (refusal refusal' : Option R)
+        → ((k : ℕ) → IsAlike q (after a' k None) (after b' k None)) → ((k : ℕ) (x : R) → IsAlike q (after a' k (Some x)) (after b' k (Some x)))
+        → n ≡ n' → refusal ≡ refusal' → IsAlike q (after a' n refusal) (after b' n' refusal')
+    after_alike {R} after a' b' n n' refusal refusal' made refused f g =
+        subst (λ k. IsAlike q (after a' n refusal) (after b' k refusal')) f (subst (λ r. IsAlike q (after a' n refusal) (after b' n r)) g (at refusal))
+      where
+        at : (r : Option R) → IsAlike q (after a' n r) (after b' n r)
+        at None = made n
+        at (Some x) = refused n x
 
     after_loan_alike : (a' b' : State T U) (n n' : ℕ) (refusal refusal' : Option LoanError) → view_of q a' ≡ view_of q b' → n ≡ n' → refusal ≡ refusal'
         → IsAlike q (after_loan a' n refusal) (after_loan b' n' refusal')
-    after_loan_alike a' b' n n' None None e f g = record { state = e; event = refl; handle = ap Loan_handle f }
-    after_loan_alike a' b' n n' (Some x) (Some x') e f g = record { state = e; event = refl; handle = refl }
-    after_loan_alike a' b' n n' None (Some x) e f g = absurd (none-some x g)
-    after_loan_alike a' b' n n' (Some x) None e f g = absurd (none-some x (sym g))
+    after_loan_alike a' b' n n' refusal refusal' e =
+        after_alike after_loan a' b' n n' refusal refusal' (λ k. record { state = e; event = refl; handle = refl }) (λ k x. record { state = e; event = refl; handle = refl })
 
     -- a loan is written in both
     loan_put : (a b : State T U) (n : ℕ) (l : Option (Loan T U)) → view_of q a ≡ view_of q b → view_of q (with_loan a n l) ≡ view_of q (with_loan b n l)
@@ -220,13 +215,15 @@ module _ {T U : Type 0} where
           let config : b.config ≡ a.config = ap (λ (v : View T U). v.config) (sym e) in
           let made : (view_of q h.0 ≡ view_of q k.0) × (h.1 ≡ k.1) = create_publisher_alike q a b h.0 k.0 (settings a.config) h.1 k.1 e h.2
           (subst (λ (c : ServiceConfig). CreatePublisher ample_memory b (settings c) k.0 k.1) config k.2) in
-          alike_equal q o _ o' _ h.3 k.3 (after_publisher_alike h.0 k.0 a.next_port b.next_port h.1 k.1 made.0 (ap (λ (v : View T U). v.next_port) e) made.1)
+          alike_equal q o _ o' _ h.3 k.3 (after_alike after_publisher h.0 k.0 a.next_port b.next_port h.1 k.1
+          (λ i. record { state = made.0; event = refl; handle = refl }) (λ i x. record { state = made.0; event = refl; handle = refl }) (ap (λ (v : View T U). v.next_port) e) made.1)
       step_alike (SubscriberCommand buffer degradation) o o' closes h k replies =
           let settings : ServiceConfig → SubscriberSettings = λ (c : ServiceConfig). record { buffer_size = elim buffer [ None ↦ buffer_limit c | Some size ↦ size ]; degradation_handler = Fixed degradation } in
           let config : b.config ≡ a.config = ap (λ (v : View T U). v.config) (sym e) in
           let made : (view_of q h.0 ≡ view_of q k.0) × (h.1 ≡ k.1) = create_subscriber_alike q a b h.0 k.0 (settings a.config) h.1 k.1 e h.2
           (subst (λ (c : ServiceConfig). CreateSubscriber ample_memory b (settings c) k.0 k.1) config k.2) in
-          alike_equal q o _ o' _ h.3 k.3 (after_subscriber_alike h.0 k.0 a.next_port b.next_port h.1 k.1 made.0 (ap (λ (v : View T U). v.next_port) e) made.1)
+          alike_equal q o _ o' _ h.3 k.3 (after_alike after_subscriber h.0 k.0 a.next_port b.next_port h.1 k.1
+          (λ i. record { state = made.0; event = refl; handle = refl }) (λ i x. record { state = made.0; event = refl; handle = refl }) (ap (λ (v : View T U). v.next_port) e) made.1)
       step_alike (LoanUninit of) o o' closes h k replies =
           loan_alike false 1 (if_fixed_size a (unblocked_at a handles of)) (if_fixed_size b (unblocked_at b handles' of)) o o' (fixed_size_same q a b handles handles' e same of _ _ (unblocked_at_same q a b handles handles' e same of)) h k
       step_alike (LoanDefault of) o o' closes h k replies =
@@ -312,8 +309,8 @@ module _ {T U : Type 0} where
           alike_equal q o _ o' _ x.4 y.4 (after_question_alike q x.0 y.0 x.1 y.1 x.2 y.2 updated.0)))
           (λ f g. both_quiet o o' (question_of_other q default_value default_header m a handles of o f h) (question_of_other q default_value default_header m' b handles' of o' g k))
       step_alike (Read of at) o o' closes h k replies = both_quiet o o' (read_quiet q default_value default_header m a handles of at o h) (read_quiet q default_value default_header m' b handles' of at o' k)
-      step_alike (ReadHeader of) o o' closes h k replies = both_quiet o o' (read_header_quiet q default_value default_header m a handles of o h) (read_header_quiet q default_value default_header m' b handles' of o' k)
-      step_alike (ReadUserHeader of) o o' closes h k replies = both_quiet o o' (read_user_header_quiet q default_value default_header m a handles of o h) (read_user_header_quiet q default_value default_header m' b handles' of o' k)
+      step_alike (ReadHeader of) o o' closes h k replies = both_quiet o o' (header_quiet q default_value default_header m a handles of _ _ o h) (header_quiet q default_value default_header m' b handles' of _ _ o' k)
+      step_alike (ReadUserHeader of) o o' closes h k replies = both_quiet o o' (header_quiet q default_value default_header m a handles of _ _ o h) (header_quiet q default_value default_header m' b handles' of _ _ o' k)
       step_alike (Release of) o o' closes h k replies =
           by_sample of (IsAlike q o o')
           (λ t. release_own of o o' t h k)
@@ -349,6 +346,18 @@ module _ {T U : Type 0} where
       reply_of : (o o' x x' : Outcome T U) → o ≡ x → o' ≡ x' → x.reply ≡ x'.reply → o.reply ≡ o'.reply
       reply_of o o' x x' h k f = ap (λ (v : Outcome T U). v.reply) h ∙ f ∙ sym (ap (λ (v : Outcome T U). v.reply) k)
 
+      -- a read of a header
+      header_same : (of named : ℕ) (of_loan : ℕ × Loan T U → Reply T U) (of_entry : Entry T U → Reply T U) (o o' : Outcome T U) → m ≡ m' → NamesOwn handles of → NamesOwn handles' of → named ≡ of
+          → ReadsHeader m a handles named of_loan of_entry o → ReadsHeader m' b handles' named of_loan of_entry o' → o.reply ≡ o'.reply
+      header_same of named of_loan of_entry o o' f own own' is h k =
+          by_options (o.reply ≡ o'.reply) (sample_at a handles named) (sample_at b handles' named) _ _ _ _
+          (subst (λ i. sample_at a handles i ≡ sample_at b handles' i) (sym is) (sample_same of own own')) h k
+          (λ _ j l. by_options (o.reply ≡ o'.reply) (loan_at a handles named) (loan_at b handles' named) _ _ _ _ (loan_at_same q a b handles handles' e same named) j l
+          (λ _ x y. reply_of o o' (skipped a) (skipped b) x y refl)
+          (λ loan _ x y. reply_of o o' (replied (of_loan loan) a) (replied (of_loan loan) b) x y refl))
+          (λ sample _ j l. by_options (o.reply ≡ o'.reply) (m sample.2) (m' sample.2) _ _ _ _ (ap (λ (h : Messages T U). h sample.2) f) j l (λ _ v _. absurd v)
+          (λ entry _ x y. reply_of o o' (replied (of_entry entry) a) (replied (of_entry entry) b) x y refl))
+
       -- A read where the subscriber's own samples alone are named replies the same in both.
       pub read_same : (of : ℕ) (command : Command T U) (o o' : Outcome T U) → m ≡ m' → NamesOwn handles of → NamesOwn handles' of → reads_at of command ≡ true
           → StepA command o → StepB command o' → o.reply ≡ o'.reply
@@ -365,22 +374,6 @@ module _ {T U : Type 0} where
           (λ entry _ x y. by_options (o.reply ≡ o'.reply) (slice_get entry.values at) (slice_get entry.values at) _ _ _ _ refl x y
           (λ _ v w. reply_of o o' (skipped a) (skipped b) v w refl)
           (λ value _ v w. reply_of o o' (replied (Cell (Some value)) a) (replied (Cell (Some value)) b) v w refl)))
-      read_same of (ReadHeader named) o o' f own own' t h k =
-          let is : named ≡ of = eqb-true named of t in
-          by_options (o.reply ≡ o'.reply) (sample_at a handles named) (sample_at b handles' named) _ _ _ _
-          (subst (λ i. sample_at a handles i ≡ sample_at b handles' i) (sym is) (sample_same of own own')) h k
-          (λ _ j l. by_options (o.reply ≡ o'.reply) (loan_at a handles named) (loan_at b handles' named) _ _ _ _ (loan_at_same q a b handles handles' e same named) j l
-          (λ _ x y. reply_of o o' (skipped a) (skipped b) x y refl)
-          (λ loan _ x y. reply_of o o' (replied (Header (loan.1).header) a) (replied (Header (loan.1).header) b) x y refl))
-          (λ sample _ j l. by_options (o.reply ≡ o'.reply) (m sample.2) (m' sample.2) _ _ _ _ (ap (λ (h : Messages T U). h sample.2) f) j l (λ _ v _. absurd v)
-          (λ entry _ x y. reply_of o o' (replied (Header entry.header) a) (replied (Header entry.header) b) x y refl))
-      read_same of (ReadUserHeader named) o o' f own own' t h k =
-          let is : named ≡ of = eqb-true named of t in
-          by_options (o.reply ≡ o'.reply) (sample_at a handles named) (sample_at b handles' named) _ _ _ _
-          (subst (λ i. sample_at a handles i ≡ sample_at b handles' i) (sym is) (sample_same of own own')) h k
-          (λ _ j l. by_options (o.reply ≡ o'.reply) (loan_at a handles named) (loan_at b handles' named) _ _ _ _ (loan_at_same q a b handles handles' e same named) j l
-          (λ _ x y. reply_of o o' (skipped a) (skipped b) x y refl)
-          (λ loan _ x y. reply_of o o' (replied (UserHeader (loan.1).user_header) a) (replied (UserHeader (loan.1).user_header) b) x y refl))
-          (λ sample _ j l. by_options (o.reply ≡ o'.reply) (m sample.2) (m' sample.2) _ _ _ _ (ap (λ (h : Messages T U). h sample.2) f) j l (λ _ v _. absurd v)
-          (λ entry _ x y. reply_of o o' (replied (UserHeader entry.user_header) a) (replied (UserHeader entry.user_header) b) x y refl))
+      read_same of (ReadHeader named) o o' f own own' t h k = header_same of named _ _ o o' f own own' (eqb-true named of t) h k
+      read_same of (ReadUserHeader named) o o' f own own' t h k = header_same of named _ _ o o' f own own' (eqb-true named of t) h k
       read_same of _ o o' f own own' t h k = absurd (true≢false (sym t))

@@ -4,7 +4,7 @@ use Rattle.std.specs.Prelude.{slice_get}
 use Rattle.std.specs.Option.{MatchOption}
 use Rattle.std.proofs.lemmas.Bool.{eqb-false, ne_eqb}
 use Rattle.std.proofs.lemmas.Option.{none-some, same_Some}
-use Rattle.iox2_machine.specs.machine.Records.{Subscriber}
+use Rattle.iox2_machine.specs.machine.Records.{Entry, Loan, Subscriber}
 use Rattle.iox2_machine.specs.machine.State.{State, Messages}
 use Rattle.iox2_machine.specs.machine.Receives.{ReceiveResult, Got_sample, No_sample, Receive_error}
 use Rattle.iox2_machine.specs.declared.errors.ConnectionFailure.{ConnectionFailure}
@@ -15,7 +15,9 @@ use Rattle.iox2_commands.specs.Outcomes.{Handle, No_handle, Sample_handle, Outco
 use Rattle.iox2_commands.specs.Step.{Step, after_receive, after_update, after_question, unblocked_at, subscriber_at, sample_at, loan_at, with_cell_at, if_single_units}
 use Rattle.iox2_commands.specs.declared.command.Command.{Command}
 use Rattle.iox2_commands.specs.declared.command.Command.TheVariants.{Nothing, CreatePublisher, CreateSubscriber, LoanUninit, Loan as LoanDefault, LoanSlice, WriteCell, WriteAll, AssumeInit, WriteHeader, SetPayload, Send, SendCopy, Discard, Retry, GiveUp, Update, Receive, HasSamples, Read, ReadHeader, ReadUserHeader, Release, Close}
+use Rattle.iox2_commands.specs.declared.reply.Reply.{Reply}
 use Rattle.iox2_commands.proofs.Named.{in_single_units}
+use Rattle.iox2_commands.proofs.HeaderReads.{ReadsHeader}
 use Rattle.iox2_commands.proofs.AlikeViews.{view_of}
 use Rattle.iox2_commands.proofs.AlikeReceives.{IsAlike, alike_equal}
 use Rattle.iox2_commands.proofs.AlikeNamed.{names_subscriber, names_sample, others_no_subscriber, others_no_sample, no_publisher_at, subscriber_apart, sample_apart}
@@ -66,17 +68,9 @@ module _ {T U : Type 0} (q : ℕ) where
         (λ sample _ k. by_option (IsAlike q o (done s)) (m sample.2) _ _ k (λ _ v. absurd v)
         (λ entry _ j. live o (slice_get entry.values at) _ j (λ value _ e. stays o _ e (record { state = refl; event = refl; handle = refl }))))
 
-    -- a read of the header does
-    pub read_header_quiet : (of : ℕ) (o : Outcome T U) → Steps (ReadHeader of) o → IsAlike q o (done s)
-    read_header_quiet of o h =
-        by_option (IsAlike q o (done s)) (sample_at s handles of) _ _ h
-        (λ _ j. live o (loan_at s handles of) _ j (λ loan _ e. stays o _ e (record { state = refl; event = refl; handle = refl })))
-        (λ sample _ k. by_option (IsAlike q o (done s)) (m sample.2) _ _ k (λ _ v. absurd v)
-        (λ entry _ e. stays o _ e (record { state = refl; event = refl; handle = refl })))
-
-    -- and one of the user header
-    pub read_user_header_quiet : (of : ℕ) (o : Outcome T U) → Steps (ReadUserHeader of) o → IsAlike q o (done s)
-    read_user_header_quiet of o h =
+    -- a read of a header does
+    pub header_quiet : (of : ℕ) (of_loan : ℕ × Loan T U → Reply T U) (of_entry : Entry T U → Reply T U) (o : Outcome T U) → ReadsHeader m s handles of of_loan of_entry o → IsAlike q o (done s)
+    header_quiet of of_loan of_entry o h =
         by_option (IsAlike q o (done s)) (sample_at s handles of) _ _ h
         (λ _ j. live o (loan_at s handles of) _ j (λ loan _ e. stays o _ e (record { state = refl; event = refl; handle = refl })))
         (λ sample _ k. by_option (IsAlike q o (done s)) (m sample.2) _ _ k (λ _ v. absurd v)
@@ -124,8 +118,8 @@ module _ {T U : Type 0} (q : ℕ) where
         (λ publisher f _. absurd (none-some publisher (sym (no_publisher_at q s handles of' here) ∙ f)))
     others_alike (Release of') of o all e other h = release_of_other of' o all (others_no_sample q _ (subst (λ i. is_of_others q (slice_get handles i) ≡ true) (sym (same_Some of' of e)) other)) h
     others_alike (Read of' at) of o all e other h = read_quiet of' at o h
-    others_alike (ReadHeader of') of o all e other h = read_header_quiet of' o h
-    others_alike (ReadUserHeader of') of o all e other h = read_user_header_quiet of' o h
+    others_alike (ReadHeader of') of o all e other h = header_quiet of' _ _ o h
+    others_alike (ReadUserHeader of') of o all e other h = header_quiet of' _ _ o h
     others_alike Nothing of o all e other h = absurd (none-some of e)
     others_alike (CreatePublisher a b c d x f g) of o all e other h = absurd (none-some of e)
     others_alike (CreateSubscriber a b) of o all e other h = absurd (none-some of e)

@@ -29,6 +29,7 @@ use Rattle.iox2_commands.specs.declared.command.Command.TheVariants.{Nothing, Cr
 use Rattle.iox2_commands.specs.declared.reply.Reply.{Reply}
 use Rattle.iox2_commands.specs.declared.reply.Reply.TheVariants.{Unwritten, SendRefused, Cell, Header as HeaderRead, UserHeader}
 use Rattle.iox2_commands.proofs.Named.{unblocked_is, subscriber_is, blocked_is, passes, in_single_units, in_fixed_size, in_dynamic}
+use Rattle.iox2_commands.proofs.HeaderReads.{ReadsHeader}
 use Rattle.iox2_commands.proofs.ReadSteps.{PastSends, past_after}
 use Rattle.iox2_commands.proofs.Reached.{HasReached, goes_on}
 use Rattle.iox2_commands.proofs.AlikeOpen.{state_publisher, state_subscriber, state_loan, state_update, state_question, state_receive, state_retry, state_send}
@@ -145,6 +146,15 @@ module _ {T U : Type 0} where
         not_both : (a b : ℕ) → a < b → b ≤ a → ⊥
         not_both a b h j = omega arith
 
+    -- a header is read
+    reads_header : (of : ℕ) (of_loan : ℕ × Loan T U → Reply T U) (of_entry : Entry T U → Reply T U) → Ends (ReadsHeader m s handles of of_loan of_entry)
+    reads_header of of_loan of_entry =
+        ends_option (sample_at s handles of) _ _
+        (λ _. live (loan_at s handles of) _ (λ loan _. ends_so (replied (of_loan loan) s) k))
+        (λ sample e.
+        let sent : (entry : Entry T U) × (m sample.2 ≡ Some entry) = sample_sent of sample e in
+        (replied (of_entry sent.0) s, match_some (m sample.2) sent.0 _ _ sent.1 refl, k))
+
     -- Each command comes to something.
     pub step_comes : (command : Command T U) → Ends (Step ample_memory default_value default_header m s handles command)
     step_comes Nothing = ends_so (done s) k
@@ -207,18 +217,8 @@ module _ {T U : Type 0} where
         let v : Ends (λ o. MatchOption (slice_get (sent.0).values at) (o ≡ skipped s) (λ value. o ≡ replied (Cell (Some value)) s)) =
         live (slice_get (sent.0).values at) _ (λ value _. ends_so (replied (Cell (Some value)) s) k) in
         (v.0, match_some (m sample.2) sent.0 _ _ sent.1 v.1, v.2))
-    step_comes (ReadHeader of) =
-        ends_option (sample_at s handles of) _ _
-        (λ _. live (loan_at s handles of) _ (λ loan _. ends_so (replied (HeaderRead (loan.1).header) s) k))
-        (λ sample e.
-        let sent : (entry : Entry T U) × (m sample.2 ≡ Some entry) = sample_sent of sample e in
-        (replied (HeaderRead (sent.0).header) s, match_some (m sample.2) sent.0 _ _ sent.1 refl, k))
-    step_comes (ReadUserHeader of) =
-        ends_option (sample_at s handles of) _ _
-        (λ _. live (loan_at s handles of) _ (λ loan _. ends_so (replied (UserHeader (loan.1).user_header) s) k))
-        (λ sample e.
-        let sent : (entry : Entry T U) × (m sample.2 ≡ Some entry) = sample_sent of sample e in
-        (replied (UserHeader (sent.0).user_header) s, match_some (m sample.2) sent.0 _ _ sent.1 refl, k))
+    step_comes (ReadHeader of) = reads_header of (λ loan. HeaderRead (loan.1).header) (λ entry. HeaderRead entry.header)
+    step_comes (ReadUserHeader of) = reads_header of (λ loan. UserHeader (loan.1).user_header) (λ entry. UserHeader entry.user_header)
     step_comes (Release of) = live (sample_at s handles of) _ (λ sample _. ends_so _ (released_fixed s sample.0 sample.1 sample.2 k))
     step_comes (Close of) =
         ends_option (unblocked_at s handles of) _ _

@@ -1,5 +1,7 @@
 pub mod GrowingLists
 pub mod Named
+pub mod HeaderReads
+pub mod Keeping
 pub mod StepLaws
 pub mod Lift
 pub mod EnoughRuns

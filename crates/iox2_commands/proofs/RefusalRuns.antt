@@ -32,7 +32,7 @@ use Rattle.iox2_commands.proofs.Isolation.{subscribers_are_isolated, views_stay_
 use Rattle.iox2_commands.proofs.Points.{run_to, run_from}
 use Rattle.iox2_commands.proofs.StepLaws.{IsSound, step_sound}
 use Rattle.iox2_commands.proofs.AlikeOpen.{state_publisher, state_subscriber, state_loan, state_update, state_question, state_receive, state_send, state_retry}
-use Rattle.iox2_commands.proofs.RefusalUpdates.{option_maps, update_publisher_ample, update_publisher_told, update_subscriber_ample, update_subscriber_told}
+use Rattle.iox2_commands.proofs.RefusalUpdates.{option_maps, update_publisher_back, update_subscriber_back}
 use Rattle.iox2_commands.proofs.RefusalStates.{AllStatic, update_publisher_static, update_subscriber_static, receive_static, released_static, with_loan_static, grant_loan_static, grant_written_loan_static, loan_discarded_static, send_static, retry_static, give_up_static, create_publisher_static, create_subscriber_static, publisher_closed_static, subscriber_closed_static}
 use Rattle.iox2_commands.proofs.RefusalSteps.{released_same, subscriber_closed_same, grant_loan_ample, grant_written_loan_ample, send_ample, retry_ample, give_up_ample, receive_ample, create_publisher_ample, create_subscriber_ample}
 
@@ -209,12 +209,12 @@ module _ {T U : Type 0} (default_value : T) (default_header : U) (m : Messages T
   step_ample (Update of) o plain port told h = (
     option_maps (unblocked_at s handles of) _ _ _ _ h
         (λ j. option_maps (subscriber_at s handles of) _ _ _ _ j (λ e. e)
-        (λ subscriber _ j. (j.0, j.1, update_subscriber_ample s j.0 subscriber.0 j.1 (back Told o _ j.0 j.3 (state_update j.0 j.1) told) j.2, j.3)))
-        (λ publisher _ j. (j.0, j.1, update_publisher_ample s j.0 publisher.0 j.1 (back Told o _ j.0 j.3 (state_update j.0 j.1) told) j.2, j.3)),
+        (λ subscriber _ j. (j.0, j.1, (update_subscriber_back s j.0 subscriber.0 j.1 (back Told o _ j.0 j.3 (state_update j.0 j.1) told) j.2).0, j.3)))
+        (λ publisher _ j. (j.0, j.1, (update_publisher_back s j.0 publisher.0 j.1 (back Told o _ j.0 j.3 (state_update j.0 j.1) told) j.2).0, j.3)),
     by_option (TellNoRefusal s.warnings) (unblocked_at s handles of) _ _ h
         (λ _ j. live_told o (subscriber_at s handles of) _ j told (λ subscriber j.
-        update_subscriber_told s j.0 subscriber.0 j.1 (back Told o _ j.0 j.3 (state_update j.0 j.1) told) j.2))
-        (λ publisher _ j. update_publisher_told s j.0 publisher.0 j.1 (back Told o _ j.0 j.3 (state_update j.0 j.1) told) j.2),
+        (update_subscriber_back s j.0 subscriber.0 j.1 (back Told o _ j.0 j.3 (state_update j.0 j.1) told) j.2).1))
+        (λ publisher _ j. (update_publisher_back s j.0 publisher.0 j.1 (back Told o _ j.0 j.3 (state_update j.0 j.1) told) j.2).1),
   )
   step_ample (Receive of) o plain port told h = (
     option_maps (if_single_units s (subscriber_at s handles of)) _ _ _ _ h (λ e. e)
@@ -228,11 +228,11 @@ module _ {T U : Type 0} (default_value : T) (default_header : U) (m : Messages T
           j.0,
           j.1,
           j.2,
-          (update_subscriber_ample s j.0 subscriber.0 j.1 (back Told o _ j.0 j.4 (state_question j.0 j.1 j.2) told) (j.3).0, (j.3).1),
+          ((update_subscriber_back s j.0 subscriber.0 j.1 (back Told o _ j.0 j.4 (state_question j.0 j.1 j.2) told) (j.3).0).0, (j.3).1),
           j.4,
         )),
     live_told o (subscriber_at s handles of) _ h told (λ subscriber j.
-        update_subscriber_told s j.0 subscriber.0 j.1 (back Told o _ j.0 j.4 (state_question j.0 j.1 j.2) told) (j.3).0),
+        (update_subscriber_back s j.0 subscriber.0 j.1 (back Told o _ j.0 j.4 (state_question j.0 j.1 j.2) told) (j.3).0).1),
   )
   step_ample (Read of at) o plain port told h = (
     h,

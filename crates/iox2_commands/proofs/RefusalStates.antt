@@ -11,7 +11,7 @@ use Rattle.iox2_machine.specs.machine.PublisherUpdate.{UpdatePublisher}
 use Rattle.iox2_machine.specs.machine.SubscriberUpdate.{UpdateSubscriber}
 use Rattle.iox2_machine.specs.machine.Loans.{GrantLoan, is_static, loan_discarded}
 use Rattle.iox2_machine.specs.machine.Sends.{Send, SendResult, Publish, DeliverAndConclude, ConcludeSend, Retry, GiveUp, more_retries, published, with_mailboxes}
-use Rattle.iox2_machine.specs.machine.Receives.{Receive, TakeSample, ReceiveResult, Got_sample, No_sample, Receive_error}
+use Rattle.iox2_machine.specs.machine.Receives.{Receive, ReceiveResult}
 use Rattle.iox2_machine.specs.machine.Releases.{released, unborrowed, subscriber_pruned, is_unused, place_freed, freed_if_unused}
 use Rattle.iox2_machine.specs.machine.Ports.{FirstPublisherUpdate, FirstSubscriberUpdate, new_publisher, with_new_publisher, with_new_subscriber, with_failure_warning, CreatePublisher, CreateSubscriber, publisher_closed, subscriber_shut, subscriber_closed}
 use Rattle.iox2_machine.specs.declared.warning.Warning.{Warning}
@@ -19,9 +19,11 @@ use Rattle.iox2_machine.specs.declared.errors.ConnectionFailure.{ConnectionFailu
 use Rattle.iox2_machine.specs.declared.errors.LoanError.{LoanError}
 use Rattle.iox2_machine.specs.declared.errors.PublisherCreateError.{PublisherCreateError}
 use Rattle.iox2_machine.specs.declared.errors.SubscriberCreateError.{SubscriberCreateError}
-use Rattle.iox2_laws.proofs.Cases.{by_option, by_bool}
+use Rattle.iox2_laws.proofs.Cases.{by_option}
+use Rattle.iox2_laws.proofs.OperationWalks.{publisher_update_by_steps, subscriber_update_by_steps, receive_by_steps}
 use Rattle.iox2_laws.proofs.CallCases.{grant_cases, publisher_cases, subscriber_cases}
 use Rattle.iox2_laws.proofs.Puts.{found_put, found_removed, found_mapped, at_each}
+use Rattle.iox2_commands.proofs.Keeping.{keeping}
 
 -- ---- what holds of each port
 
@@ -63,34 +65,18 @@ module _ {T U : Type 0} where
   -- ---- updates and receives
 
   pub update_publisher_static : (environment : Environment) (s s' : State T U) (p : ℕ) (failure : Option ConnectionFailure) → UpdatePublisher environment s p s' failure → AllStatic s → AllStatic s'
-  update_publisher_static environment s s' p failure h k =
-      by_option (AllStatic s') (s.publishers p) _ _ h (λ _ v. absurd v) (λ x e h.
-      by_bool (AllStatic s') x.is_due _ _ h
-      (λ _ h. subst AllStatic (sym h.2) (record {
-        publishers = put_each StaticPublisher s.publishers p (record x { ends = (h.0).ends; is_due = false }) k.publishers (k.publishers p x e);
-      }))
-      (λ _ h. subst AllStatic (sym h.0) k))
+  update_publisher_static environment s s' p failure =
+      publisher_update_by_steps _ (keeping AllStatic) environment s p s' failure (λ x e side _ k. record {
+        publishers = put_each StaticPublisher s.publishers p (record x { ends = side.ends; is_due = false }) k.publishers (k.publishers p x e);
+      })
 
   pub update_subscriber_static : (environment : Environment) (s s' : State T U) (q : ℕ) (failure : Option ConnectionFailure) → UpdateSubscriber environment s q s' failure → AllStatic s → AllStatic s'
-  update_subscriber_static environment s s' q failure h k =
-      by_option (AllStatic s') (s.subscribers q) _ _ h (λ _ v. absurd v) (λ y e h.
-      by_bool (AllStatic s') y.is_due _ _ h
-      (λ _ h. subst AllStatic (sym h.2) (record {
-        publishers = k.publishers;
-      }))
-      (λ _ h. subst AllStatic (sym h.0) k))
-
-  take_static : (s s' : State T U) (q : ℕ) (y : Subscriber) (result : ReceiveResult) → TakeSample s q y s' result → AllStatic s → AllStatic s'
-  take_static s s' q y (Got_sample p n) h k = subst AllStatic (sym h.3) (record { publishers = k.publishers })
-  take_static s s' q y No_sample h k = subst AllStatic (sym h.1) k
-  take_static s s' q y (Receive_error e) h k = subst AllStatic (sym h.3) k
+  update_subscriber_static environment s s' q failure =
+      subscriber_update_by_steps _ (keeping AllStatic) environment s q s' failure (λ y e side _ k. record { publishers = k.publishers })
 
   pub receive_static : (environment : Environment) (s s' : State T U) (q : ℕ) (result : ReceiveResult) → Receive environment s q s' result → AllStatic s → AllStatic s'
-  receive_static environment s s' q result h k =
-      let mid : AllStatic h.0 = update_subscriber_static environment s h.0 q h.1 h.2 k in
-      by_option (AllStatic s') h.1 _ _ h.3
-      (λ _ j. by_option (AllStatic s') ((h.0).subscribers q) _ _ j (λ _ v. absurd v) (λ y _ j. take_static h.0 s' q y result j mid))
-      (λ f _ j. subst AllStatic (sym j.0) mid)
+  receive_static environment s s' q result =
+      receive_by_steps _ (keeping AllStatic) environment s q s' result (λ t failure. update_subscriber_static environment s t q failure) (λ t p box k. record { publishers = k.publishers })
 
   -- a subscriber forgets departed publishers, and goes where it is unused
   pruned_static : (s : State T U) (q : ℕ) → AllStatic s → AllStatic (receiver_channels_reset (freed_if_unused (subscriber_pruned s q) q) q)

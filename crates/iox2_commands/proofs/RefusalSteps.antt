@@ -32,7 +32,7 @@ use Rattle.iox2_machine.specs.declared.warning.Warning.TheVariants.{ExpiredBuffe
 use Rattle.iox2_laws.proofs.Cases.{by_option, by_bool}
 use Rattle.iox2_laws.proofs.CallCases.{grant_cases}
 use Rattle.iox2_commands.specs.Refusals.{TellNoRefusal}
-use Rattle.iox2_commands.proofs.RefusalUpdates.{option_maps, bool_maps, update_publisher_ample, update_publisher_told, update_subscriber_ample, update_subscriber_told}
+use Rattle.iox2_commands.proofs.RefusalUpdates.{option_maps, bool_maps, update_publisher_back, update_subscriber_back}
 use Rattle.iox2_commands.proofs.RefusalStates.{AllStatic}
 
 -- ---- deliveries don't ask for memory
@@ -166,12 +166,12 @@ module _ {T U : Type 0} where
     option_maps (s.publishers l.publisher) _ _ _ _ h (λ h. h) (λ x _ h. (
       h.0,
       h.1,
-      update_publisher_ample s h.0 l.publisher h.1 (told_mid h.0 h.1 h.3) h.2,
+      (update_publisher_back s h.0 l.publisher h.1 (told_mid h.0 h.1 h.3) h.2).0,
       option_maps h.1 _ _ _ _ h.3 (λ j. publish_ample h.0 s' l.publisher n result j) (λ f _ j. j),
     )),
     by_option (TellNoRefusal s.warnings) (s.publishers l.publisher) _ _ h
         (λ _ h. told_same s s' (ap (λ (z : State T U). z.warnings) h.0) told)
-        (λ x _ h. update_publisher_told s h.0 l.publisher h.1 (told_mid h.0 h.1 h.3) h.2),
+        (λ x _ h. (update_publisher_back s h.0 l.publisher h.1 (told_mid h.0 h.1 h.3) h.2).1),
   )
     where
       told_mid : (mid : State T U) (failure : Option ConnectionFailure)
@@ -195,8 +195,8 @@ module _ {T U : Type 0} where
       by_option (TellNoRefusal (h.0).warnings) h.1 _ _ h.3
       (λ _ j. by_option (TellNoRefusal (h.0).warnings) ((h.0).subscribers q) _ _ j (λ _ v. absurd v) (λ y _ j. told_same h.0 s' (take_same h.0 s' q y result j) told))
       (λ f _ j. told_same h.0 s' (ap (λ (z : State T U). z.warnings) j.0) told) in (
-        (h.0, h.1, update_subscriber_ample s h.0 q h.1 told_mid h.2, h.3),
-        update_subscriber_told s h.0 q h.1 told_mid h.2,
+        (h.0, h.1, (update_subscriber_back s h.0 q h.1 told_mid h.2).0, h.3),
+        (update_subscriber_back s h.0 q h.1 told_mid h.2).1,
       )
 
   -- ---- ports
@@ -210,8 +210,8 @@ module _ {T U : Type 0} where
         → MakePublisher fixed_handlers s given place s' refusal → MakePublisher ample_memory s given place s' refusal × TellNoRefusal s.warnings
     make_publisher_ample None place segment port h =
         let told_mid : TellNoRefusal (h.0).warnings = failure_told h.0 _ h.1 (subst (λ (z : State T U). TellNoRefusal z.warnings) h.3 told) in (
-          (h.0, h.1, update_publisher_ample (with_new_publisher s given place) h.0 s.next_port h.1 told_mid h.2, h.3),
-          update_publisher_told (with_new_publisher s given place) h.0 s.next_port h.1 told_mid h.2,
+          (h.0, h.1, (update_publisher_back (with_new_publisher s given place) h.0 s.next_port h.1 told_mid h.2).0, h.3),
+          (update_publisher_back (with_new_publisher s given place) h.0 s.next_port h.1 told_mid h.2).1,
         )
     make_publisher_ample (Some e) place segment port h = absurd (⊎_elim (λ same. segment (ap Some same)) (λ same. port (ap Some same)) h.2)
 
@@ -247,8 +247,8 @@ module _ {T U : Type 0} where
         → MakeSubscriber fixed_handlers s given place s' refusal → MakeSubscriber ample_memory s given place s' refusal × TellNoRefusal s.warnings
     make_subscriber_ample None place port h =
         let told_mid : TellNoRefusal (h.0).warnings = failure_told h.0 _ h.1 (subst (λ (z : State T U). TellNoRefusal z.warnings) h.3 told) in (
-          (h.0, h.1, update_subscriber_ample (with_new_subscriber s given place) h.0 s.next_port h.1 told_mid h.2, h.3),
-          raised_told place (update_subscriber_told (with_new_subscriber s given place) h.0 s.next_port h.1 told_mid h.2),
+          (h.0, h.1, (update_subscriber_back (with_new_subscriber s given place) h.0 s.next_port h.1 told_mid h.2).0, h.3),
+          raised_told place (update_subscriber_back (with_new_subscriber s given place) h.0 s.next_port h.1 told_mid h.2).1,
         )
     make_subscriber_ample (Some e) place port h = absurd (port (ap Some h.2))
 

@@ -13,7 +13,7 @@ use Rattle.iox2_machine.specs.machine.Environments.{fixed_handlers, ample_memory
 use Rattle.iox2_machine.specs.declared.degradation.DegradationAction.{DegradationAction}
 use Rattle.iox2_machine.specs.declared.degradation.DegradationAction.TheVariants.{Ignore, Warn, DegradeAndFail}
 use Rattle.iox2_machine.specs.declared.errors.ConnectionFailure.{ConnectionFailure}
-use Rattle.iox2_laws.proofs.Cases.{by_option, by_bool}
+use Rattle.iox2_laws.proofs.Cases.{by_bool}
 use Rattle.iox2_commands.specs.Refusals.{TellNoRefusal}
 
 -- ---- facts by cases
@@ -52,6 +52,21 @@ module _ {Side : Type 0} (At At' : (place : ℕ) → (at : Option ℕ) → Side 
       let later = walk_back (place + 1) rest h.0 side' h.2 h.4 told in
       let first = back place at side h.0 h.1 h.3 later.1 in
       ((h.0, h.1, h.2, first.0, later.0, h.5), first.1)
+
+-- An update of a port that is due or not, whose walk goes back where it is due.
+module _ {T U Port Side : Type 0} (s s' : State T U) (failure : Option ConnectionFailure) (told : TellNoRefusal s'.warnings) (is_due : Port → Bool) (Walks Walks' : Port → Side → Type 0)
+    (after : Port → Side → State T U) (back : (x : Port) (side : Side) → Walks x side → s' ≡ after x side → Walks' x side × TellNoRefusal s.warnings) where
+  abbrev Updates : (Port → Side → Type 0) → Option Port → Type 0
+  Updates Walk port = MatchOption port ⊥ (λ x. MatchBool (is_due x) ((side : Side) × Walk x side × (s' ≡ after x side)) ((s' ≡ s) × (failure ≡ None)))
+
+  update_back : (port : Option Port) → Updates Walks port → Updates Walks' port × TellNoRefusal s.warnings
+  update_back None h = absurd h
+  update_back (Some x) h = (
+    bool_maps (is_due x) _ _ _ _ h (λ h. (h.0, (back x h.0 h.1 h.2).0, h.2)) (λ h. h),
+    by_bool (TellNoRefusal s.warnings) (is_due x) _ _ h
+        (λ _ h. (back x h.0 h.1 h.2).1)
+        (λ _ h. subst TellNoRefusal (ap (λ (z : State T U). z.warnings) h.0) told),
+  )
 
 -- ---- a publisher's update
 
@@ -98,21 +113,10 @@ module _ {T U : Type 0} (s s' : State T U) (p : ℕ) (failure : Option Connectio
       (sender_place_back (s.config).service_id p x.degradation_handler (history_for s p x) (receiving_buffer s) (has_receiver_end s p)) 0 s.subscriber_places (sender_side s p x) side failure
       walk (subst TellNoRefusal (ap (λ (z : State T U). z.warnings) is) told)
 
-  -- A publisher's update, after which the count is 0, was refused no memory.
-  pub update_publisher_ample : UpdatePublisher fixed_handlers s p s' failure → UpdatePublisher ample_memory s p s' failure
-  update_publisher_ample h =
-      option_maps (s.publishers p) _ _ _ _ h (λ v. v) (λ x _ h.
-      bool_maps x.is_due _ _ _ _ h
-      (λ h. (h.0, (walked_back x h.0 h.1 h.2).0, h.2))
-      (λ h. h))
-
-  -- And the count was 0 before it.
-  pub update_publisher_told : UpdatePublisher fixed_handlers s p s' failure → TellNoRefusal s.warnings
-  update_publisher_told h =
-      by_option (TellNoRefusal s.warnings) (s.publishers p) _ _ h (λ _ v. absurd v) (λ x _ h.
-      by_bool (TellNoRefusal s.warnings) x.is_due _ _ h
-      (λ _ h. (walked_back x h.0 h.1 h.2).1)
-      (λ _ h. subst TellNoRefusal (ap (λ (z : State T U). z.warnings) h.0) told))
+  -- A publisher's update, after which the count is 0, was refused no memory, and the count was 0 before it.
+  pub update_publisher_back : UpdatePublisher fixed_handlers s p s' failure → UpdatePublisher ample_memory s p s' failure × TellNoRefusal s.warnings
+  update_publisher_back =
+      update_back s s' failure told (λ x. x.is_due) (Walked fixed_handlers) (Walked ample_memory) (λ x side. sender_channels_reset (with_sender_side s p x side) p) walked_back (s.publishers p)
 
 -- ---- a subscriber's update
 
@@ -205,18 +209,7 @@ module _ {T U : Type 0} (s s' : State T U) (q : ℕ) (failure : Option Connectio
       receiver_side_back (s.config).service_id q y.degradation_handler (expired_limit s.config) (λ p. has_sender_end s p q) s.publisher_places (receiver_side s q y) side failure
       walk (subst TellNoRefusal (ap (λ (z : State T U). z.warnings) is) told)
 
-  -- A subscriber's update, after which the count is 0, was refused no memory.
-  pub update_subscriber_ample : UpdateSubscriber fixed_handlers s q s' failure → UpdateSubscriber ample_memory s q s' failure
-  update_subscriber_ample h =
-      option_maps (s.subscribers q) _ _ _ _ h (λ v. v) (λ y _ h.
-      bool_maps y.is_due _ _ _ _ h
-      (λ h. (h.0, (walked_receiver_back y h.0 h.1 h.2).0, h.2))
-      (λ h. h))
-
-  -- And the count was 0 before it.
-  pub update_subscriber_told : UpdateSubscriber fixed_handlers s q s' failure → TellNoRefusal s.warnings
-  update_subscriber_told h =
-      by_option (TellNoRefusal s.warnings) (s.subscribers q) _ _ h (λ _ v. absurd v) (λ y _ h.
-      by_bool (TellNoRefusal s.warnings) y.is_due _ _ h
-      (λ _ h. (walked_receiver_back y h.0 h.1 h.2).1)
-      (λ _ h. subst TellNoRefusal (ap (λ (z : State T U). z.warnings) h.0) told))
+  -- A subscriber's update, after which the count is 0, was refused no memory, and the count was 0 before it.
+  pub update_subscriber_back : UpdateSubscriber fixed_handlers s q s' failure → UpdateSubscriber ample_memory s q s' failure × TellNoRefusal s.warnings
+  update_subscriber_back =
+      update_back s s' failure told (λ y. y.is_due) (WalkedReceiver fixed_handlers) (WalkedReceiver ample_memory) (λ y side. receiver_channels_reset (with_receiver_side s q y side) q) walked_receiver_back (s.subscribers q)

@@ -1,5 +1,6 @@
 pub mod CallLists
 pub mod LeftLists
+pub mod ListsBehind
 pub mod NewSlots
 pub mod OpenSlots
 pub mod SlotLists

@@ -52,9 +52,17 @@ content_read {T = T} {U = U} n slots contents slot P x are h e = some_read slots
     of_contents (y ∷ ys) zero h = h
     of_contents (y ∷ ys) (suc k) h = of_contents ys k h
 
+-- There are as many slots as contents.
+pub slot_within : {T U : Type 0} (n : ℕ) (slots : List (SlotState T U)) (contents : List (ContentState T U)) (slot : ℕ) → contents_of n slots ≡ contents → slot < length contents → slot < length slots
+slot_within n slots contents slot are within =
+    let count : length contents ≡ length slots = sym (ap length are) ∙ length-map slots (content_of n) in
+    omega (arith, within, count)
+
+-- So a slot is there whose content something holds of.
+pub some_slot_within : {T U : Type 0} (n : ℕ) (slots : List (SlotState T U)) (contents : List (ContentState T U)) (slot : ℕ) (P : ContentState T U → Type 0) → contents_of n slots ≡ contents → SomeAt contents slot P → slot < length slots
+some_slot_within n slots contents slot P are h = slot_within n slots contents slot are (some_within contents slot P h)
+
 -- What stands in a slot that there is.
 pub slot_read : {T U : Type 0} (n : ℕ) (slots : List (SlotState T U)) (contents : List (ContentState T U)) (slot : ℕ) (x : SlotState T U) → contents_of n slots ≡ contents → slot < length contents
     → x ≡ get_or slots slot x → slice_get slots slot ≡ Some x
-slot_read n slots contents slot x are within e =
-    let count : length contents ≡ length slots = sym (ap length are) ∙ length-map slots (content_of n) in
-    slice_get_read slots _ slot x refl (omega (arith, within, count)) e
+slot_read n slots contents slot x are within e = slice_get_read slots _ slot x refl (slot_within n slots contents slot are within) e

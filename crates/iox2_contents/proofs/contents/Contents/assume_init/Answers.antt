@@ -1,10 +1,22 @@
 use Rattle.std.proofs.Common.{◌≡◌, ◌∙◌, true, length, ap, sym, refl}
 use Rattle.iox2_contents.specs.SlotStates.{content_of, contents_of}
 use Rattle.iox2_contents.specs.SlotContents.{written_content}
-use Rattle.iox2_contents.proofs.SlotReads.{content_read}
+use Rattle.iox2_contents.proofs.SlotReads.{content_read, some_slot_within}
 use Rattle.iox2_contents.proofs.SlotLists.{changed-contents, content-at, written-lists, written-has}
 use Rattle.iox2_contents.proofs.SlotSums.{set-same}
 use Rattle.iox2_contents.proofs.contents.Contents.assume_init.Goals as goal
+
+pub index-requires : goal.index-requires
+index-requires g c = rw c.self.inside.slots.ok.0 (some_slot_within _ c.self.inside.slots.items _ c.args.slot (λ content. content.is_in_place ≡ true → length content.cells ≡ 1) c.self.view_is c.requires)
+
+pub index_mut-requires : goal.index_mut-requires
+index_mut-requires g c = rw c.self.inside.slots.ok.0 (some_slot_within _ c.self.inside.slots.items _ c.args.slot (λ content. content.is_in_place ≡ true → length content.cells ≡ 1) c.self.view_is c.requires)
+
+pub assume_init-requires : goal.assume_init-requires
+assume_init-requires g c = (content_read _ c.self.inside.slots.items _ c.args.slot (λ content. content.is_in_place ≡ true → length content.cells ≡ 1) _ c.self.view_is c.requires c.index_mut.ensures.value).1
+
+pub invariant_of-self-2 : goal.invariant_of-self-2
+invariant_of-self-2 g c = c.settle.ensures.lists
 
 pub invariant_of-self : goal.invariant_of-self
 invariant_of-self g c =

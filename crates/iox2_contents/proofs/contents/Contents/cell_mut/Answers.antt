@@ -1,10 +1,26 @@
-use Rattle.std.proofs.Common.{◌<◌, ◌∙◌, length, refl}
+use Rattle.std.proofs.Common.{◌≡◌, ◌<◌, ◌∙◌, false, length, refl}
 use Rattle.std.proofs.lemmas.List.{length-set}
 use Rattle.iox2_contents.specs.SlotContents.{with_first_cell}
-use Rattle.iox2_contents.specs.SlotStates.{with_content}
-use Rattle.iox2_contents.proofs.SlotReads.{content_read}
+use Rattle.iox2_contents.specs.SlotStates.{waits, with_content}
+use Rattle.iox2_contents.proofs.SlotReads.{content_read, some_read, some_slot_within}
 use Rattle.iox2_contents.proofs.SlotLists.{changed-contents, content-at, lent}
 use Rattle.iox2_contents.proofs.contents.Contents.cell_mut.Goals as goal
+
+pub ready-requires-clause-lists : goal.ready-requires-clause-lists
+ready-requires-clause-lists g c = c.self.invariant
+
+pub ready-requires-clause-within : goal.ready-requires-clause-within
+ready-requires-clause-within g c = some_slot_within _ c.self.inside.slots.items _ c.args.slot (λ content. 0 < length content.cells) c.self.view_is c.requires
+
+pub index_mut-requires : goal.index_mut-requires
+index_mut-requires g c = rw c.ready.new.slots.ok.0 (some_slot_within _ c.ready.new.slots.items _ c.args.slot (λ content. 0 < length content.cells) (c.ready.ensures.same ∙ c.self.view_is) c.requires)
+
+pub cell_mut-requires-clause-first : goal.cell_mut-requires-clause-first
+cell_mut-requires-clause-first g c =
+    (content_read _ c.ready.new.slots.items _ c.args.slot (λ content. 0 < length content.cells) _ (c.ready.ensures.same ∙ c.self.view_is) c.requires c.index_mut.ensures.value).1
+
+pub cell_mut-requires-clause-ready : goal.cell_mut-requires-clause-ready
+cell_mut-requires-clause-ready g c = (some_read c.ready.new.slots.items c.args.slot (λ s. waits s ≡ false) c.index_mut.result.now c.ready.ensures.ready c.index_mut.ensures.value).1
 
 pub invariant_of-self-lent : goal.invariant_of-self-lent
 invariant_of-self-lent g c =

@@ -2,10 +2,18 @@ use Rattle.std.proofs.Common.{◌<◌, ◌∙◌, ℕ, ap, cond, length, slice_s
 use Rattle.std.specs.Prelude.{nat_lt}
 use Rattle.std.proofs.lemmas.List.{map-set}
 use Rattle.iox2_contents.specs.SlotStates.{content_of}
-use Rattle.iox2_contents.proofs.SlotReads.{slot_read}
+use Rattle.iox2_contents.proofs.SlotReads.{slot_read, slot_within}
 use Rattle.iox2_contents.proofs.SlotLists.{cleared-lists, clears, content-at, ended-there}
 use Rattle.iox2_contents.proofs.SlotSums.{changed-long}
 use Rattle.iox2_contents.proofs.contents.Contents.clear.Goals as goal
+
+pub end-requires : goal.end-requires
+end-requires g c = c.requires
+
+pub index_mut-requires : goal.index_mut-requires
+index_mut-requires g c =
+    let within : c.args.slot < length c.end.new.self = rw (c.end.ensures, changed-long) c.requires in
+    rw c.self.inside.slots.ok.0 (slot_within _ c.self.inside.slots.items _ c.args.slot c.self.view_is within)
 
 pub invariant_of-self : goal.invariant_of-self
 invariant_of-self g c =

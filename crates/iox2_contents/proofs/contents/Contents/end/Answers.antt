@@ -1,8 +1,17 @@
 use Rattle.std.proofs.Common.{◌∙◌, refl}
 use Rattle.iox2_contents.specs.SlotContents.{ended_content}
-use Rattle.iox2_contents.proofs.SlotReads.{slot_read}
+use Rattle.iox2_contents.proofs.SlotReads.{slot_read, slot_within}
 use Rattle.iox2_contents.proofs.SlotLists.{changed-contents, ended-lists, ended-has}
 use Rattle.iox2_contents.proofs.contents.Contents.end.Goals as goal
+
+pub index-requires : goal.index-requires
+index-requires g c = rw c.self.inside.slots.ok.0 (slot_within _ c.self.inside.slots.items _ c.args.slot c.self.view_is c.requires)
+
+pub index_mut-requires : goal.index_mut-requires
+index_mut-requires g c = rw c.self.inside.slots.ok.0 (slot_within _ c.self.inside.slots.items _ c.args.slot c.self.view_is c.requires)
+
+pub invariant_of-self : goal.invariant_of-self
+invariant_of-self g c = c.settle.ensures.lists
 
 pub settle-requires-clause-lists : goal.settle-requires-clause-lists
 settle-requires-clause-lists g c =

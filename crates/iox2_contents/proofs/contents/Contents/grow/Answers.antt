@@ -2,6 +2,12 @@ use Rattle.std.proofs.Common.{◌≡◌, ◌≤◌, ◌∙◌, refl, arith}
 use Rattle.iox2_contents.proofs.NewSlots.{adds, first-alike, grown-lists, of-contents, relisted, same-shown, some-slots, without}
 use Rattle.iox2_contents.proofs.contents.Contents.grow.Goals as goal
 
+pub shown_cells-longest-requires : goal.shown_cells-longest-requires
+shown_cells-longest-requires g c = without c.args.in_lists c.args.lists _ c.lists_for-lists.ensures
+
+pub new_slots-requires : goal.new_slots-requires
+new_slots-requires g c = without c.args.in_lists c.args.lists _ c.lists_for-lists.ensures
+
 pub invariant_of-self-then-longest : goal.invariant_of-self-then-longest
 invariant_of-self-then-longest g c =
     let are = of-contents _ (λ content. content.lists ≡ c.lists_for-lists.result) c.self.inside.slots.items _ c.self.view_is (rw c.lists_for-lists.ensures c.requires.lists) in

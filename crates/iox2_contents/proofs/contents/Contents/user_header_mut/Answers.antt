@@ -1,9 +1,12 @@
 use Rattle.std.proofs.Common.{refl, ap, sym, Some}
 use Rattle.iox2_contents.specs.SlotContents.{with_user_header}
 use Rattle.iox2_contents.specs.SlotStates.{with_content}
-use Rattle.iox2_contents.proofs.SlotReads.{slot_read}
+use Rattle.iox2_contents.proofs.SlotReads.{slot_read, slot_within}
 use Rattle.iox2_contents.proofs.SlotLists.{changed-contents, content-at, lent}
 use Rattle.iox2_contents.proofs.contents.Contents.user_header_mut.Goals as goal
+
+pub index_mut-requires : goal.index_mut-requires
+index_mut-requires g c = rw c.self.inside.slots.ok.0 (slot_within _ c.self.inside.slots.items _ c.args.slot c.self.view_is c.requires)
 
 pub invariant_of-self-lent : goal.invariant_of-self-lent
 invariant_of-self-lent g c =

@@ -1,9 +1,15 @@
 use Rattle.std.proofs.Common.{◌<◌, length, refl}
 use Rattle.iox2_contents.specs.SlotContents.{with_first_value}
 use Rattle.iox2_contents.specs.SlotStates.{with_content}
-use Rattle.iox2_contents.proofs.SlotReads.{content_read}
+use Rattle.iox2_contents.proofs.SlotReads.{content_read, some_slot_within}
 use Rattle.iox2_contents.proofs.SlotLists.{changed-contents, content-at, lent}
 use Rattle.iox2_contents.proofs.contents.Contents.value_mut.Goals as goal
+
+pub index_mut-requires : goal.index_mut-requires
+index_mut-requires g c = rw c.self.inside.slots.ok.0 (some_slot_within _ c.self.inside.slots.items _ c.args.slot (λ content. 0 < length content.values) c.self.view_is c.requires)
+
+pub value_mut-requires : goal.value_mut-requires
+value_mut-requires g c = (content_read _ c.self.inside.slots.items _ c.args.slot (λ content. 0 < length content.values) _ c.self.view_is c.requires c.index_mut.ensures.value).1
 
 pub invariant_of-self-lent : goal.invariant_of-self-lent
 invariant_of-self-lent g c =

@@ -1,8 +1,20 @@
 use Rattle.std.proofs.Common.{◌≡◌, ◌∙◌, length, refl, ◌∷◌, []}
 use Rattle.iox2_contents.specs.SlotContents.{written_content}
-use Rattle.iox2_contents.proofs.SlotReads.{content_read}
+use Rattle.iox2_contents.proofs.SlotReads.{content_read, some_slot_within}
 use Rattle.iox2_contents.proofs.SlotLists.{changed-contents, written-lists, written-has}
 use Rattle.iox2_contents.proofs.contents.Contents.write_payload.Goals as goal
+
+pub index-requires : goal.index-requires
+index-requires g c = rw c.self.inside.slots.ok.0 (some_slot_within _ c.self.inside.slots.items _ c.args.slot (λ content. length content.cells ≡ 1) c.self.view_is c.requires)
+
+pub index_mut-requires : goal.index_mut-requires
+index_mut-requires g c = rw c.self.inside.slots.ok.0 (some_slot_within _ c.self.inside.slots.items _ c.args.slot (λ content. length content.cells ≡ 1) c.self.view_is c.requires)
+
+pub write_payload-requires : goal.write_payload-requires
+write_payload-requires g c = (content_read _ c.self.inside.slots.items _ c.args.slot (λ content. length content.cells ≡ 1) _ c.self.view_is c.requires c.index_mut.ensures.value).1
+
+pub invariant_of-self : goal.invariant_of-self
+invariant_of-self g c = c.settle.ensures.lists
 
 pub settle-requires-clause-lists : goal.settle-requires-clause-lists
 settle-requires-clause-lists g c =

@@ -1,7 +1,19 @@
 use Rattle.std.proofs.Common.{◌≡◌, false}
-use Rattle.iox2_contents.proofs.SlotReads.{content_read}
+use Rattle.iox2_contents.proofs.SlotReads.{content_read, some_slot_within}
 use Rattle.iox2_contents.proofs.SlotLists.{writes, written-lists, written-has}
 use Rattle.iox2_contents.proofs.contents.Contents.write_unspecified.Goals as goal
+
+pub index-requires : goal.index-requires
+index-requires g c = rw c.self.inside.slots.ok.0 (some_slot_within _ c.self.inside.slots.items _ c.args.slot (λ content. content.is_in_place ≡ false) c.self.view_is c.requires)
+
+pub index_mut-requires : goal.index_mut-requires
+index_mut-requires g c = rw c.self.inside.slots.ok.0 (some_slot_within _ c.self.inside.slots.items _ c.args.slot (λ content. content.is_in_place ≡ false) c.self.view_is c.requires)
+
+pub write_unspecified-requires : goal.write_unspecified-requires
+write_unspecified-requires g c = record { in_lists = (content_read _ c.self.inside.slots.items _ c.args.slot (λ content. content.is_in_place ≡ false) _ c.self.view_is c.requires c.index_mut.ensures.value).1 }
+
+pub invariant_of-self : goal.invariant_of-self
+invariant_of-self g c = c.settle.ensures.lists
 
 pub settle-requires-clause-lists : goal.settle-requires-clause-lists
 settle-requires-clause-lists g c =
