@@ -1,18 +1,20 @@
 //! Ports get their connections, one place after the other.
-ghost use Rattle.std.specs.Prelude.{◌≡◌, ℕ, ◌<◌, cond, true, false, Some, None, length, slice_index_or, [], IsSomeAnd, IfOk, OnOk, OnErr, MatchResult};
+ghost use Rattle.std.specs.Prelude.{◌≡◌, ℕ, ◌<◌, cond, true, Some, None, length, slice_index_or, [], IsSomeAnd, IfOk, OnOk, OnErr, MatchResult};
 ghost use Rattle.slab.specs.Slab.{get};
 ghost use Rattle.iox2_machine.specs.machine.Limits.{channel_count};
 ghost use Rattle.iox2_slots.specs.Link.{Link};
 ghost use Rattle.iox2_domain.specs.Boxes.{answers_of};
 ghost use Rattle.iox2_domain.specs.Ports.{PublisherFields, SubscriberFields};
-ghost use Rattle.iox2_domain.specs.Updates.{MakesConnection, StandApart, home_of, is_open_subscriber, key_from, sender_key, IsUnblockedAt};
+ghost use Rattle.iox2_domain.specs.Updates.{MakesConnection, StandApart, home_of, is_open_subscriber, key_from, sender_key};
 ghost use Rattle.iox2_domain.specs.Invariant.{IsDomain, ReceiverHas, connection_count, one_if_receivers};
 ghost use Rattle.iox2_domain.specs.Connects.{MakesRoom, MakesSenderEnd, ConnectsSender};
 ghost use Rattle.iox2_domain.specs.Drops.{HasEnd, LosesSenderEnd, LosesWaiting, StandsElsewhere};
 ghost use Rattle.iox2_domain.specs.Histories.{HasNewEnd, HandsOut};
+ghost use Rattle.iox2_updates.specs.Ends.{IsSettledAt};
 
 use crate::failures::{ask, degrade};
 use crate::marks::mark_end;
+use crate::places::Places;
 use iox2_domain::{
     Boxes, DomainState, PublisherState, SubscriberState, clear_key_at, degradation_at, is_open_at,
     key_at, reserve_connection_at, reserve_key_at, set_key_at, stands_at,
@@ -23,19 +25,14 @@ use iox2_slots::{Connection, Home};
 use slab::Slab;
 use std::alloc::{AllocError, Global};
 
-pub(crate) fn home_of(
-    publisher_place: usize,
-    subscriber_place: usize,
-    publisher: &PublisherState,
-    subscriber: &SubscriberState,
-) -> Home
-    ensures { result ≡ home_of publisher_place subscriber_place publisher.now subscriber.now }
+fn home_of(at: Places, publisher: &PublisherState, subscriber: &SubscriberState) -> Home
+    ensures { result ≡ home_of at.publisher at.subscriber publisher.now subscriber.now }
 {
     Home {
         publisher: publisher.id.value(),
         subscriber: subscriber.id.value(),
-        publisher_place,
-        subscriber_place,
+        publisher_place: at.publisher,
+        subscriber_place: at.subscriber,
         book: publisher.book,
     }
 }
@@ -62,25 +59,21 @@ fn make_connection(
 }
 
 // Where the connection of the ports at these places stands, and how many slots may wait there.
-fn ports_at<T: Drop, U: Default + Drop>(
+pub(crate) fn ports_at<T: Drop, U: Default + Drop>(
     state: &DomainState<T, U>,
-    publisher_place: usize,
-    subscriber_place: usize,
+    at: Places,
 ) -> (Home, usize)
-    requires publisher { (x : PublisherFields) × (slice_index_or state.now.publishers publisher_place None ≡ Some x) }
-    requires subscriber { (y : SubscriberFields) × (slice_index_or state.now.subscribers subscriber_place None ≡ Some y) }
-    ensures { StandApart state.now.publishers state.now.subscribers publisher_place subscriber_place result.0 result.1 }
+    requires publisher { (x : PublisherFields) × (slice_index_or state.now.publishers at.publisher None ≡ Some x) }
+    requires subscriber { (y : SubscriberFields) × (slice_index_or state.now.subscribers at.subscriber None ≡ Some y) }
+    ensures { StandApart state.now.publishers state.now.subscribers at.publisher at.subscriber result.0 result.1 }
 {
     let (Some(publisher), Some(subscriber)) = (
-        &state.publishers[publisher_place],
-        &state.subscribers[subscriber_place],
+        &state.publishers[at.publisher],
+        &state.subscribers[at.subscriber],
     ) else {
         unreachable!()
     };
-    (
-        home_of(publisher_place, subscriber_place, publisher, subscriber),
-        subscriber.buffer,
-    )
+    (home_of(at, publisher, subscriber), subscriber.buffer)
 }
 
 // How many channels each connection has.
@@ -118,29 +111,23 @@ fn is_subscribers(connections: &Slab<Connection>, key: usize, subscriber: u128) 
 // also where it is to expire, and returns its key.
 pub(crate) fn make_between<T: Drop, U: Default + Drop>(
     state: &mut DomainState<T, U>,
-    publisher_place: usize,
-    subscriber_place: usize,
+    at: Places,
     home: Home,
     buffer: usize,
 ) -> Result<usize, AllocError>
-    requires publisher { publisher_place < length state.old.publishers }
-    requires subscriber { subscriber_place < length state.old.subscribers }
+    requires publisher { at.publisher < length state.old.publishers }
+    requires subscriber { at.subscriber < length state.old.subscribers }
     requires buffer { 0 < buffer }
-    ensures grows { MakesRoom state.old publisher_place subscriber_place state.new }
-    ensures sender_room { OnOk result ((x : PublisherFields) → slice_index_or state.new.publishers publisher_place None ≡ Some x → subscriber_place < x.key_room) }
-    ensures receiver_room { OnOk result ((y : SubscriberFields) → slice_index_or state.new.subscribers subscriber_place None ≡ Some y → publisher_place < y.key_room) }
-    ensures expired_room { OnOk result ((y : SubscriberFields) → slice_index_or state.new.subscribers subscriber_place None ≡ Some y → connection_count (state.old).connections home.subscriber < y.expired_room) }
+    ensures grows { MakesRoom state.old at.publisher at.subscriber state.new }
+    ensures sender_room { OnOk result ((x : PublisherFields) → slice_index_or state.new.publishers at.publisher None ≡ Some x → at.subscriber < x.key_room) }
+    ensures receiver_room { OnOk result ((y : SubscriberFields) → slice_index_or state.new.subscribers at.subscriber None ≡ Some y → at.publisher < y.key_room) }
+    ensures expired_room { OnOk result ((y : SubscriberFields) → slice_index_or state.new.subscribers at.subscriber None ≡ Some y → connection_count (state.old).connections home.subscriber < y.expired_room) }
     ensures made { IfOk result (λ key. MakesConnection (state.old).connections home buffer (state.old).config.subscriber_max_borrowed_samples (channel_count (state.old).config) key (state.new).connections) }
     ensures refused { OnErr result ((state.new).connections ≡ record (state.old).connections { capacity = (state.new).connections.capacity }) }
 {
     let others = connection_count(&state.connections, home.subscriber);
-    reserve_key_at(&mut state.publishers, publisher_place, subscriber_place)?;
-    reserve_connection_at(
-        &mut state.subscribers,
-        subscriber_place,
-        publisher_place,
-        others,
-    )?;
+    reserve_key_at(&mut state.publishers, at.publisher, at.subscriber)?;
+    reserve_connection_at(&mut state.subscribers, at.subscriber, at.publisher, others)?;
     let limit = state.config.subscriber_max_borrowed_samples;
     let channels = channel_count(&state.config);
     make_connection(
@@ -171,41 +158,28 @@ fn key_from(connections: &Slab<Connection>, publisher: u128, key: Option<usize>)
 fn make_sender_end<T: Drop, U: Default + Drop, F: BackpressureFn, G: DegradationFn>(
     state: &mut DomainState<T, U>,
     boxes: &Boxes<F, G>,
-    publisher_place: usize,
-    subscriber_place: usize,
+    at: Places,
 ) -> Result<usize, Option<ConnectionFailure>>
-    requires agrees { IsDomain state.old }
-    requires publisher { (x : PublisherFields) × (slice_index_or state.old.publishers publisher_place None ≡ Some x) }
-    requires subscriber { subscriber_place < length state.old.subscribers }
-    requires opened { is_open_subscriber state.old.subscribers subscriber_place ≡ true }
-    requires none { sender_key state.old.publishers publisher_place subscriber_place ≡ None }
-    ensures { (x : PublisherFields) → slice_index_or state.old.publishers publisher_place None ≡ Some x → x.is_due ≡ false → x.blocked ≡ None
-        → MatchResult result (λ key. MakesSenderEnd (answers_of F.allows G.allows (boxes.now).boxes) state.old publisher_place subscriber_place x key state.new)
-        (λ failure. ConnectsSender (answers_of F.allows G.allows (boxes.now).boxes) state.old publisher_place subscriber_place x state.new failure) }
+    requires settled { IsSettledAt state.old at }
+    requires opened { is_open_subscriber state.old.subscribers at.subscriber ≡ true }
+    requires none { sender_key state.old.publishers at.publisher at.subscriber ≡ None }
+    ensures { (settled : IsSettledAt state.old at)
+        → MatchResult result (λ key. MakesSenderEnd (answers_of F.allows G.allows (boxes.now).boxes) state.old at.publisher at.subscriber settled.publisher key state.new)
+        (λ failure. ConnectsSender (answers_of F.allows G.allows (boxes.now).boxes) state.old at.publisher at.subscriber settled.publisher state.new failure) }
 {
-    let (home, buffer) = ports_at(state, publisher_place, subscriber_place);
-    let other = key_at(&state.subscribers, subscriber_place, publisher_place);
+    let (home, buffer) = ports_at(state, at);
+    let other = key_at(&state.subscribers, at.subscriber, at.publisher);
     if let Some(key) = key_from(&state.connections, home.publisher, other) {
-        set_key_at(
-            &mut state.publishers,
-            publisher_place,
-            subscriber_place,
-            key,
-        );
+        set_key_at(&mut state.publishers, at.publisher, at.subscriber, key);
         return Ok(key);
     }
-    let mark = degradation_at(&state.publishers, publisher_place);
+    let mark = degradation_at(&state.publishers, at.publisher);
     let service_id = state.config.service_id;
-    let Ok(key) = make_between(state, publisher_place, subscriber_place, home, buffer) else {
+    let Ok(key) = make_between(state, at, home, buffer) else {
         let answer = ask(mark, boxes, home.publisher, service_id, home);
         return Err(degrade(&mut state.warnings, answer, home));
     };
-    set_key_at(
-        &mut state.publishers,
-        publisher_place,
-        subscriber_place,
-        key,
-    );
+    set_key_at(&mut state.publishers, at.publisher, at.subscriber, key);
     Ok(key)
 }
 
@@ -239,28 +213,22 @@ fn hand_out_history<T: Drop, U: Default + Drop>(
 fn connect_sender<T: Drop, U: Default + Drop, F: BackpressureFn, G: DegradationFn>(
     state: &mut DomainState<T, U>,
     boxes: &Boxes<F, G>,
-    publisher_place: usize,
-    subscriber_place: usize,
+    at: Places,
 ) -> Option<ConnectionFailure>
-    requires agrees { IsDomain state.old }
-    requires publisher { (x : PublisherFields) × (slice_index_or state.old.publishers publisher_place None ≡ Some x) }
-    requires subscriber { subscriber_place < length state.old.subscribers }
-    requires settled { (x : PublisherFields) → slice_index_or state.old.publishers publisher_place None ≡ Some x → x.is_due ≡ false }
-    requires unblocked { IsUnblockedAt state.old.publishers publisher_place }
-    requires none { sender_key state.old.publishers publisher_place subscriber_place ≡ None }
-    ensures { (x : PublisherFields) → slice_index_or state.old.publishers publisher_place None ≡ Some x
-        → ConnectsSender (answers_of F.allows G.allows (boxes.now).boxes) state.old publisher_place subscriber_place x state.new result }
+    requires settled { IsSettledAt state.old at }
+    requires none { sender_key state.old.publishers at.publisher at.subscriber ≡ None }
+    ensures { (settled : IsSettledAt state.old at) → ConnectsSender (answers_of F.allows G.allows (boxes.now).boxes) state.old at.publisher at.subscriber settled.publisher state.new result }
 {
-    if !is_open_at(&state.subscribers, subscriber_place) {
+    if !is_open_at(&state.subscribers, at.subscriber) {
         return None;
     }
-    match make_sender_end(state, boxes, publisher_place, subscriber_place) {
+    match make_sender_end(state, boxes, at) {
         Ok(key) => {
             if state.connections[key].is_closed(0) {
                 return None;
             }
-            hand_out_history(state, publisher_place, key);
-            mark_end(state, publisher_place, subscriber_place);
+            hand_out_history(state, at.publisher, key);
+            mark_end(state, at.publisher, at.subscriber);
             None
         }
         Err(failure) => failure,
@@ -289,25 +257,24 @@ fn drop_waiting_at<T: Drop, U: Default + Drop>(
 // which no subscriber has. The connection goes, and what waited there is lost.
 fn disconnect_sender<T: Drop, U: Default + Drop>(
     state: &mut DomainState<T, U>,
-    publisher_place: usize,
-    subscriber_place: usize,
+    at: Places,
     key: usize,
 )
     requires agrees { IsDomain state.old }
-    requires subscriber { subscriber_place < length state.old.subscribers }
-    requires end { HasEnd state.old publisher_place subscriber_place key }
+    requires subscriber { at.subscriber < length state.old.subscribers }
+    requires end { HasEnd state.old at.publisher at.subscriber key }
     requires unused { IsSomeAnd (get state.old.connections key) (λ c. c.borrowed ≡ []) }
     requires alone { (c : Link) → get state.old.connections key ≡ Some c → ReceiverHas state.old.subscribers key c → ⊥ }
-    requires elsewhere { (c : Link) → get state.old.connections key ≡ Some c → StandsElsewhere state.old.subscribers subscriber_place c.home.subscriber }
-    ensures { (x : PublisherFields) → slice_index_or state.old.publishers publisher_place None ≡ Some x
-        → LosesSenderEnd state.old publisher_place subscriber_place x state.new }
+    requires elsewhere { (c : Link) → get state.old.connections key ≡ Some c → StandsElsewhere state.old.subscribers at.subscriber c.home.subscriber }
+    ensures { (x : PublisherFields) → slice_index_or state.old.publishers at.publisher None ≡ Some x
+        → LosesSenderEnd state.old at.publisher at.subscriber x state.new }
 {
-    let Some(publisher) = &state.publishers[publisher_place] else {
+    let Some(publisher) = &state.publishers[at.publisher] else {
         unreachable!();
     };
     let book = &mut state.books[publisher.book];
     remove_connection(publisher.id.value(), &mut state.connections, book, key);
-    clear_key_at(&mut state.publishers, publisher_place, subscriber_place);
+    clear_key_at(&mut state.publishers, at.publisher, at.subscriber);
 }
 
 /// What the update of the publisher at a place, which isn't due, does at a subscriber's place. An end
@@ -317,26 +284,20 @@ fn disconnect_sender<T: Drop, U: Default + Drop>(
 pub(crate) fn update_sender_place<T: Drop, U: Default + Drop, F: BackpressureFn, G: DegradationFn>(
     state: &mut DomainState<T, U>,
     boxes: &Boxes<F, G>,
-    publisher_place: usize,
-    subscriber_place: usize,
+    at: Places,
 ) -> Option<ConnectionFailure>
-    requires agrees { IsDomain state.old }
-    requires publisher { (x : PublisherFields) × (slice_index_or state.old.publishers publisher_place None ≡ Some x) }
-    requires subscriber { subscriber_place < length state.old.subscribers }
-    requires settled { (x : PublisherFields) → slice_index_or state.old.publishers publisher_place None ≡ Some x → x.is_due ≡ false }
-    requires unblocked { IsUnblockedAt state.old.publishers publisher_place }
-    ensures { (x : PublisherFields) → slice_index_or state.old.publishers publisher_place None ≡ Some x
-        → ConnectsSender (answers_of F.allows G.allows (boxes.now).boxes) state.old publisher_place subscriber_place x state.new result }
+    requires { IsSettledAt state.old at }
+    ensures { (settled : IsSettledAt state.old at) → ConnectsSender (answers_of F.allows G.allows (boxes.now).boxes) state.old at.publisher at.subscriber settled.publisher state.new result }
 {
-    let Some(key) = key_at(&state.publishers, publisher_place, subscriber_place) else {
-        return connect_sender(state, boxes, publisher_place, subscriber_place);
+    let Some(key) = key_at(&state.publishers, at.publisher, at.subscriber) else {
+        return connect_sender(state, boxes, at);
     };
     let subscriber = state.connections[key].home().subscriber;
-    if !stands_at(&state.subscribers, subscriber_place, subscriber) {
-        disconnect_sender(state, publisher_place, subscriber_place, key);
-        connect_sender(state, boxes, publisher_place, subscriber_place)
-    } else if !is_open_at(&state.subscribers, subscriber_place) {
-        drop_waiting_at(state, publisher_place, key);
+    if !stands_at(&state.subscribers, at.subscriber, subscriber) {
+        disconnect_sender(state, at, key);
+        connect_sender(state, boxes, at)
+    } else if !is_open_at(&state.subscribers, at.subscriber) {
+        drop_waiting_at(state, at.publisher, key);
         None
     } else {
         None

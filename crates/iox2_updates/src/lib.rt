@@ -7,6 +7,7 @@ mod connects;
 mod departures;
 mod failures;
 mod marks;
+mod places;
 mod receiver_updates;
 mod retirements;
 mod updates;

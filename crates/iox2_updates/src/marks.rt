@@ -1,7 +1,8 @@
 //! Connections are marked as open while both their ports are there and open, so that a message asks
 //! nothing about them.
 ghost use Rattle.iox2_domain.specs.Invariant.{IsDomain};
-ghost use Rattle.iox2_domain.specs.OpenMarks.{ChangesMarks, ClearsEnd, ClearsMarks, IsUnmarkedReceiver, IsUnmarkedSender};
+ghost use Rattle.iox2_domain.specs.OpenMarks.{ChangesMarks, ClearsEnd};
+ghost use Rattle.iox2_updates.specs.Marks.{UnmarksReceiver, UnmarksSender};
 
 use iox2_domain::{DomainState, is_open_at, key_at, stands_at};
 
@@ -43,8 +44,7 @@ fn unmark_end<T: Drop, U: Default + Drop>(
 /// No connection of the publisher at a place is marked as open any more.
 pub fn unmark_publisher<T: Drop, U: Default + Drop>(state: &mut DomainState<T, U>, place: usize)
     requires { IsDomain state.old }
-    ensures clears { ClearsMarks state.old state.new }
-    ensures unmarked { IsUnmarkedSender state.new.connections place }
+    ensures { UnmarksSender state.old place state.new }
 {
     for subscriber_place in 0..state.subscribers.len() {
         unmark_end(state, place, subscriber_place);
@@ -54,8 +54,7 @@ pub fn unmark_publisher<T: Drop, U: Default + Drop>(state: &mut DomainState<T, U
 /// No connection of the subscriber at a place is marked as open any more.
 pub fn unmark_subscriber<T: Drop, U: Default + Drop>(state: &mut DomainState<T, U>, place: usize)
     requires { IsDomain state.old }
-    ensures clears { ClearsMarks state.old state.new }
-    ensures unmarked { IsUnmarkedReceiver state.new.connections place }
+    ensures { UnmarksReceiver state.old place state.new }
 {
     for publisher_place in 0..state.publishers.len() {
         unmark_end(state, publisher_place, place);

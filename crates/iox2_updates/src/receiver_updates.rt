@@ -8,17 +8,17 @@ ghost use Rattle.iox2_machine.specs.machine.Environments.{fixed_handlers};
 ghost use Rattle.iox2_domain.specs.Boxes.{answers_of};
 ghost use Rattle.iox2_domain.specs.Ports.{PublisherFields, SubscriberFields};
 ghost use Rattle.iox2_domain.specs.Invariant.{IsDomain};
-ghost use Rattle.iox2_domain.specs.Updates.{home_of, is_subscriber_due};
+ghost use Rattle.iox2_updates.specs.Ends.{IsReceiverDue, MeetAt};
 ghost use Rattle.iox2_domain.specs.ReceiverSteps.{NotJoined, JoinsAt, ConnectsEnd, ConnectsAt, DisconnectsAt, UpdatesReceiver};
 
-use crate::connects::{home_of, make_between};
+use crate::connects::{make_between, ports_at};
 use crate::failures::{ask, degrade, first_of};
+use crate::places::Places;
 use crate::retirements::retire;
 use iox2_domain::{
     Boxes, DomainState, PublisherState, degradation_at, is_due_at, key_at, set_key_at, settle,
 };
 use iox2_machine::{BackpressureFn, ConnectionFailure, DegradationFn, ZeroCopyCreationError};
-use iox2_slots::Home;
 
 // The id of the publisher at a place.
 fn publisher_at(publishers: &[Option<PublisherState>], place: usize) -> Option<u128>
@@ -29,30 +29,6 @@ fn publisher_at(publishers: &[Option<PublisherState>], place: usize) -> Option<u
         Some(publisher) => Some(publisher.id.value()),
         None => None,
     }
-}
-
-// Where the connection of the ports at these places is to stand, and how many slots may wait there.
-fn between<T: Drop, U: Default + Drop>(
-    state: &DomainState<T, U>,
-    publisher_place: usize,
-    subscriber_place: usize,
-) -> (Home, usize)
-    requires publisher { (x : PublisherFields) × (slice_index_or state.now.publishers publisher_place None ≡ Some x) }
-    requires subscriber { (y : SubscriberFields) × (slice_index_or state.now.subscribers subscriber_place None ≡ Some y) }
-    ensures { (x : PublisherFields) (y : SubscriberFields) → slice_index_or state.now.publishers publisher_place None ≡ Some x
-        → slice_index_or state.now.subscribers subscriber_place None ≡ Some y
-        → (result.0 ≡ home_of publisher_place subscriber_place x y) × (result.1 ≡ y.buffer) }
-{
-    let (Some(publisher), Some(subscriber)) = (
-        &state.publishers[publisher_place],
-        &state.subscribers[subscriber_place],
-    ) else {
-        unreachable!()
-    };
-    (
-        home_of(publisher_place, subscriber_place, publisher, subscriber),
-        subscriber.buffer,
-    )
 }
 
 // The failure of an update that couldn't retire a departed publisher.
@@ -67,21 +43,20 @@ fn expired_full() -> ConnectionFailure
 // At a place where no publisher stands, the one that the subscriber has its end to is retired.
 fn disconnect_at<T: Drop, U: Default + Drop>(
     state: &mut DomainState<T, U>,
-    subscriber_place: usize,
-    publisher_place: usize,
+    at: Places,
 ) -> Option<ConnectionFailure>
     requires agrees { IsDomain state.old }
-    requires publisher { publisher_place < length state.old.publishers }
-    ensures { (y : SubscriberFields) → slice_index_or state.old.subscribers subscriber_place None ≡ Some y
-        → DisconnectsAt fixed_handlers state.old subscriber_place publisher_place y state.new result }
+    requires publisher { at.publisher < length state.old.publishers }
+    ensures { (y : SubscriberFields) → slice_index_or state.old.subscribers at.subscriber None ≡ Some y
+        → DisconnectsAt fixed_handlers state.old at.subscriber at.publisher y state.new result }
 {
-    if publisher_at(&state.publishers, publisher_place).is_some() {
+    if publisher_at(&state.publishers, at.publisher).is_some() {
         return None;
     }
-    let Some(key) = key_at(&state.subscribers, subscriber_place, publisher_place) else {
+    let Some(key) = key_at(&state.subscribers, at.subscriber, at.publisher) else {
         return None;
     };
-    if retire(state, subscriber_place, publisher_place, key) {
+    if retire(state, at, key) {
         None
     } else {
         Some(expired_full())
@@ -92,15 +67,14 @@ fn disconnect_at<T: Drop, U: Default + Drop>(
 // has one.
 fn joined_key<T: Drop, U: Default + Drop>(
     state: &DomainState<T, U>,
-    publisher_place: usize,
-    subscriber_place: usize,
+    at: Places,
     subscriber: u128,
 ) -> Option<usize>
     requires agrees { IsDomain state.now }
-    ensures { (x : PublisherFields) → slice_index_or state.now.publishers publisher_place None ≡ Some x
-        → MatchOption result (NotJoined state.now x subscriber_place subscriber) (λ key. JoinsAt state.now x subscriber_place subscriber key) }
+    ensures { (x : PublisherFields) → slice_index_or state.now.publishers at.publisher None ≡ Some x
+        → MatchOption result (NotJoined state.now x at.subscriber subscriber) (λ key. JoinsAt state.now x at.subscriber subscriber key) }
 {
-    let key = key_at(&state.publishers, publisher_place, subscriber_place)?;
+    let key = key_at(&state.publishers, at.publisher, at.subscriber)?;
     if state.connections[key].home().subscriber == subscriber {
         Some(key)
     } else {
@@ -114,38 +88,23 @@ fn joined_key<T: Drop, U: Default + Drop>(
 fn connect_end<T: Drop, U: Default + Drop, F: BackpressureFn, G: DegradationFn>(
     state: &mut DomainState<T, U>,
     boxes: &Boxes<F, G>,
-    subscriber_place: usize,
-    publisher_place: usize,
+    at: Places,
 ) -> Option<ConnectionFailure>
-    requires agrees { IsDomain state.old }
-    requires publisher { (x : PublisherFields) × (slice_index_or state.old.publishers publisher_place None ≡ Some x) }
-    requires subscriber { (y : SubscriberFields) × (slice_index_or state.old.subscribers subscriber_place None ≡ Some y) × (slice_index_or y.keys publisher_place None ≡ None) }
-    ensures { (x : PublisherFields) (y : SubscriberFields) → slice_index_or state.old.publishers publisher_place None ≡ Some x
-        → slice_index_or state.old.subscribers subscriber_place None ≡ Some y
-        → ConnectsEnd (answers_of F.allows G.allows (boxes.now).boxes) state.old subscriber_place publisher_place y x.id state.new result }
+    requires { MeetAt state.old at None }
+    ensures { (meet : MeetAt state.old at None) → ConnectsEnd (answers_of F.allows G.allows (boxes.now).boxes) state.old at.subscriber at.publisher meet.subscriber meet.publisher.id state.new result }
 {
-    let (home, buffer) = between(state, publisher_place, subscriber_place);
-    if let Some(key) = joined_key(state, publisher_place, subscriber_place, home.subscriber) {
-        set_key_at(
-            &mut state.subscribers,
-            subscriber_place,
-            publisher_place,
-            key,
-        );
+    let (home, buffer) = ports_at(state, at);
+    if let Some(key) = joined_key(state, at, home.subscriber) {
+        set_key_at(&mut state.subscribers, at.subscriber, at.publisher, key);
         return None;
     }
-    let mark = degradation_at(&state.subscribers, subscriber_place);
+    let mark = degradation_at(&state.subscribers, at.subscriber);
     let service_id = state.config.service_id;
-    let Ok(key) = make_between(state, publisher_place, subscriber_place, home, buffer) else {
+    let Ok(key) = make_between(state, at, home, buffer) else {
         let answer = ask(mark, boxes, home.subscriber, service_id, home);
         return degrade(&mut state.warnings, answer, home);
     };
-    set_key_at(
-        &mut state.subscribers,
-        subscriber_place,
-        publisher_place,
-        key,
-    );
+    set_key_at(&mut state.subscribers, at.subscriber, at.publisher, key);
     None
 }
 
@@ -166,22 +125,19 @@ fn is_publishers<T: Drop, U: Default + Drop>(
 fn replace_end<T: Drop, U: Default + Drop, F: BackpressureFn, G: DegradationFn>(
     state: &mut DomainState<T, U>,
     boxes: &Boxes<F, G>,
-    subscriber_place: usize,
-    publisher_place: usize,
+    at: Places,
     key: usize,
     publisher: u128,
 ) -> Option<ConnectionFailure>
-    requires agrees { IsDomain state.old }
-    requires publisher { (x : PublisherFields) × (slice_index_or state.old.publishers publisher_place None ≡ Some x) × (x.id ≡ publisher) }
-    requires subscriber { (y : SubscriberFields) × (slice_index_or state.old.subscribers subscriber_place None ≡ Some y) × (slice_index_or y.keys publisher_place None ≡ Some key) }
-    ensures { (y : SubscriberFields) → slice_index_or state.old.subscribers subscriber_place None ≡ Some y
-        → ConnectsAt (answers_of F.allows G.allows (boxes.now).boxes) state.old subscriber_place publisher_place y state.new result }
+    requires meet { MeetAt state.old at (Some key) }
+    requires publisher { (meet : MeetAt state.old at (Some key)) → meet.publisher.id ≡ publisher }
+    ensures { (meet : MeetAt state.old at (Some key)) → ConnectsAt (answers_of F.allows G.allows (boxes.now).boxes) state.old at.subscriber at.publisher meet.subscriber state.new result }
 {
     if is_publishers(state, key, publisher) {
         return None;
     }
-    if retire(state, subscriber_place, publisher_place, key) {
-        connect_end(state, boxes, subscriber_place, publisher_place)
+    if retire(state, at, key) {
+        connect_end(state, boxes, at)
     } else {
         Some(expired_full())
     }
@@ -192,28 +148,20 @@ fn replace_end<T: Drop, U: Default + Drop, F: BackpressureFn, G: DegradationFn>(
 fn connect_at<T: Drop, U: Default + Drop, F: BackpressureFn, G: DegradationFn>(
     state: &mut DomainState<T, U>,
     boxes: &Boxes<F, G>,
-    subscriber_place: usize,
-    publisher_place: usize,
+    at: Places,
 ) -> Option<ConnectionFailure>
     requires agrees { IsDomain state.old }
-    requires publisher { publisher_place < length state.old.publishers }
-    requires subscriber { (y : SubscriberFields) × (slice_index_or state.old.subscribers subscriber_place None ≡ Some y) }
-    ensures { (y : SubscriberFields) → slice_index_or state.old.subscribers subscriber_place None ≡ Some y
-        → ConnectsAt (answers_of F.allows G.allows (boxes.now).boxes) state.old subscriber_place publisher_place y state.new result }
+    requires publisher { at.publisher < length state.old.publishers }
+    requires subscriber { (y : SubscriberFields) × (slice_index_or state.old.subscribers at.subscriber None ≡ Some y) }
+    ensures { (y : SubscriberFields) → slice_index_or state.old.subscribers at.subscriber None ≡ Some y
+        → ConnectsAt (answers_of F.allows G.allows (boxes.now).boxes) state.old at.subscriber at.publisher y state.new result }
 {
-    let Some(publisher) = publisher_at(&state.publishers, publisher_place) else {
+    let Some(publisher) = publisher_at(&state.publishers, at.publisher) else {
         return None;
     };
-    match key_at(&state.subscribers, subscriber_place, publisher_place) {
-        Some(key) => replace_end(
-            state,
-            boxes,
-            subscriber_place,
-            publisher_place,
-            key,
-            publisher,
-        ),
-        None => connect_end(state, boxes, subscriber_place, publisher_place),
+    match key_at(&state.subscribers, at.subscriber, at.publisher) {
+        Some(key) => replace_end(state, boxes, at, key, publisher),
+        None => connect_end(state, boxes, at),
     }
 }
 
@@ -248,21 +196,26 @@ fn walk_places<T: Drop, U: Default + Drop, F: BackpressureFn, G: DegradationFn>(
     boxes: &Boxes<F, G>,
     place: usize,
 ) -> Option<ConnectionFailure>
-    requires agrees { IsDomain state.old }
-    requires stands { (y : SubscriberFields) × (slice_index_or state.old.subscribers place None ≡ Some y) }
-    requires due { is_subscriber_due state.old.subscribers place ≡ true }
-    ensures { (y : SubscriberFields) → slice_index_or state.old.subscribers place None ≡ Some y
-        → UpdatesReceiver (answers_of F.allows G.allows (boxes.now).boxes) state.old place y state.new result }
+    requires { IsReceiverDue state.old place }
+    ensures { (due : IsReceiverDue state.old place) → UpdatesReceiver (answers_of F.allows G.allows (boxes.now).boxes) state.old place due.subscriber state.new result }
 {
     settle(&mut state.subscribers, place);
     let mut first = None;
     for other in 0..state.publishers.len() {
-        let failure = connect_at(state, boxes, place, other);
+        let at = Places {
+            publisher: other,
+            subscriber: place,
+        };
+        let failure = connect_at(state, boxes, at);
         first = first_of(first, failure);
     }
     let mut later = None;
     for empty in 0..state.publishers.len() {
-        let failure = disconnect_at(state, place, empty);
+        let at = Places {
+            publisher: empty,
+            subscriber: place,
+        };
+        let failure = disconnect_at(state, at);
         later = first_of(later, failure);
     }
     first_of(first, later)

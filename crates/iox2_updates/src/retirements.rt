@@ -1,5 +1,5 @@
 //! A departed publisher's connection leaves its place at a subscriber.
-ghost use Rattle.std.specs.Prelude.{◌≡◌, ◌<◌, true, false, None, Some, length, slice_index_or};
+ghost use Rattle.std.specs.Prelude.{◌≡◌, ◌<◌, true, false, Some, length};
 ghost use Rattle.slab.specs.Slab.{get, ContainsKey};
 ghost use Rattle.iox2_slots.specs.Link.{Link};
 ghost use Rattle.iox2_slots.specs.SlotBook.{Book};
@@ -8,11 +8,12 @@ ghost use Rattle.iox2_machine.specs.machine.Numbers.{contains};
 ghost use Rattle.iox2_machine.specs.machine.SubscriberUpdate.{Keep_expired, Evict, Discard_data};
 ghost use Rattle.iox2_machine.specs.declared.warning.Warning.TheVariants.{ExpiredDataDiscarded};
 ghost use Rattle.iox2_ends.specs.Retires.{has_borrowed, chosen};
-ghost use Rattle.iox2_domain.specs.Ports.{SubscriberFields};
 ghost use Rattle.iox2_domain.specs.Invariant.{IsDomain};
-ghost use Rattle.iox2_domain.specs.ReceiverSteps.{HasDepartedEnd, ChangesReceiver, LosesConnection, RetiresReceiver, retired};
+ghost use Rattle.iox2_domain.specs.ReceiverSteps.{LosesConnection, RetiresReceiver};
+ghost use Rattle.iox2_updates.specs.Ends.{DepartedAt, RetiresAt};
 
 use crate::departures::free_book_if_unused;
+use crate::places::Places;
 use iox2_domain::{DomainState, clear_key_at, expire_at, make_due, replace_expired_at};
 use iox2_ends::drops::drop_waiting_at;
 use iox2_ends::retirement::{Retirement, choose_retirement};
@@ -54,46 +55,32 @@ fn lose_connection<T: Drop, U: Default + Drop>(state: &mut DomainState<T, U>, ke
 }
 
 // The end at a publisher's place is kept among the expired ones.
-fn keep_expired<T: Drop, U: Default + Drop>(
-    state: &mut DomainState<T, U>,
-    subscriber_place: usize,
-    publisher_place: usize,
-    key: usize,
-)
-    requires agrees { IsDomain state.old }
-    requires end { (y : SubscriberFields) × (c : Link) × HasDepartedEnd state.old subscriber_place publisher_place y key c }
-    requires few { (y : SubscriberFields) → slice_index_or state.old.subscribers subscriber_place None ≡ Some y → length y.expired < expired_limit (state.old).config }
-    ensures { (y : SubscriberFields) (c : Link) → HasDepartedEnd state.old subscriber_place publisher_place y key c
-        → ChangesReceiver state.old subscriber_place y (retired state.old publisher_place y c.home.publisher Keep_expired) state.new }
+fn keep_expired<T: Drop, U: Default + Drop>(state: &mut DomainState<T, U>, at: Places, key: usize)
+    requires departed { DepartedAt state.old at key }
+    requires few { (departed : DepartedAt state.old at key) → length departed.subscriber.expired < expired_limit (state.old).config }
+    ensures { (departed : DepartedAt state.old at key) → RetiresAt departed Keep_expired state.new }
 {
-    expire_at(
-        &mut state.subscribers,
-        subscriber_place,
-        publisher_place,
-        key,
-    );
+    expire_at(&mut state.subscribers, at.subscriber, at.publisher, key);
 }
 
 // The same, and the expired connection at another key goes in its place.
 fn replace_expired<T: Drop, U: Default + Drop>(
     state: &mut DomainState<T, U>,
-    subscriber_place: usize,
-    publisher_place: usize,
+    at: Places,
     key: usize,
     first: usize,
 )
-    requires agrees { IsDomain state.old }
-    requires end { (y : SubscriberFields) × (c : Link) × HasDepartedEnd state.old subscriber_place publisher_place y key c }
-    requires first { (y : SubscriberFields) → slice_index_or state.old.subscribers subscriber_place None ≡ Some y → contains y.expired first ≡ true }
+    requires departed { DepartedAt state.old at key }
+    requires first { (departed : DepartedAt state.old at key) → contains departed.subscriber.expired first ≡ true }
     requires unborrowed { has_borrowed (get (state.old).connections first) ≡ false }
-    ensures { (y : SubscriberFields) (c d : Link) → HasDepartedEnd state.old subscriber_place publisher_place y key c → get (state.old).connections first ≡ Some d
-        → ChangesReceiver state.old subscriber_place y (retired state.old publisher_place y c.home.publisher (Evict d.home.publisher)) state.new }
+    ensures { (departed : DepartedAt state.old at key) (d : Link) → get (state.old).connections first ≡ Some d
+        → RetiresAt departed (Evict d.home.publisher) state.new }
 {
     let book = lose_connection(state, first);
     replace_expired_at(
         &mut state.subscribers,
-        subscriber_place,
-        publisher_place,
+        at.subscriber,
+        at.publisher,
         key,
         first,
     );
@@ -101,36 +88,26 @@ fn replace_expired<T: Drop, U: Default + Drop>(
 }
 
 // The end at a publisher's place goes, and what waits there is lost.
-fn discard_end<T: Drop, U: Default + Drop>(
-    state: &mut DomainState<T, U>,
-    subscriber_place: usize,
-    publisher_place: usize,
-    key: usize,
-)
-    requires agrees { IsDomain state.old }
-    requires end { (y : SubscriberFields) × (c : Link) × HasDepartedEnd state.old subscriber_place publisher_place y key c }
+fn discard_end<T: Drop, U: Default + Drop>(state: &mut DomainState<T, U>, at: Places, key: usize)
+    requires departed { DepartedAt state.old at key }
     requires unborrowed { has_borrowed (get (state.old).connections key) ≡ false }
-    ensures { (y : SubscriberFields) (c : Link) → HasDepartedEnd state.old subscriber_place publisher_place y key c
-        → ChangesReceiver state.old subscriber_place y (retired state.old publisher_place y c.home.publisher Discard_data) state.new }
+    ensures { (departed : DepartedAt state.old at key) → RetiresAt departed Discard_data state.new }
 {
     let book = lose_connection(state, key);
-    clear_key_at(&mut state.subscribers, subscriber_place, publisher_place);
+    clear_key_at(&mut state.subscribers, at.subscriber, at.publisher);
     free_book_if_unused(state, book);
 }
 
 // What becomes of the end that the subscriber at a place has at a key.
 fn choose<T: Drop, U: Default + Drop>(
     state: &DomainState<T, U>,
-    subscriber_place: usize,
-    publisher_place: usize,
+    at: Places,
     key: usize,
 ) -> Retirement
-    requires agrees { IsDomain state.now }
-    requires end { (y : SubscriberFields) × (c : Link) × HasDepartedEnd state.now subscriber_place publisher_place y key c }
-    ensures { (y : SubscriberFields) → slice_index_or state.now.subscribers subscriber_place None ≡ Some y
-        → result ≡ chosen state.now.connections (expired_limit (state.now).config) y.expired key }
+    requires { DepartedAt state.now at key }
+    ensures { (departed : DepartedAt state.now at key) → result ≡ chosen state.now.connections (expired_limit (state.now).config) departed.subscriber.expired key }
 {
-    let Some(subscriber) = &state.subscribers[subscriber_place] else {
+    let Some(subscriber) = &state.subscribers[at.subscriber] else {
         unreachable!()
     };
     choose_retirement(
@@ -148,23 +125,18 @@ fn choose<T: Drop, U: Default + Drop>(
 /// iceoryx2's `Receiver::prepare_connection_removal` (`src/port/details/receiver.rs`).
 pub(crate) fn retire<T: Drop, U: Default + Drop>(
     state: &mut DomainState<T, U>,
-    subscriber_place: usize,
-    publisher_place: usize,
+    at: Places,
     key: usize,
 ) -> bool
-    requires agrees { IsDomain state.old }
-    requires end { (y : SubscriberFields) × (c : Link) × HasDepartedEnd state.old subscriber_place publisher_place y key c }
-    ensures { (y : SubscriberFields) (c : Link) → HasDepartedEnd state.old subscriber_place publisher_place y key c
-        → RetiresReceiver state.old subscriber_place publisher_place y c.home.publisher state.new result }
+    requires { DepartedAt state.old at key }
+    ensures { (departed : DepartedAt state.old at key) → RetiresReceiver state.old at.subscriber at.publisher departed.subscriber departed.link.home.publisher state.new result }
 {
-    match choose(state, subscriber_place, publisher_place, key) {
-        Retirement::KeepExpired => keep_expired(state, subscriber_place, publisher_place, key),
-        Retirement::Evict(first) => {
-            replace_expired(state, subscriber_place, publisher_place, key, first);
-        }
-        Retirement::DiscardData => discard_end(state, subscriber_place, publisher_place, key),
+    match choose(state, at, key) {
+        Retirement::KeepExpired => keep_expired(state, at, key),
+        Retirement::Evict(first) => replace_expired(state, at, key, first),
+        Retirement::DiscardData => discard_end(state, at, key),
         Retirement::Refuse => {
-            make_due(&mut state.subscribers, subscriber_place);
+            make_due(&mut state.subscribers, at.subscriber);
             return false;
         }
     }

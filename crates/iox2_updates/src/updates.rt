@@ -1,13 +1,15 @@
 //! Updates: a port gets its connections with the ports of the other side.
-ghost use Rattle.std.specs.Prelude.{◌≡◌, Some, None, true, slice_index_or};
+ghost use Rattle.std.specs.Prelude.{◌≡◌, Some, None, slice_index_or};
 ghost use Rattle.iox2_domain.specs.Boxes.{answers_of};
 ghost use Rattle.iox2_domain.specs.Ports.{PublisherFields};
 ghost use Rattle.iox2_domain.specs.Invariant.{IsDomain};
-ghost use Rattle.iox2_domain.specs.Updates.{is_publisher_due, IsUnblockedAt};
+ghost use Rattle.iox2_domain.specs.Updates.{IsUnblockedAt};
 ghost use Rattle.iox2_domain.specs.Connects.{UpdatesPublisher};
+ghost use Rattle.iox2_updates.specs.Ends.{IsSenderDue};
 
 use crate::connects::update_sender_place;
 use crate::failures::first_of;
+use crate::places::Places;
 use iox2_domain::{Boxes, DomainState, is_due_at, settle};
 use iox2_machine::{BackpressureFn, ConnectionFailure, DegradationFn};
 
@@ -42,17 +44,17 @@ fn connect_publisher<T: Drop, U: Default + Drop, F: BackpressureFn, G: Degradati
     boxes: &Boxes<F, G>,
     place: usize,
 ) -> Option<ConnectionFailure>
-    requires agrees { IsDomain state.old }
-    requires stands { (x : PublisherFields) × (slice_index_or state.old.publishers place None ≡ Some x) }
-    requires unblocked { IsUnblockedAt state.old.publishers place }
-    requires due { is_publisher_due state.old.publishers place ≡ true }
-    ensures { (x : PublisherFields) → slice_index_or state.old.publishers place None ≡ Some x
-        → UpdatesPublisher (answers_of F.allows G.allows (boxes.now).boxes) state.old place x state.new result }
+    requires { IsSenderDue state.old place }
+    ensures { (due : IsSenderDue state.old place) → UpdatesPublisher (answers_of F.allows G.allows (boxes.now).boxes) state.old place due.publisher state.new result }
 {
     settle(&mut state.publishers, place);
     let mut first = None;
     for other in 0..state.subscribers.len() {
-        let failure = update_sender_place(state, boxes, place, other);
+        let at = Places {
+            publisher: place,
+            subscriber: other,
+        };
+        let failure = update_sender_place(state, boxes, at);
         first = first_of(first, failure);
     }
     first

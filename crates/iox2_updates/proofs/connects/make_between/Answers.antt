@@ -12,40 +12,40 @@ use Rattle.iox2_updates.proofs.connects.make_between.Goals as goal
 pub returns-in_err-reserve_key_at-clause-grows : goal.returns-in_err-reserve_key_at-clause-grows
 returns-in_err-reserve_key_at-clause-grows g c =
     let items = with_items_is c.state.inside.publishers c.reserve_key_at.new.ports (c.reserve_key_at.auto.ports ∙ c.deref_mut.ensures.len) in
-    makes-room c.args.state.now _ c.state.view_is c.args.publisher_place c.args.subscriber_place _ _ _
-    (gets-sender-room _ _ c.deref_mut.result.now c.reserve_key_at.new.ports c.args.publisher_place c.deref_mut.ensures.value items
+    makes-room c.args.state.now _ c.state.view_is c.args.at.publisher c.args.at.subscriber _ _ _
+    (gets-sender-room _ _ c.deref_mut.result.now c.reserve_key_at.new.ports c.args.at.publisher c.deref_mut.ensures.value items
     (record { same = c.in_err-reserve_key_at.ensures.same; grows = c.in_err-reserve_key_at.ensures.grows }))
-    (keeps-receiver-room c.state.inside.subscribers.items c.args.subscriber_place)
+    (keeps-receiver-room c.state.inside.subscribers.items c.args.at.subscriber)
 
 pub returns-in_err-reserve_connection_at-clause-grows : goal.returns-in_err-reserve_connection_at-clause-grows
 returns-in_err-reserve_connection_at-clause-grows g c =
     let publishers = with_items_is c.state.inside.publishers c.reserve_key_at.new.ports (c.reserve_key_at.auto.ports ∙ c.deref_mut.ensures.len) in
     let subscribers = with_items_is c.state.inside.subscribers c.reserve_connection_at.new.subscribers (c.reserve_connection_at.auto.subscribers ∙ c.deref_mut-2.ensures.len) in
-    makes-room c.args.state.now _ c.state.view_is c.args.publisher_place c.args.subscriber_place _ _ _
-    (gets-sender-room _ _ c.deref_mut.result.now c.reserve_key_at.new.ports c.args.publisher_place c.deref_mut.ensures.value publishers
+    makes-room c.args.state.now _ c.state.view_is c.args.at.publisher c.args.at.subscriber _ _ _
+    (gets-sender-room _ _ c.deref_mut.result.now c.reserve_key_at.new.ports c.args.at.publisher c.deref_mut.ensures.value publishers
     (record { same = c.in_ok-reserve_key_at.ensures.same; grows = c.in_ok-reserve_key_at.ensures.grows }))
-    (gets-receiver-room _ _ c.deref_mut-2.result.now c.reserve_connection_at.new.subscribers c.args.subscriber_place c.deref_mut-2.ensures.value subscribers
+    (gets-receiver-room _ _ c.deref_mut-2.result.now c.reserve_connection_at.new.subscribers c.args.at.subscriber c.deref_mut-2.ensures.value subscribers
     (record { same = c.in_err-reserve_connection_at.ensures.same; grows = c.in_err-reserve_connection_at.ensures.grows; expired_grows = c.in_err-reserve_connection_at.ensures.expired_grows }))
 
 pub returns-clause-grows : goal.returns-clause-grows
 returns-clause-grows g c =
     let publishers = with_items_is c.state.inside.publishers c.reserve_key_at.new.ports (c.reserve_key_at.auto.ports ∙ c.deref_mut.ensures.len) in
     let subscribers = with_items_is c.state.inside.subscribers c.reserve_connection_at.new.subscribers (c.reserve_connection_at.auto.subscribers ∙ c.deref_mut-2.ensures.len) in
-    makes-room c.args.state.now _ c.state.view_is c.args.publisher_place c.args.subscriber_place _ _ _
-    (gets-sender-room _ _ c.deref_mut.result.now c.reserve_key_at.new.ports c.args.publisher_place c.deref_mut.ensures.value publishers
+    makes-room c.args.state.now _ c.state.view_is c.args.at.publisher c.args.at.subscriber _ _ _
+    (gets-sender-room _ _ c.deref_mut.result.now c.reserve_key_at.new.ports c.args.at.publisher c.deref_mut.ensures.value publishers
     (record { same = c.in_ok-reserve_key_at.ensures.same; grows = c.in_ok-reserve_key_at.ensures.grows }))
-    (gets-receiver-room _ _ c.deref_mut-2.result.now c.reserve_connection_at.new.subscribers c.args.subscriber_place c.deref_mut-2.ensures.value subscribers
+    (gets-receiver-room _ _ c.deref_mut-2.result.now c.reserve_connection_at.new.subscribers c.args.at.subscriber c.deref_mut-2.ensures.value subscribers
     (record { same = c.in_ok-reserve_connection_at.ensures.same; grows = c.in_ok-reserve_connection_at.ensures.grows; expired_grows = c.in_ok-reserve_connection_at.ensures.expired_grows }))
 
 pub returns-clause-sender_room : goal.returns-clause-sender_room
 returns-clause-sender_room g c =
     let publishers = with_items_is c.state.inside.publishers c.reserve_key_at.new.ports (c.reserve_key_at.auto.ports ∙ c.deref_mut.ensures.len) in
-    always c.make_connection.result (λ x at. c.in_ok-reserve_key_at.ensures.room x (sym (ap (λ zs. get_or zs c.args.publisher_place None) publishers) ∙ at))
+    always c.make_connection.result (λ x at. c.in_ok-reserve_key_at.ensures.room x (sym (ap (λ zs. get_or zs c.args.at.publisher None) publishers) ∙ at))
 
 pub returns-clause-receiver_room : goal.returns-clause-receiver_room
 returns-clause-receiver_room g c =
     let subscribers = with_items_is c.state.inside.subscribers c.reserve_connection_at.new.subscribers (c.reserve_connection_at.auto.subscribers ∙ c.deref_mut-2.ensures.len) in
-    always c.make_connection.result (λ y at. c.in_ok-reserve_connection_at.ensures.room y (sym (ap (λ zs. get_or zs c.args.subscriber_place None) subscribers) ∙ at))
+    always c.make_connection.result (λ y at. c.in_ok-reserve_connection_at.ensures.room y (sym (ap (λ zs. get_or zs c.args.at.subscriber None) subscribers) ∙ at))
 
 pub returns-clause-made : goal.returns-clause-made
 returns-clause-made g c =
@@ -61,4 +61,4 @@ returns-clause-expired_room g c =
     let subscribers = with_items_is c.state.inside.subscribers c.reserve_connection_at.new.subscribers (c.reserve_connection_at.auto.subscribers ∙ c.deref_mut-2.ensures.len) in
     let counted = c.connection_count-others.ensures ∙ ap (λ (f : Fields g.row.T.Denot g.row.U.Denot). connection_count f.connections c.args.home.subscriber) c.state.view_is in
     always c.make_connection.result (λ y at. subst (λ (n : ℕ). n < y.expired_room) counted
-    (c.in_ok-reserve_connection_at.ensures.expired_room y (sym (ap (λ zs. get_or zs c.args.subscriber_place None) subscribers) ∙ at)))
+    (c.in_ok-reserve_connection_at.ensures.expired_room y (sym (ap (λ zs. get_or zs c.args.at.subscriber None) subscribers) ∙ at)))

@@ -2,21 +2,19 @@ use Rattle.std.proofs.Common.{◌≡◌, ◌∙◌, true, List, None, slice_inde
 use Rattle.std.proofs.lemmas.Option.{same_Some}
 use Rattle.std.specs.Prelude.{IsSomeAnd}
 use Rattle.std.specs.declared.option.Option.{Option}
-use Rattle.slab.specs.Slab.{ContainsKey, get, with_value}
+use Rattle.slab.specs.Slab.{get, with_value}
 use Rattle.iox2_slots.specs.Link.{with_mark}
 use Rattle.iox2_slots.specs.declared.connection.Home.{Home}
 use Rattle.iox2_domain.specs.Fields.{Fields}
 use Rattle.iox2_domain.specs.OpenMarks.{ChangesMarks}
 use Rattle.iox2_domain.specs.Ports.{SubscriberFields}
 use Rattle.iox2_domain.specs.Updates.{is_open_subscriber}
-use Rattle.iox2_steps.proofs.updates.MarkedEnds.{end-there, end-open, end-marked}
-use Rattle.iox2_updates.proofs.EndKeys.{key-read}
+use Rattle.iox2_steps.proofs.updates.MarkedEnds.{end-open, end-marked}
+use Rattle.iox2_updates.proofs.EndKeys.{end-read, key-read}
 use Rattle.iox2_updates.proofs.marks.mark_end.Goals as goal
 
 pub index-requires : goal.index-requires
-index-requires g c =
-    let named = key-read c.args.state.now _ c.state.view_is _ c.deref.ensures.value c.args.publisher_place c.args.subscriber_place _ c.key_at.ensures ∙ c.in-Some.is in
-    subst (λ (f : Fields g.row.T.Denot g.row.U.Denot). ContainsKey f.connections c.in-Some.key) (sym c.state.view_is) (end-there c.args.state.now c.requires c.args.publisher_place c.args.subscriber_place c.in-Some.key named)
+index-requires g c = end-read c.args.state.now _ c.state.view_is c.requires _ c.deref.ensures.value c.args.publisher_place c.args.subscriber_place _ c.key_at.ensures c.in-Some.key c.in-Some.is
 
 pub returns-then-is_open_at : goal.returns-then-is_open_at
 returns-then-is_open_at g c =

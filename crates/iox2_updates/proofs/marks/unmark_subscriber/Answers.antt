@@ -13,10 +13,10 @@ pub loop-publisher_place-preserved : goal.loop-publisher_place-preserved
 loop-publisher_place-preserved g c =
     receiver-more c.args.state.now c.args.place c.loop-publisher_place.publisher_place c.loop-publisher_place.state c.unmark_end.new.state c.loop-publisher_place.invariant c.unmark_end.ensures
 
-pub returns-clause-clears : goal.returns-clause-clears
-returns-clause-clears g c = c.loop-publisher_place.invariant.clears
-
-pub returns-clause-unmarked : goal.returns-clause-unmarked
-returns-clause-unmarked g c =
+pub returns : goal.returns
+returns g c =
     let long : length c.state.inside.publishers.items ≡ length c.args.state.now.publishers = ap (λ (f : Fields g.row.T.Denot g.row.U.Denot). length f.publishers) c.state.view_is in
-    receiver-cleared c.args.state.now c.args.place c.loop-publisher_place.publisher_place c.loop-publisher_place.state c.loop-publisher_place.invariant (omega (arith, long, c.loop-publisher_place-test.false, c.len-publisher_place-end.ensures))
+    record {
+      clears = c.loop-publisher_place.invariant.clears;
+      unmarked = receiver-cleared c.args.state.now c.args.place c.loop-publisher_place.publisher_place c.loop-publisher_place.state c.loop-publisher_place.invariant (omega (arith, long, c.loop-publisher_place-test.false, c.len-publisher_place-end.ensures));
+    }

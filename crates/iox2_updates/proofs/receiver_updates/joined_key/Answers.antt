@@ -9,5 +9,5 @@ pub index-requires : goal.index-requires
 index-requires g c =
     let same = c.deref.ensures.value ∙ ap (λ (f : Fields g.row.T.Denot g.row.U.Denot). f.publishers) c.state.view_is in
     subst (λ (f : Fields g.row.T.Denot g.row.U.Denot). ContainsKey f.connections c.in_ok-key.key) (sym c.state.view_is)
-    (sender-stands c.args.state.now c.requires.agrees c.args.publisher_place c.args.subscriber_place c.in_ok-key.key
-    (ap (λ xs. sender_key xs c.args.publisher_place c.args.subscriber_place) (sym same) ∙ sym c.key_at.ensures ∙ c.in_ok-key.was))
+    (sender-stands c.args.state.now c.requires.agrees c.args.at.publisher c.args.at.subscriber c.in_ok-key.key
+    (ap (λ xs. sender_key xs c.args.at.publisher c.args.at.subscriber) (sym same) ∙ sym c.key_at.ensures ∙ c.in_ok-key.was))

@@ -31,7 +31,7 @@ loop-other-init g c =
     let written : _ ≡ changed_at (λ (z : SubscriberFields). record z { is_due = false }) old.subscribers c.args.place =
     with_items_is c.state.inside.subscribers c.settle.new.ports (c.settle.auto.ports ∙ c.deref_mut.ensures.len)
     ∙ c.settle.ensures ∙ ap (λ xs. changed_at (λ (z : SubscriberFields). record z { is_due = false }) xs c.args.place) (c.deref_mut.ensures.value ∙ subscribers) in
-    begins-first (answers_of g.F.BackpressureFn.allows g.G.DegradationFn.allows c.args.boxes.now.boxes) old c.requires.agrees c.args.place c.requires.stands.0 c.requires.stands.1 _ (λ k. record (viewed k) { subscribers = written k })
+    begins-first (answers_of g.F.BackpressureFn.allows g.G.DegradationFn.allows c.args.boxes.now.boxes) old c.requires.agrees c.args.place c.requires.subscriber c.requires.stands _ (λ k. record (viewed k) { subscribers = written k })
 
 pub connect_at-failure-requires-clause-subscriber : goal.connect_at-failure-requires-clause-subscriber
 connect_at-failure-requires-clause-subscriber g c = walker (answers_of g.F.BackpressureFn.allows g.G.DegradationFn.allows c.args.boxes.now.boxes) _ _ _ _ _ c.loop-other.invariant
@@ -60,8 +60,8 @@ loop-empty-preserved g c =
     c.disconnect_at-failure.new.state c.disconnect_at-failure.result c.first_of-later.result c.disconnect_at-failure.ensures c.first_of-later.ensures
 
 pub returns : goal.returns
-returns g c =
+returns g c = λ due.
     let old = c.args.state.now in
     let end = places_again g (goal.at.returns g c).After-len-empty-end in
     let over : length old.publishers ≤ c.loop-empty.empty = omega (arith, end, c.loop-empty-test.false) in
-    both-update (answers_of g.F.BackpressureFn.allows g.G.DegradationFn.allows c.args.boxes.now.boxes) old c.args.place c.loop-empty.empty c.loop-empty.state c.loop-other.first c.loop-empty.later c.loop-empty.invariant over c.requires.due c.first_of.result c.first_of.ensures
+    both-update (answers_of g.F.BackpressureFn.allows g.G.DegradationFn.allows c.args.boxes.now.boxes) old c.args.place c.loop-empty.empty c.loop-empty.state c.loop-other.first c.loop-empty.later c.loop-empty.invariant over due.due c.first_of.result c.first_of.ensures due.subscriber due.stands

@@ -13,33 +13,34 @@ use Rattle.iox2_updates.proofs.retirements.choose.Goals as goal
 pub choose_retirement-requires-clause-expired : goal.choose_retirement-requires-clause-expired
 choose_retirement-requires-clause-expired g c = λ k has.
     let old = c.args.state.now in
-    let y = c.requires.end.0 in
-    let end = c.requires.end.2 in
-    let there : get_or c.state.inside.subscribers.items c.args.subscriber_place None ≡ Some y =
-    ap (λ (f : Fields g.row.T.Denot g.row.U.Denot). get_or f.subscribers c.args.subscriber_place None) c.state.view_is ∙ end.stands in
-    let same : Some y ≡ Some c.in-Some.subscriber = sym there ∙ read-there _ c.args.subscriber_place y _ there c.index.ensures ∙ c.in-Some.is in
+    let y = c.requires.subscriber in
+    let end = c.requires.end in
+    let there : get_or c.state.inside.subscribers.items c.args.at.subscriber None ≡ Some y =
+    ap (λ (f : Fields g.row.T.Denot g.row.U.Denot). get_or f.subscribers c.args.at.subscriber None) c.state.view_is ∙ end.stands in
+    let same : Some y ≡ Some c.in-Some.subscriber = sym there ∙ read-there _ c.args.at.subscriber y _ there c.index.ensures ∙ c.in-Some.is in
     let is : y ≡ c.in-Some.subscriber = cc in
     let expired : c.deref.result.now ≡ y.expired = c.deref.ensures.value ∙ ap (λ (z : SubscriberFields). z.expired) (c.subscriber.view_is ∙ sym is) in
     subst (λ (f : Fields g.row.T.Denot g.row.U.Denot). ContainsKey f.connections k) (sym c.state.view_is)
-    (expired-there old c.requires.agrees c.args.subscriber_place c.args.publisher_place y c.args.key c.requires.end.1 end k (ap (λ (xs : List ℕ). contains xs k) (sym expired) ∙ has))
+    (expired-there old c.requires.agrees c.args.at.subscriber c.args.at.publisher y c.args.key c.requires.link end k (ap (λ (xs : List ℕ). contains xs k) (sym expired) ∙ has))
 
 pub unreachable-requires : goal.unreachable-requires
 unreachable-requires g c =
-    let y = c.requires.end.0 in
-    let there : get_or c.state.inside.subscribers.items c.args.subscriber_place None ≡ Some y =
-    ap (λ (f : Fields g.row.T.Denot g.row.U.Denot). get_or f.subscribers c.args.subscriber_place None) c.state.view_is ∙ c.requires.end.2.stands in
-    let both : Some y ≡ None = sym there ∙ read-there _ c.args.subscriber_place y _ there c.index.ensures ∙ c.in_default.is in
+    let y = c.requires.subscriber in
+    let there : get_or c.state.inside.subscribers.items c.args.at.subscriber None ≡ Some y =
+    ap (λ (f : Fields g.row.T.Denot g.row.U.Denot). get_or f.subscribers c.args.at.subscriber None) c.state.view_is ∙ c.requires.end.stands in
+    let both : Some y ≡ None = sym there ∙ read-there _ c.args.at.subscriber y _ there c.index.ensures ∙ c.in_default.is in
     absurd cc
 
 pub choose_retirement-requires-clause-at : goal.choose_retirement-requires-clause-at
 choose_retirement-requires-clause-at g c =
-    subst (λ (f : Fields g.row.T.Denot g.row.U.Denot). ContainsKey f.connections c.args.key) (sym c.state.view_is) (rw c.requires.end.2.link refl)
+    subst (λ (f : Fields g.row.T.Denot g.row.U.Denot). ContainsKey f.connections c.args.key) (sym c.state.view_is) (rw c.requires.end.link refl)
 
 pub returns : goal.returns
-returns g c = λ y at.
+returns g c = λ departed.
+    let y = departed.subscriber in
     let old = c.args.state.now in
-    let there : get_or c.state.inside.subscribers.items c.args.subscriber_place None ≡ Some y = ap (λ (f : Fields g.row.T.Denot g.row.U.Denot). get_or f.subscribers c.args.subscriber_place None) c.state.view_is ∙ at in
-    let same : Some y ≡ Some c.in-Some.subscriber = sym there ∙ read-there _ c.args.subscriber_place y _ there c.index.ensures ∙ c.in-Some.is in
+    let there : get_or c.state.inside.subscribers.items c.args.at.subscriber None ≡ Some y = ap (λ (f : Fields g.row.T.Denot g.row.U.Denot). get_or f.subscribers c.args.at.subscriber None) c.state.view_is ∙ departed.end.stands in
+    let same : Some y ≡ Some c.in-Some.subscriber = sym there ∙ read-there _ c.args.at.subscriber y _ there c.index.ensures ∙ c.in-Some.is in
     let is : y ≡ c.in-Some.subscriber = cc in
     let expired : c.deref.result.now ≡ y.expired = c.deref.ensures.value ∙ ap (λ (z : SubscriberFields). z.expired) (c.subscriber.view_is ∙ sym is) in
     let connections : c.state.inside.connections ≡ old.connections = ap (λ (f : Fields g.row.T.Denot g.row.U.Denot). f.connections) c.state.view_is in
