@@ -152,22 +152,23 @@ module _ {T U : Type 0} where
             λ named f. own_id q (a.subscribers q) named (sym (own_at q a handles of here) ∙ f),
           )
 
-      -- by whether the subscriber itself is named
-      by_subscriber : (of : ℕ) (R : Type 0) → (names_subscriber q (slice_get handles of) ≡ true → R)
-          → (names_subscriber q (slice_get handles of) ≡ false → names_subscriber q (slice_get handles' of) ≡ false → R) → R
-      by_subscriber of R own other =
-          elim (names_subscriber q (slice_get handles of)) as (λ c. names_subscriber q (slice_get handles of) ≡ c → R) [
+      -- by whether something of the subscriber itself is named
+      abbrev ByName : (Option Handle → Bool) → Type 1
+      ByName names =
+          (of : ℕ) (R : Type 0) → (names (slice_get handles of) ≡ true → R) → (names (slice_get handles of) ≡ false → names (slice_get handles' of) ≡ false → R) → R
+
+      by_name : (names : Option Handle → Bool) → ((of : ℕ) → names (slice_get handles of) ≡ names (slice_get handles' of)) → ByName names
+      by_name names both of R own other =
+          elim (names (slice_get handles of)) as (λ c. names (slice_get handles of) ≡ c → R) [
             | true ↦ own
-            | false ↦ λ f. other f (sym (names_subscriber_same q a b handles handles' e same of) ∙ f)
+            | false ↦ λ f. other f (sym (both of) ∙ f)
           ] refl
 
-      by_sample : (of : ℕ) (R : Type 0) → (names_sample q (slice_get handles of) ≡ true → R)
-          → (names_sample q (slice_get handles of) ≡ false → names_sample q (slice_get handles' of) ≡ false → R) → R
-      by_sample of R own other =
-          elim (names_sample q (slice_get handles of)) as (λ c. names_sample q (slice_get handles of) ≡ c → R) [
-            | true ↦ own
-            | false ↦ λ f. other f (sym (names_sample_same q a b handles handles' e same of) ∙ f)
-          ] refl
+      by_subscriber : ByName (names_subscriber q)
+      by_subscriber = by_name (names_subscriber q) (names_subscriber_same q a b handles handles' e same)
+
+      by_sample : ByName (names_sample q)
+      by_sample = by_name (names_sample q) (names_sample_same q a b handles handles' e same)
 
       update_own : (r : ℕ) (o o' : Outcome T U) → r ≡ q
           → ((s' : State T U) × (failure : Option ConnectionFailure) × UpdateSubscriber ample_memory a r s' failure × (o ≡ after_update s' failure))

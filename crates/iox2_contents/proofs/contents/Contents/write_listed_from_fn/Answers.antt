@@ -9,9 +9,6 @@ index-requires g c = rw c.self.inside.slots.ok.0 (some_slot_within _ c.self.insi
 pub index_mut-requires : goal.index_mut-requires
 index_mut-requires g c = rw c.self.inside.slots.ok.0 (some_slot_within _ c.self.inside.slots.items _ c.args.slot (λ content. content.is_in_place ≡ false) c.self.view_is c.requires.in_lists)
 
-pub write_from_fn-requires-clause-callable : goal.write_from_fn-requires-clause-callable
-write_from_fn-requires-clause-callable g c = c.requires.callable
-
 pub write_from_fn-requires-clause-in_lists : goal.write_from_fn-requires-clause-in_lists
 write_from_fn-requires-clause-in_lists g c = (content_read _ c.self.inside.slots.items _ c.args.slot (λ content. content.is_in_place ≡ false) _ c.self.view_is c.requires.in_lists c.index_mut.ensures.value).1
 
