@@ -81,7 +81,7 @@ fn write_slot<T: Drop, U: Default + Drop>(
     requires lies { LiesInSlot state.old publisher number book slot }
     ensures { WritesLoan state.old state.new number (value ∷ []) }
 {
-    mark_written(state, MessageSlot { book, slot });
+    mark_written(state, book, slot);
     contents_mut(state, book).write_payload(slot, value);
 }
 
@@ -143,7 +143,7 @@ fn write_slot_from_fn<T: Drop, U: Default + Drop, F: FnMut(usize) -> T + Drop>(
     requires callable { F.IsAlwaysCallable f }
     ensures { (answers : List T) × AnswersInOrder F.step f answers × WritesLoan state.old state.new number answers }
 {
-    mark_written(state, MessageSlot { book, slot });
+    mark_written(state, book, slot);
     contents_mut(state, book).write_from_fn(slot, f);
 }
 
@@ -162,7 +162,7 @@ pub fn write_loan_from_slice<T: Copy + Drop, U: Default + Drop>(
     ensures same { result ≡ record loan { book = result.book; slot = result.slot } }
 {
     let at = find_live_loan(state, &loan);
-    mark_written(state, at);
+    mark_written(state, at.book, at.slot);
     contents_mut(state, at.book).write_from_slice(at.slot, values);
     found(loan, at)
 }
@@ -181,7 +181,7 @@ pub fn write_loan_unspecified<T: Copy + Default + Drop, U: Default + Drop>(
     ensures same { result ≡ record loan { book = result.book; slot = result.slot } }
 {
     let at = find_live_loan(state, &loan);
-    mark_written(state, at);
+    mark_written(state, at.book, at.slot);
     contents_mut(state, at.book).write_unspecified(at.slot);
     found(loan, at)
 }
@@ -197,7 +197,7 @@ pub fn assume_loan<T: Drop, U: Default + Drop>(state: &mut DomainState<T, U>, lo
     if !contents_mut(state, at.book).assume_init(at.slot) {
         return false;
     }
-    mark_written(state, at);
+    mark_written(state, at.book, at.slot);
     true
 }
 
