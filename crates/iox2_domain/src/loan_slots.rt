@@ -80,34 +80,6 @@ impl<T: Drop, U: Default + Drop> DomainState<T, U> {
         Some(MessageSlot { book: key, slot })
     }
 
-    /// Whether a live loan lies in the book and the slot that it names. No loan is gone through: no
-    /// other slot in use has its number.
-    pub fn is_loan_at_hint(&self, loan: &LoanAt) -> bool
-        requires domain { IsDomain self.now }
-        requires live { HoldsLoan (state_of (kept_of self.now)) loan.now.publisher loan.now.number }
-        ensures { IsTrue result → LiesInSlot self.now loan.now.publisher loan.now.number loan.now.book loan.now.slot }
-    {
-        match self.books.get(loan.book) {
-            Some(book) => book.has(loan.slot, loan.number),
-            None => false,
-        }
-    }
-
-    /// Where a loan lies that is live. Its book and its slot are tested first, by the number alone.
-    pub fn find_live_loan(&self, loan: &LoanAt) -> MessageSlot
-        requires domain { IsDomain self.now }
-        requires live { HoldsLoan (state_of (kept_of self.now)) loan.now.publisher loan.now.number }
-        ensures { LiesInSlot self.now loan.now.publisher loan.now.number result.book result.slot }
-    {
-        if self.is_loan_at_hint(loan) {
-            return MessageSlot {
-                book: loan.book,
-                slot: loan.slot,
-            };
-        }
-        self.search_loan(loan.publisher, loan.number)
-    }
-
     /// Where a publisher's loan lies that is live. Its publisher's loans are gone through.
     #[inline(never)]
     pub fn search_loan(&self, publisher: UniquePublisherId, number: u128) -> MessageSlot

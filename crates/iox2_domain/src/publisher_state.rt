@@ -1,6 +1,5 @@
 //! What a domain has of a publisher.
-ghost use Rattle.std.specs.Prelude.{◌≡◌, ◌<◌, ◌≤◌, [], length, vec_capacity, IfOk};
-ghost use Rattle.iox2_ends.specs.Counters.{times};
+ghost use Rattle.std.specs.Prelude.{◌≡◌, ◌<◌, [], length, IfOk};
 
 use crate::boxes::Boxes;
 use crate::handlers::{AskedBox, HandlerMark};
@@ -14,7 +13,6 @@ use iox2_machine::{
     AllocationStrategy, BackpressureAction, BackpressureHandler, BackpressureStrategy,
     DegradationAction, ServiceConfig, UniquePublisherId,
 };
-use iox2_slots::take_slot;
 use std::alloc::{AllocError, Global};
 use std::marker::Model;
 
@@ -155,17 +153,8 @@ impl PublisherState {
 }
 
 impl PublisherState {
-    ghost use Rattle.std.specs.Option.{is_some};
     ghost use Rattle.iox2_ends.specs.Handlers.{marks_of};
     ghost use Rattle.iox2_domain.specs.Handlers.{AsksFor};
-
-    /// Whether anything answers for it at a full buffer.
-    #[inline(always)]
-    pub fn has_handler(&self) -> bool
-        ensures { result ≡ is_some self.now.backpressure_handler }
-    {
-        self.backpressure_handler.is_some()
-    }
 
     /// What answers for it at a full buffer. A box is among these boxes.
     pub fn handler<'a, F, G>(
@@ -188,7 +177,6 @@ impl PublisherState {
 
 impl PublisherState {
     ghost use Rattle.iox2_domain.specs.Lending.{lending};
-    ghost use Rattle.iox2_domain.specs.Deliveries.{with_loan_out};
 
     /// The slot is a loan that is out, of so many elements.
     pub fn lend(&mut self, slot: usize, len: usize)
@@ -199,14 +187,6 @@ impl PublisherState {
         if self.longest_granted < len {
             self.longest_granted = len;
         }
-    }
-
-    /// The loan in a slot is out no more.
-    pub fn remove_loan(&mut self, slot: usize)
-        requires { times slot self.old.loans ≤ 1 }
-        ensures { self.new ≡ with_loan_out slot self.old }
-    {
-        take_slot(&mut self.loans, slot);
     }
 }
 

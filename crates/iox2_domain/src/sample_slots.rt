@@ -1,8 +1,7 @@
 //! The slots of the messages that subscribers have borrowed.
-ghost use Rattle.std.specs.Prelude.{◌≡◌, ◌<◌, ◌↔◌, ℕ, length, Contains, IsTrue, MatchOption};
+ghost use Rattle.std.specs.Prelude.{◌<◌, ◌↔◌, ℕ, length, Contains, IsTrue, MatchOption};
 ghost use Rattle.iox2_domain.specs.SampleSlots.{HasNoneNumbered, IsNumberedSlot};
 
-use crate::message_slots::MessageSlot;
 use crate::state::DomainState;
 use iox2_machine::{UniquePublisherId, UniqueSubscriberId};
 use iox2_slots::{Connection, SlotBook};
@@ -55,38 +54,12 @@ fn find_borrowed(connection: &Connection, book: &SlotBook, number: u128) -> Opti
     None
 }
 
-// The connection is the subscriber's, and the book that the sample names is its publisher's.
-fn is_named(connection: &Connection, sample: &SampleAt) -> bool
-    ensures { IsTrue result ↔ ((connection.now.home.subscriber ≡ sample.now.subscriber) × (connection.now.home.book ≡ sample.now.book)) }
-{
-    let home = connection.home();
-    home.subscriber == sample.subscriber.value() && home.book == sample.book
-}
-
-// Whether the slot is the one that was borrowed last.
-fn was_borrowed_last(connection: &Connection, slot: usize) -> bool
-    ensures { IsTrue result → Contains connection.now.borrowed slot }
-{
-    connection
-        .borrowed()
-        .last()
-        .is_some_and(|last| *last == slot)
-}
-
-// Whether the slot is the one that was borrowed last, and has the number.
-fn is_last_numbered(connection: &Connection, book: &SlotBook, slot: usize, number: u128) -> bool
-    requires { (slot : ℕ) → Contains connection.now.borrowed slot → slot < length book.now.holders }
-    ensures { IsTrue result → IsNumberedSlot connection.now book.now number slot }
-{
-    was_borrowed_last(connection, slot) && book.number(slot) == number
-}
-
 impl<T: Drop, U: Default + Drop> DomainState<T, U> {
     ghost use Rattle.iox2_machine.specs.machine.SingleCalls.{HoldsSample};
     ghost use Rattle.iox2_domain.specs.Kept.{state_of};
     ghost use Rattle.iox2_domain.specs.Fields.{kept_of};
-    ghost use Rattle.iox2_domain.specs.Invariant.{HasNumber, IsDomain};
-    ghost use Rattle.iox2_domain.specs.SampleSlots.{BorrowsAt, LiesAtHint, LiesBorrowed, LiesBorrowedInSlot};
+    ghost use Rattle.iox2_domain.specs.Invariant.{IsDomain};
+    ghost use Rattle.iox2_domain.specs.SampleSlots.{BorrowsAt, LiesBorrowed};
 
     /// Where the message lies that the subscriber has borrowed in the connection at the key, and `None`
     /// where it hasn't borrowed it there. Any key will do.
@@ -139,86 +112,6 @@ impl<T: Drop, U: Default + Drop> DomainState<T, U> {
             unreachable!()
         };
         at
-    }
-
-    /// The slot that the sample names is in use and has its number. No other slot in use has it.
-    pub fn is_at_slot(&self, sample: &SampleAt) -> bool
-        ensures { IsTrue result ↔ HasNumber self.now.books sample.now.book sample.now.slot sample.now.number }
-    {
-        match self.books.get(sample.book) {
-            Some(book) => book.has(sample.slot, sample.number),
-            None => false,
-        }
-    }
-
-    /// Where the message of a live sample lies. The slot that the sample names is tested first, by
-    /// the number alone.
-    pub fn find_message(&self, sample: &SampleAt) -> MessageSlot
-        requires domain { IsDomain self.now }
-        requires live { HoldsSample (state_of (kept_of self.now)) sample.now.subscriber sample.now.number }
-        ensures { LiesBorrowedInSlot self.now sample.now.subscriber sample.now.number result }
-    {
-        if self.is_at_slot(sample) {
-            return MessageSlot {
-                book: sample.book,
-                slot: sample.slot,
-            };
-        }
-        let at = self.search_sample(sample);
-        MessageSlot {
-            book: at.book,
-            slot: at.slot,
-        }
-    }
-
-    /// Whether a sample lies in the connection and the slot that it names, and was borrowed last
-    /// there. No holders are counted for that. A look-up in books that may be written tests less, and
-    /// nothing is written (docs/decisions/cost.md, "Look-ups that can't fail go through `&mut`").
-    pub fn is_last_at_hint(&mut self, sample: &SampleAt) -> bool
-        requires { IsDomain self.old }
-        ensures lies { IsTrue result → LiesAtHint self.old sample.now }
-        ensures same { self.new ≡ self.old }
-    {
-        match self.connections.get(sample.connection) {
-            Some(connection) => {
-                is_named(connection, sample)
-                    && is_last_numbered(
-                        connection,
-                        &mut self.books[sample.book],
-                        sample.slot,
-                        sample.number,
-                    )
-            }
-            None => false,
-        }
-    }
-
-    // Whether a live sample lies in the connection and the slot that it names.
-    fn is_at_hint(&self, sample: &SampleAt) -> bool
-        requires domain { IsDomain self.now }
-        requires live { HoldsSample (state_of (kept_of self.now)) sample.now.subscriber sample.now.number }
-        ensures { IsTrue result → LiesAtHint self.now sample.now }
-    {
-        match self.connections.get(sample.connection) {
-            Some(connection) => is_named(connection, sample) && self.is_at_slot(sample),
-            None => false,
-        }
-    }
-
-    /// Where a live sample lies. The connection and the slot that it names are tested first.
-    pub fn find_live_sample(&self, sample: &SampleAt) -> SampleSlot
-        requires domain { IsDomain self.now }
-        requires live { HoldsSample (state_of (kept_of self.now)) sample.now.subscriber sample.now.number }
-        ensures { LiesBorrowed self.now sample.now.subscriber sample.now.number result }
-    {
-        if self.is_at_hint(sample) {
-            return SampleSlot {
-                connection: sample.connection,
-                book: sample.book,
-                slot: sample.slot,
-            };
-        }
-        self.search_sample(sample)
     }
 
     /// Whether the subscriber has borrowed a message with this number.

@@ -15,6 +15,7 @@ ghost use Rattle.iox2_domain.specs.Invariant.{IsDomain};
 ghost use Rattle.iox2_domain.specs.BlockedSends.{with_outcome, counters_after, HasBlocked, CanGoOn, GoesOn, RetriesAs, GivesUpAs};
 ghost use Rattle.iox2_messages.specs.SendEnds.{IsKept, end_result};
 
+use crate::loans::remove_loan;
 use crate::reclaims::reclaim;
 use crate::send_end::SendEnd;
 use iox2_domain::{BlockedDelivery, Boxes, DomainState, PublisherState};
@@ -48,7 +49,7 @@ fn conclude_blocked(
 {
     match outcome {
         DeliveryOutcome::Complete { .. } => {
-            publisher.remove_loan(blocked.slot);
+            remove_loan(publisher, blocked.slot);
             publisher.blocked = None;
             book.release(blocked.slot);
         }

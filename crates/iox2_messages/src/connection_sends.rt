@@ -16,6 +16,7 @@ ghost use Rattle.iox2_messages.specs.SendEnds.{end_result};
 
 use crate::blocked_sends::go_on;
 use crate::discards::discard_loan;
+use crate::hinted_loans::find_live_loan;
 use crate::reclaims::reclaim;
 use crate::send_end::SendEnd;
 use iox2_domain::{BlockedDelivery, Boxes, DomainState, LoanAt, Port};
@@ -105,7 +106,7 @@ pub fn send_to_connection<T: Drop, U: Default + Drop, F: BackpressureFn, G: Degr
         discard_loan(state, loan);
         return SendEnd::Delivered(0);
     }
-    let at = state.find_live_loan(&loan);
+    let at = find_live_loan(state, &loan);
     begin(state, place, at.slot, channel, connection);
     reclaim(state, place);
     SendEnd::of(go_on(state, boxes, place, begun_at(connection), Duration::ZERO))

@@ -13,15 +13,16 @@ use iox2_contents::Contents;
 use iox2_domain::{DomainState, MessageSlot};
 use iox2_slots::SlotMark;
 
-/// A slot counts as written.
+/// A slot of the book at a key counts as written.
 pub(crate) fn mark_written<T: Drop, U: Default + Drop>(
     state: &mut DomainState<T, U>,
-    at: MessageSlot,
+    key: usize,
+    slot: usize,
 )
-    requires { (book : Book) × (get state.old.books at.book ≡ Some book) × (at.slot < length book.holders) }
-    ensures { (book : Book) → get state.old.books at.book ≡ Some book → state.new ≡ with_mark state.old at.book at.slot book Written }
+    requires { (book : Book) × (get state.old.books key ≡ Some book) × (slot < length book.holders) }
+    ensures { (book : Book) → get state.old.books key ≡ Some book → state.new ≡ with_mark state.old key slot book Written }
 {
-    state.books[at.book].set_mark(at.slot, SlotMark::Written);
+    state.books[key].set_mark(slot, SlotMark::Written);
 }
 
 /// The contents at a book's key, to be changed.

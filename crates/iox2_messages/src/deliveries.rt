@@ -13,6 +13,7 @@ ghost use Rattle.iox2_domain.specs.Deliveries.{CanSend, SendsSlot, sender_after,
 ghost use Rattle.iox2_ends.specs.declared.sender.DeliveryOutcome.{DeliveryOutcome};
 ghost use Rattle.iox2_messages.specs.SendEnds.{IsKept, end_result};
 
+use crate::loans::remove_loan;
 use crate::send_end::SendEnd;
 use iox2_domain::{AskedBox, BlockedDelivery, Boxes, DomainState, PublisherState};
 use iox2_ends::sender::{Delivery, DeliveryOutcome, Progress, deliver};
@@ -58,7 +59,7 @@ fn conclude(
 {
     match outcome {
         DeliveryOutcome::Complete { count, has_failed } => {
-            publisher.remove_loan(slot);
+            remove_loan(publisher, slot);
             remember(publisher, book, slot);
             if has_failed {
                 SendEnd::Undelivered
@@ -97,7 +98,7 @@ pub(crate) fn has_handler_at<T: Drop, U: Default + Drop>(
     let Some(publisher) = &state.publishers[place] else {
         unreachable!();
     };
-    publisher.has_handler()
+    publisher.backpressure_handler.is_some()
 }
 
 // What answers for the publisher at a place at a full buffer.

@@ -11,6 +11,8 @@ ghost use Rattle.iox2_domain.specs.Invariant.{IsDomain};
 ghost use Rattle.iox2_domain.specs.Kept.{state_of};
 ghost use Rattle.iox2_domain.specs.Ports.{PublisherFields};
 
+use crate::hinted_loans::find_live_loan;
+use crate::loans::remove_loan;
 use iox2_contents::Contents;
 use iox2_domain::{DomainState, LoanAt};
 
@@ -21,7 +23,7 @@ pub fn discard_loan<T: Drop, U: Default + Drop>(state: &mut DomainState<T, U>, l
     requires live { HoldsLoan (state_of (kept_of state.old)) loan.publisher loan.number }
     ensures { DiscardsLoan state.old state.new loan.number }
 {
-    let at = state.find_live_loan(&loan);
+    let at = find_live_loan(state, &loan);
     match state.find_publisher(loan.publisher, loan.place) {
         Some(place) => return_loan(state, place, at.slot),
         None => state.let_go(at.book, at.slot),
@@ -41,7 +43,7 @@ fn return_loan<T: Drop, U: Default + Drop>(state: &mut DomainState<T, U>, place:
     let Some(publisher) = &mut state.publishers[place] else {
         unreachable!();
     };
-    publisher.remove_loan(slot);
+    remove_loan(publisher, slot);
     let key = publisher.book;
     let book = &mut state.books[key];
     book.release(slot);

@@ -9,7 +9,7 @@ ghost use Rattle.iox2_domain.specs.LoanCalls.{HoldsUnwritten, WritesLoan};
 ghost use Rattle.iox2_domain.specs.LoanSlots.{LiesInSlot};
 
 use crate::contents::{contents_mut, mark_written};
-use iox2_domain::{DomainState, LoanAt, MessageSlot};
+use iox2_domain::{DomainState, LoanAt};
 use std::ptr::NonNull;
 
 // Where values begin, if there are any.
@@ -38,13 +38,7 @@ pub fn fill_from_fn<T: Drop, U: Default + Drop, F: FnMut(usize) -> T + Drop>(
     requires callable { F.IsAlwaysCallable f }
     ensures { (answers : List T) × AnswersInOrder F.step f answers × WritesLoan state.old state.new loan.now.number answers × (IsSome result ↔ 0 < length answers) }
 {
-    mark_written(
-        state,
-        MessageSlot {
-            book: loan.book,
-            slot: loan.slot,
-        },
-    );
+    mark_written(state, loan.book, loan.slot);
     let contents = contents_mut(state, loan.book);
     contents.write_from_fn(loan.slot, f);
     start_of(contents.values(loan.slot))
@@ -64,13 +58,7 @@ pub fn fill_unspecified<T: Copy + Default + Drop, U: Default + Drop>(
     requires lies { LiesInSlot state.old loan.now.publisher loan.now.number loan.now.book loan.now.slot }
     ensures { (values : List T) × WritesLoan state.old state.new loan.now.number values × (IsSome result ↔ 0 < length values) }
 {
-    mark_written(
-        state,
-        MessageSlot {
-            book: loan.book,
-            slot: loan.slot,
-        },
-    );
+    mark_written(state, loan.book, loan.slot);
     let contents = contents_mut(state, loan.book);
     contents.write_unspecified(loan.slot);
     start_of(contents.values(loan.slot))

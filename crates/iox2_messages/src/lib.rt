@@ -14,6 +14,8 @@ mod discards;
 mod fills;
 mod growing_loans;
 mod growth;
+mod hinted_loans;
+mod hinted_samples;
 mod loan_calls;
 mod loans;
 mod questions;
@@ -32,6 +34,8 @@ pub use connection_sends::send_to_connection;
 pub use contents::{cell_at_mut, cells_at_mut, user_header_at_mut, value_at_mut, values_at_mut};
 pub use discards::discard_loan;
 pub use fills::{fill_from_fn, fill_unspecified};
+pub use hinted_loans::find_live_loan;
+pub use hinted_samples::is_last_at_hint;
 pub use loan_calls::{
     assume_loan, loan_cell, loan_cells, loan_header, loan_user_header, loan_value, loan_values,
     write_loan, write_loan_from_fn, write_loan_from_slice, write_loan_unspecified,
@@ -39,6 +43,8 @@ pub use loan_calls::{
 pub use loans::loan;
 pub use questions::has_samples_at;
 pub use receipts::{give_back, receive_at};
-pub use sample_reads::{sample_header, sample_payload, sample_payloads, sample_user_header};
+pub use sample_reads::{
+    sample_header, sample_payload, sample_payloads, sample_user_header, sample_values_at_hint,
+};
 pub use send_end::SendEnd;
 pub use sends::send;

@@ -12,6 +12,7 @@ ghost use Rattle.iox2_domain.specs.LoanCalls.{HoldsUnwritten, HoldsWritten, HasC
 ghost use Rattle.iox2_domain.specs.LoanSlots.{LiesInSlot};
 
 use crate::contents::{contents_mut, mark_written};
+use crate::hinted_loans::{find_live_loan, is_loan_at_hint};
 use iox2_domain::{DomainState, LoanAt, MessageSlot};
 use iox2_machine::{Header, UniquePublisherId};
 
@@ -29,7 +30,7 @@ pub fn write_loan<T: Drop, U: Default + Drop>(
     ensures writes { WritesLoan state.old state.new loan.number (value ∷ []) }
     ensures same { result ≡ loan }
 {
-    if state.is_loan_at_hint(&loan) {
+    if is_loan_at_hint(state, &loan) {
         write_slot(
             state,
             loan.publisher,
@@ -80,7 +81,7 @@ fn write_slot<T: Drop, U: Default + Drop>(
     requires lies { LiesInSlot state.old publisher number book slot }
     ensures { WritesLoan state.old state.new number (value ∷ []) }
 {
-    mark_written(state, MessageSlot { book, slot });
+    mark_written(state, book, slot);
     contents_mut(state, book).write_payload(slot, value);
 }
 
@@ -98,7 +99,7 @@ pub fn write_loan_from_fn<T: Drop, U: Default + Drop, F: FnMut(usize) -> T + Dro
     ensures writes { (answers : List T) × AnswersInOrder F.step f answers × WritesLoan state.old state.new loan.number answers }
     ensures same { result ≡ record loan { book = result.book; slot = result.slot } }
 {
-    if state.is_loan_at_hint(&loan) {
+    if is_loan_at_hint(state, &loan) {
         write_slot_from_fn(state, loan.publisher, loan.number, loan.book, loan.slot, f);
     } else {
         search_and_write_from_fn(state, loan.publisher, loan.number, f);
@@ -142,7 +143,7 @@ fn write_slot_from_fn<T: Drop, U: Default + Drop, F: FnMut(usize) -> T + Drop>(
     requires callable { F.IsAlwaysCallable f }
     ensures { (answers : List T) × AnswersInOrder F.step f answers × WritesLoan state.old state.new number answers }
 {
-    mark_written(state, MessageSlot { book, slot });
+    mark_written(state, book, slot);
     contents_mut(state, book).write_from_fn(slot, f);
 }
 
@@ -160,8 +161,8 @@ pub fn write_loan_from_slice<T: Copy + Drop, U: Default + Drop>(
     ensures writes { WritesLoan state.old state.new loan.number values.now }
     ensures same { result ≡ record loan { book = result.book; slot = result.slot } }
 {
-    let at = state.find_live_loan(&loan);
-    mark_written(state, at);
+    let at = find_live_loan(state, &loan);
+    mark_written(state, at.book, at.slot);
     contents_mut(state, at.book).write_from_slice(at.slot, values);
     found(loan, at)
 }
@@ -179,8 +180,8 @@ pub fn write_loan_unspecified<T: Copy + Default + Drop, U: Default + Drop>(
     ensures writes { (values : List T) × WritesLoan state.old state.new loan.number values }
     ensures same { result ≡ record loan { book = result.book; slot = result.slot } }
 {
-    let at = state.find_live_loan(&loan);
-    mark_written(state, at);
+    let at = find_live_loan(state, &loan);
+    mark_written(state, at.book, at.slot);
     contents_mut(state, at.book).write_unspecified(at.slot);
     found(loan, at)
 }
@@ -192,11 +193,11 @@ pub fn assume_loan<T: Drop, U: Default + Drop>(state: &mut DomainState<T, U>, lo
     requires live { HoldsUnwritten (state_of (kept_of state.old)) loan.now.publisher loan.now.number }
     ensures { AssumesLoan state.old state.new loan.now.number result }
 {
-    let at = state.find_live_loan(loan);
+    let at = find_live_loan(state, loan);
     if !contents_mut(state, at.book).assume_init(at.slot) {
         return false;
     }
-    mark_written(state, at);
+    mark_written(state, at.book, at.slot);
     true
 }
 
@@ -222,7 +223,7 @@ pub fn loan_cell<'a, T: Drop, U: Default + Drop>(
     requires live { HoldsUnwritten (state_of (kept_of state.now)) loan.now.publisher loan.now.number }
     ensures { HasCell (state_of (kept_of state.now)) loan.now.number result.now }
 {
-    let at = state.find_live_loan(loan);
+    let at = find_live_loan(state, loan);
     let Some(contents) = &state.contents[at.book] else {
         unreachable!()
     };
@@ -240,7 +241,7 @@ pub fn loan_value<'a, T: Drop, U: Default + Drop>(
     requires live { HoldsWritten (state_of (kept_of state.now)) loan.now.publisher loan.now.number }
     ensures { HasCell (state_of (kept_of state.now)) loan.now.number (Some result.now) }
 {
-    let at = state.find_live_loan(loan);
+    let at = find_live_loan(state, loan);
     let Some(contents) = &state.contents[at.book] else {
         unreachable!()
     };
@@ -259,7 +260,7 @@ pub fn loan_cells<'a, T: Drop, U: Default + Drop>(
     requires live { HoldsUnwritten (state_of (kept_of state.now)) loan.now.publisher loan.now.number }
     ensures { HasCells (state_of (kept_of state.now)) loan.now.number result.now }
 {
-    let at = state.find_live_loan(loan);
+    let at = find_live_loan(state, loan);
     let Some(contents) = &state.contents[at.book] else {
         unreachable!()
     };
@@ -276,7 +277,7 @@ pub fn loan_values<'a, T: Drop, U: Default + Drop>(
     requires live { HoldsWritten (state_of (kept_of state.now)) loan.now.publisher loan.now.number }
     ensures { HasCells (state_of (kept_of state.now)) loan.now.number (map Some result.now) }
 {
-    let at = state.find_live_loan(loan);
+    let at = find_live_loan(state, loan);
     let Some(contents) = &state.contents[at.book] else {
         unreachable!()
     };
@@ -292,7 +293,7 @@ pub fn loan_header<'a, T: Drop, U: Default + Drop>(
     requires live { HoldsLoan (state_of (kept_of state.now)) loan.now.publisher loan.now.number }
     ensures { HasLoanHeader (state_of (kept_of state.now)) loan.now.number result.now }
 {
-    let at = state.find_live_loan(loan);
+    let at = find_live_loan(state, loan);
     state.books[at.book].header(at.slot)
 }
 
@@ -305,7 +306,7 @@ pub fn loan_user_header<'a, T: Drop, U: Default + Drop>(
     requires live { HoldsLoan (state_of (kept_of state.now)) loan.now.publisher loan.now.number }
     ensures { HasLoanUserHeader (state_of (kept_of state.now)) loan.now.number result.now }
 {
-    let at = state.find_live_loan(loan);
+    let at = find_live_loan(state, loan);
     let Some(contents) = &state.contents[at.book] else {
         unreachable!()
     };

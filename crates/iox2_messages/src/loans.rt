@@ -2,6 +2,8 @@
 ghost use Rattle.std.specs.Prelude.{◌≡◌, ◌≤◌, ◌&&◌, nat_lt, false, slice_index_or, None, Some, IfOk, IsSomeAnd};
 ghost use Rattle.iox2_machine.specs.machine.Loans.{is_static};
 ghost use Rattle.iox2_machine.specs.declared.service_config.TypeVariant.TheVariants.{FixedSize};
+ghost use Rattle.iox2_ends.specs.Counters.{times};
+ghost use Rattle.iox2_domain.specs.Deliveries.{with_loan_out};
 ghost use Rattle.iox2_domain.specs.Lending.{MayStart, Starts, IsNamed, LoanReaches};
 ghost use Rattle.iox2_domain.specs.LoanSlots.{LiesInSlot};
 ghost use Rattle.iox2_domain.specs.Ports.{PublisherFields};
@@ -13,6 +15,7 @@ use crate::reclaims::reclaim_if_full;
 use iox2_contents::Contents;
 use iox2_domain::{DomainState, LoanAt, PublisherState, units_of};
 use iox2_machine::{AllocationStrategy, LoanError};
+use iox2_slots::take_slot;
 
 // In the slot, which nobody holds, starts a loan of that length.
 pub(crate) fn start<T: Drop, U: Default + Drop>(
@@ -71,8 +74,7 @@ pub fn loan<T: Drop, U: Default + Drop>(
     if publisher.loans.len() >= publisher.max_loaned_samples {
         return Err(LoanError::ExceedsMaxLoans);
     }
-    reclaim_if_full(publisher, &mut state.connections, book);
-    if book.is_full() {
+    if reclaim_if_full(publisher, &mut state.connections, book) {
         return Err(LoanError::OutOfMemory);
     }
     if state.next_message == u128::MAX {
@@ -126,6 +128,14 @@ fn is_static_at<T, U>(state: &DomainState<T, U>, place: usize) -> bool
         unreachable!();
     };
     publisher.allocation == AllocationStrategy::Static
+}
+
+/// The loan in a slot is out no more.
+pub(crate) fn remove_loan(publisher: &mut PublisherState, slot: usize)
+    requires { times slot publisher.old.loans ≤ 1 }
+    ensures { publisher.new ≡ with_loan_out slot publisher.old }
+{
+    take_slot(&mut publisher.loans, slot);
 }
 
 // The length counts, and is more than the publisher's current segment was made for.

@@ -13,8 +13,10 @@ ghost use Rattle.iox2_domain.specs.Reaches.{Reaches};
 ghost use Rattle.iox2_domain.specs.Midway.{IsMidway};
 ghost use Rattle.iox2_domain.specs.Receipts.{IsReceiptFor, TakesAs, ReceivesAs};
 ghost use Rattle.iox2_domain.specs.SampleSlots.{IsReturnable, LiesAtHint};
+ghost use Rattle.iox2_domain.specs.Updates.{is_subscriber_due};
 
-use iox2_domain::{Boxes, DomainState, Receipt, SampleAt, SampleSlot, is_due_at, stands_at};
+use crate::hinted_samples::{find_live_sample, is_last_at_hint};
+use iox2_domain::{Boxes, DomainState, Receipt, SampleAt, SampleSlot, stands_at};
 use iox2_ends::receiver::{Taken, let_go, receive, release};
 use iox2_machine::{
     BackpressureFn, DegradationFn, ReceiveError, UniquePublisherId, UniqueSubscriberId,
@@ -79,6 +81,18 @@ fn take_at<T: Drop, U: Default + Drop>(
     Ok(Some(receipt_of(&mut state.connections, &mut state.books, taken)))
 }
 
+// Whether the subscriber at a place is due for an update.
+#[inline(always)]
+fn is_due<T, U>(state: &DomainState<T, U>, place: usize) -> bool
+    requires { (y : SubscriberFields) × (slice_index_or state.now.subscribers place None ≡ Some y) }
+    ensures { result ≡ is_subscriber_due state.now.subscribers place }
+{
+    let Some(subscriber) = &state.subscribers[place] else {
+        unreachable!()
+    };
+    subscriber.is_due
+}
+
 /// The subscriber at a place is updated, and then borrows the message that has waited longest in
 /// some connection. `None` where no message waits. The message lies where the receipt says.
 ///
@@ -94,7 +108,7 @@ pub fn receive_at<T: Drop, U: Default + Drop, F: BackpressureFn, G: DegradationF
     requires stands { (y : SubscriberFields) × (slice_index_or state.old.subscribers place None ≡ Some y) }
     ensures { (y : SubscriberFields) → slice_index_or state.old.subscribers place None ≡ Some y → ReceivesAs (answers_of F.allows G.allows (boxes.now).boxes) state.old y.id result state.new }
 {
-    if is_due_at(&state.subscribers, place) {
+    if is_due(state, place) {
         if let Some(failure) = update_subscriber(state, boxes, place) {
             return Err(ReceiveError::ConnectionFailure(failure));
         }
@@ -121,7 +135,7 @@ fn is_returnable<T: Drop, U: Default + Drop>(
     ensures returnable { IsTrue result → IsReturnable state.old sample.now }
     ensures same { state.new ≡ state.old }
 {
-    state.is_last_at_hint(sample) && both_stay(state, sample)
+    is_last_at_hint(state, sample) && both_stay(state, sample)
 }
 
 // The slot that is borrowed in a connection is given back to its publisher. Where that is gone, it
@@ -176,7 +190,7 @@ fn search_and_give_back<T: Drop, U: Default + Drop>(state: &mut DomainState<T, U
     ensures released { (publisher : ℕ) → IsTrue (is_borrowed sample.number ((state_of (kept_of state.old)).mailboxes publisher sample.subscriber))
         → Reaches state.old state.new (released (state_of (kept_of state.old)) publisher sample.subscriber sample.number) }
 {
-    let at = state.find_live_sample(&sample);
+    let at = find_live_sample(state, &sample);
     let home = state.connections[at.connection].home();
     hand_back(state, at, home);
     leave_if_unused(state, home.subscriber_place);

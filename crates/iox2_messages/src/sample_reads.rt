@@ -1,5 +1,5 @@
 //! What is read of borrowed messages.
-ghost use Rattle.std.specs.Prelude.{◌≡◌, Some, [], ◌∷◌, false};
+ghost use Rattle.std.specs.Prelude.{◌≡◌, Some, [], ◌∷◌, false, IfSome};
 ghost use Rattle.iox2_machine.specs.SingleValues.{is_single_valued};
 ghost use Rattle.iox2_machine.specs.machine.Records.{Entry};
 ghost use Rattle.iox2_machine.specs.machine.SingleCalls.{HoldsSample};
@@ -9,6 +9,7 @@ ghost use Rattle.iox2_domain.specs.Fields.{kept_of};
 ghost use Rattle.iox2_domain.specs.Invariant.{IsDomain};
 ghost use Rattle.iox2_domain.specs.SampleSlots.{LiesBorrowedInSlot};
 
+use crate::hinted_samples::{find_message, is_at_slot};
 use iox2_domain::{DomainState, SampleAt};
 use iox2_machine::Header;
 
@@ -23,7 +24,7 @@ pub fn sample_payload<'a, T: Drop, U: Default + Drop>(
     requires live { HoldsSample (state_of (kept_of state.now)) sample.now.subscriber sample.now.number }
     ensures { (entry : Entry T U) × (entries_of (kept_of state.now) sample.now.number ≡ Some entry) × (entry.values ≡ result.now ∷ []) }
 {
-    if state.is_at_slot(sample) {
+    if is_at_slot(state, sample) {
         return payload_at(state, sample, sample.book, sample.slot);
     }
     let at = state.search_sample(sample);
@@ -60,11 +61,32 @@ pub fn sample_payloads<'a, T: Drop, U: Default + Drop>(
     requires live { HoldsSample (state_of (kept_of state.now)) sample.now.subscriber sample.now.number }
     ensures { (entry : Entry T U) × (entries_of (kept_of state.now) sample.now.number ≡ Some entry) × (entry.values ≡ result.now) }
 {
-    let at = state.find_message(sample);
+    let at = find_message(state, sample);
     let Some(contents) = &state.contents[at.book] else {
         unreachable!()
     };
     contents.values(at.slot)
+}
+
+/// The values of a borrowed message, where messages aren't single values and this one lies in the slot
+/// that is named.
+#[inline(always)]
+pub fn sample_values_at_hint<'a, T: Drop, U: Default + Drop>(
+    state: &'a DomainState<T, U>,
+    sample: &SampleAt,
+) -> Option<&'a [T]>
+    requires agrees { IsDomain state.now }
+    requires several { is_single_valued state.now.config ≡ false }
+    requires live { HoldsSample (state_of (kept_of state.now)) sample.now.subscriber sample.now.number }
+    ensures { IfSome result (λ values. (entry : Entry T U) × (entries_of (kept_of state.now) sample.now.number ≡ Some entry) × (entry.values ≡ values.now)) }
+{
+    if !is_at_slot(state, sample) {
+        return None;
+    }
+    let Some(contents) = &state.contents[sample.book] else {
+        unreachable!()
+    };
+    Some(contents.values(sample.slot))
 }
 
 /// The header of a borrowed message.
@@ -76,7 +98,7 @@ pub fn sample_header<'a, T: Drop, U: Default + Drop>(
     requires live { HoldsSample (state_of (kept_of state.now)) sample.now.subscriber sample.now.number }
     ensures { (entry : Entry T U) × (entries_of (kept_of state.now) sample.now.number ≡ Some entry) × (entry.header ≡ result.now) }
 {
-    let at = state.find_message(sample);
+    let at = find_message(state, sample);
     state.books[at.book].header(at.slot)
 }
 
@@ -89,7 +111,7 @@ pub fn sample_user_header<'a, T: Drop, U: Default + Drop>(
     requires live { HoldsSample (state_of (kept_of state.now)) sample.now.subscriber sample.now.number }
     ensures { (entry : Entry T U) × (entries_of (kept_of state.now) sample.now.number ≡ Some entry) × (entry.user_header ≡ result.now) }
 {
-    let at = state.find_message(sample);
+    let at = find_message(state, sample);
     let Some(contents) = &state.contents[at.book] else {
         unreachable!()
     };

@@ -14,6 +14,7 @@ ghost use Rattle.iox2_messages.specs.declared.send_end.SendEnd.{SendEnd};
 
 use crate::deliveries::{has_handler_at, send_ready, send_unasked};
 use crate::discards::discard_loan;
+use crate::hinted_loans::is_loan_at_hint;
 use crate::send_end::SendEnd;
 use iox2_domain::{Boxes, DomainState, LoanAt};
 use iox2_machine::{BackpressureFn, ConnectionFailure, DegradationFn, UniquePublisherId};
@@ -37,7 +38,7 @@ fn is_ready<T: Drop, U: Default + Drop>(state: &DomainState<T, U>, loan: &LoanAt
     if publisher.book != loan.book {
         return false;
     }
-    state.is_loan_at_hint(loan)
+    is_loan_at_hint(state, loan)
 }
 
 // Where a loan may be sent: the place of its publisher, which is due for no update, and its slot.

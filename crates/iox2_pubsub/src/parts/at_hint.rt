@@ -10,6 +10,7 @@ use crate::parts::hints::{
 use crate::parts::{LoanParts, PublisherParts, SampleParts, SubscriberParts};
 use crate::sample::Sample;
 use iox2_machine::{BackpressureFn, DegradationFn, UniquePublisherId, UniqueSubscriberId};
+use iox2_messages::is_last_at_hint;
 
 impl<T: Drop, U: Default + Drop, F: BackpressureFn, G: DegradationFn> Domain<T, U, F, G> {
     ghost use Rattle.iox2_machine.specs.declared.allocation.AllocationStrategy.TheVariants.{Static};
@@ -46,7 +47,7 @@ impl<T: Drop, U: Default + Drop, F: BackpressureFn, G: DegradationFn> Domain<T, 
         if parts.service_id != self.state.config().service_id {
             return false;
         }
-        self.state.is_last_at_hint(&parts.sample())
+        is_last_at_hint(&mut self.state, &parts.sample())
     }
 
     /// Whether the publisher with these numbers stands at the place that they name, and lends so many

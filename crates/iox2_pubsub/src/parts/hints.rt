@@ -1,11 +1,9 @@
 //! What a handle made of numbers names is looked for first where the numbers say.
 ghost use Rattle.std.specs.Prelude.{◌≡◌, ◌↔◌, ◌<◌, ◌≤◌, [], true, false, length, slice_get, slice_index_or, is_some, IfSome, IsTrue, MatchOption, None, Some};
-ghost use Rattle.iox2_machine.specs.SingleValues.{is_single_valued};
 ghost use Rattle.iox2_machine.specs.declared.allocation.AllocationStrategy.TheVariants.{Static};
 ghost use Rattle.iox2_machine.specs.machine.Limits.{last_number};
-ghost use Rattle.iox2_machine.specs.machine.Records.{Entry};
 ghost use Rattle.iox2_machine.specs.machine.SingleCalls.{HoldsLoan, HoldsSample, HoldsSubscriber};
-ghost use Rattle.iox2_domain.specs.Kept.{state_of, entries_of};
+ghost use Rattle.iox2_domain.specs.Kept.{state_of};
 ghost use Rattle.iox2_domain.specs.Fields.{kept_of};
 ghost use Rattle.iox2_domain.specs.Invariant.{IsDomain};
 ghost use Rattle.iox2_domain.specs.LoanCalls.{HoldsWritten};
@@ -104,7 +102,7 @@ pub(crate) fn sends_at_once<T, U>(state: &DomainState<T, U>, place: usize) -> bo
     if publisher.is_due {
         return false;
     }
-    if publisher.has_handler() {
+    if publisher.backpressure_handler.is_some() {
         return false;
     }
     true
@@ -262,27 +260,6 @@ pub(crate) fn has_sample<T: Drop, U: Default + Drop>(
         Some(_) => true,
         None => state.has_sample(sample.subscriber, sample.number),
     }
-}
-
-/// The values of a borrowed message, where messages aren't single values and this one lies in the slot
-/// that is named.
-#[inline(always)]
-pub(crate) fn sample_values_at_hint<'a, T: Drop, U: Default + Drop>(
-    state: &'a DomainState<T, U>,
-    sample: &SampleAt,
-) -> Option<&'a [T]>
-    requires agrees { IsDomain state.now }
-    requires several { is_single_valued state.now.config ≡ false }
-    requires live { HoldsSample (state_of (kept_of state.now)) sample.now.subscriber sample.now.number }
-    ensures { IfSome result (λ values. (entry : Entry T U) × (entries_of (kept_of state.now) sample.now.number ≡ Some entry) × (entry.values ≡ values.now)) }
-{
-    if !state.is_at_slot(sample) {
-        return None;
-    }
-    let Some(contents) = &state.contents[sample.book] else {
-        unreachable!()
-    };
-    Some(contents.values(sample.slot))
 }
 
 /// Whether a subscriber has this id, wasn't closed and stands at the place.

@@ -4,7 +4,7 @@ ghost use Rattle.std.specs.Prelude.{◌≡◌};
 use crate::domain::Domain;
 use crate::sample_mut::SampleMut;
 use iox2_machine::{BackpressureFn, DegradationFn};
-use iox2_messages::value_at_mut;
+use iox2_messages::{find_live_loan, value_at_mut};
 
 impl SampleMut {
     ghost use Rattle.std.specs.Prelude.{Some};
@@ -46,7 +46,7 @@ impl SampleMut {
             → LoanHasUserHeader (with_payload domain.old (written_number sample.old) value) (written_key sample.new) header }
         ensures leaves { (value : T) → LeavesBut (written_loan sample.old) domain.old (with_payload domain.old (written_number sample.old) value) }
     {
-        let at = domain.state.find_live_loan(&sample.loan);
+        let at = find_live_loan(&domain.state, &sample.loan);
         value_at_mut(&mut domain.state, at)
     }
 }

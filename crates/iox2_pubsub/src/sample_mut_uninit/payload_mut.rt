@@ -4,7 +4,7 @@ ghost use Rattle.std.specs.Prelude.{◌≡◌};
 use crate::domain::Domain;
 use crate::sample_mut_uninit::SampleMutUninit;
 use iox2_machine::{BackpressureFn, DegradationFn};
-use iox2_messages::cell_at_mut;
+use iox2_messages::{cell_at_mut, find_live_loan};
 
 impl SampleMutUninit {
     ghost use Rattle.std.specs.Prelude.{Some, Option};
@@ -47,7 +47,7 @@ impl SampleMutUninit {
             → LoanHasUserHeader (with_cell domain.old (unwritten_number sample.old) cell) (unwritten_key sample.new) header }
         ensures leaves { (cell : Option T) → LeavesBut (unwritten_loan sample.old) domain.old (with_cell domain.old (unwritten_number sample.old) cell) }
     {
-        let at = domain.state.find_live_loan(&sample.loan);
+        let at = find_live_loan(&domain.state, &sample.loan);
         cell_at_mut(&mut domain.state, at)
     }
 }

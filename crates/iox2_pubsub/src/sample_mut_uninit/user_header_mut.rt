@@ -4,7 +4,7 @@ ghost use Rattle.std.specs.Prelude.{◌≡◌};
 use crate::domain::Domain;
 use crate::sample_mut_uninit::SampleMutUninit;
 use iox2_machine::{BackpressureFn, DegradationFn};
-use iox2_messages::user_header_at_mut;
+use iox2_messages::{find_live_loan, user_header_at_mut};
 
 impl SampleMutUninit {
     ghost use Rattle.std.specs.Prelude.{Some, Option, List};
@@ -46,7 +46,7 @@ impl SampleMutUninit {
             → LoanHasHeader (with_user_header domain.old (unwritten_number sample.old) user_header) (unwritten_key sample.new) header }
         ensures leaves { (user_header : U) → LeavesBut (unwritten_loan sample.old) domain.old (with_user_header domain.old (unwritten_number sample.old) user_header) }
     {
-        let at = domain.state.find_live_loan(&sample.loan);
+        let at = find_live_loan(&domain.state, &sample.loan);
         user_header_at_mut(&mut domain.state, at)
     }
 }

@@ -2,9 +2,8 @@
 ghost use Rattle.std.specs.Prelude.{◌≡◌};
 
 use crate::domain::Domain;
-use crate::parts::hints::sample_values_at_hint;
 use iox2_machine::{BackpressureFn, DegradationFn};
-use iox2_messages::sample_payloads;
+use iox2_messages::{sample_payloads, sample_values_at_hint};
 
 /// A slice that a subscriber has received and not yet released. It is a value to be spent, as the
 /// sample of a single value is, and is that sample with another view of its payload. All other

@@ -78,7 +78,7 @@ end_cells-requires g c =
 pub returns : goal.returns
 returns g c = λ x b at has.
     let publisher = there g (goal.at.returns g c).In-Some x at in
-    let out : c.remove_loan.new.self ≡ with_loan_out c.args.slot x = c.remove_loan.ensures ∙ ap (with_loan_out c.args.slot) publisher in
+    let out : c.remove_loan.new.publisher ≡ with_loan_out c.args.slot x = c.remove_loan.ensures ∙ ap (with_loan_out c.args.slot) publisher in
     let key : c.publisher.inside.book ≡ x.book = ap (λ (p : PublisherFields). p.book) (c.publisher.view_is ∙ out) in
     let found : Some c.index_mut-book.result.now ≡ Some b =
     sym c.index_mut-book.ensures.value ∙ ap (get c.state.inside.books) key ∙ ap (λ (f : Fields g.row.T.Denot g.row.U.Denot). get f.books x.book) c.state.view_is ∙ has in

@@ -53,26 +53,26 @@ returns-then-len-publisher-clause-reaches g c =
     _ (c.in-Some.is ∙ ap Some (sym c.publisher.view_is)) _ _ c.index_mut-book.ensures.value _ refl _ c.publisher.view_is (reclaims-nothing _ _ _) c.args.checks_length g.U.Default.is_default
     (sym c.if-is_too_long.ensures) (omega (arith, c.if-len-publisher.true, c.len.ensures, long))
 
-pub returns-then-is_full-clause-reaches : goal.returns-then-is_full-clause-reaches
-returns-then-is_full-clause-reaches g c =
+pub returns-then-reclaim_if_full-clause-reaches : goal.returns-then-reclaim_if_full-clause-reaches
+returns-then-reclaim_if_full-clause-reaches g c =
     let long : vec_len c.publisher.inside.loans ≡ length c.publisher.inside.loans.items = search rules in
     loan-full {T = g.row.T.Denot} {U = g.row.U.Denot} _ c.requires.agrees c.args.place c.requires.stands c.args.len _ (c.in_ok-prepare_if_growing.ensures c.requires.stands.0 c.requires.stands.1) _ c.state.view_is _ c.index_mut.ensures.value
-    _ (c.in-Some.is ∙ ap Some (sym c.publisher.view_is)) _ _ c.index_mut-book.ensures.value _ c.reclaim_if_full.ensures.book _ c.publisher.view_is c.reclaim_if_full.ensures.reclaims c.args.checks_length g.U.Default.is_default
-    (sym c.if-is_too_long.ensures) (omega (arith, c.if-len-publisher.false, c.len.ensures, long)) c.reclaim_if_full.ensures.kept c.reclaim_if_full.ensures.all (c.if-is_full.ensures.0 refl)
+    _ (c.in-Some.is ∙ ap Some (sym c.publisher.view_is)) _ _ c.index_mut-book.ensures.value _ c.if-reclaim_if_full.ensures.book _ c.publisher.view_is c.if-reclaim_if_full.ensures.reclaims c.args.checks_length g.U.Default.is_default
+    (sym c.if-is_too_long.ensures) (omega (arith, c.if-len-publisher.false, c.len.ensures, long)) c.if-reclaim_if_full.ensures.kept c.if-reclaim_if_full.ensures.all (c.if-reclaim_if_full.ensures.full.0 refl)
 
 pub returns-then-state-clause-reaches : goal.returns-then-state-clause-reaches
 returns-then-state-clause-reaches g c =
     let long : vec_len c.publisher.inside.loans ≡ length c.publisher.inside.loans.items = search rules in
     loan-last {T = g.row.T.Denot} {U = g.row.U.Denot} _ c.requires.agrees c.args.place c.requires.stands c.args.len _ (c.in_ok-prepare_if_growing.ensures c.requires.stands.0 c.requires.stands.1) _ c.state.view_is _ c.index_mut.ensures.value
-    _ (c.in-Some.is ∙ ap Some (sym c.publisher.view_is)) _ _ c.index_mut-book.ensures.value _ c.reclaim_if_full.ensures.book _ c.publisher.view_is c.reclaim_if_full.ensures.reclaims c.args.checks_length g.U.Default.is_default
-    (sym c.if-is_too_long.ensures) (omega (arith, c.if-len-publisher.false, c.len.ensures, long)) c.reclaim_if_full.ensures.kept (λ all. let no : false ≡ true = c.if-is_full.ensures.1 all in absurd cc) c.if-state.true
+    _ (c.in-Some.is ∙ ap Some (sym c.publisher.view_is)) _ _ c.index_mut-book.ensures.value _ c.if-reclaim_if_full.ensures.book _ c.publisher.view_is c.if-reclaim_if_full.ensures.reclaims c.args.checks_length g.U.Default.is_default
+    (sym c.if-is_too_long.ensures) (omega (arith, c.if-len-publisher.false, c.len.ensures, long)) c.if-reclaim_if_full.ensures.kept (λ all. let no : false ≡ true = c.if-reclaim_if_full.ensures.full.1 all in absurd cc) c.if-state.true
 
 pub unreachable-requires-in_default-take_from : goal.unreachable-requires-in_default-take_from
 unreachable-requires-in_default-take_from g c =
     let long : vec_len c.publisher.inside.loans ≡ length c.publisher.inside.loans.items = search rules in
     loan-free {T = g.row.T.Denot} {U = g.row.U.Denot} _ c.requires.agrees c.args.place c.requires.stands c.args.len _ (c.in_ok-prepare_if_growing.ensures c.requires.stands.0 c.requires.stands.1) _ c.state.view_is _ c.index_mut.ensures.value
-    _ (c.in-Some.is ∙ ap Some (sym c.publisher.view_is)) _ _ c.index_mut-book.ensures.value _ c.reclaim_if_full.ensures.book _ c.publisher.view_is c.reclaim_if_full.ensures.reclaims c.args.checks_length g.U.Default.is_default
-    (sym c.if-is_too_long.ensures) (omega (arith, c.if-len-publisher.false, c.len.ensures, long)) c.reclaim_if_full.ensures.kept (λ all. let no : false ≡ true = c.if-is_full.ensures.1 all in absurd cc) (c.in_default-take_from.ensures.none.0 refl)
+    _ (c.in-Some.is ∙ ap Some (sym c.publisher.view_is)) _ _ c.index_mut-book.ensures.value _ c.if-reclaim_if_full.ensures.book _ c.publisher.view_is c.if-reclaim_if_full.ensures.reclaims c.args.checks_length g.U.Default.is_default
+    (sym c.if-is_too_long.ensures) (omega (arith, c.if-len-publisher.false, c.len.ensures, long)) c.if-reclaim_if_full.ensures.kept (λ all. let no : false ≡ true = c.if-reclaim_if_full.ensures.full.1 all in absurd cc) (c.in_default-take_from.ensures.none.0 refl)
 
 pub index_mut-requires-2 : goal.index_mut-requires-2
 index_mut-requires-2 g c =
@@ -84,29 +84,29 @@ pub units_of-requires : goal.units_of-requires
 units_of-requires g c =
     let long : vec_len c.publisher.inside.loans ≡ length c.publisher.inside.loans.items = search rules in
     loan-units {T = g.row.T.Denot} {U = g.row.U.Denot} _ c.requires.agrees c.args.place c.requires.stands c.args.len _ (c.in_ok-prepare_if_growing.ensures c.requires.stands.0 c.requires.stands.1) _ c.state.view_is _ c.index_mut.ensures.value
-    _ (c.in-Some.is ∙ ap Some (sym c.publisher.view_is)) _ _ c.index_mut-book.ensures.value _ c.reclaim_if_full.ensures.book _ c.publisher.view_is c.reclaim_if_full.ensures.reclaims c.args.checks_length g.U.Default.is_default
-    (sym c.if-is_too_long.ensures) (omega (arith, c.if-len-publisher.false, c.len.ensures, long)) c.reclaim_if_full.ensures.kept (λ all. let no : false ≡ true = c.if-is_full.ensures.1 all in absurd cc) (let bound = c.state.invariant in omega arith) c.requires.unchecked c.requires.single
+    _ (c.in-Some.is ∙ ap Some (sym c.publisher.view_is)) _ _ c.index_mut-book.ensures.value _ c.if-reclaim_if_full.ensures.book _ c.publisher.view_is c.if-reclaim_if_full.ensures.reclaims c.args.checks_length g.U.Default.is_default
+    (sym c.if-is_too_long.ensures) (omega (arith, c.if-len-publisher.false, c.len.ensures, long)) c.if-reclaim_if_full.ensures.kept (λ all. let no : false ≡ true = c.if-reclaim_if_full.ensures.full.1 all in absurd cc) (let bound = c.state.invariant in omega arith) c.requires.unchecked c.requires.single
 
 pub start-requires : goal.start-requires
 start-requires g c =
     let long : vec_len c.publisher.inside.loans ≡ length c.publisher.inside.loans.items = search rules in
     rw c.units_of.ensures (loan-start {T = g.row.T.Denot} {U = g.row.U.Denot} _ c.requires.agrees c.args.place c.requires.stands c.args.len _ (c.in_ok-prepare_if_growing.ensures c.requires.stands.0 c.requires.stands.1) _ c.state.view_is _ c.index_mut.ensures.value
-    _ (c.in-Some.is ∙ ap Some (sym c.publisher.view_is)) _ _ c.index_mut-book.ensures.value _ c.reclaim_if_full.ensures.book _ c.publisher.view_is c.reclaim_if_full.ensures.reclaims c.args.checks_length g.U.Default.is_default
-    (sym c.if-is_too_long.ensures) (omega (arith, c.if-len-publisher.false, c.len.ensures, long)) c.reclaim_if_full.ensures.kept (λ all. let no : false ≡ true = c.if-is_full.ensures.1 all in absurd cc) (let bound = c.state.invariant in omega arith) c.requires.unchecked c.requires.single c.in-Some-take_from.slot c.in-Some-take_from.ensures.taken.in_bounds c.in-Some-take_from.ensures.from c.in-Some-take_from.ensures.taken.was_unused _ c.index_mut-2.ensures.value)
+    _ (c.in-Some.is ∙ ap Some (sym c.publisher.view_is)) _ _ c.index_mut-book.ensures.value _ c.if-reclaim_if_full.ensures.book _ c.publisher.view_is c.if-reclaim_if_full.ensures.reclaims c.args.checks_length g.U.Default.is_default
+    (sym c.if-is_too_long.ensures) (omega (arith, c.if-len-publisher.false, c.len.ensures, long)) c.if-reclaim_if_full.ensures.kept (λ all. let no : false ≡ true = c.if-reclaim_if_full.ensures.full.1 all in absurd cc) (let bound = c.state.invariant in omega arith) c.requires.unchecked c.requires.single c.in-Some-take_from.slot c.in-Some-take_from.ensures.taken.in_bounds c.in-Some-take_from.ensures.from c.in-Some-take_from.ensures.taken.was_unused _ c.index_mut-2.ensures.value)
 
 pub lend-requires : goal.lend-requires
 lend-requires g c =
     let long : vec_len c.publisher.inside.loans ≡ length c.publisher.inside.loans.items = search rules in
     loan-room {T = g.row.T.Denot} {U = g.row.U.Denot} _ c.requires.agrees c.args.place c.requires.stands c.args.len _ (c.in_ok-prepare_if_growing.ensures c.requires.stands.0 c.requires.stands.1) _ c.state.view_is _ c.index_mut.ensures.value
-    _ (c.in-Some.is ∙ ap Some (sym c.publisher.view_is)) _ _ c.index_mut-book.ensures.value _ c.reclaim_if_full.ensures.book _ c.publisher.view_is c.reclaim_if_full.ensures.reclaims c.args.checks_length g.U.Default.is_default
-    (sym c.if-is_too_long.ensures) (omega (arith, c.if-len-publisher.false, c.len.ensures, long)) c.reclaim_if_full.ensures.kept (λ all. let no : false ≡ true = c.if-is_full.ensures.1 all in absurd cc) (let bound = c.state.invariant in omega arith) c.requires.unchecked c.requires.single
+    _ (c.in-Some.is ∙ ap Some (sym c.publisher.view_is)) _ _ c.index_mut-book.ensures.value _ c.if-reclaim_if_full.ensures.book _ c.publisher.view_is c.if-reclaim_if_full.ensures.reclaims c.args.checks_length g.U.Default.is_default
+    (sym c.if-is_too_long.ensures) (omega (arith, c.if-len-publisher.false, c.len.ensures, long)) c.if-reclaim_if_full.ensures.kept (λ all. let no : false ≡ true = c.if-reclaim_if_full.ensures.full.1 all in absurd cc) (let bound = c.state.invariant in omega arith) c.requires.unchecked c.requires.single
 
 pub returns-clause-reaches : goal.returns-clause-reaches
 returns-clause-reaches g c =
     let long : vec_len c.publisher.inside.loans ≡ length c.publisher.inside.loans.items = search rules in
     loan-granted {T = g.row.T.Denot} {U = g.row.U.Denot} _ c.requires.agrees c.args.place c.requires.stands c.args.len _ (c.in_ok-prepare_if_growing.ensures c.requires.stands.0 c.requires.stands.1) _ c.state.view_is _ c.index_mut.ensures.value
-    _ (c.in-Some.is ∙ ap Some (sym c.publisher.view_is)) _ _ c.index_mut-book.ensures.value _ c.reclaim_if_full.ensures.book _ c.publisher.view_is c.reclaim_if_full.ensures.reclaims c.args.checks_length g.U.Default.is_default
-    (sym c.if-is_too_long.ensures) (omega (arith, c.if-len-publisher.false, c.len.ensures, long)) c.reclaim_if_full.ensures.kept (λ all. let no : false ≡ true = c.if-is_full.ensures.1 all in absurd cc) (let bound = c.state.invariant in omega arith) c.requires.unchecked c.requires.single _ c.in-Some-take_from.slot c.in-Some-take_from.ensures.taken
+    _ (c.in-Some.is ∙ ap Some (sym c.publisher.view_is)) _ _ c.index_mut-book.ensures.value _ c.if-reclaim_if_full.ensures.book _ c.publisher.view_is c.if-reclaim_if_full.ensures.reclaims c.args.checks_length g.U.Default.is_default
+    (sym c.if-is_too_long.ensures) (omega (arith, c.if-len-publisher.false, c.len.ensures, long)) c.if-reclaim_if_full.ensures.kept (λ all. let no : false ≡ true = c.if-reclaim_if_full.ensures.full.1 all in absurd cc) (let bound = c.state.invariant in omega arith) c.requires.unchecked c.requires.single _ c.in-Some-take_from.slot c.in-Some-take_from.ensures.taken
     _ _ c.index_mut-2.ensures.value (rw c.units_of.ensures at c.start.ensures) _ _ c.index_mut.ensures.value
     (ap Some c.lend.ensures ∙ ap (option_map (λ (p : PublisherFields). lending c.args.len c.in-Some-take_from.slot p.segments p)) (sym c.in-Some.is))
 
@@ -119,7 +119,7 @@ pub returns-clause-lies : goal.returns-clause-lies
 returns-clause-lies g c =
     let long : vec_len c.publisher.inside.loans ≡ length c.publisher.inside.loans.items = search rules in
     loan-lies {T = g.row.T.Denot} {U = g.row.U.Denot} _ c.requires.agrees c.args.place c.requires.stands c.args.len _ (c.in_ok-prepare_if_growing.ensures c.requires.stands.0 c.requires.stands.1) _ c.state.view_is _ c.index_mut.ensures.value
-    _ (c.in-Some.is ∙ ap Some (sym c.publisher.view_is)) _ _ c.index_mut-book.ensures.value _ c.reclaim_if_full.ensures.book _ c.publisher.view_is c.reclaim_if_full.ensures.reclaims c.args.checks_length g.U.Default.is_default
-    (sym c.if-is_too_long.ensures) (omega (arith, c.if-len-publisher.false, c.len.ensures, long)) c.reclaim_if_full.ensures.kept (λ all. let no : false ≡ true = c.if-is_full.ensures.1 all in absurd cc) (let bound = c.state.invariant in omega arith) c.requires.unchecked c.requires.single _ c.in-Some-take_from.slot c.in-Some-take_from.ensures.taken
+    _ (c.in-Some.is ∙ ap Some (sym c.publisher.view_is)) _ _ c.index_mut-book.ensures.value _ c.if-reclaim_if_full.ensures.book _ c.publisher.view_is c.if-reclaim_if_full.ensures.reclaims c.args.checks_length g.U.Default.is_default
+    (sym c.if-is_too_long.ensures) (omega (arith, c.if-len-publisher.false, c.len.ensures, long)) c.if-reclaim_if_full.ensures.kept (λ all. let no : false ≡ true = c.if-reclaim_if_full.ensures.full.1 all in absurd cc) (let bound = c.state.invariant in omega arith) c.requires.unchecked c.requires.single _ c.in-Some-take_from.slot c.in-Some-take_from.ensures.taken
     _ _ c.index_mut-2.ensures.value (rw c.units_of.ensures at c.start.ensures) _ _ c.index_mut.ensures.value
     (ap Some c.lend.ensures ∙ ap (option_map (λ (p : PublisherFields). lending c.args.len c.in-Some-take_from.slot p.segments p)) (sym c.in-Some.is))

@@ -4,7 +4,7 @@ ghost use Rattle.std.specs.Prelude.{◌≡◌};
 use crate::domain::Domain;
 use crate::slice::SampleMut;
 use iox2_machine::{BackpressureFn, DegradationFn};
-use iox2_messages::values_at_mut;
+use iox2_messages::{find_live_loan, values_at_mut};
 
 impl SampleMut {
     ghost use Rattle.std.specs.Prelude.{Some, List, length, map};
@@ -46,7 +46,7 @@ impl SampleMut {
             → LoanHasUserHeader (with_payloads domain.old (written_number (as_written sample.old)) left) (written_key (as_written sample.new)) header }
         ensures leaves { (left : List T) → LeavesBut (written_loan (as_written sample.old)) domain.old (with_payloads domain.old (written_number (as_written sample.old)) left) }
     {
-        let at = domain.state.find_live_loan(&sample.sample.loan);
+        let at = find_live_loan(&domain.state, &sample.sample.loan);
         values_at_mut(&mut domain.state, at)
     }
 }

@@ -4,7 +4,7 @@ ghost use Rattle.std.specs.Prelude.{◌≡◌};
 use crate::domain::Domain;
 use crate::slice::SampleMutUninit;
 use iox2_machine::{BackpressureFn, DegradationFn};
-use iox2_messages::cells_at_mut;
+use iox2_messages::{cells_at_mut, find_live_loan};
 
 impl SampleMutUninit {
     ghost use Rattle.std.specs.Prelude.{Some, Option, List, length};
@@ -47,7 +47,7 @@ impl SampleMutUninit {
             → LoanHasUserHeader (with_cells domain.old (unwritten_number (as_unwritten sample.old)) left) (unwritten_key (as_unwritten sample.new)) header }
         ensures leaves { (left : List (Option T)) → LeavesBut (unwritten_loan (as_unwritten sample.old)) domain.old (with_cells domain.old (unwritten_number (as_unwritten sample.old)) left) }
     {
-        let at = domain.state.find_live_loan(&sample.sample.loan);
+        let at = find_live_loan(&domain.state, &sample.sample.loan);
         cells_at_mut(&mut domain.state, at)
     }
 }

@@ -1,7 +1,7 @@
 use Rattle.std.proofs.Common.{◌≡◌, ◌<◌, rules, arith, length, vec_len}
 use Rattle.iox2_domain.proofs.lemmas.samples.HintedSamples.{lies-in-slot}
 use Rattle.iox2_domain.proofs.lemmas.samples.SampleReads.{book-within, no-contents, values-there, values-read}
-use Rattle.iox2_pubsub.proofs.parts.hints.sample_values_at_hint.Goals as goal
+use Rattle.iox2_messages.proofs.sample_reads.sample_values_at_hint.Goals as goal
 
 pub index-requires : goal.index-requires
 index-requires g c =
