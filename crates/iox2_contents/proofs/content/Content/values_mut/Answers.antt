@@ -6,6 +6,3 @@ unreachable-requires g c = has-elements _ (rw (← c.self.view_is) at c.requires
 
 pub invariant_of-self : goal.invariant_of-self
 invariant_of-self g c = absurd c.unreachable.result
-
-pub unreachable-unreachable : goal.unreachable-unreachable
-unreachable-unreachable g c = c.unreachable.result
