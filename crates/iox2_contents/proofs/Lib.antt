@@ -3,6 +3,7 @@ pub mod LeftLists
 pub mod ListsBehind
 pub mod NewSlots
 pub mod OpenSlots
+pub mod Payloads
 pub mod SlotLists
 pub mod SlotReads
 pub mod SlotSums
