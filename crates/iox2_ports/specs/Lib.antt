@@ -1,2 +1,3 @@
 pub mod Handlers
+pub mod Leaves
 pub mod Settings

@@ -13,7 +13,8 @@ ghost use Rattle.iox2_domain.specs.OpenMarks.{IsUnmarkedSender};
 ghost use Rattle.iox2_domain.specs.Updates.{IsUnblockedAt};
 ghost use Rattle.iox2_domain.specs.Reaches.{ReachesBut, Reaches};
 ghost use Rattle.iox2_domain.specs.Departures.{HasKey};
-ghost use Rattle.iox2_domain.specs.Closes.{is_awaited, after_close, left_subscriber, FindsAll, LeavesAt, LeavesConnections, SomeHasKey};
+ghost use Rattle.iox2_ports.specs.Leaves.{LeavesCounted};
+ghost use Rattle.iox2_domain.specs.Closes.{is_awaited, after_close, left_subscriber, FindsAll, LeavesConnections, SomeHasKey};
 
 use iox2_domain::{DomainState, Port, PublisherState, SubscriberState, key_at};
 use iox2_ends::leaving::{give_up_history, leave};
@@ -84,10 +85,7 @@ fn leave_at(
     key: Option<usize>,
 )
     requires covered { IsCovered publisher book.old.holders connections.old.slots }
-    ensures connections { LeavesAt publisher subscribers.now (λ k. key ≡ Some k) connections.old connections.new }
-    ensures book { book.new ≡ with_counters book.old book.new.holders }
-    ensures counters { CountersFollow publisher book.old.holders connections.old.slots book.new.holders connections.new.slots }
-    ensures slots { length book.new.holders ≡ length book.old.holders }
+    ensures { LeavesCounted publisher subscribers.now (λ k. key ≡ Some k) connections.old book.old connections.new book.new }
 {
     let Some(key) = key else {
         return;
@@ -106,10 +104,7 @@ fn leave_keys(
     book: &mut SlotBook,
 )
     requires covered { IsCovered publisher book.old.holders connections.old.slots }
-    ensures connections { LeavesAt publisher subscribers.now (HasKey keys.now) connections.old connections.new }
-    ensures book { book.new ≡ with_counters book.old book.new.holders }
-    ensures counters { CountersFollow publisher book.old.holders connections.old.slots book.new.holders connections.new.slots }
-    ensures slots { length book.new.holders ≡ length book.old.holders }
+    ensures { LeavesCounted publisher subscribers.now (HasKey keys.now) connections.old book.old connections.new book.new }
 {
     for index in 0..keys.len() {
         leave_at(publisher, subscribers, connections, book, keys[index]);
@@ -125,10 +120,7 @@ fn leave_subscribers(
     book: &mut SlotBook,
 )
     requires covered { IsCovered publisher book.old.holders connections.old.slots }
-    ensures connections { LeavesAt publisher subscribers.now (SomeHasKey subscribers.now place) connections.old connections.new }
-    ensures book { book.new ≡ with_counters book.old book.new.holders }
-    ensures counters { CountersFollow publisher book.old.holders connections.old.slots book.new.holders connections.new.slots }
-    ensures slots { length book.new.holders ≡ length book.old.holders }
+    ensures { LeavesCounted publisher subscribers.now (SomeHasKey subscribers.now place) connections.old book.old connections.new book.new }
 {
     for index in 0..subscribers.len() {
         let key = key_at(subscribers, index, place);

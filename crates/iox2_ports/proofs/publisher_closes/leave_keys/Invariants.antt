@@ -1,14 +1,6 @@
-use Rattle.std.proofs.Common.{◌≡◌, length}
-use Rattle.iox2_ends.specs.Counters.{IsCovered, CountersFollow, with_counters}
-use Rattle.iox2_domain.specs.Closes.{LeavesAt}
 use Rattle.iox2_domain.proofs.lemmas.containers.KeyWalks.{HasKeyBelow}
+use Rattle.iox2_ports.specs.Leaves.{LeavesCounted}
 use Rattle.iox2_ports.proofs.publisher_closes.leave_keys.Given as goal
 
 abbrev pub invariant-loop-index : goal.invariant-loop-index
-invariant-loop-index l = record {
-  covered : IsCovered l.publisher l.book.holders l.connections.slots;
-  left : LeavesAt l.publisher l.subscribers (HasKeyBelow l.keys l.index) l.fn.connections l.connections;
-  book : l.book ≡ with_counters l.fn.book l.book.holders;
-  counters : CountersFollow l.publisher l.fn.book.holders l.fn.connections.slots l.book.holders l.connections.slots;
-  slots : length l.book.holders ≡ length l.fn.book.holders;
-}
+invariant-loop-index l = LeavesCounted l.publisher l.subscribers (HasKeyBelow l.keys l.index) l.fn.connections l.fn.book l.connections l.book

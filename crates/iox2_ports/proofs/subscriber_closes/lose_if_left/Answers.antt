@@ -6,7 +6,7 @@ use Rattle.slab.specs.Slab.{ContainsKey, get}
 use Rattle.iox2_slots.specs.Link.{Link}
 use Rattle.iox2_domain.specs.Ports.{PublisherFields}
 use Rattle.iox2_domain.specs.Fields.{Fields}
-use Rattle.iox2_steps.specs.Closes.{IsLeftAt, IsStanding, HasNoPublisher}
+use Rattle.iox2_steps.specs.Closes.{IsLeftAt, IsStanding, HasNoPublisher, LosesWaiting}
 use Rattle.iox2_steps.proofs.subscriber_closes.CloseReads.{home-read, left-there, left-after, left-loses, left-home, left-within, left-only, left-settles, left-settled, others-after}
 use Rattle.iox2_ports.proofs.subscriber_closes.lose_if_left.Goals.{After-lose_waiting, Then-is_left}
 use Rattle.iox2_ports.proofs.subscriber_closes.lose_if_left.Goals as goal
@@ -24,13 +24,22 @@ abbrev left_at : (g : _) (c : Then-is_left g) → IsLeftAt c.args.state.now c.ar
 left_at g c =
     left-there c.args.state.now c.requires.parts c.args.place c.in-Some.key (c.requires.known c.in-Some.key c.in-Some.is) c.args.state.now refl (c.is_left.ensures.0 c.if-is_left.true)
 
--- and still is once nothing waits there
-abbrev after : (g : _) (c : After-lose_waiting g) → IsLeftAt c.args.state.now c.args.place c.in-Some.key → IsLeftAt c.lose_waiting.new.state c.args.place c.in-Some.key
-after g c left = left-after c.args.state.now c.args.place c.in-Some.key left c.lose_waiting.new.state (c.lose_waiting.ensures left.link left.link_stands)
+-- also once nothing waits there
+abbrev was_left : (g : _) (c : After-lose_waiting g) → IsLeftAt c.args.state.now c.args.place c.in-Some.key
+was_left g c =
+    left-there c.args.state.now c.requires.parts c.args.place c.in-Some.key (c.requires.known c.in-Some.key c.in-Some.is) c.args.state.now refl (c.is_left.ensures.0 c.if-is_left.true)
+
+-- what waited there is lost
+abbrev lost : (g : _) (c : After-lose_waiting g) → LosesWaiting c.args.state.now c.in-Some.key (was_left g c).link c.lose_waiting.new.state
+lost g c = c.lose_waiting.ensures (was_left g c).link (was_left g c).link_stands
+
+-- its publisher is still gone then
+abbrev after : (g : _) (c : After-lose_waiting g) → IsLeftAt c.lose_waiting.new.state c.args.place c.in-Some.key
+after g c = left-after c.args.state.now c.args.place c.in-Some.key (was_left g c) c.lose_waiting.new.state (lost g c)
 
 -- where it stood was read
-home : (g : _) (c : After-lose_waiting g) (left : IsLeftAt c.args.state.now c.args.place c.in-Some.key) → c.home-home.result ≡ left.link.home
-home g c left = c.home-home.ensures.value ∙ home-read c.args.state.now c.args.place c.in-Some.key left _ c.state.view_is c.index.result.now c.index.ensures
+home : (g : _) (c : After-lose_waiting g) → c.home-home.result ≡ (was_left g c).link.home
+home g c = c.home-home.ensures.value ∙ home-read c.args.state.now c.args.place c.in-Some.key (was_left g c) _ c.state.view_is c.index.result.now c.index.ensures
 
 pub index-requires : goal.index-requires
 index-requires g c =
@@ -54,41 +63,31 @@ returns-else-is_left g c =
 
 pub forget_if_empty-requires-clause-home : goal.forget_if_empty-requires-clause-home
 forget_if_empty-requires-clause-home g c =
-    let at = goal.at.forget_if_empty-requires-clause-home g c in
-    let left = left_at g at.Then-is_left in
-    let loses = c.lose_waiting.ensures left.link left.link_stands in
-    left-home c.lose_waiting.new.state loses.passes.parts c.args.place c.in-Some.key (after g at.After-lose_waiting left) c.home-home.result (home g at.After-lose_waiting left)
+    let at = (goal.at.forget_if_empty-requires-clause-home g c).After-lose_waiting in
+    left-home c.lose_waiting.new.state (lost g at).passes.parts c.args.place c.in-Some.key (after g at) c.home-home.result (home g at)
 
 pub forget_if_empty-requires-clause-stands : goal.forget_if_empty-requires-clause-stands
 forget_if_empty-requires-clause-stands g c =
-    let at = goal.at.forget_if_empty-requires-clause-stands g c in
-    let left = left_at g at.Then-is_left in
-    let loses = c.lose_waiting.ensures left.link left.link_stands in
-    left-within c.lose_waiting.new.state loses.passes.parts c.args.place c.in-Some.key (after g at.After-lose_waiting left) c.home-home.result (home g at.After-lose_waiting left)
+    let at = (goal.at.forget_if_empty-requires-clause-stands g c).After-lose_waiting in
+    left-within c.lose_waiting.new.state (lost g at).passes.parts c.args.place c.in-Some.key (after g at) c.home-home.result (home g at)
 
 pub forget_if_empty-requires-clause-only : goal.forget_if_empty-requires-clause-only
 forget_if_empty-requires-clause-only g c =
-    let at = goal.at.forget_if_empty-requires-clause-only g c in
-    let left = left_at g at.Then-is_left in
-    let loses = c.lose_waiting.ensures left.link left.link_stands in
-    left-only c.lose_waiting.new.state loses.passes.parts c.args.place c.in-Some.key (after g at.After-lose_waiting left) c.home-home.result (home g at.After-lose_waiting left)
+    let at = (goal.at.forget_if_empty-requires-clause-only g c).After-lose_waiting in
+    left-only c.lose_waiting.new.state (lost g at).passes.parts c.args.place c.in-Some.key (after g at) c.home-home.result (home g at)
 
 pub settle_book-requires : goal.settle_book-requires
 settle_book-requires g c =
-    let at = goal.at.settle_book-requires g c in
-    let left = left_at g at.Then-is_left in
-    let loses = c.lose_waiting.ensures left.link left.link_stands in
-    left-settles c.lose_waiting.new.state loses.passes.parts c.args.place c.in-Some.key (after g at.After-lose_waiting left) c.home-home.result (home g at.After-lose_waiting left)
+    let at = (goal.at.settle_book-requires g c).After-lose_waiting in
+    left-settles c.lose_waiting.new.state (lost g at).passes.parts c.args.place c.in-Some.key (after g at) c.home-home.result (home g at)
     c.forget_if_empty.new.state c.forget_if_empty.ensures.empty c.forget_if_empty.ensures.full
-    (others-after c.args.state.now c.args.place c.in-Some.key left c.lose_waiting.new.state loses c.requires.busy)
+    (others-after c.args.state.now c.args.place c.in-Some.key (was_left g at) c.lose_waiting.new.state (lost g at) c.requires.busy)
 
 pub returns-then-is_left : goal.returns-then-is_left
 returns-then-is_left g c =
-    let at = goal.at.returns-then-is_left g c in
-    let left = left_at g at.Then-is_left in
-    let loses = c.lose_waiting.ensures left.link left.link_stands in
-    rw c.in-Some.is (inl (left-loses c.args.state.now c.args.place c.in-Some.key left c.lose_waiting.new.state loses c.settle_book.new.self
-    (left-settled c.lose_waiting.new.state loses.passes.parts c.args.place c.in-Some.key (after g at.After-lose_waiting left) c.home-home.result (home g at.After-lose_waiting left)
+    let at = (goal.at.returns-then-is_left g c).After-lose_waiting in
+    rw c.in-Some.is (inl (left-loses c.args.state.now c.args.place c.in-Some.key (was_left g at) c.lose_waiting.new.state (lost g at) c.settle_book.new.self
+    (left-settled c.lose_waiting.new.state (lost g at).passes.parts c.args.place c.in-Some.key (after g at) c.home-home.result (home g at)
     c.forget_if_empty.new.state c.forget_if_empty.ensures.empty c.forget_if_empty.ensures.full
-    (others-after c.args.state.now c.args.place c.in-Some.key left c.lose_waiting.new.state loses c.requires.busy)
+    (others-after c.args.state.now c.args.place c.in-Some.key (was_left g at) c.lose_waiting.new.state (lost g at) c.requires.busy)
     c.settle_book.new.self c.settle_book.ensures)))
