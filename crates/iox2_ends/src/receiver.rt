@@ -1,5 +1,5 @@
 //! A subscriber's end: it takes messages from connections and gives them back.
-ghost use Rattle.std.specs.Prelude.{◌≡◌, None, Some, map, slice_index_or, Contains, IsTrue, IsSomeAnd};
+ghost use Rattle.std.specs.Prelude.{◌≡◌, None, Some, true, map, slice_index_or, Contains, IsTrue, IsSomeAnd};
 ghost use Rattle.std.specs.Option.{ForSome};
 ghost use Rattle.slab.specs.Slab.{get, ContainsKey};
 ghost use Rattle.iox2_slots.specs.Link.{can_borrow, with_returned, without_borrowed};
@@ -205,6 +205,24 @@ pub fn has_samples(
 {
     search_expired(connections, expired).is_something()
         || search_keys(connections, keys).is_something()
+}
+
+/// Whether the slot may be given back at once: the connection is this subscriber's, for slots of the book
+/// at the key, and is marked as open, and the slot is the one that was borrowed last of it.
+pub fn is_last_borrowed(connection: &Connection, subscriber: u128, book: usize, slot: usize) -> bool
+    ensures subscriber { IsTrue result → connection.now.home.subscriber ≡ subscriber }
+    ensures book { IsTrue result → connection.now.home.book ≡ book }
+    ensures borrowed { IsTrue result → Contains connection.now.borrowed slot }
+    ensures open { IsTrue result → connection.now.is_open ≡ true }
+{
+    let home = connection.home();
+    home.subscriber == subscriber
+        && home.book == book
+        && connection
+            .borrowed()
+            .last()
+            .is_some_and(|last| *last == slot)
+        && connection.is_open()
 }
 
 /// Gives the message in a slot, which is borrowed from the connection at a key, back to its

@@ -1,12 +1,13 @@
 //! Where a sample lies. The slot that its handle names is tested first.
-ghost use Rattle.std.specs.Prelude.{◌≡◌, ◌<◌, ◌↔◌, ℕ, length, Contains, IsTrue};
+ghost use Rattle.std.specs.Prelude.{◌≡◌, ◌<◌, ◌↔◌, length, slice_index, IsTrue};
 ghost use Rattle.iox2_machine.specs.machine.SingleCalls.{HoldsSample};
 ghost use Rattle.iox2_domain.specs.Kept.{state_of};
 ghost use Rattle.iox2_domain.specs.Fields.{kept_of};
 ghost use Rattle.iox2_domain.specs.Invariant.{HasNumber, IsDomain};
-ghost use Rattle.iox2_domain.specs.SampleSlots.{IsNumberedSlot, LiesAtHint, LiesBorrowed, LiesBorrowedInSlot};
+ghost use Rattle.iox2_domain.specs.SampleSlots.{IsReturnable, LiesAtHint, LiesBorrowed, LiesBorrowedInSlot};
 
 use iox2_domain::{DomainState, MessageSlot, SampleAt, SampleSlot};
+use iox2_ends::receiver::is_last_borrowed;
 use iox2_slots::{Connection, SlotBook};
 
 /// The slot that the sample names is in use and has its number. No other slot in use has it.
@@ -53,44 +54,34 @@ fn is_named(connection: &Connection, sample: &SampleAt) -> bool
     home.subscriber == sample.subscriber.value() && home.book == sample.book
 }
 
-// Whether the slot is the one that was borrowed last.
-fn was_borrowed_last(connection: &Connection, slot: usize) -> bool
-    ensures { IsTrue result → Contains connection.now.borrowed slot }
+// Whether a slot of the book has the number.
+fn has_number(book: &SlotBook, slot: usize, number: u128) -> bool
+    requires { slot < length book.now.holders }
+    ensures { IsTrue result → slice_index book.now.numbers slot ≡ number }
 {
-    connection
-        .borrowed()
-        .last()
-        .is_some_and(|last| *last == slot)
+    book.number(slot) == number
 }
 
-// Whether the slot is the one that was borrowed last, and has the number.
-fn is_last_numbered(connection: &Connection, book: &SlotBook, slot: usize, number: u128) -> bool
-    requires { (slot : ℕ) → Contains connection.now.borrowed slot → slot < length book.now.holders }
-    ensures { IsTrue result → IsNumberedSlot connection.now book.now number slot }
-{
-    was_borrowed_last(connection, slot) && book.number(slot) == number
-}
-
-/// Whether a sample lies in the connection and the slot that it names, and was borrowed last
-/// there. No holders are counted for that. A look-up in books that may be written tests less, and
-/// nothing is written (docs/decisions/cost.md, "Look-ups that can't fail go through `&mut`").
+/// Whether a sample lies in the connection and the slot that it names, and was borrowed last there, and
+/// both ports of that connection stay: the publisher is there, and the subscriber is open. It is mostly
+/// so. No holders are counted for that. A look-up in books that may be written tests less, and nothing is
+/// written (docs/decisions/cost.md, "Look-ups that can't fail go through `&mut`").
 pub fn is_last_at_hint<T: Drop, U: Default + Drop>(
     state: &mut DomainState<T, U>,
     sample: &SampleAt,
 ) -> bool
     requires { IsDomain state.old }
-    ensures lies { IsTrue result → LiesAtHint state.old sample.now }
+    ensures returnable { IsTrue result → IsReturnable state.old sample.now }
     ensures same { state.new ≡ state.old }
 {
     match state.connections.get(sample.connection) {
         Some(connection) => {
-            is_named(connection, sample)
-                && is_last_numbered(
-                    connection,
-                    &mut state.books[sample.book],
-                    sample.slot,
-                    sample.number,
-                )
+            is_last_borrowed(
+                connection,
+                sample.subscriber.value(),
+                sample.book,
+                sample.slot,
+            ) && has_number(&mut state.books[sample.book], sample.slot, sample.number)
         }
         None => false,
     }

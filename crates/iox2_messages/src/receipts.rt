@@ -12,7 +12,6 @@ ghost use Rattle.iox2_domain.specs.Invariant.{IsDomain};
 ghost use Rattle.iox2_domain.specs.Reaches.{Reaches};
 ghost use Rattle.iox2_domain.specs.Midway.{IsMidway};
 ghost use Rattle.iox2_domain.specs.Receipts.{IsReceiptFor, TakesAs, ReceivesAs};
-ghost use Rattle.iox2_domain.specs.SampleSlots.{IsReturnable, LiesAtHint};
 ghost use Rattle.iox2_domain.specs.Updates.{is_subscriber_due};
 
 use crate::hinted_samples::{find_live_sample, is_last_at_hint};
@@ -116,28 +115,6 @@ pub fn receive_at<T: Drop, U: Default + Drop, F: BackpressureFn, G: DegradationF
     take_at(state, place)
 }
 
-// Whether both ports of a sample's connection stay: the publisher is there, and the subscriber is open.
-fn both_stay<T: Drop, U: Default + Drop>(state: &DomainState<T, U>, sample: &SampleAt) -> bool
-    requires { LiesAtHint state.now sample.now }
-    ensures { IsTrue result → IsReturnable state.now sample.now }
-{
-    state.connections[sample.connection].is_open()
-}
-
-// Whether a live sample is the one that was borrowed last of the connection that it names, both ports
-// of which stay. It is mostly so.
-#[inline(always)]
-fn is_returnable<T: Drop, U: Default + Drop>(
-    state: &mut DomainState<T, U>,
-    sample: &SampleAt,
-) -> bool
-    requires agrees { IsDomain state.old }
-    ensures returnable { IsTrue result → IsReturnable state.old sample.now }
-    ensures same { state.new ≡ state.old }
-{
-    is_last_at_hint(state, sample) && both_stay(state, sample)
-}
-
 // The slot that is borrowed in a connection is given back to its publisher. Where that is gone, it
 // has one holder less at once, and the subscriber forgets the publisher with its last message.
 fn hand_back<T: Drop, U: Default + Drop>(state: &mut DomainState<T, U>, at: SampleSlot, home: Home)
@@ -172,7 +149,7 @@ pub fn give_back<T: Drop, U: Default + Drop>(state: &mut DomainState<T, U>, samp
     ensures released { (publisher : ℕ) → IsTrue (is_borrowed sample.number ((state_of (kept_of state.old)).mailboxes publisher sample.subscriber))
         → Reaches state.old state.new (released (state_of (kept_of state.old)) publisher sample.subscriber sample.number) }
 {
-    if is_returnable(state, &sample) {
+    if is_last_at_hint(state, &sample) {
         release(&mut state.connections, sample.connection, sample.slot);
         return;
     }

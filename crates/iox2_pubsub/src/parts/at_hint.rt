@@ -39,7 +39,7 @@ impl<T: Drop, U: Default + Drop, F: BackpressureFn, G: DegradationFn> Domain<T, 
     }
 
     // Whether the sample with these numbers wasn't released, lies in the slot that they name, and was
-    // borrowed last of the connection that they name.
+    // borrowed last of the connection that they name, and both ports of that are open.
     fn is_sample_at_hint(&mut self, parts: &SampleParts) -> bool
         ensures live { IsTrue result → IsSampleKey self.old (sample_named parts.now) }
         ensures same { self.new ≡ self.old }
@@ -93,7 +93,8 @@ impl<T: Drop, U: Default + Drop, F: BackpressureFn, G: DegradationFn> Domain<T, 
     }
 
     /// A handle of the sample with these numbers, where it wasn't released, lies in the slot that they
-    /// name, and was borrowed last of the connection that they name. So one look tells that it is live
+    /// name, and was borrowed last of the connection that they name, and both ports of that are open. So
+    /// one look tells that it is live
     /// and where it lies. This library's own.
     pub fn sample_at_hint(&mut self, parts: &SampleParts) -> Option<Sample>
         ensures live { IfSome result (λ sample. IsLiveSample self.new sample) }
