@@ -20,7 +20,7 @@ use command_line::run_task;
 use failure::Failure;
 use growth::growing_publisher;
 use iox2_pubsub::{AllocationStrategy, Domain, DomainCreateError, ServiceConfig, TypeVariant};
-use rows::{later_publisher, later_subscriber};
+use rows::{Later, meet};
 use std::alloc::Global;
 use std::process::ExitCode;
 use warnings::print_warnings;
@@ -36,8 +36,8 @@ fn carry_out(rt: &HostRuntime, words: &[String]) -> Result<(), Failure> {
     };
     let answer = answer.as_str();
     match row.as_str() {
-        "later_subscriber" => meet_subscriber(rt, parse_answer(answer)?),
-        "later_publisher" => meet_publisher(rt, parse_answer(answer)?),
+        "later_subscriber" => meet_later(rt, Later::Subscriber, parse_answer(answer)?),
+        "later_publisher" => meet_later(rt, Later::Publisher, parse_answer(answer)?),
         "growing_publisher" => grow_memory(rt, parse_strategy(answer)?),
         _ => Err(Failure::Usage),
     }
@@ -55,17 +55,15 @@ fn parse_strategy(word: &str) -> Result<AllocationStrategy, Failure> {
     }
 }
 
-fn meet_subscriber(rt: &HostRuntime, answer: Answer) -> Result<(), Failure> {
-    let handlers = handlers(answer, false);
-    let mut domain = domain_of(rt.alloc(), 2, 1)?;
-    later_subscriber(rt, &mut domain, handlers)?;
-    print_warnings(rt, &domain)
-}
-
-fn meet_publisher(rt: &HostRuntime, answer: Answer) -> Result<(), Failure> {
-    let handlers = handlers(answer, true);
-    let mut domain = domain_of(rt.alloc(), 1, 2)?;
-    later_publisher(rt, &mut domain, handlers)?;
+// The domain has room for the port that comes at last.
+fn meet_later(rt: &HostRuntime, later: Later, answer: Answer) -> Result<(), Failure> {
+    let (is_publisher_second, max_publishers, max_subscribers) = match later {
+        Later::Subscriber => (false, 2, 1),
+        Later::Publisher => (true, 1, 2),
+    };
+    let handlers = handlers(answer, is_publisher_second);
+    let mut domain = domain_of(rt.alloc(), max_publishers, max_subscribers)?;
+    meet(rt, &mut domain, later, handlers)?;
     print_warnings(rt, &domain)
 }
 

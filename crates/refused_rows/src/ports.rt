@@ -9,8 +9,8 @@ use iox2_pubsub::{
     SendOutcome, Subscriber, SubscriberCreateError,
 };
 
-/// A publisher with this handler. Where it is refused, that is printed, and it is made once more with
-/// a handler that fails each call.
+/// A publisher with this handler, which is printed. Where it is refused, that is printed, and it is made
+/// once more with a handler that fails each call.
 pub(crate) fn made_publisher(
     rt: &HostRuntime,
     domain: &mut Service,
@@ -19,12 +19,18 @@ pub(crate) fn made_publisher(
     ensures ready { IfOk result (λ publisher. IsReadyPublisher domain.new publisher) }
     ensures stays { Stays domain.old domain.new }
 {
-    match create_publisher(domain, handler) {
-        Ok(publisher) => Ok(publisher),
+    let publisher = match create_publisher(domain, handler) {
+        Ok(publisher) => publisher,
         Err(error) => {
             println!(rt; "err {error}")?;
-            let strict = DegradationHandler::Fixed(DegradationAction::DegradeAndFail);
-            Ok(create_publisher(domain, strict)?)
+            create_publisher(domain, strict())?
+        }
+    };
+    match print_port(rt, domain, "publisher", publisher.id().value()) {
+        Ok(()) => Ok(publisher),
+        Err(error) => {
+            publisher.disown();
+            Err(error)
         }
     }
 }
@@ -44,8 +50,7 @@ fn create_publisher(
         .create(domain)
 }
 
-/// A subscriber with this handler. Where it is refused, that is printed, and it is made once more with
-/// a handler that fails each call.
+/// A subscriber with this handler, in the same way.
 pub(crate) fn made_subscriber(
     rt: &HostRuntime,
     domain: &mut Service,
@@ -54,12 +59,18 @@ pub(crate) fn made_subscriber(
     ensures live { IfOk result (λ subscriber. IsLiveSubscriber domain.new subscriber) }
     ensures stays { Stays domain.old domain.new }
 {
-    match create_subscriber(domain, handler) {
-        Ok(subscriber) => Ok(subscriber),
+    let subscriber = match create_subscriber(domain, handler) {
+        Ok(subscriber) => subscriber,
         Err(error) => {
             println!(rt; "err {error}")?;
-            let strict = DegradationHandler::Fixed(DegradationAction::DegradeAndFail);
-            Ok(create_subscriber(domain, strict)?)
+            create_subscriber(domain, strict())?
+        }
+    };
+    match print_port(rt, domain, "subscriber", subscriber.id().value()) {
+        Ok(()) => Ok(subscriber),
+        Err(error) => {
+            subscriber.disown();
+            Err(error)
         }
     }
 }
@@ -77,13 +88,13 @@ fn create_subscriber(
         .create(domain)
 }
 
-/// Prints which port was made, and how many connections there are.
-pub(crate) fn print_port(
-    rt: &HostRuntime,
-    domain: &Service,
-    side: &str,
-    id: u128,
-) -> Result<(), Failure> {
+// A handler that fails each call.
+fn strict() -> Handler {
+    DegradationHandler::Fixed(DegradationAction::DegradeAndFail)
+}
+
+// Prints which port was made, and how many connections there are.
+fn print_port(rt: &HostRuntime, domain: &Service, side: &str, id: u128) -> Result<(), Failure> {
     println!(rt; "{side} {id}")?;
     println!(rt; "connections {}", domain.connection_count())?;
     Ok(())

@@ -67,34 +67,6 @@ fn a_send_to_one_connection_waits_for_its_subscriber_alone(rt: HostRuntime) {
     assert!(rt; seen == [Some(20), None, Some(21), Some(20), None]);
 }
 
-// Giving it up ends the send, and the third subscriber, which has room, doesn't get it either.
-#[test]
-fn a_send_to_one_connection_is_given_up(rt: HostRuntime) {
-    let mut domain = waiting_domain(&rt, rt.alloc());
-    let first = subscriber_of(&rt, &mut domain, 1);
-    let second = subscriber_of(&rt, &mut domain, 2);
-    let publisher = waiting_publisher(&rt, &mut domain);
-    let all = deliver(&rt, &mut domain, &publisher, 20);
-    let waiting = blocked(&rt, send_to(&rt, &mut domain, &publisher, 21, 0, 0));
-    let none = given_up(&rt, &mut domain, waiting);
-    let after = has_blocked_send(&rt, &domain, &publisher);
-    let other = delivered(&rt, send_to(&rt, &mut domain, &publisher, 22, 0, 1));
-    let seen = [
-        next_reading(&rt, &mut domain, &first),
-        next_reading(&rt, &mut domain, &first),
-        next_reading(&rt, &mut domain, &second),
-        next_reading(&rt, &mut domain, &second),
-        next_reading(&rt, &mut domain, &second),
-    ];
-    assert!(rt; close_publisher(&mut domain, publisher));
-    assert!(rt; close_subscriber(&mut domain, first));
-    assert!(rt; close_subscriber(&mut domain, second));
-    drop(domain);
-    assert!(rt; [all, none, other] == [2, 0, 1]);
-    assert!(rt; !after);
-    assert!(rt; seen == [Some(20), None, Some(20), Some(22), None]);
-}
-
 // A message waits for room in channel 1, while channel 0 of the same connection has some.
 #[test]
 fn a_send_waits_for_room_in_its_channel(rt: HostRuntime) {

@@ -14,7 +14,7 @@ const HOME: Home = Home {
 };
 
 // A connection in which two slots may wait and one may be borrowed.
-pub(super) fn connection(rt: &impl Abort, alloc: Global) -> Connection
+fn connection(rt: &impl Abort, alloc: Global) -> Connection
     ensures { result ≡ empty_link result.home 2 1 1 }
 {
     Connection::new(alloc, HOME, 2, 1, 1).expect(rt, "a connection")
@@ -80,26 +80,6 @@ fn waiting_slots_go(rt: HostRuntime) {
     drop(connection);
     assert!(rt; !unused && taken == Some(7));
     assert!(rt; gone == [Some(8), None] && left == [false, true]);
-}
-
-#[test]
-fn a_full_connection_overwrites_or_refuses(rt: HostRuntime) {
-    let mut connection = connection(&rt, rt.alloc());
-    let put = [
-        connection.put(0, 7, false),
-        connection.put(0, 8, true),
-        connection.put(0, 9, false),
-        connection.put(0, 9, true),
-    ];
-    let taken = connection.take();
-    drop(connection);
-    let expected = [
-        PutOutcome::Taken,
-        PutOutcome::Taken,
-        PutOutcome::Full,
-        PutOutcome::Overwrote(7),
-    ];
-    assert!(rt; put == expected && taken == Some(8));
 }
 
 #[test]

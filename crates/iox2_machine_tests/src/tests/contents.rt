@@ -202,14 +202,3 @@ fn what_lay_in_a_cleared_slot_is_dropped(rt: HostRuntime) {
     drop(contents);
     assert!(rt; held == 2 && left == 1);
 }
-
-#[test]
-fn a_loan_that_has_ended_has_no_cells(rt: HostRuntime) {
-    let mut contents = listed(&rt, rt.alloc(), 2);
-    write_cell(&mut contents, 1, 21);
-    let is_written = is_written_at(&contents, 1);
-    contents.end(0);
-    let cells = contents.cells(0).len();
-    drop(contents);
-    assert!(rt; is_written == Some(true) && cells == 0);
-}

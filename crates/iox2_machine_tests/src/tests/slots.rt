@@ -4,7 +4,7 @@ use std::alloc::Global;
 use std::process::Abort;
 
 // A book of a publisher with so many slots, all of them free.
-pub(super) fn book(rt: &impl Abort, alloc: Global, slots: usize) -> SlotBook {
+fn book(rt: &impl Abort, alloc: Global, slots: usize) -> SlotBook {
     let node = UniqueNodeId::new(7);
     SlotBook::new(alloc, node, UniquePublisherId::new(3), slots).expect(rt, "a book")
 }
@@ -70,20 +70,4 @@ fn a_book_that_grew_lends_the_slots_behind_its_own(rt: HostRuntime) {
     drop(book);
     assert!(rt; !was_full && is_full == [true, false, false] && lent[3] == None);
     assert!(rt; lent[0] >= Some(2) && lent[1] >= Some(2) && lent[2] >= Some(2) && older < Some(2));
-}
-
-#[test]
-fn an_older_slot_that_was_released_is_lent_no_more(rt: HostRuntime) {
-    let mut book = book(&rt, rt.alloc(), 1);
-    let older = book.take(5, 1).expect(&rt, "a free slot");
-    let mut book = book.grown(rt.alloc(), 1).expect(&rt, "more slots");
-    let kept = [book.number(older) == 5, book.holders(older) == 1];
-    let is_last = book.release(older);
-    let lent = book.take_from(1, 6, 1);
-    let none = book.take_from(1, 7, 1);
-    let all = [book.len() == 2, book.is_unused()];
-    drop(book);
-    assert!(rt;
-        kept == [true, true] && is_last && lent == Some(1) && none == None && all == [true, false]
-    );
 }

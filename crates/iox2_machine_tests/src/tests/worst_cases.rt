@@ -1,9 +1,4 @@
-use crate::tests::connections::connection;
-use crate::tests::slots::book;
 use iox2_machine::{ServiceConfig, worst_case_slots};
-use iox2_slots::{PutOutcome, SlotBook};
-use std::alloc::Global;
-use std::process::Abort;
 
 // Settings with these limits: subscribers, their buffer, what they borrow, and the history.
 fn limits(subscribers: usize, buffer: usize, borrowed: usize, history: usize) -> ServiceConfig {
@@ -56,44 +51,4 @@ fn only_the_whole_sum_has_to_fit(rt: HostRuntime) {
     assert!(rt; worst_case_slots(&limits(1, most - 2, 1, 1), 1) == None);
     assert!(rt; worst_case_slots(&limits(1, most, 1, 0), 0) == None);
     assert!(rt; worst_case_slots(&limits(0, 0, 0, most), 1) == None);
-}
-
-// Sends three messages to a new subscriber, which borrows the first. The others fill its buffer, so
-// that each of the three keeps its slot.
-fn fill_subscriber(rt: &impl Abort, alloc: Global, book: &mut SlotBook) {
-    let mut connection = connection(rt, alloc);
-    let first = book.take(1, 1).expect(rt, "a first slot");
-    let borrowed = [connection.put(0, first, false)];
-    let taken = connection.take();
-    let second = book.take(2, 1).expect(rt, "a second slot");
-    let third = book.take(3, 1).expect(rt, "a third slot");
-    let waiting = [
-        connection.put(0, second, false),
-        connection.put(0, third, false),
-        connection.put(0, first, false),
-    ];
-    drop(connection);
-    assert!(rt; borrowed == [PutOutcome::Taken] && taken == Some(first));
-    assert!(rt; waiting == [PutOutcome::Taken, PutOutcome::Taken, PutOutcome::Full]);
-}
-
-// Whether a publisher with so many slots may lend one to a user, when two subscribers are filled and
-// one message is kept for later ones.
-fn lends_when_all_is_filled(rt: &impl Abort, alloc: Global, slots: usize) -> bool {
-    let mut book = book(rt, alloc, slots);
-    fill_subscriber(rt, alloc, &mut book);
-    fill_subscriber(rt, alloc, &mut book);
-    let kept = book.take(4, 1);
-    let lent = book.take(5, 1);
-    drop(book);
-    assert!(rt; kept.is_some());
-    lent.is_some()
-}
-
-#[test]
-fn with_a_slot_fewer_the_last_loan_is_refused(rt: HostRuntime) {
-    let slots = worst_case_slots(&limits(2, 2, 1, 1), 1).expect(&rt, "a number of slots");
-    let alloc = rt.alloc();
-    assert!(rt; lends_when_all_is_filled(&rt, alloc, slots));
-    assert!(rt; !lends_when_all_is_filled(&rt, alloc, slots.saturating_sub(1)));
 }

@@ -3,7 +3,7 @@
 ghost use Rattle.std.specs.Prelude.{◌<◌};
 ghost use Rattle.iox2_machine.specs.machine.Limits.{channel_count};
 
-use crate::tests::fixtures::{copied, next_reading, publisher_of, subscriber_of, update, waits};
+use crate::tests::fixtures::{copied, next_reading, publisher_of, subscriber_of, waits};
 use iox2_fixtures::{Weather, close_publisher, is_ready, settings, smallest};
 use iox2_machine::ServiceConfig;
 use iox2_pubsub::{Domain, Publisher, Subscriber, UpdateConnections};
@@ -196,26 +196,6 @@ fn a_channel_that_opens_again_takes_messages(rt: HostRuntime) {
     assert!(rt; read == [Some(1), None, Some(1), Some(2)]);
     assert!(rt; was_closed);
     assert!(rt; third == Some(3));
-}
-
-// A subscriber that closes its channel before the publisher comes to it gets no history.
-#[test]
-fn a_closed_channel_gets_no_history(rt: HostRuntime) {
-    let config = ServiceConfig {
-        history_size: 1,
-        ..settings()
-    };
-    let mut domain: Weather = Domain::new(rt.alloc(), config).expect(&rt, "a domain");
-    let publisher = publisher_of(&rt, &mut domain);
-    let sent = copied(&rt, &mut domain, &publisher, 1);
-    let subscriber = subscriber_of(&rt, &mut domain);
-    close(&rt, &mut domain, &subscriber, 0);
-    update(&rt, &mut domain, &publisher);
-    let nothing = next_reading(&rt, &mut domain, &subscriber);
-    subscriber.disown();
-    publisher.disown();
-    drop(domain);
-    assert!(rt; sent == 0 && nothing.is_none());
 }
 
 // A close reaches the channel of a closed publisher's connection too, after another publisher has

@@ -203,29 +203,6 @@ fn a_departed_publisher_leaves_what_waits_in_another_channel(rt: HostRuntime) {
     assert!(rt; is_closed);
 }
 
-// A loan of a closed publisher is lost, as by any other send.
-#[test]
-fn a_closed_publisher_sends_nothing(rt: HostRuntime) {
-    let mut domain = domain_of(&rt, rt.alloc(), channels(2, 1));
-    let publisher = publisher_of(&rt, &mut domain);
-    let message = message_of(&rt, &mut domain, &publisher, 1);
-    let key = message.key();
-    let parts = message.into_parts();
-    assert!(rt; close_publisher(&mut domain, publisher));
-    let message = domain.written_of(&parts).expect(&rt, "a loan");
-    let sent = send_there(&rt, &mut domain, message, 1, 0);
-    let is_left = domain.holds_loan(key);
-    let is_lost = matches!(
-        sent,
-        Err(SendError::ConnectionBrokenSinceSenderNoLongerExists)
-    );
-    if let Ok(outcome) = sent {
-        let _count = receiver_count(outcome);
-    }
-    drop(domain);
-    assert!(rt; is_lost && !is_left);
-}
-
 // The handler that is asked of the full channel fails the send.
 #[test]
 fn a_handler_fails_a_send_to_one_connection(rt: HostRuntime) {
