@@ -15,6 +15,8 @@ pub mod SliceParts
 pub mod FilledLengths
 pub mod FilledLoans
 mod FilledHandles
+mod GoneOn
+mod SubscriberSteps
 mod LocatedLoans
 pub mod SentMessages
 pub mod OverflowSends

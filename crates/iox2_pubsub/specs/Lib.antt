@@ -11,6 +11,7 @@ pub mod LoansLeft
 pub mod Leaves
 pub mod ChangedLoans
 pub mod LoanLends
+pub mod LoanCalls
 pub mod Slices
 pub mod WrittenLoans
 pub mod Handlers
