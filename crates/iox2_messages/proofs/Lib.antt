@@ -4,6 +4,7 @@ pub mod ChangedChannels
 pub mod ChangedLinks
 pub mod ReceivedChannels
 pub mod SentChannels
+pub mod Standing
 pub mod StandingPlaces
 mod StaticPass
 mod LoanPass
