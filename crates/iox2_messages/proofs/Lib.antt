@@ -4,7 +4,6 @@ pub mod ChangedChannels
 pub mod ChangedLinks
 pub mod ReceivedChannels
 pub mod SentChannels
-pub mod Standing
 pub mod StandingPlaces
 mod StaticPass
 mod LoanPass
