@@ -1,5 +1,10 @@
+use Rattle.std.proofs.Common.{arith}
+use Rattle.std.proofs.lemmas.List.{length-append}
 use Rattle.iox2_messages.proofs.ClearedSlots.{grows-contents}
 use Rattle.iox2_messages.proofs.growth.add_slots.Goals as goal
+
+pub clear_unused-requires : goal.clear_unused-requires
+clear_unused-requires g c = rw ((c.in_ok-grow.ensures.grown).grown, length-append) (omega (arith, c.requires.shaped))
 
 pub returns-clause-contents : goal.returns-clause-contents
 returns-clause-contents g c =
