@@ -16,3 +16,4 @@ mod GrowingPass
 pub mod SentEnds
 mod ToConnection
 mod WaitingChannels
+mod TakenUp

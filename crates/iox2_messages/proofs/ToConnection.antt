@@ -11,7 +11,8 @@ use Rattle.iox2_machine.specs.machine.Records.{Loan, Environment}
 use Rattle.iox2_machine.specs.machine.State.{is_blocked}
 use Rattle.iox2_ends.specs.declared.sender.Progress.{Progress}
 use Rattle.iox2_ends.specs.declared.sender.DeliveryOutcome.{DeliveryOutcome}
-use Rattle.iox2_domain.specs.BlockedSends.{CanGoOn, GoesOn, HasBlocked}
+use Rattle.iox2_ends.specs.Receivers.{HasReclaimed}
+use Rattle.iox2_domain.specs.BlockedSends.{GoesOn}
 use Rattle.iox2_domain.specs.ConnectionSends.{begun_at, begun_delivery, with_begun, SendsLoanTo}
 use Rattle.iox2_domain.specs.Deliveries.{result_of_send}
 use Rattle.iox2_domain.specs.Fields.{Fields, kept_of}
@@ -26,6 +27,7 @@ use Rattle.iox2_domain.proofs.lemmas.fields.ConnectionEnds.{free-of}
 use Rattle.iox2_domain.proofs.lemmas.slots.Messages.{lies_at, message_at-slot}
 use Rattle.iox2_steps.proofs.sends.Begun.{begun-agrees, begun-blocked, begun-sends, waiter-stands}
 use Rattle.iox2_steps.proofs.sends.BlockedSteps.{can-retry}
+use Rattle.iox2_messages.specs.BlockedPublishers.{CanTakeUp}
 
 module _ {T U : Type 0} (f : Fields T U) (sound : IsDomain f) (p n place : ℕ) (holds : HoldsWritten (state_of (kept_of f)) p n) (free : is_blocked (state_of (kept_of f)) p ≡ false)
     (found : (x : PublisherFields) × (get_or f.publishers place None ≡ Some x) × (x.id ≡ p)) (channel connection : ℕ) (known : channel < channel_count f.config)
@@ -72,32 +74,34 @@ module _ {T U : Type 0} (f : Fields T U) (sound : IsDomain f) (p n place : ℕ) 
     abbrev waiter : PublisherFields
     waiter = record x { blocked = Some w }
 
-    stands1 : get_or f1.publishers place None ≡ Some waiter
+    pub stands1 : get_or f1.publishers place None ≡ Some waiter
     stands1 = ap (λ (h : Fields T U). get_or h.publishers place None) is
         ∙ waiter-stands f sound place x found.1 slot n holds.0 lies holds.3 unblocked channel connection known link linked at.book stands
 
     pub begun-stands : (y : PublisherFields) × (get_or f1.publishers place None ≡ Some y)
     begun-stands = (waiter, stands1)
 
-    module _ (f2 : Fields T U) (reaches : Reaches f1 f2 (state_of (kept_of f1))) (only : f2 ≡ record f1 { connections = f2.connections; books = f2.books }) where
-      stands2 : get_or f2.publishers place None ≡ Some waiter
+    module _ (f2 : Fields T U) (reaches : Reaches f1 f2 (state_of (kept_of f1))) (only : f2 ≡ record f1 { connections = f2.connections; books = f2.books })
+        (reclaimed : (y : PublisherFields) → get_or f1.publishers place None ≡ Some y → HasReclaimed f2.connections y.keys) where
+      pub stands2 : get_or f2.publishers place None ≡ Some waiter
       stands2 = ap (λ (h : Fields T U). get_or h.publishers place None) only ∙ stands1
 
-      pub waits-there : HasBlocked f2 place
-      waits-there = record { publisher = waiter; stands = stands2; blocked = w; waits = refl }
-
-      pub may-go-on : (start : Progress) → start ≡ begun_at connection → (y : PublisherFields) (b : BlockedDelivery) → get_or f2.publishers place None ≡ Some y → y.blocked ≡ Some b → CanGoOn y b start
-      may-go-on start from y b here waits =
-          let same : b ≡ w = same_Some b w (sym waits ∙ ap (λ (z : PublisherFields). z.blocked) (same_Some y waiter (sym here ∙ stands2))) in
-          can-retry f2 reaches.agrees place y here b waits start
-          (ap (λ (v : Progress). v.place) from ∙ sym (ap (λ (v : BlockedDelivery). (v.progress).place) same))
-          (ap (λ (v : Progress). v.count) from ∙ sym (ap (λ (v : BlockedDelivery). (v.progress).count) same))
+      abbrev pub may-go-on : (start : Progress) → start ≡ begun_at connection → CanTakeUp f2 place start
+      may-go-on start from = record {
+        agrees = reaches.agrees;
+        publisher = waiter;
+        stands = stands2;
+        delivery = w;
+        waits = refl;
+        can = can-retry f2 reaches.agrees place waiter stands2 w refl start (ap (λ (v : Progress). v.place) from) (ap (λ (v : Progress). v.count) from);
+        reclaimed = reclaimed waiter stands1;
+      }
 
       pub sends-there : (environment : Environment) (start : Progress) → start ≡ begun_at connection → (outcome : DeliveryOutcome) (f3 : Fields T U)
-          → ((y : PublisherFields) (b : BlockedDelivery) → get_or f2.publishers place None ≡ Some y → y.blocked ≡ Some b → GoesOn environment f2 place y b start no_time outcome f3)
+          → ((may : CanTakeUp f2 place start) → GoesOn environment f2 place may.publisher may.delivery start no_time outcome f3)
           → SendsLoanTo environment f f3 n channel connection (result_of_send outcome)
       sends-there environment start from outcome f3 goes =
           begun-sends f sound place x found.1 slot n holds.0 lies holds.3 unblocked channel connection known link linked at.book stands environment f2
           (subst (λ (h : Fields T U). Reaches h f2 (state_of (kept_of h))) is reaches) stands2
-          (may-go-on (begun_at connection) refl waiter w stands2 refl) outcome f3
-          (subst (λ (v : Progress). GoesOn environment f2 place waiter w v no_time outcome f3) from (goes waiter w stands2 refl))
+          (may-go-on (begun_at connection) refl).can outcome f3
+          (subst (λ (v : Progress). GoesOn environment f2 place waiter w v no_time outcome f3) from (goes (may-go-on start from)))

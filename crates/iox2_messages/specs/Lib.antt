@@ -1,3 +1,4 @@
+pub mod BlockedPublishers
 -- Words of sends, receives and questions, and of what ports ask about channels and change of them.
 pub mod ChannelChanges
 pub mod KeyChannels

@@ -5,14 +5,14 @@ ghost use Rattle.iox2_machine.specs.machine.Sends.{more_retries};
 ghost use Rattle.iox2_machine.specs.machine.SingleCalls.{HoldsBlocked};
 ghost use Rattle.iox2_machine.specs.machine.State.{is_blocked};
 ghost use Rattle.iox2_ends.specs.Counters.{times, with_counters};
-ghost use Rattle.iox2_ends.specs.Receivers.{HasReclaimed};
 ghost use Rattle.iox2_domain.specs.Boxes.{answers_of};
 ghost use Rattle.iox2_domain.specs.Ports.{PublisherFields};
 ghost use Rattle.iox2_domain.specs.declared.publisher_state.BlockedDelivery.{BlockedDelivery};
 ghost use Rattle.iox2_domain.specs.Fields.{kept_of, within_reach};
 ghost use Rattle.iox2_domain.specs.Kept.{state_of};
 ghost use Rattle.iox2_domain.specs.Invariant.{IsDomain};
-ghost use Rattle.iox2_domain.specs.BlockedSends.{with_outcome, counters_after, HasBlocked, CanGoOn, GoesOn, RetriesAs, GivesUpAs};
+ghost use Rattle.iox2_domain.specs.BlockedSends.{with_outcome, counters_after, HasBlocked, GoesOn, RetriesAs, GivesUpAs};
+ghost use Rattle.iox2_messages.specs.BlockedPublishers.{CanTakeUp, HasPublisherAt};
 ghost use Rattle.iox2_messages.specs.SendEnds.{IsKept, end_result};
 
 use crate::loans::remove_loan;
@@ -75,21 +75,23 @@ fn keys_within<'a>(keys: &'a [Option<usize>], blocked: &BlockedDelivery) -> &'a 
     }
 }
 
+/// Where a blocked delivery is taken up, and how long its receiver has been waited for.
+#[derive(Clone, Copy)]
+pub(crate) struct Resumption {
+    pub start: Progress,
+    pub elapsed: Duration,
+}
+
 /// The blocked delivery of the publisher at a place, which has reclaimed what was given back, is taken
 /// up there.
 pub(crate) fn go_on<T: Drop, U: Default + Drop, F: BackpressureFn, G: DegradationFn>(
     state: &mut DomainState<T, U>,
     boxes: &Boxes<F, G>,
     place: usize,
-    start: Progress,
-    elapsed: Duration,
+    from: Resumption,
 ) -> DeliveryOutcome
-    requires agrees { IsDomain state.old }
-    requires waits { HasBlocked state.old place }
-    requires can { (x : PublisherFields) (b : BlockedDelivery) → slice_index_or state.old.publishers place None ≡ Some x → x.blocked ≡ Some b → CanGoOn x b start }
-    requires reclaimed { (x : PublisherFields) → slice_index_or state.old.publishers place None ≡ Some x → HasReclaimed state.old.connections x.keys }
-    ensures { (x : PublisherFields) (b : BlockedDelivery) → slice_index_or state.old.publishers place None ≡ Some x → x.blocked ≡ Some b
-        → GoesOn (answers_of F.allows G.allows (boxes.now).boxes) state.old place x b start elapsed result state.new }
+    requires { CanTakeUp state.old place from.start }
+    ensures { (may : CanTakeUp state.old place from.start) → GoesOn (answers_of F.allows G.allows (boxes.now).boxes) state.old place may.publisher may.delivery from.start from.elapsed result state.new }
 {
     let Some(publisher) = &mut state.publishers[place] else {
         unreachable!();
@@ -103,8 +105,8 @@ pub(crate) fn go_on<T: Drop, U: Default + Drop, F: BackpressureFn, G: Degradatio
         slot: blocked.slot,
         channel: blocked.channel,
         strategy: publisher.strategy,
-        start,
-        elapsed,
+        start: from.start,
+        elapsed: from.elapsed,
     };
     let handler = publisher.handler(boxes);
     let outcome = deliver(
@@ -175,7 +177,7 @@ pub fn retry_send<T: Drop, U: Default + Drop, F: BackpressureFn, G: DegradationF
         retries: more_retries(progress.retries),
         ..progress
     };
-    SendEnd::of(go_on(state, boxes, place, start, elapsed))
+    SendEnd::of(go_on(state, boxes, place, Resumption { start, elapsed }))
 }
 
 /// The blocked send of the publisher at a place goes on behind the receiver that it waits for, which
@@ -193,7 +195,8 @@ pub fn give_up_send<T: Drop, U: Default + Drop, F: BackpressureFn, G: Degradatio
 {
     reclaim(state, place);
     let start = progress_behind(state, place);
-    SendEnd::of(go_on(state, boxes, place, start, Duration::ZERO))
+    let elapsed = Duration::ZERO;
+    SendEnd::of(go_on(state, boxes, place, Resumption { start, elapsed }))
 }
 
 // Whether the publisher that stands at a place waits for a receiver.
@@ -228,10 +231,8 @@ fn waits_with<T: Drop, U: Default + Drop>(
     place: usize,
     number: u128,
 ) -> bool
-    requires agrees { IsDomain state.now }
-    requires stands { (x : PublisherFields) × (slice_index_or state.now.publishers place None ≡ Some x) }
-    ensures { (x : PublisherFields) → slice_index_or state.now.publishers place None ≡ Some x
-        → IsTrue result ↔ HoldsBlocked (state_of (kept_of state.now)) x.id number }
+    requires { HasPublisherAt state.now place }
+    ensures { (there : HasPublisherAt state.now place) → IsTrue result ↔ HoldsBlocked (state_of (kept_of state.now)) there.publisher.id number }
 {
     let Some(publisher) = &state.publishers[place] else {
         unreachable!();

@@ -15,46 +15,43 @@ use iox2_domain::{DomainState, key_at};
 use iox2_slots::Connection;
 use slab::Slab;
 
-// Whether a key leads to a connection whose channel with that number is in that state.
-fn is_in_state(
-    connections: &Slab<Connection>,
-    key: Option<usize>,
+// What is asked of a connection: whether its channel with this number is in this state.
+#[derive(Clone, Copy)]
+struct Asked {
     channel: usize,
     state: u64,
-) -> bool
-    ensures { result ≡ key_in_state connections.now channel state key }
+}
+
+// Whether a key leads to a connection whose channel with that number is in that state.
+fn is_in_state(connections: &Slab<Connection>, key: Option<usize>, asked: Asked) -> bool
+    ensures { result ≡ key_in_state connections.now asked.channel asked.state key }
 {
     let Some(key) = key else {
         return false;
     };
     match connections.get(key) {
-        Some(connection) => connection.channel_state(channel) == state,
+        Some(connection) => connection.channel_state(asked.channel) == asked.state,
         None => false,
     }
 }
 
 // The same, and a disconnect was hinted there.
-fn is_hinted(connections: &Slab<Connection>, key: Option<usize>, channel: usize, state: u64) -> bool
-    ensures { result ≡ key_hinted connections.now channel state key }
+fn is_hinted(connections: &Slab<Connection>, key: Option<usize>, asked: Asked) -> bool
+    ensures { result ≡ key_hinted connections.now asked.channel asked.state key }
 {
     let Some(key) = key else {
         return false;
     };
     match connections.get(key) {
-        Some(connection) => connection.channel_state(channel) == state
-            && connection.has_disconnect_hint(channel),
+        Some(connection) => connection.channel_state(asked.channel) == asked.state
+            && connection.has_disconnect_hint(asked.channel),
         None => false,
     }
 }
 
 // Whether a key leads to no connection whose channel with that number is in another state.
-fn is_in_no_other(
-    connections: &Slab<Connection>,
-    key: Option<usize>,
-    channel: usize,
-    state: u64,
-) -> bool
-    ensures { result ≡ key_in_no_other connections.now channel state key }
+fn is_in_no_other(connections: &Slab<Connection>, key: Option<usize>, asked: Asked) -> bool
+    ensures { result ≡ key_in_no_other connections.now asked.channel asked.state key }
 {
     let Some(key) = key else {
         return true;
@@ -62,20 +59,15 @@ fn is_in_no_other(
     let Some(connection) = connections.get(key) else {
         return true;
     };
-    connection.channel_state(channel) == state
+    connection.channel_state(asked.channel) == asked.state
 }
 
 // Whether one of these keys leads to a connection whose channel with that number is in that state.
-fn some_at_places(
-    connections: &Slab<Connection>,
-    keys: &[Option<usize>],
-    channel: usize,
-    state: u64,
-) -> bool
-    ensures { result ≡ some_in_state connections.now channel state keys.now }
+fn some_at_places(connections: &Slab<Connection>, keys: &[Option<usize>], asked: Asked) -> bool
+    ensures { result ≡ some_in_state connections.now asked.channel asked.state keys.now }
 {
     for place in 0..keys.len() {
-        if is_in_state(connections, keys[place], channel, state) {
+        if is_in_state(connections, keys[place], asked) {
             return true;
         }
     }
@@ -83,11 +75,11 @@ fn some_at_places(
 }
 
 // The same, for keys of which each leads to a connection.
-fn some_expired(connections: &Slab<Connection>, keys: &[usize], channel: usize, state: u64) -> bool
-    ensures { result ≡ some_in_state connections.now channel state (map Some keys.now) }
+fn some_expired(connections: &Slab<Connection>, keys: &[usize], asked: Asked) -> bool
+    ensures { result ≡ some_in_state connections.now asked.channel asked.state (map Some keys.now) }
 {
     for index in 0..keys.len() {
-        if is_in_state(connections, Some(keys[index]), channel, state) {
+        if is_in_state(connections, Some(keys[index]), asked) {
             return true;
         }
     }
@@ -95,16 +87,11 @@ fn some_expired(connections: &Slab<Connection>, keys: &[usize], channel: usize, 
 }
 
 // Whether none of these keys leads to a connection whose channel with that number is in another state.
-fn all_at_places(
-    connections: &Slab<Connection>,
-    keys: &[Option<usize>],
-    channel: usize,
-    state: u64,
-) -> bool
-    ensures { result ≡ all_in_state connections.now channel state keys.now }
+fn all_at_places(connections: &Slab<Connection>, keys: &[Option<usize>], asked: Asked) -> bool
+    ensures { result ≡ all_in_state connections.now asked.channel asked.state keys.now }
 {
     for place in 0..keys.len() {
-        if !is_in_no_other(connections, keys[place], channel, state) {
+        if !is_in_no_other(connections, keys[place], asked) {
             return false;
         }
     }
@@ -112,11 +99,11 @@ fn all_at_places(
 }
 
 // The same, for keys of which each leads to a connection.
-fn all_expired(connections: &Slab<Connection>, keys: &[usize], channel: usize, state: u64) -> bool
-    ensures { result ≡ all_in_state connections.now channel state (map Some keys.now) }
+fn all_expired(connections: &Slab<Connection>, keys: &[usize], asked: Asked) -> bool
+    ensures { result ≡ all_in_state connections.now asked.channel asked.state (map Some keys.now) }
 {
     for index in 0..keys.len() {
-        if !is_in_no_other(connections, Some(keys[index]), channel, state) {
+        if !is_in_no_other(connections, Some(keys[index]), asked) {
             return false;
         }
     }
@@ -140,12 +127,12 @@ pub fn some_received_in<T: Drop, U: Default + Drop>(
     let Some(subscriber) = &state.subscribers[place] else {
         unreachable!()
     };
-    some_expired(
-        &state.connections,
-        &subscriber.expired,
+    let asked = Asked {
         channel,
-        channel_state,
-    ) || some_at_places(&state.connections, &subscriber.keys, channel, channel_state)
+        state: channel_state,
+    };
+    some_expired(&state.connections, &subscriber.expired, asked)
+        || some_at_places(&state.connections, &subscriber.keys, asked)
 }
 
 /// Whether a channel of each connection of the subscriber at a place is in that state. So it is where
@@ -166,12 +153,12 @@ pub fn all_received_in<T: Drop, U: Default + Drop>(
     let Some(subscriber) = &state.subscribers[place] else {
         unreachable!()
     };
-    all_expired(
-        &state.connections,
-        &subscriber.expired,
+    let asked = Asked {
         channel,
-        channel_state,
-    ) && all_at_places(&state.connections, &subscriber.keys, channel, channel_state)
+        state: channel_state,
+    };
+    all_expired(&state.connections, &subscriber.expired, asked)
+        && all_at_places(&state.connections, &subscriber.keys, asked)
 }
 
 // Whether a key leads to a connection with that subscriber.
@@ -237,7 +224,11 @@ pub fn is_sent_in<T: Drop, U: Default + Drop>(
         → result ≡ has_channel_state (state_of (kept_of state.now)) x.id channel connection channel_state }
 {
     let key = key_at(&state.publishers, place, connection);
-    is_in_state(&state.connections, key, channel, channel_state)
+    let asked = Asked {
+        channel,
+        state: channel_state,
+    };
+    is_in_state(&state.connections, key, asked)
 }
 
 /// The same, and a disconnect was hinted there.
@@ -255,5 +246,9 @@ pub fn is_sent_hinted<T: Drop, U: Default + Drop>(
         → result ≡ has_disconnect_hint (state_of (kept_of state.now)) x.id channel connection channel_state }
 {
     let key = key_at(&state.publishers, place, connection);
-    is_hinted(&state.connections, key, channel, channel_state)
+    let asked = Asked {
+        channel,
+        state: channel_state,
+    };
+    is_hinted(&state.connections, key, asked)
 }

@@ -14,7 +14,7 @@ ghost use Rattle.iox2_domain.specs.LoanCalls.{HoldsWritten};
 ghost use Rattle.iox2_domain.specs.Ports.{PublisherFields};
 ghost use Rattle.iox2_messages.specs.SendEnds.{end_result};
 
-use crate::blocked_sends::go_on;
+use crate::blocked_sends::{Resumption, go_on};
 use crate::discards::discard_loan;
 use crate::hinted_loans::find_live_loan;
 use crate::reclaims::reclaim;
@@ -109,5 +109,9 @@ pub fn send_to_connection<T: Drop, U: Default + Drop, F: BackpressureFn, G: Degr
     let at = find_live_loan(state, &loan);
     begin(state, place, at.slot, channel, connection);
     reclaim(state, place);
-    SendEnd::of(go_on(state, boxes, place, begun_at(connection), Duration::ZERO))
+    let from = Resumption {
+        start: begun_at(connection),
+        elapsed: Duration::ZERO,
+    };
+    SendEnd::of(go_on(state, boxes, place, from))
 }

@@ -54,7 +54,9 @@ module _ {T U : Type 0} (f g : Fields T U) (same : f ≡ g) (i : ℕ) (x y : Pub
   one-publisher = same_Some x y (sym here ∙ ap (λ (k : Fields T U). get_or k.publishers i None) same ∙ there)
 
 pub returns-in_default-blocked : goal.returns-in_default-blocked
-returns-in_default-blocked g c = λ x at.
+returns-in_default-blocked g c = λ there.
+    let x = there.publisher in
+    let at = there.stands in
     let stood = read-there _ c.args.place _ _ (ap (λ (f : Fields g.row.T.Denot g.row.U.Denot). slice_index_or f.publishers c.args.place None) c.state.view_is ∙ at) c.index.ensures ∙ c.in-Some.is in
     let same : c.in-Some.publisher ≡ x = one-publisher _ c.args.state.now c.state.view_is c.args.place _ x stood at in
     let free : x.blocked ≡ None = ap (λ (y : PublisherFields). y.blocked) (sym same) ∙ ap (λ (y : PublisherFields). y.blocked) (sym c.publisher.view_is) ∙ c.in_default-blocked.is in (
@@ -63,13 +65,15 @@ returns-in_default-blocked g c = λ x at.
     )
 
 pub index-requires-2 : goal.index-requires-2
-index-requires-2 g c = book-there _ (subst (IsDomain {T = g.row.T.Denot} {U = g.row.U.Denot}) (sym c.state.view_is) c.requires.agrees).parts c.args.place _ (read-there _ c.args.place _ _ (ap (λ (f : Fields g.row.T.Denot g.row.U.Denot). slice_index_or f.publishers c.args.place None) c.state.view_is ∙ c.requires.stands.1) c.index.ensures ∙ c.in-Some.is ∙ ap Some (sym c.publisher.view_is))
+index-requires-2 g c = book-there _ (subst (IsDomain {T = g.row.T.Denot} {U = g.row.U.Denot}) (sym c.state.view_is) c.requires.agrees).parts c.args.place _ (read-there _ c.args.place _ _ (ap (λ (f : Fields g.row.T.Denot g.row.U.Denot). slice_index_or f.publishers c.args.place None) c.state.view_is ∙ c.requires.stands) c.index.ensures ∙ c.in-Some.is ∙ ap Some (sym c.publisher.view_is))
 
 pub number-requires : goal.number-requires
-number-requires g c = in_range _ _ (own-in_use _ _ _ _ (waits-own _ (subst (IsDomain {T = g.row.T.Denot} {U = g.row.U.Denot}) (sym c.state.view_is) c.requires.agrees) c.args.place _ (read-there _ c.args.place _ _ (ap (λ (f : Fields g.row.T.Denot g.row.U.Denot). slice_index_or f.publishers c.args.place None) c.state.view_is ∙ c.requires.stands.1) c.index.ensures ∙ c.in-Some.is ∙ ap Some (sym c.publisher.view_is)) c.in-Some-blocked.blocked c.in-Some-blocked.is _ c.index-2.ensures))
+number-requires g c = in_range _ _ (own-in_use _ _ _ _ (waits-own _ (subst (IsDomain {T = g.row.T.Denot} {U = g.row.U.Denot}) (sym c.state.view_is) c.requires.agrees) c.args.place _ (read-there _ c.args.place _ _ (ap (λ (f : Fields g.row.T.Denot g.row.U.Denot). slice_index_or f.publishers c.args.place None) c.state.view_is ∙ c.requires.stands) c.index.ensures ∙ c.in-Some.is ∙ ap Some (sym c.publisher.view_is)) c.in-Some-blocked.blocked c.in-Some-blocked.is _ c.index-2.ensures))
 
 pub returns : goal.returns
-returns g c = λ x at.
+returns g c = λ there.
+    let x = there.publisher in
+    let at = there.stands in
     let stood = read-there _ c.args.place _ _ (ap (λ (f : Fields g.row.T.Denot g.row.U.Denot). slice_index_or f.publishers c.args.place None) c.state.view_is ∙ at) c.index.ensures ∙ c.in-Some.is in
     let same : c.in-Some.publisher ≡ x = one-publisher _ c.args.state.now c.state.view_is c.args.place _ x stood at in
     let has : x.blocked ≡ Some c.in-Some-blocked.blocked = ap (λ (y : PublisherFields). y.blocked) (sym same) ∙ ap (λ (y : PublisherFields). y.blocked) (sym c.publisher.view_is) ∙ c.in-Some-blocked.is in

@@ -9,12 +9,12 @@ pub returns-then-is_in_state : goal.returns-then-is_in_state
 returns-then-is_in_state c =
     let below : c.loop-index.index < length (map Some c.args.keys.now) = omega (arith, length-map c.args.keys.now Some) in
     sym (c.loop-index.invariant
-    ∙ some-here c.args.connections.now c.args.channel c.args.state (map Some c.args.keys.now) c.loop-index.index c.is_in_state.result below
-    (c.is_in_state.ensures ∙ ap (key_in_state c.args.connections.now c.args.channel c.args.state) (sym (key-at c.args.keys.now c.loop-index.index (omega arith)))) c.if-is_in_state.true)
+    ∙ some-here c.args.connections.now c.args.asked.channel c.args.asked.state (map Some c.args.keys.now) c.loop-index.index c.is_in_state.result below
+    (c.is_in_state.ensures ∙ ap (key_in_state c.args.connections.now c.args.asked.channel c.args.asked.state) (sym (key-at c.args.keys.now c.loop-index.index (omega arith)))) c.if-is_in_state.true)
 
 pub loop-index-preserved : goal.loop-index-preserved
 loop-index-preserved c =
     let below : c.loop-index.index < length (map Some c.args.keys.now) = omega (arith, length-map c.args.keys.now Some) in
     c.loop-index.invariant
-    ∙ some-behind c.args.connections.now c.args.channel c.args.state (map Some c.args.keys.now) c.loop-index.index c.is_in_state.result below
-    (c.is_in_state.ensures ∙ ap (key_in_state c.args.connections.now c.args.channel c.args.state) (sym (key-at c.args.keys.now c.loop-index.index (omega arith)))) c.if-is_in_state.false
+    ∙ some-behind c.args.connections.now c.args.asked.channel c.args.asked.state (map Some c.args.keys.now) c.loop-index.index c.is_in_state.result below
+    (c.is_in_state.ensures ∙ ap (key_in_state c.args.connections.now c.args.asked.channel c.args.asked.state) (sym (key-at c.args.keys.now c.loop-index.index (omega arith)))) c.if-is_in_state.false

@@ -3,7 +3,7 @@ use Rattle.std.specs.Option.{is_some}
 use Rattle.iox2_domain.specs.Boxes.{answers_of}
 use Rattle.iox2_domain.proofs.lemmas.fields.ConnectionEnds.{free-of}
 use Rattle.iox2_steps.proofs.sends.NobodyThere.{discard-sends-none, discard-sends-lost}
-use Rattle.iox2_messages.proofs.ToConnection.{may-begin, begun-is-domain, begun-stands, waits-there, may-go-on, sends-there}
+use Rattle.iox2_messages.proofs.ToConnection.{may-begin, begun-is-domain, begun-stands, may-go-on, sends-there}
 use Rattle.iox2_messages.proofs.connection_sends.send_to_connection.Goals as goal
 
 -- what isn't there is none
@@ -45,22 +45,16 @@ reclaim-requires-clause-stands g c =
     begun-stands c.args.state.now c.requires.agrees c.args.loan.publisher c.args.loan.number c.in-Some.place c.requires.live c.requires.unblocked c.in-Some.ensures c.args.channel c.args.connection c.requires.channel link.0 link.1
     c.find_live_loan-at.result.book c.find_live_loan-at.result.slot c.find_live_loan-at.ensures c.begin.new.state c.begin.ensures
 
-pub go_on-requires-clause-waits : goal.go_on-requires-clause-waits
-go_on-requires-clause-waits g c =
-    let link = some-if _ (sym (c.has_connection.ensures c.in-Some.ensures.0 c.in-Some.ensures.1) ∙ c.if-not-has_connection.false) in
-    waits-there c.args.state.now c.requires.agrees c.args.loan.publisher c.args.loan.number c.in-Some.place c.requires.live c.requires.unblocked c.in-Some.ensures c.args.channel c.args.connection c.requires.channel link.0 link.1
-    c.find_live_loan-at.result.book c.find_live_loan-at.result.slot c.find_live_loan-at.ensures c.begin.new.state c.begin.ensures c.reclaim.new.state c.reclaim.ensures.reaches c.reclaim.ensures.only
-
-pub go_on-requires-clause-can : goal.go_on-requires-clause-can
-go_on-requires-clause-can g c =
+pub go_on-requires : goal.go_on-requires
+go_on-requires g c =
     let link = some-if _ (sym (c.has_connection.ensures c.in-Some.ensures.0 c.in-Some.ensures.1) ∙ c.if-not-has_connection.false) in
     may-go-on c.args.state.now c.requires.agrees c.args.loan.publisher c.args.loan.number c.in-Some.place c.requires.live c.requires.unblocked c.in-Some.ensures c.args.channel c.args.connection c.requires.channel link.0 link.1
-    c.find_live_loan-at.result.book c.find_live_loan-at.result.slot c.find_live_loan-at.ensures c.begin.new.state c.begin.ensures c.reclaim.new.state c.reclaim.ensures.reaches c.reclaim.ensures.only c.begun_at.result c.begun_at.ensures
+    c.find_live_loan-at.result.book c.find_live_loan-at.result.slot c.find_live_loan-at.ensures c.begin.new.state c.begin.ensures c.reclaim.new.state c.reclaim.ensures.reaches c.reclaim.ensures.only c.reclaim.ensures.reclaimed c.begun_at.result c.begun_at.ensures
 
 pub returns : goal.returns
 returns g c =
     let link = some-if _ (sym (c.has_connection.ensures c.in-Some.ensures.0 c.in-Some.ensures.1) ∙ c.if-not-has_connection.false) in
     rw c.of.ensures.same
     (sends-there c.args.state.now c.requires.agrees c.args.loan.publisher c.args.loan.number c.in-Some.place c.requires.live c.requires.unblocked c.in-Some.ensures c.args.channel c.args.connection c.requires.channel link.0 link.1
-    c.find_live_loan-at.result.book c.find_live_loan-at.result.slot c.find_live_loan-at.ensures c.begin.new.state c.begin.ensures c.reclaim.new.state c.reclaim.ensures.reaches c.reclaim.ensures.only
+    c.find_live_loan-at.result.book c.find_live_loan-at.result.slot c.find_live_loan-at.ensures c.begin.new.state c.begin.ensures c.reclaim.new.state c.reclaim.ensures.reaches c.reclaim.ensures.only c.reclaim.ensures.reclaimed
     (answers_of g.F.BackpressureFn.allows g.G.DegradationFn.allows c.args.boxes.now.boxes) c.begun_at.result c.begun_at.ensures c.go_on.result c.go_on.new.state c.go_on.ensures)

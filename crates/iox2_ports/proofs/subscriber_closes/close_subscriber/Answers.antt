@@ -3,6 +3,7 @@ use Rattle.std.proofs.lemmas.List.{with_items_is}
 use Rattle.std.specs.declared.option.Option.TheVariants.{None, Some}
 use Rattle.std.specs.Option.{option_map, option_and_then}
 use Rattle.std.specs.Prelude.{slice_index_or}
+use Rattle.std.specs.Vec.{with_items}
 use Rattle.iox2_machine.specs.machine.WellFormed.{MailboxIsWellFormed}
 use Rattle.iox2_domain.specs.Fields.{Fields, kept_of}
 use Rattle.iox2_domain.specs.Kept.{state_of}
@@ -14,6 +15,7 @@ use Rattle.iox2_steps.specs.Closes.{HasNoPublisher, shut_subscriber}
 use Rattle.iox2_steps.proofs.subscriber_closes.CloseReads.{some-of, closing-starts, closing-turns, due-read}
 use Rattle.iox2_steps.proofs.subscriber_closes.CloseKeys.{KeysLeft, expired-known, closing-expired, key-known, closing-key, none-left}
 use Rattle.iox2_steps.proofs.subscriber_closes.CloseEnds.{closes-parts, closes-stands, closes}
+use Rattle.iox2_ports.proofs.subscriber_closes.close_subscriber.Goals.{After-make_all_due}
 use Rattle.iox2_ports.proofs.subscriber_closes.close_subscriber.Goals as goal
 
 pub loop-index-init : goal.loop-index-init
@@ -87,13 +89,17 @@ loop-publisher_place-preserved g c = λ sound y at.
 
 -- ---- the publishers are due then
 
+ports_due : (g : _) (c : After-make_all_due g) → (with_items c.state-3.inside.publishers c.make_all_due.new.ports).items ≡ map (option_map due) (c.loop-publisher_place.state).publishers
+ports_due g c =
+    with_items_is c.state-3.inside.publishers c.make_all_due.new.ports (c.make_all_due.auto.ports ∙ c.deref_mut-2.ensures.len)
+    ∙ c.make_all_due.ensures
+    ∙ ap (λ xs. map (option_map due) xs) (c.deref_mut-2.ensures.value ∙ ap (λ (f : Fields g.row.T.Denot g.row.U.Denot). f.publishers) c.state-3.view_is)
+
 pub leave_if_unused-requires-clause-consistent : goal.leave_if_unused-requires-clause-consistent
 leave_if_unused-requires-clause-consistent g c =
     let y = some-of (slice_index_or c.args.state.now.subscribers c.args.place None) c.requires.stands in
     let so_far = c.loop-publisher_place.invariant c.requires.agrees y.0 y.1 in
-    let ports = with_items_is c.state-3.inside.publishers c.make_all_due.new.ports (c.make_all_due.auto.ports ∙ c.deref_mut-2.ensures.len)
-    ∙ c.make_all_due.ensures
-    ∙ ap (λ xs. map (option_map due) xs) (c.deref_mut-2.ensures.value ∙ ap (λ (f : Fields g.row.T.Denot g.row.U.Denot). f.publishers) c.state-3.view_is) in
+    let ports = ports_due g (goal.at.leave_if_unused-requires-clause-consistent g c).After-make_all_due in
     subst (HasParts {T = g.row.T.Denot} {U = g.row.U.Denot}) (sym (due-read _ c.loop-publisher_place.state c.state-3.view_is _ ports))
     (closes-parts c.args.state.now c.requires.agrees c.args.place y.0 y.1 (KeysLeft c.loop-publisher_place.publisher_place c.key_count-publisher_place-end.result) c.loop-publisher_place.state so_far
     (none-left c.loop-publisher_place.publisher_place c.key_count-publisher_place-end.result c.loop-publisher_place-test.false so_far.subscriber.0))
@@ -102,9 +108,7 @@ pub leave_if_unused-requires-clause-stands : goal.leave_if_unused-requires-claus
 leave_if_unused-requires-clause-stands g c =
     let y = some-of (slice_index_or c.args.state.now.subscribers c.args.place None) c.requires.stands in
     let so_far = c.loop-publisher_place.invariant c.requires.agrees y.0 y.1 in
-    let ports = with_items_is c.state-3.inside.publishers c.make_all_due.new.ports (c.make_all_due.auto.ports ∙ c.deref_mut-2.ensures.len)
-    ∙ c.make_all_due.ensures
-    ∙ ap (λ xs. map (option_map due) xs) (c.deref_mut-2.ensures.value ∙ ap (λ (f : Fields g.row.T.Denot g.row.U.Denot). f.publishers) c.state-3.view_is) in
+    let ports = ports_due g (goal.at.leave_if_unused-requires-clause-stands g c).After-make_all_due in
     subst (λ (f : Fields g.row.T.Denot g.row.U.Denot). (z : SubscriberFields) × (slice_index_or f.subscribers c.args.place None ≡ Some z) × ((p : ℕ) → MailboxIsWellFormed (state_of (kept_of f)) p z.id))
     (sym (due-read _ c.loop-publisher_place.state c.state-3.view_is _ ports))
     (closes-stands c.args.state.now c.requires.agrees c.args.place y.0 y.1 (KeysLeft c.loop-publisher_place.publisher_place c.key_count-publisher_place-end.result) c.loop-publisher_place.state so_far
@@ -113,9 +117,7 @@ leave_if_unused-requires-clause-stands g c =
 pub returns : goal.returns
 returns g c = λ y at.
     let so_far = c.loop-publisher_place.invariant c.requires.agrees y at in
-    let ports = with_items_is c.state-3.inside.publishers c.make_all_due.new.ports (c.make_all_due.auto.ports ∙ c.deref_mut-2.ensures.len)
-    ∙ c.make_all_due.ensures
-    ∙ ap (λ xs. map (option_map due) xs) (c.deref_mut-2.ensures.value ∙ ap (λ (f : Fields g.row.T.Denot g.row.U.Denot). f.publishers) c.state-3.view_is) in
+    let ports = ports_due g (goal.at.returns g c).After-make_all_due in
     closes c.args.state.now c.requires.agrees c.args.place y at (KeysLeft c.loop-publisher_place.publisher_place c.key_count-publisher_place-end.result) c.loop-publisher_place.state so_far
     (none-left c.loop-publisher_place.publisher_place c.key_count-publisher_place-end.result c.loop-publisher_place-test.false so_far.subscriber.0)
     c.leave_if_unused.new.state
