@@ -12,11 +12,11 @@ use Rattle.iox2_machine.specs.machine.Numbers.{put_at, contains, without}
 use Rattle.iox2_machine.specs.machine.Places.{occupant, occupants, is_port, places_kept}
 use Rattle.iox2_machine.specs.machine.Mailbox.{has_borrows, has_numbers}
 use Rattle.iox2_machine.specs.machine.Records.{Publisher, Subscriber, Loan, Handler, Environment, BlockedSend, SubscriberSettings}
-use Rattle.iox2_machine.specs.machine.State.{State, has_sender_end, connected_publishers, subscribers_due, with_loan}
+use Rattle.iox2_machine.specs.machine.State.{State, has_sender_end, connected_publishers, subscribers_due, with_loan, with_mailbox}
 use Rattle.iox2_machine.specs.machine.Connections.{ForEachPlace}
 use Rattle.iox2_machine.specs.machine.Loans.{GrantLoan, loan_granted, loan_discarded}
 use Rattle.iox2_machine.specs.machine.Ports.{FirstSubscriberUpdate, CreateSubscriber, with_new_subscriber, new_subscriber, with_failure_warning, publisher_closed, publisher_gone, subscribers_pruned, subscriber_shut, subscriber_closed}
-use Rattle.iox2_machine.specs.machine.Receives.{ReceiveResult, Got_sample, No_sample, Receive_error, TakeSample, Receive}
+use Rattle.iox2_machine.specs.machine.Receives.{ReceiveResult, Receive}
 use Rattle.iox2_machine.specs.machine.Releases.{is_connected, pruned, is_unused, place_freed, freed_if_unused, unborrowed, subscriber_pruned, released}
 use Rattle.iox2_machine.specs.machine.Sends.{SendResult, Retry, GiveUp, DeliverAndConclude, more_retries}
 use Rattle.iox2_machine.specs.machine.Delivery.{no_time}
@@ -32,6 +32,7 @@ use Rattle.iox2_laws.proofs.Cases.{by_option, by_bool}
 use Rattle.iox2_laws.proofs.CallCases.{grant_cases, subscriber_cases}
 use Rattle.iox2_laws.proofs.FilterLemmas.{contains-filter}
 use Rattle.iox2_laws.proofs.NumberLemmas.{contains_in_append, contains_left, contains_right}
+use Rattle.iox2_laws.proofs.OperationWalks.{IsPreorder, receive_by_steps}
 use Rattle.iox2_laws.proofs.PlaceLemmas.{free_place_is, occupant-set_place, occupied_within, contains-occupants, leads_to, places_kept_keeps}
 use Rattle.iox2_laws.proofs.PortLaws.{new_subscriber_keeps}
 use Rattle.iox2_laws.proofs.PortsClose.{publisher_closed_others}
@@ -185,6 +186,9 @@ module _ {T U : Type 0} where
   pub stays-itself : (s s' : State T U) → s' ≡ s → ConnectsStay s s'
   stays-itself s s' same p q c = subst (λ (t : State T U). Connects t p q) (sym same) c
 
+  connections-stay : IsPreorder ConnectsStay
+  connections-stay = record { itself = λ s. stays-itself s s refl; trans = λ s t s' first then p q c. then p q (first p q c) }
+
   -- another record of the subscriber, which receives as well
   pub with-record : (s s' : State T U) (p q : ℕ) (c : Connects s p q) (y : Subscriber) → EndsStay s s' → s'.subscribers q ≡ Some y → receives_from y p ≡ true → s'.channels ≡ s.channels → Connects s' p q
   with-record s s' p q c y ends there receives channels =
@@ -286,17 +290,9 @@ module _ {T U : Type 0} where
             (put_at-other s.subscribers i _ q (ne_eqb q i away) ∙ c.there) c.receives refl
       ]
 
-  taken-connections : (s : State T U) (q : ℕ) (y : Subscriber) (s' : State T U) (result : ReceiveResult) → TakeSample s q y s' result → ConnectsStay s s'
-  taken-connections s q y s' (Got_sample p n) h = ports-same s s' (ap (λ (t : State T U). t.publishers) h.3) (ap (λ (t : State T U). t.subscribers) h.3) (ap (λ (t : State T U). t.channels) h.3)
-  taken-connections s q y s' No_sample h = stays-itself s s' h.1
-  taken-connections s q y s' (Receive_error e) h = stays-itself s s' h.3
-
   pub receive-connections : (environment : Environment) (s : State T U) (i : ℕ) (s' : State T U) (result : ReceiveResult) → IsWellFormed s → Receive environment s i s' result → ConnectsStay s s'
-  receive-connections environment s i s' result w h p q c =
-      let first : Connects h.0 p q = update-subscriber-connections environment s i h.0 h.1 w h.2 p q c in
-      by_option (Connects s' p q) h.1 _ _ h.3
-      (λ _ k. by_option (Connects s' p q) ((h.0).subscribers i) _ _ k (λ _ v. absurd v) (λ y _ k. taken-connections h.0 i y s' result k p q first))
-      (λ e _ k. stays-itself h.0 s' k.0 p q first)
+  receive-connections environment s i s' result w h =
+      receive_by_steps ConnectsStay connections-stay environment s i s' result (λ t failure k. update-subscriber-connections environment s i t failure w k) (λ t p box. ports-same t (with_mailbox t p i box) refl refl refl) h
 
   -- ---- a release
 

@@ -9,7 +9,7 @@ use Rattle.iox2_machine.specs.machine.Places.{occupant, occupants, places_kept}
 use Rattle.iox2_machine.specs.machine.Loans.{GrantLoan, loan_discarded}
 use Rattle.iox2_machine.specs.machine.Ports.{FirstPublisherUpdate, FirstSubscriberUpdate, CreatePublisher, CreateSubscriber, with_new_publisher, with_new_subscriber, new_subscriber, with_failure_warning, publisher_gone, publisher_closed, subscriber_shut, subscriber_closed}
 use Rattle.iox2_machine.specs.machine.PublisherUpdate.{UpdatePublisher}
-use Rattle.iox2_machine.specs.machine.Receives.{ReceiveResult, Got_sample, No_sample, Receive_error, TakeSample, Receive}
+use Rattle.iox2_machine.specs.machine.Receives.{ReceiveResult, Receive}
 use Rattle.iox2_machine.specs.machine.Records.{Publisher, Subscriber, Loan, Environment, BlockedSend, PublisherSettings, SubscriberSettings}
 use Rattle.iox2_machine.specs.machine.Releases.{is_connected, pruned, is_unused, place_freed, unborrowed, subscriber_pruned, released}
 use Rattle.iox2_machine.specs.machine.Sends.{SendResult, Send, Retry, GiveUp}
@@ -21,9 +21,9 @@ use Rattle.iox2_machine.specs.declared.errors.LoanError.{LoanError}
 use Rattle.iox2_machine.specs.declared.errors.PublisherCreateError.{PublisherCreateError}
 use Rattle.iox2_machine.specs.declared.errors.SubscriberCreateError.{SubscriberCreateError}
 use Rattle.iox2_machine.specs.declared.warning.Warning.TheVariants.{PublisherPartlyConnected, SubscriberPartlyConnected}
-use Rattle.iox2_laws.proofs.Cases.{by_option}
 use Rattle.iox2_laws.proofs.CallCases.{publisher_cases, subscriber_cases}
 use Rattle.iox2_laws.proofs.FilterLemmas.{length-filter_le}
+use Rattle.iox2_laws.proofs.OperationWalks.{IsPreorder, receive_by_steps}
 use Rattle.iox2_laws.proofs.PlaceLemmas.{free_place_is, IsOnce-occupants}
 use Rattle.iox2_laws.proofs.PortLaws.{new_subscriber_keeps}
 use Rattle.iox2_laws.proofs.PortsClose.{publisher_closed_others}
@@ -78,6 +78,9 @@ module _ {T U : Type 0} where
   pub room-itself : (s s' : State T U) → s' ≡ s → RoomStays s s'
   room-itself s s' same q closes has = subst (λ (t : State T U). HasRoom t q closes) (sym same) has
 
+  rooms-stay : IsPreorder RoomStays
+  rooms-stay = record { itself = λ s. room-itself s s refl; trans = λ s t s' first then q closes has. then q closes (first q closes has) }
+
   -- ---- loans and sends
 
   pub set-room : (s : State T U) (n : ℕ) (l : Option (Loan T U)) → RoomStays s (with_loan s n l)
@@ -118,17 +121,9 @@ module _ {T U : Type 0} where
   update-subscriber-room environment s i s' failure w h =
       room-stays s s' ((update_subscriber_stays environment s i s' failure h).remain).config (update-subscriber-departed environment s w i s' failure h)
 
-  taken-room : (s : State T U) (q : ℕ) (y : Subscriber) (s' : State T U) (result : ReceiveResult) → TakeSample s q y s' result → RoomStays s s'
-  taken-room s q y s' (Got_sample p n) h = λ i closes has. subst (λ (t : State T U). HasRoom t i closes) (sym h.3) has
-  taken-room s q y s' No_sample h = room-itself s s' h.1
-  taken-room s q y s' (Receive_error e) h = room-itself s s' h.3
-
   pub receive-room : (environment : Environment) (s : State T U) (i : ℕ) (s' : State T U) (result : ReceiveResult) → IsWellFormed s → Receive environment s i s' result → RoomStays s s'
-  receive-room environment s i s' result w h q closes has =
-      let first : HasRoom h.0 q closes = update-subscriber-room environment s i h.0 h.1 w h.2 q closes has in
-      by_option (HasRoom s' q closes) h.1 _ _ h.3
-      (λ _ k. by_option (HasRoom s' q closes) ((h.0).subscribers i) _ _ k (λ _ v. absurd v) (λ y _ k. taken-room h.0 i y s' result k q closes first))
-      (λ e _ k. room-itself h.0 s' k.0 q closes first)
+  receive-room environment s i s' result w h =
+      receive_by_steps RoomStays rooms-stay environment s i s' result (λ t failure k. update-subscriber-room environment s i t failure w k) (λ t p box q closes has. has) h
 
   -- ---- a release
 
