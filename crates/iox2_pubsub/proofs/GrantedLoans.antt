@@ -1,5 +1,5 @@
 -- A loan that is granted or refused, seen from outside: what the publisher lends, and what the call leaves.
-use Rattle.std.proofs.Common.{◌≡◌, ◌*◌, Bool, ℕ, replicate, get_or, refl, ap, subst, sym, ◌∙◌, Result, Ok, Option, None, Some}
+use Rattle.std.proofs.Common.{◌≡◌, ◌*◌, Bool, ℕ, replicate, get_or, refl, ap, subst, sym, ◌∙◌, Result, Ok, None, Some}
 use Rattle.std.specs.Prelude.{IsSomeAnd, OnErr}
 use Rattle.iox2_machine.specs.declared.errors.LoanError.{LoanError}
 use Rattle.iox2_machine.specs.declared.key.Key.{Key}
