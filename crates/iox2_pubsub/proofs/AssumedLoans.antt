@@ -1,5 +1,7 @@
 -- A loan whose cells are taken as written, and one that is handed back.
-use Rattle.std.proofs.Common.{◌≡◌, ℕ, List, [], ◌∷◌, map, Bool, true, false, is_some, refl, ap, sym, subst, ◌∙◌}
+use Rattle.std.proofs.Common.{◌≡◌, ℕ, List, [], ◌∷◌, map, length, Bool, true, false, is_some, refl, ap, sym, subst, ◌∙◌}
+use Rattle.std.proofs.lemmas.List.{length-map}
+use Rattle.std.proofs.lemmas.Option.{same_Some}
 use Rattle.std.specs.Bool.{MatchBool}
 use Rattle.std.specs.List.{list_all}
 use Rattle.std.specs.declared.option.Option.{Option}
@@ -17,13 +19,16 @@ use Rattle.iox2_domain.specs.Reaches.{Reaches}
 use Rattle.iox2_domain.specs.Shows.{Shows}
 use Rattle.iox2_machine.specs.declared.header.Header.{Header}
 use Rattle.iox2_machine.specs.declared.key.Key.{Key}
-use Rattle.iox2_pubsub.specs.Live.{IsUnwritten, IsWritten, LoanReads, LoanHasHeader, LoanHasUserHeader, UnwrittenReads, A_loan, StaysBut, UpToDateStay, WaitingStays}
+use Rattle.iox2_pubsub.specs.Live.{IsUnwritten, IsWritten, LoanReads, LoanHasHeader, LoanHasUserHeader, UnwrittenReads, A_loan, StaysBut, UpToDateStay, WaitingStays, lender_key, unwritten_key, written_key}
+use Rattle.iox2_pubsub.specs.Leaves.{LeavesBut}
+use Rattle.iox2_pubsub.specs.LoanCalls.{BecomesWritten}
 use Rattle.iox2_pubsub.specs.Slices.{HasUnwrittenCells, HasValues}
+use Rattle.iox2_pubsub.specs.declared.sample_mut.SampleMut.{SampleMut}
 use Rattle.iox2_pubsub.specs.declared.sample_mut_uninit.SampleMutUninit.{SampleMutUninit}
 use Rattle.iox2_pubsub.proofs.CallsStay.{always-shown, change-stays}
 use Rattle.iox2_pubsub.proofs.LiveParts.{unwritten-parts, unwritten-cell}
 use Rattle.iox2_pubsub.proofs.LoanHandles.{change-header, change-shown, change-user-header, changed-out, change-written, change-cells}
-use Rattle.iox2_pubsub.proofs.SliceParts.{cells-parts, has-values}
+use Rattle.iox2_pubsub.proofs.SliceParts.{cells-parts, has-values, values-parts}
 use Rattle.iox2_pubsub.proofs.UpToDateShown.{set-leaves}
 use Rattle.iox2_pubsub.proofs.WaitingShown.{set-waits}
 use Rattle.iox2_pubsub.proofs.StaysBut.{same-boxes, unchanged-stays}
@@ -125,6 +130,32 @@ module _ {T U F G : Type 0} {boxes : DomainBoxes F G} (f g : Fields T U) (sound 
         let it = always-shown f kept sound view in
         let step = taken-shown it.0 it.1 it.2 in
         set-leaves kept (keeping boxes g) it.0 it.1 it.2 n (Some (record (step.0) { is_written = true })) step.3
+
+    -- it has as many values as it had cells
+    taken-lengths : (cells : List (Option T)) (values : List T) → HasUnwrittenCells kept n cells → HasValues (keeping boxes g) n values → length values ≡ length cells
+    taken-lengths cells values has reads =
+        let now = values-parts (keeping boxes g) n values reads in
+        let new : now.0 ≡ assumed = same_Some now.0 assumed (sym now.1 ∙ changed-out f g kept view n assumes.0 assumed assumes.1 reaches) in
+        sym (length-map values (λ (value : T). Some value))
+        ∙ ap (λ (cs : List (Option T)). length cs) (sym now.2 ∙ ap (λ (l : Loan T U). l.cells) new ∙ had-cells cells has)
+
+  pub taken-becomes : b ≡ true → (loan : SampleMutUninit) → loan.loan.number ≡ n → IsUnwritten kept loan
+      → BecomesWritten loan (record { service_id = loan.service_id; loan = loan.loan }) kept (keeping boxes g)
+  taken-becomes is loan its live =
+      let written : SampleMut = record { service_id = loan.service_id; loan = loan.loan } in
+      let out : IsWritten (keeping boxes g) written = taken-live is loan its live in
+      let stays = taken-stays is in
+      record {
+        out = out;
+        live = λ never. record { out = out; never_waits = stays.never_wait (unwritten_key loan) never };
+        unblocked = λ free. stays.unblocked (unwritten_key loan) free tt;
+        key = refl;
+        lent = λ lent. stays.publishers (lender_key (unwritten_key loan)) lent tt;
+        lengths = λ cells values has reads. taken-lengths is cells values (subst (λ (k : ℕ). HasUnwrittenCells kept k cells) its has) (subst (λ (k : ℕ). HasValues (keeping boxes g) k values) its reads);
+        header = taken-header is (unwritten_key loan) (written_key written) its its;
+        user_header = taken-user-header is (unwritten_key loan) (written_key written) its its;
+        leaves = subst (λ (k : ℕ). LeavesBut (A_loan k) kept (keeping boxes g)) (sym its) (record { stays = stays; waits = taken-waits is; up_to_date = taken-leaves is; loans_left = taken-left is });
+      }
 
   -- ---- it is handed back
 

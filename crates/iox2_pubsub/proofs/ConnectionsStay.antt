@@ -4,7 +4,7 @@ use Rattle.std.specs.Prelude.{◌≢◌}
 use Rattle.std.specs.List.{filter, list_all}
 use Rattle.std.specs.Option.{is_some, option_map, option_map_or}
 use Rattle.std.specs.declared.time.Duration.{Duration}
-use Rattle.std.proofs.lemmas.Bool.{true≢false, ne_eqb, eqb-true, eq-eqb, ltb-false, cases_eq}
+use Rattle.std.proofs.lemmas.Bool.{true≢false, ne_eqb, eqb-true, eq-eqb, cases_eq}
 use Rattle.std.proofs.lemmas.Option.{none-some, same_Some}
 use Rattle.iox2_machine.specs.machine.Channel.{Channel, is_closed}
 use Rattle.iox2_machine.specs.machine.Limits.{expired_limit}
@@ -12,10 +12,10 @@ use Rattle.iox2_machine.specs.machine.Numbers.{put_at, contains, without}
 use Rattle.iox2_machine.specs.machine.Places.{occupant, occupants, is_port, places_kept}
 use Rattle.iox2_machine.specs.machine.Mailbox.{has_borrows, has_numbers}
 use Rattle.iox2_machine.specs.machine.Records.{Publisher, Subscriber, Loan, Handler, Environment, BlockedSend, SubscriberSettings}
-use Rattle.iox2_machine.specs.machine.State.{State, has_sender_end, connected_publishers, subscribers_due, with_loan, with_mailbox}
+use Rattle.iox2_machine.specs.machine.State.{State, has_sender_end, connected_publishers, subscribers_due, with_loan, with_mailbox, with_warning}
 use Rattle.iox2_machine.specs.machine.Connections.{ForEachPlace}
 use Rattle.iox2_machine.specs.machine.Loans.{GrantLoan, loan_granted, loan_discarded}
-use Rattle.iox2_machine.specs.machine.Ports.{FirstSubscriberUpdate, CreateSubscriber, with_new_subscriber, new_subscriber, with_failure_warning, publisher_closed, publisher_gone, subscribers_pruned, subscriber_shut, subscriber_closed}
+use Rattle.iox2_machine.specs.machine.Ports.{CreateSubscriber, with_new_subscriber, new_subscriber, publisher_closed, publisher_gone, subscribers_pruned, subscriber_shut, subscriber_closed}
 use Rattle.iox2_machine.specs.machine.Receives.{ReceiveResult, Receive}
 use Rattle.iox2_machine.specs.machine.Releases.{is_connected, pruned, is_unused, place_freed, freed_if_unused, unborrowed, subscriber_pruned, released}
 use Rattle.iox2_machine.specs.machine.Sends.{SendResult, Retry, GiveUp, DeliverAndConclude, more_retries}
@@ -27,20 +27,19 @@ use Rattle.iox2_machine.specs.declared.degradation.DegradationAction.{Degradatio
 use Rattle.iox2_machine.specs.declared.errors.ConnectionFailure.{ConnectionFailure}
 use Rattle.iox2_machine.specs.declared.errors.LoanError.{LoanError}
 use Rattle.iox2_machine.specs.declared.errors.SubscriberCreateError.{SubscriberCreateError}
-use Rattle.iox2_machine.specs.declared.warning.Warning.TheVariants.{SubscriberPartlyConnected}
 use Rattle.iox2_laws.proofs.Cases.{by_option, by_bool}
-use Rattle.iox2_laws.proofs.CallCases.{grant_cases, subscriber_cases}
+use Rattle.iox2_laws.proofs.OperationWalks.{IsPreorder, receive_by_steps}
+use Rattle.iox2_laws.proofs.CallCases.{grant_cases}
 use Rattle.iox2_laws.proofs.FilterLemmas.{contains-filter}
 use Rattle.iox2_laws.proofs.NumberLemmas.{contains_in_append, contains_left, contains_right}
-use Rattle.iox2_laws.proofs.OperationWalks.{IsPreorder, receive_by_steps}
-use Rattle.iox2_laws.proofs.PlaceLemmas.{free_place_is, occupant-set_place, occupied_within, contains-occupants, leads_to, places_kept_keeps}
-use Rattle.iox2_laws.proofs.PortLaws.{new_subscriber_keeps}
+use Rattle.iox2_laws.proofs.PlaceLemmas.{occupant-set_place, occupied_within, contains-occupants, leads_to, places_kept_keeps}
 use Rattle.iox2_laws.proofs.PortsClose.{publisher_closed_others}
 use Rattle.iox2_laws.proofs.Puts.{put_at-same, put_at-other, at_each}
 use Rattle.iox2_laws.proofs.UpToDate.{grant_loan_subscribers, retry_subscribers, give_up_subscribers}
 use Rattle.iox2_pubsub.specs.ConnectedPorts.{Connects}
 use Rattle.iox2_pubsub.proofs.OpenChannels.{receiver-reset-connects, sender-reset-takes}
 use Rattle.iox2_pubsub.proofs.SendsServe.{EndsStay, ends-themselves, changed-ends, same-connections, concluded-channels, concluded-ends}
+use Rattle.iox2_pubsub.proofs.SubscriberSteps.{create-subscriber-by-steps}
 
 -- ---- a walk over places, of which one place is looked at
 
@@ -179,15 +178,15 @@ module _ {T U : Type 0} where
   abbrev pub ConnectsStay : (s s' : State T U) → Type 0
   ConnectsStay s s' = (p q : ℕ) → Connects s p q → Connects s' p q
 
+  pub connect-on : IsPreorder ConnectsStay
+  connect-on = record { itself = λ t p q c. c; trans = λ t u v first then p q c. then p q (first p q c) }
+
   -- the same ports
   pub ports-same : (s s' : State T U) → s'.publishers ≡ s.publishers → s'.subscribers ≡ s.subscribers → s'.channels ≡ s.channels → ConnectsStay s s'
   ports-same s s' publishers subscribers channels = same-connections s s' (ends-themselves s s' publishers) subscribers channels
 
   pub stays-itself : (s s' : State T U) → s' ≡ s → ConnectsStay s s'
   stays-itself s s' same p q c = subst (λ (t : State T U). Connects t p q) (sym same) c
-
-  connections-stay : IsPreorder ConnectsStay
-  connections-stay = record { itself = λ s. stays-itself s s refl; trans = λ s t s' first then p q c. then p q (first p q c) }
 
   -- another record of the subscriber, which receives as well
   pub with-record : (s s' : State T U) (p q : ℕ) (c : Connects s p q) (y : Subscriber) → EndsStay s s' → s'.subscribers q ≡ Some y → receives_from y p ≡ true → s'.channels ≡ s.channels → Connects s' p q
@@ -291,8 +290,10 @@ module _ {T U : Type 0} where
       ]
 
   pub receive-connections : (environment : Environment) (s : State T U) (i : ℕ) (s' : State T U) (result : ReceiveResult) → IsWellFormed s → Receive environment s i s' result → ConnectsStay s s'
-  receive-connections environment s i s' result w h =
-      receive_by_steps ConnectsStay connections-stay environment s i s' result (λ t failure k. update-subscriber-connections environment s i t failure w k) (λ t p box. ports-same t (with_mailbox t p i box) refl refl refl) h
+  receive-connections environment s i s' result w =
+      receive_by_steps ConnectsStay connect-on environment s i s' result
+      (λ t failure. update-subscriber-connections environment s i t failure w)
+      (λ t p box. ports-same t (with_mailbox t p i box) refl refl refl)
 
   -- ---- a release
 
@@ -349,22 +350,15 @@ module _ {T U : Type 0} where
 
   pub create-subscriber-connections : (environment : Environment) (s : State T U) → IsWellFormed s → (given : SubscriberSettings) (s' : State T U) (refusal : Option SubscriberCreateError)
       → CreateSubscriber environment s given s' refusal → ConnectsStay s s'
-  create-subscriber-connections environment s w given s' refusal h =
-      subscriber_cases environment s given s' (ConnectsStay s s') refusal h (λ e same _. stays-itself s s' same) (λ place makes.
-      let found : (place < (s.config).max_subscribers) × (occupant s.subscriber_places place ≡ None) = free_place_is (s.config).max_subscribers s.subscriber_places place makes.0 in
-      made place (new_subscriber_keeps s w given place (ltb-false _ _ makes.1) found.0 found.1) makes.3)
+  create-subscriber-connections environment s w given s' refusal =
+      create-subscriber-by-steps ConnectsStay connect-on environment s w given s' refusal entered (λ new t failure. update-subscriber-connections environment new s.next_port t failure)
+      (λ t warning. ports-same t (with_warning t warning) refl refl refl)
     where
-      warned : (t : State T U) (failure : Option ConnectionFailure) → ConnectsStay t (with_failure_warning t (SubscriberPartlyConnected s.next_port) failure)
-      warned t None = λ p q c. c
-      warned t (Some failure) = ports-same t (with_failure_warning t (SubscriberPartlyConnected s.next_port) (Some failure)) refl refl refl
-
-      made : (place : ℕ) → IsWellFormed (with_new_subscriber s given place) → FirstSubscriberUpdate environment (with_new_subscriber s given place) s.next_port s' → ConnectsStay s s'
-      made place new-well h = λ p q c.
+      entered : (place : ℕ) → ConnectsStay s (with_new_subscriber s given place)
+      entered place p q c =
           let new : State T U = with_new_subscriber s given place in
           let low : q < s.next_port = (w.subscribers q c.subscriber c.there).is_known in
-          let first : Connects new p q =
-          with-record s new p q c c.subscriber (due-ends s new (λ j. refl)) (put_at-other s.subscribers s.next_port (Some (new_subscriber given place)) q (ne_eqb q s.next_port (λ here. omega arith)) ∙ c.there) c.receives refl in
-          subst (λ (t : State T U). Connects t p q) (sym h.3) (warned h.0 h.1 p q (update-subscriber-connections environment new s.next_port h.0 h.1 new-well h.2 p q first))
+          with-record s new p q c c.subscriber (due-ends s new (λ j. refl)) (put_at-other s.subscribers s.next_port (Some (new_subscriber given place)) q (ne_eqb q s.next_port (λ here. omega arith)) ∙ c.there) c.receives refl
 
   -- ---- closes
 

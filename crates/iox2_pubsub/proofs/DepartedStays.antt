@@ -3,11 +3,11 @@ use Rattle.std.proofs.Common.{◌≡◌, ℕ, suc, ◌+◌, ◌≤◌, ◌<◌, 
 use Rattle.std.specs.List.{filter}
 use Rattle.std.specs.Option.{is_some, option_map, option_map_or}
 use Rattle.std.specs.declared.time.Duration.{Duration}
-use Rattle.std.proofs.lemmas.Bool.{true≢false, cond_both, cases_eq, ltb-false}
+use Rattle.std.proofs.lemmas.Bool.{true≢false, cond_both, cases_eq}
 use Rattle.iox2_machine.specs.machine.Limits.{expired_limit}
-use Rattle.iox2_machine.specs.machine.Places.{occupant, occupants, places_kept}
+use Rattle.iox2_machine.specs.machine.Places.{occupants, places_kept}
 use Rattle.iox2_machine.specs.machine.Loans.{GrantLoan, loan_discarded}
-use Rattle.iox2_machine.specs.machine.Ports.{FirstPublisherUpdate, FirstSubscriberUpdate, CreatePublisher, CreateSubscriber, with_new_publisher, with_new_subscriber, new_subscriber, with_failure_warning, publisher_gone, publisher_closed, subscriber_shut, subscriber_closed}
+use Rattle.iox2_machine.specs.machine.Ports.{FirstPublisherUpdate, CreatePublisher, CreateSubscriber, with_new_publisher, with_new_subscriber, new_subscriber, with_failure_warning, publisher_gone, publisher_closed, subscriber_shut, subscriber_closed}
 use Rattle.iox2_machine.specs.machine.PublisherUpdate.{UpdatePublisher}
 use Rattle.iox2_machine.specs.machine.Receives.{ReceiveResult, Receive}
 use Rattle.iox2_machine.specs.machine.Records.{Publisher, Subscriber, Loan, Environment, BlockedSend, PublisherSettings, SubscriberSettings}
@@ -20,12 +20,11 @@ use Rattle.iox2_machine.specs.declared.errors.ConnectionFailure.{ConnectionFailu
 use Rattle.iox2_machine.specs.declared.errors.LoanError.{LoanError}
 use Rattle.iox2_machine.specs.declared.errors.PublisherCreateError.{PublisherCreateError}
 use Rattle.iox2_machine.specs.declared.errors.SubscriberCreateError.{SubscriberCreateError}
-use Rattle.iox2_machine.specs.declared.warning.Warning.TheVariants.{PublisherPartlyConnected, SubscriberPartlyConnected}
-use Rattle.iox2_laws.proofs.CallCases.{publisher_cases, subscriber_cases}
-use Rattle.iox2_laws.proofs.FilterLemmas.{length-filter_le}
+use Rattle.iox2_machine.specs.declared.warning.Warning.TheVariants.{PublisherPartlyConnected}
 use Rattle.iox2_laws.proofs.OperationWalks.{IsPreorder, receive_by_steps}
-use Rattle.iox2_laws.proofs.PlaceLemmas.{free_place_is, IsOnce-occupants}
-use Rattle.iox2_laws.proofs.PortLaws.{new_subscriber_keeps}
+use Rattle.iox2_laws.proofs.CallCases.{publisher_cases}
+use Rattle.iox2_laws.proofs.FilterLemmas.{length-filter_le}
+use Rattle.iox2_laws.proofs.PlaceLemmas.{IsOnce-occupants}
 use Rattle.iox2_laws.proofs.PortsClose.{publisher_closed_others}
 use Rattle.iox2_laws.proofs.PortsStay.{PortsStay, grant_loan_stays, loan_discarded_stays, update_publisher_stays, update_subscriber_stays, create_publisher_stays}
 use Rattle.iox2_laws.proofs.Puts.{at_each}
@@ -34,6 +33,7 @@ use Rattle.iox2_laws.proofs.UpToDate.{grant_loan_subscribers, update_publisher_s
 use Rattle.iox2_pubsub.specs.DepartedPorts.{is_gone, departed_of, departed_at, HasRoom}
 use Rattle.iox2_pubsub.proofs.DepartedCounts.{passing, passing-kept, passing-less, passing-one-more}
 use Rattle.iox2_pubsub.proofs.DepartedUpdates.{update-subscriber-departed}
+use Rattle.iox2_pubsub.proofs.SubscriberSteps.{create-subscriber-by-steps}
 
 module _ {T U : Type 0} where
   -- Each subscriber has room for as many closed publishers as it had.
@@ -75,11 +75,11 @@ module _ {T U : Type 0} where
   publishers-stay : (s s' : State T U) → PortsStay s s' → PublishersStay s s'
   publishers-stay s s' stay p x at = let there = (stay.remain).publishers p x at in (there.0, there.1)
 
+  room-on : IsPreorder RoomStays
+  room-on = record { itself = λ t q closes has. has; trans = λ t u v first then q closes has. then q closes (first q closes has) }
+
   pub room-itself : (s s' : State T U) → s' ≡ s → RoomStays s s'
   room-itself s s' same q closes has = subst (λ (t : State T U). HasRoom t q closes) (sym same) has
-
-  rooms-stay : IsPreorder RoomStays
-  rooms-stay = record { itself = λ s. room-itself s s refl; trans = λ s t s' first then q closes has. then q closes (first q closes has) }
 
   -- ---- loans and sends
 
@@ -122,8 +122,10 @@ module _ {T U : Type 0} where
       room-stays s s' ((update_subscriber_stays environment s i s' failure h).remain).config (update-subscriber-departed environment s w i s' failure h)
 
   pub receive-room : (environment : Environment) (s : State T U) (i : ℕ) (s' : State T U) (result : ReceiveResult) → IsWellFormed s → Receive environment s i s' result → RoomStays s s'
-  receive-room environment s i s' result w h =
-      receive_by_steps RoomStays rooms-stay environment s i s' result (λ t failure k. update-subscriber-room environment s i t failure w k) (λ t p box q closes has. has) h
+  receive-room environment s i s' result w =
+      receive_by_steps RoomStays room-on environment s i s' result
+      (λ t failure. update-subscriber-room environment s i t failure w)
+      (λ t p box q closes has. has)
 
   -- ---- a release
 
@@ -166,22 +168,15 @@ module _ {T U : Type 0} where
 
   pub create-subscriber-room : (environment : Environment) (s : State T U) → IsWellFormed s → (given : SubscriberSettings) (s' : State T U) (refusal : Option SubscriberCreateError)
       → CreateSubscriber environment s given s' refusal → RoomStays s s'
-  create-subscriber-room environment s w given s' refusal h =
-      subscriber_cases environment s given s' (RoomStays s s') refusal h (λ e same _. room-itself s s' same) (λ place makes.
-      let found : (place < (s.config).max_subscribers) × (occupant s.subscriber_places place ≡ None) = free_place_is (s.config).max_subscribers s.subscriber_places place makes.0 in
-      made place (new_subscriber_keeps s w given place (ltb-false _ _ makes.1) found.0 found.1) makes.3)
+  create-subscriber-room environment s w given s' refusal =
+      create-subscriber-by-steps RoomStays room-on environment s w given s' refusal entered (λ new t failure. update-subscriber-room environment new s.next_port t failure) (λ t warning q closes has. has)
     where
-      warned : (t : State T U) (failure : Option ConnectionFailure) → RoomStays t (with_failure_warning t (SubscriberPartlyConnected s.next_port) failure)
-      warned t None = λ q closes has. has
-      warned t (Some failure) = λ q closes has. has
-
-      made : (place : ℕ) → IsWellFormed (with_new_subscriber s given place) → FirstSubscriberUpdate environment (with_new_subscriber s given place) s.next_port s' → RoomStays s s'
-      made place new-well h = λ q closes has.
+      entered : (place : ℕ) → RoomStays s (with_new_subscriber s given place)
+      entered place =
           let new : State T U = with_new_subscriber s given place in
-          let first : HasRoom new q closes = room-stays s new refl (λ i.
+          room-stays s new refl (λ i.
           at_each s.subscribers s.next_port (Some (new_subscriber given place)) (λ k o. option_map_or (departed_of new) o 0 ≤ departed_at s k) i
-          (λ _. omega arith) (λ _. record-less s new (due-stay s new (λ p. refl)) (s.subscribers i))) q closes has in
-          subst (λ (t : State T U). HasRoom t q closes) (sym h.3) (warned h.0 h.1 q closes (update-subscriber-room environment new s.next_port h.0 h.1 new-well h.2 q closes first))
+          (λ _. omega arith) (λ _. record-less s new (due-stay s new (λ p. refl)) (s.subscribers i)))
 
   -- an id that no port has yet
   unknown-departed : (s : State T U) → IsWellFormed s → departed_at s s.next_port ≡ 0

@@ -1,20 +1,16 @@
 -- An unwritten loan that was filled at once, under the handle of the written one that it became.
-use Rattle.std.proofs.Common.{◌≡◌, List, Option, Some, length, refl, sym, subst}
-use Rattle.iox2_machine.specs.declared.header.Header.{Header}
+use Rattle.std.proofs.Common.{◌≡◌, List, refl, sym, subst}
 use Rattle.iox2_machine.specs.declared.key.Key.{Key}
-use Rattle.iox2_machine.specs.machine.Records.{Loan}
-use Rattle.iox2_machine.specs.machine.SingleCalls.{WriteAllFrom}
-use Rattle.iox2_machine.specs.machine.State.{State, Messages}
 use Rattle.iox2_domain.specs.Boxes.{DomainBoxes}
 use Rattle.iox2_domain.specs.Fields.{Fields, keeping}
 use Rattle.iox2_domain.specs.Invariant.{IsDomain}
 use Rattle.iox2_domain.specs.Kept.{Kept}
 use Rattle.iox2_domain.specs.LoanCalls.{WritesLoan}
-use Rattle.iox2_domain.specs.Shows.{Shows}
 use Rattle.iox2_domain.specs.declared.loan_slots.LoanAt.{LoanAt}
 use Rattle.iox2_pubsub.specs.Leaves.{LeavesBut}
-use Rattle.iox2_pubsub.specs.Live.{HasLender, IsPublisherKey, IsUnblocked, IsUnwritten, IsWritten, IsWrittenLoan, LoanHasHeader, LoanHasUserHeader, NeverWaits, lender_key, unwritten_key, unwritten_loan, written_key}
-use Rattle.iox2_pubsub.specs.Slices.{HasUnwrittenCells, HasValues}
+use Rattle.iox2_pubsub.specs.Live.{IsPublisherKey, IsUnblocked, IsUnwritten, IsWritten, NeverWaits, lender_key, unwritten_key, unwritten_loan, written_key}
+use Rattle.iox2_pubsub.specs.LoanCalls.{BecomesWritten, WritesAll}
+use Rattle.iox2_pubsub.specs.Slices.{HasValues}
 use Rattle.iox2_pubsub.specs.declared.sample_mut.SampleMut.{SampleMut}
 use Rattle.iox2_pubsub.specs.declared.sample_mut_uninit.SampleMutUninit.{SampleMutUninit}
 use Rattle.iox2_pubsub.proofs.FilledLengths.{filled-lengths}
@@ -22,18 +18,9 @@ use Rattle.iox2_pubsub.proofs.FilledLoans.{filled-header, filled-leaves, filled-
 
 -- What each function says that makes an unwritten loan a written one with these values, in the place of its own.
 pub record Filled {T U F G : Type 0} (old new : Kept T U F G) (loan : SampleMutUninit) (filled : SampleMut) (values : List T) : Type 0 where
-  pub shown : (m : Messages T U) (s : State T U) → Shows old m s
-      → (l : Loan T U) × (s.loans loan.loan.number ≡ Some l) × (s' : State T U) × WriteAllFrom s loan.loan.number l values s' × Shows new m s'
+  pub shown : WritesAll loan.loan.number values old new
   pub written : HasValues new filled.loan.number values
-  pub lengths : (cells : List (Option T)) (reads : List T) → HasUnwrittenCells old loan.loan.number cells → HasValues new filled.loan.number reads → length reads ≡ length cells
-  pub out : IsWritten new filled
-  pub live : NeverWaits old (unwritten_key loan) → IsWrittenLoan new filled
-  pub unblocked : IsUnblocked old (unwritten_key loan) → IsUnblocked new (written_key filled)
-  pub key : written_key filled ≡ unwritten_key loan
-  pub lent : HasLender old (unwritten_key loan) → HasLender new (written_key filled)
-  pub header : (header : Header) → LoanHasHeader old (unwritten_key loan) header → LoanHasHeader new (written_key filled) header
-  pub user_header : (header : U) → LoanHasUserHeader old (unwritten_key loan) header → LoanHasUserHeader new (written_key filled) header
-  pub leaves : LeavesBut (unwritten_loan loan) old new
+  pub becomes : BecomesWritten loan filled old new
 
 module _ {T U F G : Type 0} {boxes : DomainBoxes F G} (f g : Fields T U) (sound : IsDomain f) (kept : Kept T U F G) (view : keeping boxes f ≡ kept) (loan : SampleMutUninit) (live : IsUnwritten kept loan)
     (values : List T) (writes : WritesLoan f g loan.loan.number values) where
@@ -53,13 +40,15 @@ module _ {T U F G : Type 0} {boxes : DomainBoxes F G} (f g : Fields T U) (sound 
       record {
         shown = filled-shown f g sound kept view loan.loan.number values writes;
         written = filled-values f g sound kept view loan.loan.number values writes at.number number;
-        lengths = λ cells reads has its. filled-lengths f g kept view loan.loan.number values writes cells has at.number number reads its;
-        out = out;
-        live = λ never. record { out = out; never_waits = subst (NeverWaits (keeping boxes g)) (sym key) (all-else.stays.never_wait (unwritten_key loan) never) };
-        unblocked = λ free. subst (IsUnblocked (keeping boxes g)) (sym key) (all-else.stays.unblocked (unwritten_key loan) free tt);
-        key = key;
-        lent = λ lent. subst (λ (k : Key). IsPublisherKey (keeping boxes g) (lender_key k)) (sym key) (all-else.stays.publishers (lender_key (unwritten_key loan)) lent tt);
-        header = filled-header f g sound kept view loan.loan.number values writes (unwritten_key loan) (written_key filled) refl number;
-        user_header = filled-user-header f g sound kept view loan.loan.number values writes (unwritten_key loan) (written_key filled) refl number;
-        leaves = all-else;
+        becomes = record {
+          out = out;
+          live = λ never. record { out = out; never_waits = subst (NeverWaits (keeping boxes g)) (sym key) (all-else.stays.never_wait (unwritten_key loan) never) };
+          unblocked = λ free. subst (IsUnblocked (keeping boxes g)) (sym key) (all-else.stays.unblocked (unwritten_key loan) free tt);
+          key = key;
+          lent = λ lent. subst (λ (k : Key). IsPublisherKey (keeping boxes g) (lender_key k)) (sym key) (all-else.stays.publishers (lender_key (unwritten_key loan)) lent tt);
+          lengths = λ cells reads has its. filled-lengths f g kept view loan.loan.number values writes cells has at.number number reads its;
+          header = filled-header f g sound kept view loan.loan.number values writes (unwritten_key loan) (written_key filled) refl number;
+          user_header = filled-user-header f g sound kept view loan.loan.number values writes (unwritten_key loan) (written_key filled) refl number;
+          leaves = all-else;
+        };
       }

@@ -16,6 +16,8 @@ pub mod FilledLengths
 pub mod GrantedLoans
 pub mod FilledLoans
 mod FilledHandles
+mod GoneOn
+mod SubscriberSteps
 mod LocatedLoans
 pub mod SentMessages
 pub mod OverflowSends

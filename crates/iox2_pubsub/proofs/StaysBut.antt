@@ -11,7 +11,7 @@ use Rattle.iox2_machine.specs.declared.header.Header.{Header}
 use Rattle.iox2_machine.specs.declared.key.Key.{Key}
 use Rattle.iox2_machine.specs.declared.service_config.ServiceConfig.{ServiceConfig}
 use Rattle.iox2_laws.proofs.PortsStay.{Remain}
-use Rattle.iox2_laws.proofs.Waits.{Waits}
+use Rattle.iox2_laws.proofs.Waits.{IsAsItWas, StandsAsItDid, Waits}
 use Rattle.iox2_machine.specs.Stored.{In_mailbox}
 use Rattle.iox2_domain.specs.Boxes.{DomainBoxes, box_of, boxes_of, degradation_box_of}
 use Rattle.iox2_domain.specs.declared.boxes.PortBox.{PortBox}
@@ -254,41 +254,34 @@ module _ {T U F G : Type 0} (spent : Item) (old new : Kept T U F G) (remain : Po
   more : (p : ℕ) → p < (state_of old).next_port → p < (state_of new).next_port
   more p low = let rises = waits.next_port in omega (arith, low, rises)
 
+  -- what was so of a port, if it was there, is so of what it became
+  still-so : {R : Type 0} (before after : ℕ → Option R) (Was : R → R → Type 0) (id : ℕ) (P : R → Type 0)
+      → ((x' : R) → id < (state_of old).next_port → after id ≡ Some x' → (x : R) × (before id ≡ Some x) × Was x x') → ((x x' : R) → Was x x' → P x → P x')
+      → (id < (state_of old).next_port) × ((x : R) → before id ≡ Some x → P x) → (id < (state_of new).next_port) × ((x' : R) → after id ≡ Some x' → P x')
+  still-so before after Was id P came still was = (
+    more id was.0,
+    λ x' at.
+        let it = came x' was.0 at in
+        still it.0 x' it.2 (was.1 it.0 it.1),
+  )
+
   placed : (it : PublisherHandle) → IsPlacedPublisher old it → IsPlacedPublisher new it
   unfolding IsPlacedPublisher
-  placed it was = (
-    more it.id was.0,
-    λ x' at.
-        let before = waits.publishers it.id x' was.0 at in
-        before.2.place ∙ was.1 before.0 before.1,
-  )
+  placed it = still-so (state_of old).publishers (state_of new).publishers (IsAsItWas (IsSpared spent) it.id) it.id (λ x. x.place ≡ it.place) (waits.publishers it.id) (λ x x' kept stood. kept.place ∙ stood)
 
   placed-subscriber : (it : SubscriberHandle) → IsPlacedSubscriber old it → IsPlacedSubscriber new it
   unfolding IsPlacedSubscriber
-  placed-subscriber it was = (
-    more it.id was.0,
-    λ y' at.
-        let before = waits.subscribers it.id y' was.0 at in
-        before.2.place ∙ was.1 before.0 before.1,
-  )
+  placed-subscriber it = still-so (state_of old).subscribers (state_of new).subscribers StandsAsItDid it.id (λ y. y.place ≡ it.place) (waits.subscribers it.id) (λ y y' kept stood. kept.place ∙ stood)
 
   buffered : (it : SubscriberHandle) → HasItsBuffer old it → HasItsBuffer new it
   unfolding HasItsBuffer
-  buffered it was = (
-    more it.id was.0,
-    λ y' at.
-        let before = waits.subscribers it.id y' was.0 at in
-        before.2.buffer ∙ was.1 before.0 before.1,
-  )
+  buffered it = still-so (state_of old).subscribers (state_of new).subscribers StandsAsItDid it.id (λ y. y.buffer ≡ it.buffer_size) (waits.subscribers it.id) (λ y y' kept had. kept.buffer ∙ had)
 
   free : (key : Key) → IsUnblocked old key → IsOtherBlocked spent key.port → IsUnblocked new key
   unfolding IsUnblocked
-  free key was other = (
-    more key.port was.0,
-    λ x' at.
-        let before = waits.publishers key.port x' was.0 at in
-        before.2.blocked (λ spared. spared other) ∙ was.1 before.0 before.1,
-  )
+  free key was other =
+      still-so (state_of old).publishers (state_of new).publishers (IsAsItWas (IsSpared spent) key.port) key.port (λ x. x.blocked ≡ None) (waits.publishers key.port)
+      (λ x x' kept none. kept.blocked (λ spared. spared other) ∙ none) was
 
   -- the settings don't change
   overflows : (old.config).enable_safe_overflow ≡ true → (new.config).enable_safe_overflow ≡ true
@@ -653,24 +646,33 @@ stays-through start old new first second spent spares before next unblocked = re
       let apart = spares.samples key live other in next.sample_user_headers key header (before.samples key live apart.0) (before.sample_user_headers key header live has apart.0) apart.1;
 }
 
+-- Where what was spent says so alone, whatever there was at the start.
+spares-alike : {T U F G : Type 0} (start : Kept T U F G) (first second spent : Item) → ((id : ℕ) → IsOtherPublisher spent id → IsOtherPublisher first id × IsOtherPublisher second id)
+    → ((id : ℕ) → IsOtherSubscriber spent id → IsOtherSubscriber first id × IsOtherSubscriber second id) → ((n : ℕ) → IsOtherLoan spent n → IsOtherLoan first n × IsOtherLoan second n)
+    → ((id n : ℕ) → IsOtherSample spent id n → IsOtherSample first id n × IsOtherSample second id n)
+    → ((key : Key) → IsBlockedKey start key → IsOtherPublisher spent key.port → IsOtherBlocked spent key.port
+    → (IsOtherPublisher first key.port × IsOtherBlocked first key.port) × IsOtherPublisher second key.port × IsOtherBlocked second key.port) → Spares start first second spent
+spares-alike start first second spent publishers subscribers loans samples blocked = record {
+  publishers = λ key _. publishers key.port;
+  subscribers = λ key _. subscribers key.port;
+  loans = λ key _. loans key.message;
+  unwritten_loans = λ it _. loans it.loan.number;
+  written_loans = λ it _. loans it.loan.number;
+  samples = λ key _. samples key.port key.message;
+  origins = λ it _. samples it.sample.subscriber it.sample.number;
+  cells = λ n _ _. loans n;
+  payloads = λ n _ _. loans n;
+  blocked_sends = blocked;
+}
+
 -- what stays twice but for an item stays but for it
 pub stays-twice : {T U F G : Type 0} (spent : Item) (start old new : Kept T U F G) → StaysBut spent start old → StaysBut spent old new → StaysBut spent start new
 stays-twice spent start old new before next =
     stays-through start old new spent spent spent spared before next (λ key free other. next.unblocked key (before.unblocked key free other) other)
   where
     spared : Spares start spent spent spent
-    spared = record {
-      publishers = λ key live other. (other, other);
-      subscribers = λ key live other. (other, other);
-      loans = λ key live other. (other, other);
-      unwritten_loans = λ it live other. (other, other);
-      written_loans = λ it live other. (other, other);
-      samples = λ key live other. (other, other);
-      origins = λ it from other. (other, other);
-      cells = λ n cells has other. (other, other);
-      payloads = λ n values has other. (other, other);
-      blocked_sends = λ key live other alike. ((other, alike), other, alike);
-    }
+    spared = spares-alike start spent spent spent (λ id other. (other, other)) (λ id other. (other, other)) (λ n other. (other, other)) (λ id n other. (other, other))
+        (λ key live other alike. ((other, alike), other, alike))
 
 module _ {T U F G : Type 0} (start old : Kept T U F G) (before : Stays start old) (item : Item) where
   -- what is new later was new before
@@ -736,15 +738,5 @@ stays-since-block {T} {U} {F} {G} p start old new was before next frees =
     away key live its = waits-not start key live (was key its)
 
     spared : Spares start (A_blocked_send p) (A_blocked_send p) No_item
-    spared = record {
-      publishers = λ key live other. (tt, tt);
-      subscribers = λ key live other. (tt, tt);
-      loans = λ key live other. (tt, tt);
-      unwritten_loans = λ it live other. (tt, tt);
-      written_loans = λ it live other. (tt, tt);
-      samples = λ key live other. (tt, tt);
-      origins = λ it from other. (tt, tt);
-      cells = λ n cells has other. (tt, tt);
-      payloads = λ n values has other. (tt, tt);
-      blocked_sends = λ key live other alike. ((tt, away key live), tt, away key live);
-    }
+    spared = spares-alike start (A_blocked_send p) (A_blocked_send p) No_item (λ id other. (tt, tt)) (λ id other. (tt, tt)) (λ n other. (tt, tt)) (λ id n other. (tt, tt))
+        (λ key live other alike. ((tt, away key live), tt, away key live))

@@ -1,11 +1,19 @@
 -- How far a blocked send still has to go, and what there is when it has ended.
-use Rattle.std.specs.Prelude.{ℕ, length}
+use Rattle.std.specs.Prelude.{ℕ, length, ◌≡◌, IfErr, IfOk, IsOk}
 use Rattle.std.specs.Option.{option_map_or}
+use Rattle.std.specs.declared.result.Result.{Result}
 use Rattle.iox2_machine.specs.machine.Records.{Publisher as MachinePublisher, BlockedSend as MachineBlocked}
 use Rattle.iox2_machine.specs.machine.State.{State}
+use Rattle.iox2_machine.specs.declared.errors.SendError.{SendError}
+use Rattle.iox2_machine.specs.declared.errors.SendError.TheVariants.{UnableToDeliver}
 use Rattle.iox2_domain.specs.Kept.{Kept, state_of}
-use Rattle.iox2_pubsub.specs.Live.{IsUnblocked, Stays, StaysBut, blocked_key, blocked_send, lender_key}
+use Rattle.iox2_pubsub.specs.Handles.{blocked_sender, written_lender}
+use Rattle.iox2_pubsub.specs.Live.{AddAtMost, IsBlockedSend, IsUnblocked, NeverFails, Stays, StaysBut, UpToDateStay, blocked_key, blocked_send, lender_key, written_key}
+use Rattle.iox2_pubsub.specs.LoansLeft.{HasOneMoreLeft, LoansLeftStay}
+use Rattle.iox2_pubsub.specs.SendCalls.{IfBlocked, IsDelivered}
 use Rattle.iox2_pubsub.specs.declared.blocked_send.BlockedSend.{BlockedSend}
+use Rattle.iox2_pubsub.specs.declared.sample_mut.SampleMut.{SampleMut}
+use Rattle.iox2_pubsub.specs.declared.send_outcome.SendOutcome.{SendOutcome}
 
 module _ {T U : Type 0} where
   -- At how many places the publisher p has receivers before it from the one on that it waits for, empty places counted; at none
@@ -23,3 +31,19 @@ module _ {T U F G : Type 0} where
   -- was blocked, and from which all but the blocked send stayed.
   unfoldable pub StaysSince : BlockedSend → (old new : Kept T U F G) → Type 0
   StaysSince blocked old new = (before : Kept T U F G) → IsUnblocked before (lender_key (blocked_key blocked)) → StaysBut (blocked_send blocked) before old → Stays before new
+
+  -- The blocked send went on, and ended so or is blocked again, under the same key. It fails only where a handler fails it. When it
+  -- has ended its publisher is free again and has one loan more left, and what was live before the send blocked is live.
+  pub record GoesOn (waited : BlockedSend) (result : Result SendOutcome SendError) (old new : Kept T U F G) : Type 0 where
+    pub blocked : IfOk result (λ outcome. IfBlocked outcome (λ again. IsBlockedSend new again × (blocked_key again ≡ blocked_key waited)))
+    pub ok : NeverFails old (blocked_sender waited) → IsOk result
+    pub failed : IfErr result (λ error. error ≡ UnableToDeliver)
+    pub freed : IfOk result IsDelivered → IsUnblocked new (lender_key (blocked_key waited))
+    pub loans_freed : IfOk result IsDelivered → (loan : SampleMut) → written_lender loan ≡ blocked_sender waited → IsUnblocked new (written_key loan)
+    pub adds : AddAtMost 1 old new
+    pub up_to_date : UpToDateStay old new
+    pub loans_left : LoansLeftStay old new
+    pub given_back : IfOk result IsDelivered → HasOneMoreLeft (blocked_sender waited) old new
+    pub stays : StaysBut (blocked_send waited) old new
+    pub stays_since : IfOk result IsDelivered → StaysSince waited old new
+    pub since_again : IfOk result (λ outcome. IfBlocked outcome (λ again. (after : Kept T U F G) → StaysSince again new after → StaysSince waited old after))

@@ -15,6 +15,7 @@ pub mod MadePublishers
 pub mod NewDomains
 pub mod ChangedLoans
 pub mod LoanLends
+pub mod LoanCalls
 pub mod Slices
 pub mod WrittenLoans
 pub mod Handlers

@@ -1,5 +1,5 @@
 -- A send, by its outcome.
-use Rattle.std.specs.Prelude.{ℕ, Bool, true, false, ◌≡◌, ◌⊎◌}
+use Rattle.std.specs.Prelude.{ℕ, Bool, true, false, ◌≡◌, ◌⊎◌, IfOk, IsOk}
 use Rattle.std.specs.declared.option.Option.TheVariants.{Some}
 use Rattle.std.specs.declared.result.Result.{Result}
 use Rattle.std.specs.declared.result.Result.TheVariants.{Ok, Err}
@@ -19,7 +19,9 @@ use Rattle.iox2_pubsub.specs.declared.send_outcome.SendOutcome.TheVariants.{Deli
 use Rattle.iox2_pubsub.specs.declared.blocked_send.BlockedSend.{BlockedSend}
 use Rattle.iox2_pubsub.specs.declared.sample_mut.SampleMut.{SampleMut}
 use Rattle.iox2_pubsub.specs.declared.publisher.Publisher.{Publisher}
-use Rattle.iox2_pubsub.specs.Live.{Item, A_sent_loan, A_sent_copy, HasLender, NeverFails}
+use Rattle.iox2_pubsub.specs.Handles.{written_lender}
+use Rattle.iox2_pubsub.specs.Live.{Item, A_sent_loan, A_sent_copy, HasLender, IsBlockedSend, IsLoanKey, NeverFails, NeverWaits, OthersSend, StaysBut, UpToDateStay, blocked_key, written_key}
+use Rattle.iox2_pubsub.specs.LoansLeft.{HasOneMoreLeft, LoansLeftStay}
 
 -- The machine's result of a send.
 abbrev pub sent_result : SendOutcome → SendResult
@@ -88,3 +90,18 @@ module _ {T U F G : Type 0} (domain : Kept T U F G) where
   -- Why the publisher's copy isn't sent: it isn't lent, for this reason, or a handler fails its send.
   unfoldable pub FailsCopy : Publisher → SendError → Type 0
   FailsCopy publisher error = ((reason : LoanError) × (error ≡ Not_lent reason)) ⊎ (IsOfHandler error × (NeverFails domain publisher.id → ⊥))
+
+module _ {T U F G : Type 0} where
+  -- A send spent the loan, with this outcome or error. It succeeds where the publisher is there and no handler fails it; it isn't
+  -- blocked where the publisher never waits, and else is blocked under the loan's key. What other publishers sent waits as it did,
+  -- and when the send has ended the publisher has one loan more left.
+  pub record SpendsLoan (loan : SampleMut) (result : Result SendOutcome SendError) (old new : Kept T U F G) : Type 0 where
+    pub ok : HasLender old (written_key loan) → NeverFails old (written_lender loan) → IsOk result
+    pub delivered : NeverWaits old (written_key loan) → IfOk result IsDelivered
+    pub blocked : IfOk result (λ outcome. IfBlocked outcome (λ blocked. IsBlockedSend new blocked × (blocked_key blocked ≡ written_key loan)))
+    pub spent : IsLoanKey new (written_key loan) → ⊥
+    pub others : OthersSend (written_lender loan) old new
+    pub up_to_date : UpToDateStay old new
+    pub loans_left : LoansLeftStay old new
+    pub given_back : IfOk result IsDelivered → HasOneMoreLeft (written_lender loan) old new
+    pub stays : StaysBut (spent_by_send loan result) old new

@@ -27,6 +27,23 @@ pub struct BlockedSend {
 }
 
 impl BlockedSend {
+    // The handle of the send of this loan, where it is blocked.
+    #[inline(always)]
+    pub(crate) fn of(service_id: u128, loan: &LoanAt) -> BlockedSend
+        ensures { result ≡ record { service_id = service_id; loan = loan.now } }
+    {
+        BlockedSend {
+            service_id,
+            loan: LoanAt {
+                publisher: loan.publisher,
+                number: loan.number,
+                place: loan.place,
+                book: loan.book,
+                slot: loan.slot,
+            },
+        }
+    }
+
     /// Names the blocked send without being its handle: it has the key of the loan that was sent.
     pub fn key(&self) -> Key
         ensures { result ≡ blocked_key self.now }

@@ -1,6 +1,6 @@
 //! A blocked send is tried again, or given up.
-ghost use Rattle.std.specs.Prelude.{◌≡◌, ◌≤◌, ◌<◌, IfErr, IfOk, IsOk};
-ghost use Rattle.iox2_pubsub.specs.BlockedSends.{StaysSince, receivers_ahead};
+ghost use Rattle.std.specs.Prelude.{◌≡◌, ◌≤◌, ◌<◌, IfOk};
+ghost use Rattle.iox2_pubsub.specs.BlockedSends.{GoesOn, receivers_ahead};
 ghost use Rattle.iox2_pubsub.specs.SendCalls.{IfBlocked, result_of_send};
 
 use crate::blocked_send::BlockedSend;
@@ -16,14 +16,10 @@ impl BlockedSend {
     ghost use Rattle.iox2_machine.specs.machine.Records.{Publisher as Record, BlockedSend as Waiting};
     ghost use Rattle.iox2_machine.specs.machine.Sends.{Retry, GiveUp};
     ghost use Rattle.iox2_machine.specs.machine.State.{State, Messages};
-    ghost use Rattle.iox2_pubsub.specs.Live.{AddAtMost, IsBlockedSend, IsUnblocked, NeverFails, StaysBut, UpToDateStay, blocked_key, blocked_send, lender_key, written_key};
-    ghost use Rattle.iox2_pubsub.specs.LoansLeft.{HasOneMoreLeft, LoansLeftStay};
-    ghost use Rattle.iox2_pubsub.specs.SendCalls.{IsDelivered};
-    ghost use Rattle.iox2_pubsub.specs.declared.sample_mut.SampleMut.{SampleMut};
+    ghost use Rattle.iox2_pubsub.specs.Live.{IsBlockedSend};
     ghost use Rattle.iox2_domain.specs.Boxes.{answers_of};
-    ghost use Rattle.iox2_domain.specs.Kept.{Kept};
     ghost use Rattle.iox2_domain.specs.Shows.{Shows};
-    ghost use Rattle.iox2_pubsub.specs.Handles.{blocked_sender, written_lender};
+    ghost use Rattle.iox2_pubsub.specs.Handles.{blocked_sender};
 
     /// Tries the send again at the subscriber that it waits for, and goes on to those that remain.
     /// Those that took the message aren't served again, and connections aren't updated. Where the
@@ -43,19 +39,8 @@ impl BlockedSend {
         requires live { IsBlockedSend domain.old self }
         ensures retries { (m : Messages T U) (s : State T U) (x : Record) (b : Waiting) → Shows domain.old m s → s.publishers (blocked_sender self) ≡ Some x → x.blocked ≡ Some b
             → (s' : State T U) × Shows domain.new m s' × Retry (answers_of F.allows G.allows (domain.old.boxes).publishers) s (blocked_sender self) b elapsed s' (result_of_send result) }
-        ensures blocked { IfOk result (λ outcome. IfBlocked outcome (λ blocked. IsBlockedSend domain.new blocked × (blocked_key blocked ≡ blocked_key self))) }
         ensures no_more { IfOk result (λ outcome. IfBlocked outcome (λ blocked. receivers_ahead domain.new blocked ≤ receivers_ahead domain.old self)) }
-        ensures ok { NeverFails domain.old (blocked_sender self) → IsOk result }
-        ensures failed { IfErr result (λ error. error ≡ SendError.UnableToDeliver) }
-        ensures freed { IfOk result IsDelivered → IsUnblocked domain.new (lender_key (blocked_key self)) }
-        ensures loans_freed { IfOk result IsDelivered → (loan : SampleMut) → written_lender loan ≡ blocked_sender self → IsUnblocked domain.new (written_key loan) }
-        ensures adds { AddAtMost 1 domain.old domain.new }
-        ensures up_to_date { UpToDateStay domain.old domain.new }
-        ensures loans_left { LoansLeftStay domain.old domain.new }
-        ensures given_back { IfOk result IsDelivered → HasOneMoreLeft (blocked_sender self) domain.old domain.new }
-        ensures stays { StaysBut (blocked_send self) domain.old domain.new }
-        ensures stays_since { IfOk result IsDelivered → StaysSince self domain.old domain.new }
-        ensures since_again { IfOk result (λ outcome. IfBlocked outcome (λ blocked. (after : Kept T U F G) → StaysSince blocked domain.new after → StaysSince self domain.old after)) }
+        ensures goes_on { GoesOn self result domain.old domain.new }
     {
         let BlockedSend { service_id, loan } = self;
         let place = domain.state.find_live_publisher(loan.publisher, loan.place);
@@ -76,19 +61,8 @@ impl BlockedSend {
         requires live { IsBlockedSend domain.old self }
         ensures gives_up { (m : Messages T U) (s : State T U) (x : Record) (b : Waiting) → Shows domain.old m s → s.publishers (blocked_sender self) ≡ Some x → x.blocked ≡ Some b
             → (s' : State T U) × Shows domain.new m s' × GiveUp (answers_of F.allows G.allows (domain.old.boxes).publishers) s (blocked_sender self) b s' (result_of_send result) }
-        ensures blocked { IfOk result (λ outcome. IfBlocked outcome (λ blocked. IsBlockedSend domain.new blocked × (blocked_key blocked ≡ blocked_key self))) }
         ensures fewer { IfOk result (λ outcome. IfBlocked outcome (λ blocked. receivers_ahead domain.new blocked < receivers_ahead domain.old self)) }
-        ensures ok { NeverFails domain.old (blocked_sender self) → IsOk result }
-        ensures failed { IfErr result (λ error. error ≡ SendError.UnableToDeliver) }
-        ensures freed { IfOk result IsDelivered → IsUnblocked domain.new (lender_key (blocked_key self)) }
-        ensures loans_freed { IfOk result IsDelivered → (loan : SampleMut) → written_lender loan ≡ blocked_sender self → IsUnblocked domain.new (written_key loan) }
-        ensures adds { AddAtMost 1 domain.old domain.new }
-        ensures up_to_date { UpToDateStay domain.old domain.new }
-        ensures loans_left { LoansLeftStay domain.old domain.new }
-        ensures given_back { IfOk result IsDelivered → HasOneMoreLeft (blocked_sender self) domain.old domain.new }
-        ensures stays { StaysBut (blocked_send self) domain.old domain.new }
-        ensures stays_since { IfOk result IsDelivered → StaysSince self domain.old domain.new }
-        ensures since_again { IfOk result (λ outcome. IfBlocked outcome (λ blocked. (after : Kept T U F G) → StaysSince blocked domain.new after → StaysSince self domain.old after)) }
+        ensures goes_on { GoesOn self result domain.old domain.new }
     {
         let BlockedSend { service_id, loan } = self;
         let place = domain.state.find_live_publisher(loan.publisher, loan.place);

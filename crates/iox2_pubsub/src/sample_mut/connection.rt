@@ -1,13 +1,11 @@
 //! A message is sent to one connection of its publisher.
-ghost use Rattle.std.specs.Prelude.{◌≡◌, ◌<◌, IfErr, IfOk, IsOk};
-ghost use Rattle.iox2_pubsub.specs.SendCalls.{IfBlocked};
+ghost use Rattle.std.specs.Prelude.{◌≡◌, ◌<◌, IfErr};
 
 use crate::blocked_send::BlockedSend;
 use crate::domain::Domain;
 use crate::sample_mut::SampleMut;
 use crate::sample_mut::send::outcome_of;
 use crate::send_outcome::SendOutcome;
-use iox2_domain::LoanAt;
 use iox2_machine::{BackpressureFn, DegradationFn, SendError};
 use iox2_messages::send_to_connection;
 
@@ -16,12 +14,11 @@ impl SampleMut {
     ghost use Rattle.iox2_machine.specs.machine.Limits.{channel_count};
     ghost use Rattle.iox2_machine.specs.machine.Records.{Loan};
     ghost use Rattle.iox2_machine.specs.machine.State.{State, Messages};
-    ghost use Rattle.iox2_pubsub.specs.Live.{AddAtMost, HasLender, IsBlockedSend, IsLoanKey, IsUnblocked, IsWritten, NeverFails, NeverWaits, OthersSend, StaysBut, UpToDateStay, blocked_key, written_key};
-    ghost use Rattle.iox2_pubsub.specs.LoansLeft.{HasOneMoreLeft, LoansLeftStay};
-    ghost use Rattle.iox2_pubsub.specs.SendCalls.{FailsDelivery, IsDelivered, SendsToConnection, messages_after, spent_by_send};
+    ghost use Rattle.iox2_pubsub.specs.Live.{AddAtMost, IsUnblocked, IsWritten, written_key};
+    ghost use Rattle.iox2_pubsub.specs.SendCalls.{FailsDelivery, SendsToConnection, SpendsLoan, messages_after};
     ghost use Rattle.iox2_domain.specs.Boxes.{answers_of};
     ghost use Rattle.iox2_domain.specs.Shows.{Shows};
-    ghost use Rattle.iox2_pubsub.specs.Handles.{written_lender, written_number};
+    ghost use Rattle.iox2_pubsub.specs.Handles.{written_number};
 
     /// Sends the message into one channel of one of its publisher's connections, and to nobody else:
     /// so one subscriber gets it alone.
@@ -60,32 +57,15 @@ impl SampleMut {
         requires live { IsWritten domain.old self }
         requires unblocked { IsUnblocked domain.old (written_key self) }
         requires channel { channel < channel_count domain.old.config }
-        ensures ok { HasLender domain.old (written_key self) → NeverFails domain.old (written_lender self) → IsOk result }
         ensures errors { IfErr result (FailsDelivery domain.old (written_key self)) }
         ensures sent { (m : Messages T U) (s : State T U) (l : Loan T U) → Shows domain.old m s → s.loans (written_number self) ≡ Some l
             → (s' : State T U) × Shows domain.new (messages_after m (written_number self) l result) s'
             × SendsToConnection (answers_of F.allows G.allows (domain.old.boxes).publishers) s (written_number self) l channel connection result s' }
-        ensures delivered { NeverWaits domain.old (written_key self) → IfOk result IsDelivered }
-        ensures blocked { IfOk result (λ outcome. IfBlocked outcome (λ blocked. IsBlockedSend domain.new blocked × (blocked_key blocked ≡ written_key self))) }
-        ensures spent { IsLoanKey domain.new (written_key self) → ⊥ }
         ensures adds { AddAtMost 1 domain.old domain.new }
-        ensures others { OthersSend (written_lender self) domain.old domain.new }
-        ensures up_to_date { UpToDateStay domain.old domain.new }
-        ensures loans_left { LoansLeftStay domain.old domain.new }
-        ensures given_back { IfOk result IsDelivered → HasOneMoreLeft (written_lender self) domain.old domain.new }
-        ensures stays { StaysBut (spent_by_send self result) domain.old domain.new }
+        ensures spends { SpendsLoan self result domain.old domain.new }
     {
         let SampleMut { service_id, loan } = self;
-        let blocked = BlockedSend {
-            service_id,
-            loan: LoanAt {
-                publisher: loan.publisher,
-                number: loan.number,
-                place: loan.place,
-                book: loan.book,
-                slot: loan.slot,
-            },
-        };
+        let blocked = BlockedSend::of(service_id, &loan);
         let end = send_to_connection(&mut domain.state, &domain.boxes, loan, channel, connection);
         outcome_of(blocked, end)
     }

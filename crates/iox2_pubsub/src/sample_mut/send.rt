@@ -1,5 +1,5 @@
 //! A message is sent.
-ghost use Rattle.std.specs.Prelude.{◌≡◌, IfErr, IfOk, IsOk, ◌+◌, false};
+ghost use Rattle.std.specs.Prelude.{◌≡◌, IfErr, IfOk, ◌+◌, false};
 ghost use Rattle.iox2_machine.specs.machine.SingleCalls.{HoldsPublisher};
 ghost use Rattle.iox2_machine.specs.machine.State.{is_blocked};
 ghost use Rattle.iox2_domain.specs.Boxes.{answers_of};
@@ -24,10 +24,9 @@ impl SampleMut {
     ghost use Rattle.std.specs.Prelude.{List, Some, [], length, ◌<◌, ◌++◌, ◌∷◌};
     ghost use Rattle.iox2_machine.specs.machine.Records.{Loan};
     ghost use Rattle.iox2_machine.specs.machine.State.{State, Messages};
-    ghost use Rattle.iox2_pubsub.specs.Live.{AllFrom, HasItsBuffer, HasLender, IsBlockedSend, IsConnected, IsLoanKey, IsServed, IsUnblocked, IsWritten, NeverFails, NeverWaits, OthersSend, StaysBut, blocked_key, written_key, AddAtMost, AreAllSlices, UpToDateStay, payloads, waiting};
-    ghost use Rattle.iox2_pubsub.specs.LoansLeft.{HasOneMoreLeft, LoansLeftStay};
+    ghost use Rattle.iox2_pubsub.specs.Live.{AllFrom, HasItsBuffer, IsConnected, IsServed, IsUnblocked, IsWritten, written_key, AddAtMost, AreAllSlices, payloads, waiting};
     ghost use Rattle.iox2_pubsub.specs.Slices.{HasValues};
-    ghost use Rattle.iox2_pubsub.specs.SendCalls.{FailsSend, IsDelivered, Sends, messages_after, spent_by_send};
+    ghost use Rattle.iox2_pubsub.specs.SendCalls.{FailsSend, IsDelivered, Sends, SpendsLoan, messages_after};
     ghost use Rattle.iox2_pubsub.specs.declared.subscriber.Subscriber.{Subscriber};
     ghost use Rattle.iox2_domain.specs.Boxes.{answers_of};
     ghost use Rattle.iox2_domain.specs.Shows.{Shows};
@@ -58,13 +57,9 @@ impl SampleMut {
     ) -> Result<SendOutcome, SendError>
         requires live { IsWritten domain.old self }
         requires unblocked { IsUnblocked domain.old (written_key self) }
-        ensures ok { HasLender domain.old (written_key self) → NeverFails domain.old (written_lender self) → IsOk result }
         ensures errors { IfErr result (FailsSend domain.old (written_key self)) }
         ensures sent { (m : Messages T U) (s : State T U) (l : Loan T U) → Shows domain.old m s → s.loans (written_number self) ≡ Some l
             → (s' : State T U) × Shows domain.new (messages_after m (written_number self) l result) s' × Sends (answers_of F.allows G.allows (domain.old.boxes).publishers) s (written_number self) l result s' }
-        ensures delivered { NeverWaits domain.old (written_key self) → IfOk result IsDelivered }
-        ensures blocked { IfOk result (λ outcome. IfBlocked outcome (λ blocked. IsBlockedSend domain.new blocked × (blocked_key blocked ≡ written_key self))) }
-        ensures spent { IsLoanKey domain.new (written_key self) → ⊥ }
         ensures adds { AddAtMost ((domain.old.config).history_size + 1) domain.old domain.new }
         ensures brings { (subscriber : Subscriber) (values : List T) → (domain.old.config).history_size ≡ 0 → waiting domain.old subscriber ≡ 0
             → HasValues domain.old (written_number self) values → AreAllSlices (payloads domain.new subscriber) values }
@@ -75,23 +70,10 @@ impl SampleMut {
         ensures joins { (subscriber : Subscriber) (values : List T) (earlier : List (List T)) → AllFrom domain.old (written_lender self) subscriber earlier → HasItsBuffer domain.old subscriber
             → length earlier < buffer_size_of subscriber → IsConnected domain.old (written_lender self) subscriber → HasValues domain.old (written_number self) values
             → IfOk result (λ outcome. IsDelivered outcome → AllFrom domain.new (written_lender self) subscriber (earlier ++ values ∷ [])) }
-        ensures others { OthersSend (written_lender self) domain.old domain.new }
-        ensures up_to_date { UpToDateStay domain.old domain.new }
-        ensures loans_left { LoansLeftStay domain.old domain.new }
-        ensures given_back { IfOk result IsDelivered → HasOneMoreLeft (written_lender self) domain.old domain.new }
-        ensures stays { StaysBut (spent_by_send self result) domain.old domain.new }
+        ensures spends { SpendsLoan self result domain.old domain.new }
     {
         let SampleMut { service_id, loan } = self;
-        let blocked = BlockedSend {
-            service_id,
-            loan: LoanAt {
-                publisher: loan.publisher,
-                number: loan.number,
-                place: loan.place,
-                book: loan.book,
-                slot: loan.slot,
-            },
-        };
+        let blocked = BlockedSend::of(service_id, &loan);
         send_loan(&mut domain.state, &domain.boxes, loan, blocked)
     }
 }

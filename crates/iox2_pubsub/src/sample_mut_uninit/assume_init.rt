@@ -10,12 +10,12 @@ use iox2_messages::assume_loan;
 impl SampleMutUninit {
     ghost use Rattle.std.specs.Prelude.{Some, None, Option, List, map, is_some, IfOk, IsOkAnd, IsErr, MatchResult, true, false};
     ghost use Rattle.std.specs.List.{list_all};
-    ghost use Rattle.iox2_machine.specs.declared.header.Header.{Header};
     ghost use Rattle.iox2_machine.specs.machine.Loans.{initialized, is_initialized};
     ghost use Rattle.iox2_machine.specs.machine.Records.{Loan};
     ghost use Rattle.iox2_machine.specs.machine.State.{State, Messages};
     ghost use Rattle.iox2_domain.specs.Shows.{Shows};
-    ghost use Rattle.iox2_pubsub.specs.Live.{HasLender, IsUnblocked, IsUnwritten, IsWritten, IsWrittenLoan, LoanHasHeader, LoanHasUserHeader, LoanReads, NeverWaits, UnwrittenReads, unwritten_key, unwritten_loan, written_key};
+    ghost use Rattle.iox2_pubsub.specs.Live.{IsUnwritten, LoanReads, UnwrittenReads, unwritten_loan};
+    ghost use Rattle.iox2_pubsub.specs.LoanCalls.{BecomesWritten};
     ghost use Rattle.iox2_pubsub.specs.Leaves.{LeavesBut};
     ghost use Rattle.iox2_pubsub.specs.Slices.{HasUnwrittenCells, HasValues};
     ghost use Rattle.iox2_pubsub.specs.Handles.{unwritten_number, written_number};
@@ -34,17 +34,11 @@ impl SampleMutUninit {
             × MatchResult result
             (λ _. (is_initialized l ≡ true) × Shows domain.new m (initialized s (unwritten_number self) l))
             (λ _. (is_initialized l ≡ false) × Shows domain.new m s) }
-        ensures out { IfOk result (IsWritten domain.new) }
-        ensures live { NeverWaits domain.old (unwritten_key self) → IfOk result (IsWrittenLoan domain.new) }
-        ensures unblocked { IsUnblocked domain.old (unwritten_key self) → IfOk result (λ sample. IsUnblocked domain.new (written_key sample)) }
-        ensures key { IfOk result (λ sample. written_key sample ≡ unwritten_key self) }
-        ensures lent { IfOk result (λ sample. HasLender domain.old (unwritten_key self) → HasLender domain.new (written_key sample)) }
+        ensures becomes { IfOk result (λ sample. BecomesWritten self sample domain.old domain.new) }
         ensures reads { (value : T) → UnwrittenReads domain.old self (Some value) → IsOkAnd result (λ sample. LoanReads domain.new sample value) }
         ensures refused { UnwrittenReads domain.old self None → IsErr result }
         ensures all_read { (values : List T) → HasUnwrittenCells domain.old (unwritten_number self) (map Some values) → IsOkAnd result (λ sample. HasValues domain.new (written_number sample) values) }
         ensures some_unwritten { (cells : List (Option T)) → HasUnwrittenCells domain.old (unwritten_number self) cells → list_all is_some cells ≡ false → IsErr result }
-        ensures header { (header : Header) → LoanHasHeader domain.old (unwritten_key self) header → IfOk result (λ sample. LoanHasHeader domain.new (written_key sample) header) }
-        ensures user_header { (header : U) → LoanHasUserHeader domain.old (unwritten_key self) header → IfOk result (λ sample. LoanHasUserHeader domain.new (written_key sample) header) }
         ensures handed_back { MatchResult result (λ _. self ≡ self) (λ loan. (loan ≡ self) × (domain.new ≡ domain.old)) }
         ensures leaves { LeavesBut (unwritten_loan self) domain.old domain.new }
     {

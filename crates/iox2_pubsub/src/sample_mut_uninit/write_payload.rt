@@ -9,12 +9,11 @@ use iox2_messages::write_loan;
 
 impl SampleMutUninit {
     ghost use Rattle.std.specs.Prelude.{Some};
-    ghost use Rattle.iox2_machine.specs.declared.header.Header.{Header};
     ghost use Rattle.iox2_machine.specs.machine.Records.{Loan};
     ghost use Rattle.iox2_machine.specs.machine.State.{State, Messages, with_loan};
     ghost use Rattle.iox2_machine.specs.machine.Loans.{written};
-    ghost use Rattle.iox2_pubsub.specs.Live.{HasLender, IsSingleValued, IsUnblocked, IsUnwritten, IsWritten, IsWrittenLoan, LoanHasHeader, LoanHasUserHeader, LoanReads, NeverWaits, unwritten_key, unwritten_loan, written_key};
-    ghost use Rattle.iox2_pubsub.specs.Leaves.{LeavesBut};
+    ghost use Rattle.iox2_pubsub.specs.Live.{IsSingleValued, IsUnwritten, LoanReads};
+    ghost use Rattle.iox2_pubsub.specs.LoanCalls.{BecomesWritten};
     ghost use Rattle.iox2_domain.specs.Shows.{Shows};
     ghost use Rattle.iox2_pubsub.specs.Handles.{unwritten_number};
 
@@ -29,15 +28,8 @@ impl SampleMutUninit {
         requires live { IsUnwritten domain.old self }
         requires single_valued { IsSingleValued domain.old }
         ensures written { (m : Messages T U) (s : State T U) → Shows domain.old m s → (l : Loan T U) × (s.loans (unwritten_number self) ≡ Some l) × Shows domain.new m (with_loan s (unwritten_number self) (Some (written l value))) }
-        ensures out { IsWritten domain.new result }
-        ensures live { NeverWaits domain.old (unwritten_key self) → IsWrittenLoan domain.new result }
-        ensures unblocked { IsUnblocked domain.old (unwritten_key self) → IsUnblocked domain.new (written_key result) }
         ensures reads { LoanReads domain.new result value }
-        ensures lent { HasLender domain.old (unwritten_key self) → HasLender domain.new (written_key result) }
-        ensures header { (header : Header) → LoanHasHeader domain.old (unwritten_key self) header → LoanHasHeader domain.new (written_key result) header }
-        ensures user_header { (header : U) → LoanHasUserHeader domain.old (unwritten_key self) header → LoanHasUserHeader domain.new (written_key result) header }
-        ensures key { written_key result ≡ unwritten_key self }
-        ensures leaves { LeavesBut (unwritten_loan self) domain.old domain.new }
+        ensures becomes { BecomesWritten self result domain.old domain.new }
     {
         let SampleMutUninit { service_id, loan } = self;
         SampleMut {

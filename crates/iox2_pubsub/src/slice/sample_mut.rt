@@ -28,18 +28,16 @@ pub struct SampleMut {
 }
 
 impl SampleMut {
-    ghost use Rattle.std.specs.Prelude.{IfErr, IfOk, IsOk, List, Some, [], length, ◌<◌, ◌++◌, ◌∷◌, ◌+◌};
+    ghost use Rattle.std.specs.Prelude.{IfErr, IfOk, List, Some, [], length, ◌<◌, ◌++◌, ◌∷◌, ◌+◌};
     ghost use Rattle.iox2_machine.specs.machine.Limits.{channel_count};
-    ghost use Rattle.iox2_machine.specs.machine.Loans.{loan_discarded};
     ghost use Rattle.iox2_machine.specs.machine.Records.{Loan};
     ghost use Rattle.iox2_machine.specs.machine.State.{State, Messages};
     ghost use Rattle.iox2_domain.specs.Boxes.{answers_of};
     ghost use Rattle.iox2_domain.specs.Shows.{Shows};
-    ghost use Rattle.iox2_pubsub.specs.Live.{AddAtMost, AllFrom, AreAllSlices, HasItsBuffer, HasLender, IsBlockedSend, IsConnected, IsLoanKey, IsServed, IsUnblocked, IsWritten, NeverFails, NeverWaits, OthersSend, StaysBut, blocked_key, UpToDateStay, payloads, waiting, written_key, written_loan};
-    ghost use Rattle.iox2_pubsub.specs.Leaves.{LeavesBut};
+    ghost use Rattle.iox2_pubsub.specs.Live.{AddAtMost, AllFrom, AreAllSlices, HasItsBuffer, IsConnected, IsLoanKey, IsServed, IsUnblocked, IsWritten, payloads, waiting, written_key};
     ghost use Rattle.iox2_pubsub.specs.declared.subscriber.Subscriber.{Subscriber};
-    ghost use Rattle.iox2_pubsub.specs.LoansLeft.{HasOneMoreLeft, LoansLeftStay};
-    ghost use Rattle.iox2_pubsub.specs.SendCalls.{FailsDelivery, FailsSend, IfBlocked, IsDelivered, Sends, SendsToConnection, messages_after, spent_by_send};
+    ghost use Rattle.iox2_pubsub.specs.LoanCalls.{IsDiscarded};
+    ghost use Rattle.iox2_pubsub.specs.SendCalls.{FailsDelivery, FailsSend, IsDelivered, Sends, SendsToConnection, SpendsLoan, messages_after};
     ghost use Rattle.iox2_pubsub.specs.Slices.{HasValues, HoldsSlices};
     ghost use Rattle.iox2_pubsub.specs.Handles.{as_written, buffer_size_of, written_lender, written_number};
 
@@ -69,13 +67,9 @@ impl SampleMut {
     ) -> Result<SendOutcome, SendError>
         requires live { IsWritten domain.old (as_written self) }
         requires unblocked { IsUnblocked domain.old (written_key (as_written self)) }
-        ensures ok { HasLender domain.old (written_key (as_written self)) → NeverFails domain.old (written_lender (as_written self)) → IsOk result }
         ensures errors { IfErr result (FailsSend domain.old (written_key (as_written self))) }
         ensures sent { (m : Messages T U) (s : State T U) (l : Loan T U) → Shows domain.old m s → s.loans (written_number (as_written self)) ≡ Some l
             → (s' : State T U) × Shows domain.new (messages_after m (written_number (as_written self)) l result) s' × Sends (answers_of F.allows G.allows (domain.old.boxes).publishers) s (written_number (as_written self)) l result s' }
-        ensures delivered { NeverWaits domain.old (written_key (as_written self)) → IfOk result IsDelivered }
-        ensures blocked { IfOk result (λ outcome. IfBlocked outcome (λ blocked. IsBlockedSend domain.new blocked × (blocked_key blocked ≡ written_key (as_written self)))) }
-        ensures spent { IsLoanKey domain.new (written_key (as_written self)) → ⊥ }
         ensures adds { AddAtMost ((domain.old.config).history_size + 1) domain.old domain.new }
         ensures brings { (subscriber : Subscriber) (values : List T) → (domain.old.config).history_size ≡ 0 → waiting domain.old subscriber ≡ 0
             → HasValues domain.old (written_number (as_written self)) values → AreAllSlices (payloads domain.new subscriber) values }
@@ -86,11 +80,7 @@ impl SampleMut {
         ensures joins { (subscriber : Subscriber) (values : List T) (earlier : List (List T)) → AllFrom domain.old (written_lender (as_written self)) subscriber earlier → HasItsBuffer domain.old subscriber
             → length earlier < buffer_size_of subscriber → IsConnected domain.old (written_lender (as_written self)) subscriber → HasValues domain.old (written_number (as_written self)) values
             → IfOk result (λ outcome. IsDelivered outcome → AllFrom domain.new (written_lender (as_written self)) subscriber (earlier ++ values ∷ [])) }
-        ensures others { OthersSend (written_lender (as_written self)) domain.old domain.new }
-        ensures up_to_date { UpToDateStay domain.old domain.new }
-        ensures loans_left { LoansLeftStay domain.old domain.new }
-        ensures given_back { IfOk result IsDelivered → HasOneMoreLeft (written_lender (as_written self)) domain.old domain.new }
-        ensures stays { StaysBut (spent_by_send (as_written self) result) domain.old domain.new }
+        ensures spends { SpendsLoan (as_written self) result domain.old domain.new }
     {
         let SampleMut { sample } = self;
         sample.send(domain)
@@ -117,20 +107,12 @@ impl SampleMut {
         requires live { IsWritten domain.old (as_written self) }
         requires unblocked { IsUnblocked domain.old (written_key (as_written self)) }
         requires channel { channel < channel_count domain.old.config }
-        ensures ok { HasLender domain.old (written_key (as_written self)) → NeverFails domain.old (written_lender (as_written self)) → IsOk result }
         ensures errors { IfErr result (FailsDelivery domain.old (written_key (as_written self))) }
         ensures sent { (m : Messages T U) (s : State T U) (l : Loan T U) → Shows domain.old m s → s.loans (written_number (as_written self)) ≡ Some l
             → (s' : State T U) × Shows domain.new (messages_after m (written_number (as_written self)) l result) s'
             × SendsToConnection (answers_of F.allows G.allows (domain.old.boxes).publishers) s (written_number (as_written self)) l channel connection result s' }
-        ensures delivered { NeverWaits domain.old (written_key (as_written self)) → IfOk result IsDelivered }
-        ensures blocked { IfOk result (λ outcome. IfBlocked outcome (λ blocked. IsBlockedSend domain.new blocked × (blocked_key blocked ≡ written_key (as_written self)))) }
-        ensures spent { IsLoanKey domain.new (written_key (as_written self)) → ⊥ }
         ensures adds { AddAtMost 1 domain.old domain.new }
-        ensures others { OthersSend (written_lender (as_written self)) domain.old domain.new }
-        ensures up_to_date { UpToDateStay domain.old domain.new }
-        ensures loans_left { LoansLeftStay domain.old domain.new }
-        ensures given_back { IfOk result IsDelivered → HasOneMoreLeft (written_lender (as_written self)) domain.old domain.new }
-        ensures stays { StaysBut (spent_by_send (as_written self) result) domain.old domain.new }
+        ensures spends { SpendsLoan (as_written self) result domain.old domain.new }
     {
         let SampleMut { sample } = self;
         sample.deliver_offset_to_connection(domain, channel, connection)
@@ -144,11 +126,7 @@ impl SampleMut {
         domain: &mut Domain<T, U, F, G>,
     )
         requires live { IsLoanKey domain.old (written_key (as_written self)) }
-        ensures discarded { (m : Messages T U) (s : State T U) (l : Loan T U) → Shows domain.old m s → s.loans (written_number (as_written self)) ≡ Some l
-            → Shows domain.new m (loan_discarded s (written_number (as_written self)) l) }
-        ensures spent { IsLoanKey domain.new (written_key (as_written self)) → ⊥ }
-        ensures given_back { HasOneMoreLeft (written_lender (as_written self)) domain.old domain.new }
-        ensures leaves { LeavesBut (written_loan (as_written self)) domain.old domain.new }
+        ensures { IsDiscarded (written_key (as_written self)) domain.old domain.new }
     {
         let SampleMut { sample } = self;
         sample.discard(domain);

@@ -7,6 +7,7 @@ mod write_unspecified;
 
 use crate::domain::Domain;
 use crate::slice::SampleMut;
+use iox2_domain::LoanAt;
 use iox2_machine::{BackpressureFn, DegradationFn};
 use iox2_messages::{loan_cells, write_loan_from_fn, write_loan_from_slice};
 
@@ -30,17 +31,15 @@ impl SampleMutUninit {
     ghost use Rattle.std.specs.Prelude.{Some, Option, List, length, map, is_some, IfOk, IsOkAnd, IsErr, MatchResult, true, false};
     ghost use Rattle.std.specs.List.{list_all};
     ghost use Rattle.iox2_contents.specs.SlotCalls.{AnswersInOrder};
-    ghost use Rattle.iox2_machine.specs.declared.header.Header.{Header};
-    ghost use Rattle.iox2_machine.specs.machine.Loans.{initialized, is_initialized, loan_discarded};
+    ghost use Rattle.iox2_machine.specs.machine.Loans.{initialized, is_initialized};
     ghost use Rattle.iox2_machine.specs.machine.Records.{Loan};
     ghost use Rattle.iox2_machine.specs.machine.State.{State, Messages};
-    ghost use Rattle.iox2_machine.specs.machine.SingleCalls.{WriteAllFrom};
     ghost use Rattle.iox2_domain.specs.Shows.{Shows};
-    ghost use Rattle.iox2_pubsub.specs.Live.{HasLender, IsLoanKey, IsUnblocked, IsUnwritten, IsWritten, IsWrittenLoan, LoanHasHeader, LoanHasUserHeader, NeverWaits, unwritten_key, unwritten_loan, written_key};
+    ghost use Rattle.iox2_pubsub.specs.Live.{IsLoanKey, IsUnwritten, unwritten_key, unwritten_loan};
+    ghost use Rattle.iox2_pubsub.specs.LoanCalls.{BecomesWritten, IsDiscarded, WritesAll};
     ghost use Rattle.iox2_pubsub.specs.Leaves.{LeavesBut};
-    ghost use Rattle.iox2_pubsub.specs.LoansLeft.{HasOneMoreLeft};
     ghost use Rattle.iox2_pubsub.specs.Slices.{HasUnwrittenCells, HasValues, HoldsSlices, IsSliced};
-    ghost use Rattle.iox2_pubsub.specs.Handles.{as_unwritten, as_written, unwritten_lender, unwritten_number, written_number};
+    ghost use Rattle.iox2_pubsub.specs.Handles.{as_unwritten, as_written, unwritten_number, written_number};
 
     /// The cells as they lie in their slot: `None` where one isn't written. They are handed out where the
     /// settings say so (`ServiceConfig::lists_cells`), as they do by default.
@@ -74,25 +73,13 @@ impl SampleMutUninit {
         requires sliced { HoldsSlices domain.old }
         requires callable { W.IsAlwaysCallable initializer }
         ensures written { (answers : List T) × AnswersInOrder W.step initializer answers × HasValues domain.new (written_number (as_written result)) answers
-            × ((m : Messages T U) (s : State T U) → Shows domain.old m s → (l : Loan T U) × (s.loans (unwritten_number (as_unwritten self)) ≡ Some l)
-            × (s' : State T U) × WriteAllFrom s (unwritten_number (as_unwritten self)) l answers s' × Shows domain.new m s') }
-        ensures lengths { (cells : List (Option T)) (values : List T) → HasUnwrittenCells domain.old (unwritten_number (as_unwritten self)) cells
-            → HasValues domain.new (written_number (as_written result)) values → length values ≡ length cells }
-        ensures out { IsWritten domain.new (as_written result) }
-        ensures live { NeverWaits domain.old (unwritten_key (as_unwritten self)) → IsWrittenLoan domain.new (as_written result) }
-        ensures unblocked { IsUnblocked domain.old (unwritten_key (as_unwritten self)) → IsUnblocked domain.new (written_key (as_written result)) }
-        ensures key { written_key (as_written result) ≡ unwritten_key (as_unwritten self) }
-        ensures lent { HasLender domain.old (unwritten_key (as_unwritten self)) → HasLender domain.new (written_key (as_written result)) }
-        ensures header { (header : Header) → LoanHasHeader domain.old (unwritten_key (as_unwritten self)) header → LoanHasHeader domain.new (written_key (as_written result)) header }
-        ensures user_header { (header : U) → LoanHasUserHeader domain.old (unwritten_key (as_unwritten self)) header → LoanHasUserHeader domain.new (written_key (as_written result)) header }
-        ensures leaves { LeavesBut (unwritten_loan (as_unwritten self)) domain.old domain.new }
+            × WritesAll (unwritten_number (as_unwritten self)) answers domain.old domain.new }
+        ensures becomes { BecomesWritten (as_unwritten self) (as_written result) domain.old domain.new }
     {
         let SampleMutUninit { sample } = self;
         let crate::SampleMutUninit { service_id, loan } = sample;
         let loan = write_loan_from_fn(&mut domain.state, loan, initializer);
-        SampleMut {
-            sample: crate::SampleMut { service_id, loan },
-        }
+        written(service_id, loan)
     }
 
     /// Writes copies of the values, one into each cell, and makes the loan one that may be sent. There
@@ -107,24 +94,14 @@ impl SampleMutUninit {
         requires live { IsUnwritten domain.old (as_unwritten self) }
         requires sliced { HoldsSlices domain.old }
         requires lengths { (cells : List (Option T)) → HasUnwrittenCells domain.old (unwritten_number (as_unwritten self)) cells → length values.now ≡ length cells }
-        ensures step { (m : Messages T U) (s : State T U) → Shows domain.old m s → (l : Loan T U) × (s.loans (unwritten_number (as_unwritten self)) ≡ Some l)
-            × (s' : State T U) × WriteAllFrom s (unwritten_number (as_unwritten self)) l values.now s' × Shows domain.new m s' }
+        ensures step { WritesAll (unwritten_number (as_unwritten self)) values.now domain.old domain.new }
         ensures written { HasValues domain.new (written_number (as_written result)) values.now }
-        ensures out { IsWritten domain.new (as_written result) }
-        ensures live { NeverWaits domain.old (unwritten_key (as_unwritten self)) → IsWrittenLoan domain.new (as_written result) }
-        ensures unblocked { IsUnblocked domain.old (unwritten_key (as_unwritten self)) → IsUnblocked domain.new (written_key (as_written result)) }
-        ensures key { written_key (as_written result) ≡ unwritten_key (as_unwritten self) }
-        ensures lent { HasLender domain.old (unwritten_key (as_unwritten self)) → HasLender domain.new (written_key (as_written result)) }
-        ensures header { (header : Header) → LoanHasHeader domain.old (unwritten_key (as_unwritten self)) header → LoanHasHeader domain.new (written_key (as_written result)) header }
-        ensures user_header { (header : U) → LoanHasUserHeader domain.old (unwritten_key (as_unwritten self)) header → LoanHasUserHeader domain.new (written_key (as_written result)) header }
-        ensures leaves { LeavesBut (unwritten_loan (as_unwritten self)) domain.old domain.new }
+        ensures becomes { BecomesWritten (as_unwritten self) (as_written result) domain.old domain.new }
     {
         let SampleMutUninit { sample } = self;
         let crate::SampleMutUninit { service_id, loan } = sample;
         let loan = write_loan_from_slice(&mut domain.state, loan, values);
-        SampleMut {
-            sample: crate::SampleMut { service_id, loan },
-        }
+        written(service_id, loan)
     }
 
     /// Makes the loan one that may be sent, where each of its cells is written. Else the loan is
@@ -141,15 +118,9 @@ impl SampleMutUninit {
             × MatchResult result
             (λ _. (is_initialized l ≡ true) × Shows domain.new m (initialized s (unwritten_number (as_unwritten self)) l))
             (λ _. (is_initialized l ≡ false) × Shows domain.new m s) }
-        ensures out { IfOk result (λ it. IsWritten domain.new (as_written it)) }
-        ensures live { NeverWaits domain.old (unwritten_key (as_unwritten self)) → IfOk result (λ it. IsWrittenLoan domain.new (as_written it)) }
-        ensures unblocked { IsUnblocked domain.old (unwritten_key (as_unwritten self)) → IfOk result (λ it. IsUnblocked domain.new (written_key (as_written it))) }
-        ensures key { IfOk result (λ it. written_key (as_written it) ≡ unwritten_key (as_unwritten self)) }
-        ensures lent { IfOk result (λ it. HasLender domain.old (unwritten_key (as_unwritten self)) → HasLender domain.new (written_key (as_written it))) }
+        ensures becomes { IfOk result (λ it. BecomesWritten (as_unwritten self) (as_written it) domain.old domain.new) }
         ensures reads { (values : List T) → HasUnwrittenCells domain.old (unwritten_number (as_unwritten self)) (map Some values) → IsOkAnd result (λ it. HasValues domain.new (written_number (as_written it)) values) }
         ensures refused { (cells : List (Option T)) → HasUnwrittenCells domain.old (unwritten_number (as_unwritten self)) cells → list_all is_some cells ≡ false → IsErr result }
-        ensures header { (header : Header) → LoanHasHeader domain.old (unwritten_key (as_unwritten self)) header → IfOk result (λ it. LoanHasHeader domain.new (written_key (as_written it)) header) }
-        ensures user_header { (header : U) → LoanHasUserHeader domain.old (unwritten_key (as_unwritten self)) header → IfOk result (λ it. LoanHasUserHeader domain.new (written_key (as_written it)) header) }
         ensures handed_back { MatchResult result (λ _. self ≡ self) (λ it. (as_unwritten it ≡ as_unwritten self) × (domain.new ≡ domain.old)) }
         ensures leaves { LeavesBut (unwritten_loan (as_unwritten self)) domain.old domain.new }
     {
@@ -168,13 +139,19 @@ impl SampleMutUninit {
         domain: &mut Domain<T, U, F, G>,
     )
         requires live { IsLoanKey domain.old (unwritten_key (as_unwritten self)) }
-        ensures discarded { (m : Messages T U) (s : State T U) (l : Loan T U) → Shows domain.old m s → s.loans (unwritten_number (as_unwritten self)) ≡ Some l
-            → Shows domain.new m (loan_discarded s (unwritten_number (as_unwritten self)) l) }
-        ensures spent { IsLoanKey domain.new (unwritten_key (as_unwritten self)) → ⊥ }
-        ensures given_back { HasOneMoreLeft (unwritten_lender (as_unwritten self)) domain.old domain.new }
-        ensures leaves { LeavesBut (unwritten_loan (as_unwritten self)) domain.old domain.new }
+        ensures { IsDiscarded (unwritten_key (as_unwritten self)) domain.old domain.new }
     {
         let SampleMutUninit { sample } = self;
         sample.discard(domain);
+    }
+}
+
+// The written loan of a slice that lies here.
+#[inline(always)]
+fn written(service_id: u128, loan: LoanAt) -> SampleMut
+    ensures { result ≡ record { sample = record { service_id = service_id; loan = loan } } }
+{
+    SampleMut {
+        sample: crate::SampleMut { service_id, loan },
     }
 }

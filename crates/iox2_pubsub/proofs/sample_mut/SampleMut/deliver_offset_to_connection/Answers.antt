@@ -12,7 +12,7 @@ use Rattle.iox2_domain.specs.Kept.{Kept, state_of}
 use Rattle.iox2_domain.specs.LoanCalls.{HoldsWritten}
 use Rattle.iox2_domain.specs.Shows.{Shows}
 use Rattle.iox2_messages.specs.SendEnds.{end_result}
-use Rattle.iox2_pubsub.specs.Live.{written_key}
+use Rattle.iox2_pubsub.specs.Live.{IsBlockedKey, blocked_key, written_key}
 use Rattle.iox2_pubsub.specs.SendCalls.{result_of_send}
 use Rattle.iox2_pubsub.proofs.SentLoans.{from-shown}
 use Rattle.iox2_pubsub.proofs.ConnectionSendShown.{machine-sends-to, sent-to-shown, sent-to-stays, sent-to-others, sent-to-up_to_date, sent-to-ok, fails-delivery, to-never-waits, to-spends}
@@ -50,68 +50,41 @@ returns-clause-sent g c = λ m s l shown out.
           (ap (λ (k : Kept g.row.T.Denot g.row.U.Denot g.row.F.Denot g.row.G.Denot). k.boxes.publishers) c.domain.view_is) sends),
     )
 
-pub returns-clause-spent : goal.returns-clause-spent
-returns-clause-spent g c = λ live.
-    let it = from-shown {T = g.row.T.Denot} {U = g.row.U.Denot} c.domain.inside.state c.domain.invariant c.args.domain.now c.domain.view_is c.args.self c.requires.live (returns-clause-sent g c) in
-    to-spends {T = g.row.T.Denot} {U = g.row.U.Denot} c.args.domain.now _ it.m it.s it.shown (answers_of g.F.BackpressureFn.allows g.G.DegradationFn.allows c.args.domain.now.boxes.publishers) c.args.self.loan.number it.l it.out c.args.channel c.args.connection (result_of_send c.outcome_of.result) it.step.0 it.step.2 (written_key c.args.self) refl _ it.step.1 live
-
-pub returns-clause-stays : goal.returns-clause-stays
-returns-clause-stays g c =
-    let it = from-shown {T = g.row.T.Denot} {U = g.row.U.Denot} c.domain.inside.state c.domain.invariant c.args.domain.now c.domain.view_is c.args.self c.requires.live (returns-clause-sent g c) in
-    sent-to-stays {T = g.row.T.Denot} {U = g.row.U.Denot} c.args.domain.now _ it.m it.s it.shown (answers_of g.F.BackpressureFn.allows g.G.DegradationFn.allows c.args.domain.now.boxes.publishers) c.args.self it.l it.out it.its c.args.channel c.args.connection it.step.0
-    (λ x at. (unblocked-parts c.args.domain.now (written_key c.args.self) c.requires.unblocked).1 x
-    (sym (ap (λ (t : State g.row.T.Denot g.row.U.Denot). t.publishers c.args.self.loan.publisher) it.shown.state) ∙ ap it.s.publishers (sym it.its) ∙ at))
-    c.outcome_of.result it.step.1 it.step.2 (same-boxes c.domain.inside.state c.send_to_connection-end.new.state c.args.domain.now c.domain.view_is)
-
-pub returns-clause-ok : goal.returns-clause-ok
-returns-clause-ok g c = λ lent never.
-    let it = from-shown {T = g.row.T.Denot} {U = g.row.U.Denot} c.domain.inside.state c.domain.invariant c.args.domain.now c.domain.view_is c.args.self c.requires.live (returns-clause-sent g c) in
-    sent-to-ok {T = g.row.T.Denot} {U = g.row.U.Denot} c.args.domain.now (keeping c.args.domain.now.boxes c.send_to_connection-end.new.state) it.m it.s it.shown (answers_of g.F.BackpressureFn.allows g.G.DegradationFn.allows c.args.domain.now.boxes.publishers) c.args.self it.l it.out it.its c.args.channel c.args.connection it.step.0 (written_key c.args.self) (sym it.its) lent never c.outcome_of.result it.step.2
-
 pub returns-clause-errors : goal.returns-clause-errors
 returns-clause-errors g c =
     let it = from-shown {T = g.row.T.Denot} {U = g.row.U.Denot} c.domain.inside.state c.domain.invariant c.args.domain.now c.domain.view_is c.args.self c.requires.live (returns-clause-sent g c) in
     fails-delivery {T = g.row.T.Denot} {U = g.row.U.Denot} c.args.domain.now (keeping c.args.domain.now.boxes c.send_to_connection-end.new.state) it.m it.s it.shown (answers_of g.F.BackpressureFn.allows g.G.DegradationFn.allows c.args.domain.now.boxes.publishers) c.args.self it.l it.out it.its c.args.channel c.args.connection it.step.0 (written_key c.args.self) (sym it.its) c.outcome_of.result it.step.2
-
-pub returns-clause-delivered : goal.returns-clause-delivered
-returns-clause-delivered g c = λ never.
-    let it = from-shown {T = g.row.T.Denot} {U = g.row.U.Denot} c.domain.inside.state c.domain.invariant c.args.domain.now c.domain.view_is c.args.self c.requires.live (returns-clause-sent g c) in
-    is-delivered c.outcome_of.result (λ blocked.
-    to-never-waits {T = g.row.T.Denot} {U = g.row.U.Denot} c.args.domain.now (keeping c.args.domain.now.boxes c.send_to_connection-end.new.state) it.m it.s it.shown (answers_of g.F.BackpressureFn.allows g.G.DegradationFn.allows c.args.domain.now.boxes.publishers) c.args.self.loan.number it.l it.out c.args.channel c.args.connection (result_of_send c.outcome_of.result) it.step.0 it.step.2 (written_key c.args.self) never (sym it.its) blocked)
-
-pub returns-clause-blocked : goal.returns-clause-blocked
-returns-clause-blocked g c =
-    let parts = written-parts c.args.domain.now c.args.self c.requires.live in
-    let it = from-shown {T = g.row.T.Denot} {U = g.row.U.Denot} c.domain.inside.state c.domain.invariant c.args.domain.now c.domain.view_is c.args.self c.requires.live (returns-clause-sent g c) in
-    is-blocked {T = g.row.T.Denot} {U = g.row.U.Denot} (keeping _ c.send_to_connection-end.new.state) (written_key c.args.self) _ refl c.outcome_of.result c.outcome_of.ensures.blocked (λ blocked.
-    blocked-live (keeping _ c.send_to_connection-end.new.state) (written_key c.args.self) (
-      parts.0 ∙ sym (ap (λ (k : ServiceConfig). k.service_id) (returns-clause-stays g c).settings),
-      subst (λ (p : ℕ). HoldsBlocked (state_of (kept_of c.send_to_connection-end.new.state)) p c.args.self.loan.number) it.its
-          (subst (λ (t : State g.row.T.Denot g.row.U.Denot). HoldsBlocked t it.l.publisher c.args.self.loan.number) (it.step.1).state
-          (send_to_connection_waits_with (answers_of g.F.BackpressureFn.allows g.G.DegradationFn.allows c.args.domain.now.boxes.publishers) it.s c.args.self.loan.number it.l c.args.channel c.args.connection it.step.0 _ it.step.2 blocked)),
-    ))
 
 pub returns-clause-adds : goal.returns-clause-adds
 returns-clause-adds g c =
     let it = from-shown {T = g.row.T.Denot} {U = g.row.U.Denot} c.domain.inside.state c.domain.invariant c.args.domain.now c.domain.view_is c.args.self c.requires.live (returns-clause-sent g c) in
     send-to-adds {T = g.row.T.Denot} {U = g.row.U.Denot} c.args.domain.now _ it.m _ it.s it.step.0 it.shown it.step.1 (answers_of g.F.BackpressureFn.allows g.G.DegradationFn.allows c.args.domain.now.boxes.publishers) c.args.self.loan.number it.l c.args.channel c.args.connection (result_of_send c.outcome_of.result) it.step.2
 
-pub returns-clause-others : goal.returns-clause-others
-returns-clause-others g c =
+pub returns-clause-spends : goal.returns-clause-spends
+returns-clause-spends g c =
     let it = from-shown {T = g.row.T.Denot} {U = g.row.U.Denot} c.domain.inside.state c.domain.invariant c.args.domain.now c.domain.view_is c.args.self c.requires.live (returns-clause-sent g c) in
-    sent-to-others {T = g.row.T.Denot} {U = g.row.U.Denot} c.args.domain.now _ it.m it.s it.shown (answers_of g.F.BackpressureFn.allows g.G.DegradationFn.allows c.args.domain.now.boxes.publishers) c.args.self it.l it.out it.its c.args.channel c.args.connection it.step.0 c.outcome_of.result it.step.1 it.step.2
-
-pub returns-clause-up_to_date : goal.returns-clause-up_to_date
-returns-clause-up_to_date g c =
-    let it = from-shown {T = g.row.T.Denot} {U = g.row.U.Denot} c.domain.inside.state c.domain.invariant c.args.domain.now c.domain.view_is c.args.self c.requires.live (returns-clause-sent g c) in
-    sent-to-up_to_date {T = g.row.T.Denot} {U = g.row.U.Denot} c.args.domain.now _ it.m it.s it.shown (answers_of g.F.BackpressureFn.allows g.G.DegradationFn.allows c.args.domain.now.boxes.publishers) c.args.self it.l it.out it.its c.args.channel c.args.connection it.step.0 (result_of_send c.outcome_of.result) _ it.step.1 it.step.2
-
-pub returns-clause-loans_left : goal.returns-clause-loans_left
-returns-clause-loans_left g c =
-    let it = from-shown {T = g.row.T.Denot} {U = g.row.U.Denot} c.domain.inside.state c.domain.invariant c.args.domain.now c.domain.view_is c.args.self c.requires.live (returns-clause-sent g c) in
-    send-to-left {T = g.row.T.Denot} {U = g.row.U.Denot} c.args.domain.now _ it.m _ it.s it.step.0 it.shown it.step.1 (answers_of g.F.BackpressureFn.allows g.G.DegradationFn.allows c.args.domain.now.boxes.publishers) c.args.self.loan.number it.l it.out c.args.self.loan.publisher it.its c.args.channel c.args.connection (result_of_send c.outcome_of.result) it.step.2
-
-pub returns-clause-given_back : goal.returns-clause-given_back
-returns-clause-given_back g c = λ ends.
-    let it = from-shown {T = g.row.T.Denot} {U = g.row.U.Denot} c.domain.inside.state c.domain.invariant c.args.domain.now c.domain.view_is c.args.self c.requires.live (returns-clause-sent g c) in
-    send-to-gives {T = g.row.T.Denot} {U = g.row.U.Denot} c.args.domain.now _ it.m _ it.s it.step.0 it.shown it.step.1 (answers_of g.F.BackpressureFn.allows g.G.DegradationFn.allows c.args.domain.now.boxes.publishers) c.args.self.loan.number it.l it.out c.args.self.loan.publisher it.its c.args.channel c.args.connection (result_of_send c.outcome_of.result) (sent-free c.outcome_of.result ends) it.step.2
+    let stays = sent-to-stays {T = g.row.T.Denot} {U = g.row.U.Denot} c.args.domain.now _ it.m it.s it.shown (answers_of g.F.BackpressureFn.allows g.G.DegradationFn.allows c.args.domain.now.boxes.publishers) c.args.self it.l it.out it.its c.args.channel c.args.connection it.step.0
+    (λ x at. (unblocked-parts c.args.domain.now (written_key c.args.self) c.requires.unblocked).1 x
+    (sym (ap (λ (t : State g.row.T.Denot g.row.U.Denot). t.publishers c.args.self.loan.publisher) it.shown.state) ∙ ap it.s.publishers (sym it.its) ∙ at))
+    c.outcome_of.result it.step.1 it.step.2 (same-boxes c.domain.inside.state c.send_to_connection-end.new.state c.args.domain.now c.domain.view_is) in
+    record {
+      ok = λ lent never. sent-to-ok {T = g.row.T.Denot} {U = g.row.U.Denot} c.args.domain.now (keeping c.args.domain.now.boxes c.send_to_connection-end.new.state) it.m it.s it.shown (answers_of g.F.BackpressureFn.allows g.G.DegradationFn.allows c.args.domain.now.boxes.publishers) c.args.self it.l it.out it.its c.args.channel c.args.connection it.step.0 (written_key c.args.self) (sym it.its) lent never c.outcome_of.result it.step.2;
+      delivered = λ never.
+          is-delivered c.outcome_of.result (λ blocked.
+          to-never-waits {T = g.row.T.Denot} {U = g.row.U.Denot} c.args.domain.now (keeping c.args.domain.now.boxes c.send_to_connection-end.new.state) it.m it.s it.shown (answers_of g.F.BackpressureFn.allows g.G.DegradationFn.allows c.args.domain.now.boxes.publishers) c.args.self.loan.number it.l it.out c.args.channel c.args.connection (result_of_send c.outcome_of.result) it.step.0 it.step.2 (written_key c.args.self) never (sym it.its) blocked);
+      blocked =
+          let parts = written-parts c.args.domain.now c.args.self c.requires.live in
+          is-blocked {T = g.row.T.Denot} {U = g.row.U.Denot} (keeping _ c.send_to_connection-end.new.state) (written_key c.args.self) _ (ap blocked_key c.of-blocked.ensures) c.outcome_of.result c.outcome_of.ensures.blocked (λ blocked.
+          subst (IsBlockedKey (keeping _ c.send_to_connection-end.new.state)) (sym (ap blocked_key c.of-blocked.ensures)) (blocked-live (keeping _ c.send_to_connection-end.new.state) (written_key c.args.self) (
+            parts.0 ∙ sym (ap (λ (k : ServiceConfig). k.service_id) stays.settings),
+            subst (λ (p : ℕ). HoldsBlocked (state_of (kept_of c.send_to_connection-end.new.state)) p c.args.self.loan.number) it.its
+                (subst (λ (t : State g.row.T.Denot g.row.U.Denot). HoldsBlocked t it.l.publisher c.args.self.loan.number) (it.step.1).state
+                (send_to_connection_waits_with (answers_of g.F.BackpressureFn.allows g.G.DegradationFn.allows c.args.domain.now.boxes.publishers) it.s c.args.self.loan.number it.l c.args.channel c.args.connection it.step.0 _ it.step.2 blocked)),
+          )));
+      spent = λ live. to-spends {T = g.row.T.Denot} {U = g.row.U.Denot} c.args.domain.now _ it.m it.s it.shown (answers_of g.F.BackpressureFn.allows g.G.DegradationFn.allows c.args.domain.now.boxes.publishers) c.args.self.loan.number it.l it.out c.args.channel c.args.connection (result_of_send c.outcome_of.result) it.step.0 it.step.2 (written_key c.args.self) refl _ it.step.1 live;
+      others = sent-to-others {T = g.row.T.Denot} {U = g.row.U.Denot} c.args.domain.now _ it.m it.s it.shown (answers_of g.F.BackpressureFn.allows g.G.DegradationFn.allows c.args.domain.now.boxes.publishers) c.args.self it.l it.out it.its c.args.channel c.args.connection it.step.0 c.outcome_of.result it.step.1 it.step.2;
+      up_to_date = sent-to-up_to_date {T = g.row.T.Denot} {U = g.row.U.Denot} c.args.domain.now _ it.m it.s it.shown (answers_of g.F.BackpressureFn.allows g.G.DegradationFn.allows c.args.domain.now.boxes.publishers) c.args.self it.l it.out it.its c.args.channel c.args.connection it.step.0 (result_of_send c.outcome_of.result) _ it.step.1 it.step.2;
+      loans_left = send-to-left {T = g.row.T.Denot} {U = g.row.U.Denot} c.args.domain.now _ it.m _ it.s it.step.0 it.shown it.step.1 (answers_of g.F.BackpressureFn.allows g.G.DegradationFn.allows c.args.domain.now.boxes.publishers) c.args.self.loan.number it.l it.out c.args.self.loan.publisher it.its c.args.channel c.args.connection (result_of_send c.outcome_of.result) it.step.2;
+      given_back = λ ends. send-to-gives {T = g.row.T.Denot} {U = g.row.U.Denot} c.args.domain.now _ it.m _ it.s it.step.0 it.shown it.step.1 (answers_of g.F.BackpressureFn.allows g.G.DegradationFn.allows c.args.domain.now.boxes.publishers) c.args.self.loan.number it.l it.out c.args.self.loan.publisher it.its c.args.channel c.args.connection (result_of_send c.outcome_of.result) (sent-free c.outcome_of.result ends) it.step.2;
+      stays = stays;
+    }

@@ -16,7 +16,7 @@ use Rattle.iox2_domain.specs.LoanCalls.{HoldsWritten}
 use Rattle.iox2_messages.specs.SendEnds.{end_result}
 use Rattle.iox2_domain.specs.Shows.{Shows}
 use Rattle.iox2_pubsub.proofs.SendShown.{machine-sends, steady-ok, never-unconnected-here, only-error, handler-error, either-error, fails-send, never-waits-send, never-fails-here, is-delivered, is-blocked, sent-entry, sent-shown}
-use Rattle.iox2_pubsub.specs.Live.{lender_key, written_key}
+use Rattle.iox2_pubsub.specs.Live.{IsBlockedKey, blocked_key, lender_key, written_key}
 use Rattle.iox2_pubsub.specs.SendCalls.{result_of_send}
 use Rattle.iox2_pubsub.proofs.CallsStay.{sent-stays, send-spends}
 use Rattle.iox2_pubsub.proofs.SentLoans.{from-shown}
@@ -48,34 +48,6 @@ returns-clause-sent g c = λ m s l shown out.
           (ap (λ (k : Kept g.row.T.Denot g.row.U.Denot g.row.F.Denot g.row.G.Denot). k.boxes.publishers) c.domain.view_is) sends),
     )
 
-pub returns-clause-spent : goal.returns-clause-spent
-returns-clause-spent g c = λ live.
-    let it = from-shown {T = g.row.T.Denot} {U = g.row.U.Denot} c.domain.inside.state c.domain.invariant c.args.domain.now c.domain.view_is c.args.self c.requires.live (returns-clause-sent g c) in
-    send-spends {T = g.row.T.Denot} {U = g.row.U.Denot} c.args.domain.now _ it.m it.s it.shown (answers_of g.F.BackpressureFn.allows g.G.DegradationFn.allows c.args.domain.now.boxes.publishers) (written_key c.args.self) it.l (result_of_send c.send_loan.result) _ it.step.0 it.step.1 it.step.2 live
-
-pub returns-clause-stays : goal.returns-clause-stays
-returns-clause-stays g c =
-    let it = from-shown {T = g.row.T.Denot} {U = g.row.U.Denot} c.domain.inside.state c.domain.invariant c.args.domain.now c.domain.view_is c.args.self c.requires.live (returns-clause-sent g c) in
-    sent-stays {T = g.row.T.Denot} {U = g.row.U.Denot} c.args.domain.now _ it.m it.s it.shown (answers_of g.F.BackpressureFn.allows g.G.DegradationFn.allows c.args.domain.now.boxes.publishers) c.args.self it.l it.out it.its
-    (λ x at. (unblocked-parts c.args.domain.now (written_key c.args.self) c.requires.unblocked).1 x
-    (sym (ap (λ (t : State g.row.T.Denot g.row.U.Denot). t.publishers c.args.self.loan.publisher) it.shown.state) ∙ ap it.s.publishers (sym it.its) ∙ at))
-    c.send_loan.result it.step.0 it.step.1 it.step.2 (same-boxes c.domain.inside.state c.send_loan.new.state c.args.domain.now c.domain.view_is)
-
-pub returns-clause-ok : goal.returns-clause-ok
-returns-clause-ok g c = λ lent never.
-    let has = (written-parts c.args.domain.now c.args.self c.requires.live).1 in
-    let before = subst (λ (k : Kept g.row.T.Denot g.row.U.Denot g.row.F.Denot g.row.G.Denot). HoldsWritten (state_of k) c.args.self.loan.publisher c.args.self.loan.number) (sym c.domain.view_is) has in
-    steady-ok c.send_loan.ensures.ends.0
-    (c.send_loan.ensures.ends.2
-    (subst (λ (k : Kept g.row.T.Denot g.row.U.Denot g.row.F.Denot g.row.G.Denot). HoldsPublisher (state_of k) c.args.self.loan.publisher) (sym c.domain.view_is)
-    (publisher-parts c.args.domain.now (lender_key (written_key c.args.self)) lent).2))
-    (never-fails-here {T = g.row.T.Denot} {U = g.row.U.Denot} (answers_of g.F.BackpressureFn.allows g.G.DegradationFn.allows c.domain.inside.boxes.boxes) c.args.domain.now c.domain.inside.state c.send_loan.new.state c.domain.view_is c.args.self.loan.number c.args.self.loan.publisher never
-    (end_result c.send_loan.ensures.ends.0) c.send_loan.ensures.ends.1
-    (ap (λ (l : Loan g.row.T.Denot g.row.U.Denot). l.publisher) (same_Some _ before.0 (sym c.send_loan.ensures.ends.1.out ∙ before.1)) ∙ before.2))
-    (never-unconnected-here {T = g.row.T.Denot} {U = g.row.U.Denot} (answers_of g.F.BackpressureFn.allows g.G.DegradationFn.allows c.domain.inside.boxes.boxes) c.args.domain.now c.domain.inside.state c.send_loan.new.state c.domain.view_is c.args.self.loan.number c.args.self.loan.publisher never
-    (end_result c.send_loan.ensures.ends.0) c.send_loan.ensures.ends.1 (ap (λ (l : Loan g.row.T.Denot g.row.U.Denot). l.publisher) (same_Some _ before.0 (sym c.send_loan.ensures.ends.1.out ∙ before.1)) ∙ before.2))
-    c.send_loan.result c.send_loan.ensures.ends.3
-
 pub returns-clause-errors : goal.returns-clause-errors
 returns-clause-errors g c =
     let has = (written-parts c.args.domain.now c.args.self c.requires.live).1 in
@@ -104,25 +76,6 @@ send_loan-requires-clause-unblocked g c =
     subst (λ (k : Kept g.row.T.Denot g.row.U.Denot g.row.F.Denot g.row.G.Denot). is_blocked (state_of k) c.args.self.loan.publisher ≡ false) (sym c.domain.view_is)
     (unblocked-test c.args.domain.now (written_key c.args.self) c.requires.unblocked)
 
-pub returns-clause-delivered : goal.returns-clause-delivered
-returns-clause-delivered g c = λ never.
-    let it = from-shown {T = g.row.T.Denot} {U = g.row.U.Denot} c.domain.inside.state c.domain.invariant c.args.domain.now c.domain.view_is c.args.self c.requires.live (returns-clause-sent g c) in
-    is-delivered c.send_loan.result (λ blocked.
-    never-waits-send {T = g.row.T.Denot} {U = g.row.U.Denot} (answers_of g.F.BackpressureFn.allows g.G.DegradationFn.allows c.args.domain.now.boxes.publishers) c.args.domain.now (written_key c.args.self) it.m it.s it.shown never c.args.self.loan.number it.l it.out (sym it.its) it.step.0
-    (subst (Send (answers_of g.F.BackpressureFn.allows g.G.DegradationFn.allows c.args.domain.now.boxes.publishers) it.s c.args.self.loan.number it.l it.step.0) blocked it.step.2))
-
-pub returns-clause-blocked : goal.returns-clause-blocked
-returns-clause-blocked g c =
-    let parts = written-parts c.args.domain.now c.args.self c.requires.live in
-    let it = from-shown {T = g.row.T.Denot} {U = g.row.U.Denot} c.domain.inside.state c.domain.invariant c.args.domain.now c.domain.view_is c.args.self c.requires.live (returns-clause-sent g c) in
-    is-blocked {T = g.row.T.Denot} {U = g.row.U.Denot} (keeping _ c.send_loan.new.state) (written_key c.args.self) _ refl c.send_loan.result c.send_loan.ensures.blocked (λ blocked.
-    blocked-live (keeping _ c.send_loan.new.state) (written_key c.args.self) (
-      parts.0 ∙ sym (ap (λ (k : ServiceConfig). k.service_id) (returns-clause-stays g c).settings),
-      subst (λ (p : ℕ). HoldsBlocked (state_of (kept_of c.send_loan.new.state)) p c.args.self.loan.number) it.its
-          (subst (λ (t : State g.row.T.Denot g.row.U.Denot). HoldsBlocked t it.l.publisher c.args.self.loan.number) (it.step.1).state
-          (send_waits_with (answers_of g.F.BackpressureFn.allows g.G.DegradationFn.allows c.args.domain.now.boxes.publishers) it.s c.args.self.loan.number it.l it.step.0 _ it.step.2 blocked)),
-    ))
-
 pub returns-clause-adds : goal.returns-clause-adds
 returns-clause-adds g c =
     let it = from-shown {T = g.row.T.Denot} {U = g.row.U.Denot} c.domain.inside.state c.domain.invariant c.args.domain.now c.domain.view_is c.args.self c.requires.live (returns-clause-sent g c) in
@@ -133,21 +86,6 @@ returns-clause-brings g c = λ subscriber values no_history none reads.
     let it = from-shown {T = g.row.T.Denot} {U = g.row.U.Denot} c.domain.inside.state c.domain.invariant c.args.domain.now c.domain.view_is c.args.self c.requires.live (returns-clause-sent g c) in
     send-brings {T = g.row.T.Denot} {U = g.row.U.Denot} c.args.domain.now _ it.m _ it.s it.step.0 it.shown it.step.1 (answers_of g.F.BackpressureFn.allows g.G.DegradationFn.allows c.args.domain.now.boxes.publishers) c.args.self.loan.number it.l (result_of_send c.send_loan.result)
     (λ entry. sent-entry it.m c.args.self.loan.number it.l c.send_loan.result (it.shown.unsent c.args.self.loan.number it.l it.out) entry) it.out it.step.2 subscriber values no_history none reads
-
-pub returns-clause-up_to_date : goal.returns-clause-up_to_date
-returns-clause-up_to_date g c =
-    let it = from-shown {T = g.row.T.Denot} {U = g.row.U.Denot} c.domain.inside.state c.domain.invariant c.args.domain.now c.domain.view_is c.args.self c.requires.live (returns-clause-sent g c) in
-    send-leaves {T = g.row.T.Denot} {U = g.row.U.Denot} c.args.domain.now _ it.m _ it.s it.step.0 it.shown it.step.1 (answers_of g.F.BackpressureFn.allows g.G.DegradationFn.allows c.args.domain.now.boxes.publishers) c.args.self.loan.number it.l (result_of_send c.send_loan.result) it.step.2
-
-pub returns-clause-loans_left : goal.returns-clause-loans_left
-returns-clause-loans_left g c =
-    let it = from-shown {T = g.row.T.Denot} {U = g.row.U.Denot} c.domain.inside.state c.domain.invariant c.args.domain.now c.domain.view_is c.args.self c.requires.live (returns-clause-sent g c) in
-    send-left {T = g.row.T.Denot} {U = g.row.U.Denot} c.args.domain.now _ it.m _ it.s it.step.0 it.shown it.step.1 (answers_of g.F.BackpressureFn.allows g.G.DegradationFn.allows c.args.domain.now.boxes.publishers) c.args.self.loan.number it.l it.out c.args.self.loan.publisher it.its (result_of_send c.send_loan.result) it.step.2
-
-pub returns-clause-given_back : goal.returns-clause-given_back
-returns-clause-given_back g c = λ ends.
-    let it = from-shown {T = g.row.T.Denot} {U = g.row.U.Denot} c.domain.inside.state c.domain.invariant c.args.domain.now c.domain.view_is c.args.self c.requires.live (returns-clause-sent g c) in
-    send-gives {T = g.row.T.Denot} {U = g.row.U.Denot} c.args.domain.now _ it.m _ it.s it.step.0 it.shown it.step.1 (answers_of g.F.BackpressureFn.allows g.G.DegradationFn.allows c.args.domain.now.boxes.publishers) c.args.self.loan.number it.l it.out c.args.self.loan.publisher it.its (result_of_send c.send_loan.result) (sent-free c.send_loan.result ends) it.step.2
 
 pub returns-clause-serves : goal.returns-clause-serves
 returns-clause-serves g c = λ subscriber values connected reads.
@@ -167,8 +105,44 @@ returns-clause-joins g c = λ subscriber values earlier all its room connected r
     send-joins {T = g.row.T.Denot} {U = g.row.U.Denot} c.args.domain.now _ it.m _ it.s it.step.0 it.shown it.step.1
     subscriber c.args.self.loan.publisher values earlier all its room c.send_loan.result (returns-clause-serves g c subscriber values connected reads)
 
-pub returns-clause-others : goal.returns-clause-others
-returns-clause-others g c =
+pub returns-clause-spends : goal.returns-clause-spends
+returns-clause-spends g c =
     let it = from-shown {T = g.row.T.Denot} {U = g.row.U.Denot} c.domain.inside.state c.domain.invariant c.args.domain.now c.domain.view_is c.args.self c.requires.live (returns-clause-sent g c) in
-    others-send {T = g.row.T.Denot} {U = g.row.U.Denot} c.args.domain.now _ it.m it.s it.shown (answers_of g.F.BackpressureFn.allows g.G.DegradationFn.allows c.args.domain.now.boxes.publishers) c.args.self.loan.number it.l c.args.self.loan.publisher
-    c.send_loan.result it.step.0 it.step.1 it.step.2 (it.shown.unsent c.args.self.loan.number it.l it.out) it.its
+    let stays = sent-stays {T = g.row.T.Denot} {U = g.row.U.Denot} c.args.domain.now _ it.m it.s it.shown (answers_of g.F.BackpressureFn.allows g.G.DegradationFn.allows c.args.domain.now.boxes.publishers) c.args.self it.l it.out it.its
+    (λ x at. (unblocked-parts c.args.domain.now (written_key c.args.self) c.requires.unblocked).1 x
+    (sym (ap (λ (t : State g.row.T.Denot g.row.U.Denot). t.publishers c.args.self.loan.publisher) it.shown.state) ∙ ap it.s.publishers (sym it.its) ∙ at))
+    c.send_loan.result it.step.0 it.step.1 it.step.2 (same-boxes c.domain.inside.state c.send_loan.new.state c.args.domain.now c.domain.view_is) in
+    record {
+      ok = λ lent never.
+          let has = (written-parts c.args.domain.now c.args.self c.requires.live).1 in
+          let before = subst (λ (k : Kept g.row.T.Denot g.row.U.Denot g.row.F.Denot g.row.G.Denot). HoldsWritten (state_of k) c.args.self.loan.publisher c.args.self.loan.number) (sym c.domain.view_is) has in
+          steady-ok c.send_loan.ensures.ends.0
+          (c.send_loan.ensures.ends.2
+          (subst (λ (k : Kept g.row.T.Denot g.row.U.Denot g.row.F.Denot g.row.G.Denot). HoldsPublisher (state_of k) c.args.self.loan.publisher) (sym c.domain.view_is)
+          (publisher-parts c.args.domain.now (lender_key (written_key c.args.self)) lent).2))
+          (never-fails-here {T = g.row.T.Denot} {U = g.row.U.Denot} (answers_of g.F.BackpressureFn.allows g.G.DegradationFn.allows c.domain.inside.boxes.boxes) c.args.domain.now c.domain.inside.state c.send_loan.new.state c.domain.view_is c.args.self.loan.number c.args.self.loan.publisher never
+          (end_result c.send_loan.ensures.ends.0) c.send_loan.ensures.ends.1
+          (ap (λ (l : Loan g.row.T.Denot g.row.U.Denot). l.publisher) (same_Some _ before.0 (sym c.send_loan.ensures.ends.1.out ∙ before.1)) ∙ before.2))
+          (never-unconnected-here {T = g.row.T.Denot} {U = g.row.U.Denot} (answers_of g.F.BackpressureFn.allows g.G.DegradationFn.allows c.domain.inside.boxes.boxes) c.args.domain.now c.domain.inside.state c.send_loan.new.state c.domain.view_is c.args.self.loan.number c.args.self.loan.publisher never
+          (end_result c.send_loan.ensures.ends.0) c.send_loan.ensures.ends.1 (ap (λ (l : Loan g.row.T.Denot g.row.U.Denot). l.publisher) (same_Some _ before.0 (sym c.send_loan.ensures.ends.1.out ∙ before.1)) ∙ before.2))
+          c.send_loan.result c.send_loan.ensures.ends.3;
+      delivered = λ never.
+          is-delivered c.send_loan.result (λ blocked.
+          never-waits-send {T = g.row.T.Denot} {U = g.row.U.Denot} (answers_of g.F.BackpressureFn.allows g.G.DegradationFn.allows c.args.domain.now.boxes.publishers) c.args.domain.now (written_key c.args.self) it.m it.s it.shown never c.args.self.loan.number it.l it.out (sym it.its) it.step.0
+          (subst (Send (answers_of g.F.BackpressureFn.allows g.G.DegradationFn.allows c.args.domain.now.boxes.publishers) it.s c.args.self.loan.number it.l it.step.0) blocked it.step.2));
+      blocked =
+          let parts = written-parts c.args.domain.now c.args.self c.requires.live in
+          is-blocked {T = g.row.T.Denot} {U = g.row.U.Denot} (keeping _ c.send_loan.new.state) (written_key c.args.self) _ (ap blocked_key c.of-blocked.ensures) c.send_loan.result c.send_loan.ensures.blocked (λ blocked.
+          subst (IsBlockedKey (keeping _ c.send_loan.new.state)) (sym (ap blocked_key c.of-blocked.ensures)) (blocked-live (keeping _ c.send_loan.new.state) (written_key c.args.self) (
+            parts.0 ∙ sym (ap (λ (k : ServiceConfig). k.service_id) stays.settings),
+            subst (λ (p : ℕ). HoldsBlocked (state_of (kept_of c.send_loan.new.state)) p c.args.self.loan.number) it.its
+                (subst (λ (t : State g.row.T.Denot g.row.U.Denot). HoldsBlocked t it.l.publisher c.args.self.loan.number) (it.step.1).state
+                (send_waits_with (answers_of g.F.BackpressureFn.allows g.G.DegradationFn.allows c.args.domain.now.boxes.publishers) it.s c.args.self.loan.number it.l it.step.0 _ it.step.2 blocked)),
+          )));
+      spent = λ live. send-spends {T = g.row.T.Denot} {U = g.row.U.Denot} c.args.domain.now _ it.m it.s it.shown (answers_of g.F.BackpressureFn.allows g.G.DegradationFn.allows c.args.domain.now.boxes.publishers) (written_key c.args.self) it.l (result_of_send c.send_loan.result) _ it.step.0 it.step.1 it.step.2 live;
+      others = others-send {T = g.row.T.Denot} {U = g.row.U.Denot} c.args.domain.now _ it.m it.s it.shown (answers_of g.F.BackpressureFn.allows g.G.DegradationFn.allows c.args.domain.now.boxes.publishers) c.args.self.loan.number it.l c.args.self.loan.publisher c.send_loan.result it.step.0 it.step.1 it.step.2 (it.shown.unsent c.args.self.loan.number it.l it.out) it.its;
+      up_to_date = send-leaves {T = g.row.T.Denot} {U = g.row.U.Denot} c.args.domain.now _ it.m _ it.s it.step.0 it.shown it.step.1 (answers_of g.F.BackpressureFn.allows g.G.DegradationFn.allows c.args.domain.now.boxes.publishers) c.args.self.loan.number it.l (result_of_send c.send_loan.result) it.step.2;
+      loans_left = send-left {T = g.row.T.Denot} {U = g.row.U.Denot} c.args.domain.now _ it.m _ it.s it.step.0 it.shown it.step.1 (answers_of g.F.BackpressureFn.allows g.G.DegradationFn.allows c.args.domain.now.boxes.publishers) c.args.self.loan.number it.l it.out c.args.self.loan.publisher it.its (result_of_send c.send_loan.result) it.step.2;
+      given_back = λ ends. send-gives {T = g.row.T.Denot} {U = g.row.U.Denot} c.args.domain.now _ it.m _ it.s it.step.0 it.shown it.step.1 (answers_of g.F.BackpressureFn.allows g.G.DegradationFn.allows c.args.domain.now.boxes.publishers) c.args.self.loan.number it.l it.out c.args.self.loan.publisher it.its (result_of_send c.send_loan.result) (sent-free c.send_loan.result ends) it.step.2;
+      stays = stays;
+    }

@@ -1,8 +1,7 @@
 use Rattle.std.proofs.Common.{refl, sym, ◌∙◌}
 use Rattle.std.proofs.lemmas.Bool.{true≢false}
-use Rattle.iox2_pubsub.specs.Live.{lender_key, unwritten_key, written_key}
 use Rattle.iox2_pubsub.proofs.LoanHandles.{unwritten-out}
-use Rattle.iox2_pubsub.proofs.AssumedLoans.{all-taken, some-left, taken-values, taken-header, taken-user-header, taken-waits, taken-leaves, left-leaves, written-taken, unwritten-left, taken-shown, taken-live, taken-reads, taken-stays, left-same, left-shown, left-stays, taken-left, left-loans}
+use Rattle.iox2_pubsub.proofs.AssumedLoans.{all-taken, some-left, taken-values, taken-becomes, left-leaves, written-taken, unwritten-left, taken-shown, taken-reads, left-same, left-shown, left-stays, left-loans}
 use Rattle.iox2_pubsub.proofs.WaitingShown.{waiting-same}
 use Rattle.iox2_pubsub.proofs.sample_mut_uninit.SampleMutUninit.assume_init.Goals as goal
 
@@ -12,17 +11,11 @@ assume_loan-requires-clause-live g c = unwritten-out {T = g.row.T.Denot} {U = g.
 pub returns-then-not-assume_loan : goal.returns-then-not-assume_loan
 returns-then-not-assume_loan g c = record {
   step = λ m s shown. let it = left-shown {T = g.row.T.Denot} {U = g.row.U.Denot} c.domain.inside.state c.assume_loan.new.state c.domain.invariant c.args.domain.now c.domain.view_is c.args.self.loan.number c.assume_loan.result c.assume_loan.ensures c.if-not-assume_loan.true m s shown in (it.0, it.1, (it.2, it.3));
-  out = tt;
-  live = λ never. tt;
-  unblocked = λ free. tt;
-  key = tt;
-  lent = tt;
+  becomes = tt;
   reads = λ value reads. absurd (true≢false (sym (written-taken {T = g.row.T.Denot} {U = g.row.U.Denot} c.domain.inside.state c.assume_loan.new.state c.domain.invariant c.args.domain.now c.domain.view_is c.args.self.loan.number c.assume_loan.result c.assume_loan.ensures c.args.self value refl reads) ∙ c.if-not-assume_loan.true));
   refused = λ reads. refl;
   all_read = λ values has. absurd (true≢false (sym (all-taken {T = g.row.T.Denot} {U = g.row.U.Denot} c.domain.inside.state c.assume_loan.new.state c.domain.invariant c.args.domain.now c.domain.view_is c.args.self.loan.number c.assume_loan.result c.assume_loan.ensures values has) ∙ c.if-not-assume_loan.true));
   some_unwritten = λ cells has some. refl;
-  header = λ header has. tt;
-  user_header = λ header has. tt;
   handed_back = (refl, left-same {T = g.row.T.Denot} {U = g.row.U.Denot} c.domain.inside.state c.assume_loan.new.state c.domain.invariant c.args.domain.now c.domain.view_is c.args.self.loan.number c.assume_loan.result c.assume_loan.ensures c.if-not-assume_loan.true);
   leaves = record {
     stays = left-stays {T = g.row.T.Denot} {U = g.row.U.Denot} c.domain.inside.state c.assume_loan.new.state c.domain.invariant c.args.domain.now c.domain.view_is c.args.self.loan.number c.assume_loan.result c.assume_loan.ensures c.if-not-assume_loan.true;
@@ -35,25 +28,11 @@ returns-then-not-assume_loan g c = record {
 pub returns : goal.returns
 returns g c = record {
   step = λ m s shown. let it = taken-shown {T = g.row.T.Denot} {U = g.row.U.Denot} c.domain.inside.state c.assume_loan.new.state c.domain.invariant c.args.domain.now c.domain.view_is c.args.self.loan.number c.assume_loan.result c.assume_loan.ensures c.if-not-assume_loan.false m s shown in (it.0, it.1, (it.2, it.3));
-  out = taken-live {T = g.row.T.Denot} {U = g.row.U.Denot} c.domain.inside.state c.assume_loan.new.state c.domain.invariant c.args.domain.now c.domain.view_is c.args.self.loan.number c.assume_loan.result c.assume_loan.ensures c.if-not-assume_loan.false c.args.self refl c.requires.live;
-  live = λ never. record {
-    out = taken-live {T = g.row.T.Denot} {U = g.row.U.Denot} c.domain.inside.state c.assume_loan.new.state c.domain.invariant c.args.domain.now c.domain.view_is c.args.self.loan.number c.assume_loan.result c.assume_loan.ensures c.if-not-assume_loan.false c.args.self refl c.requires.live;
-    never_waits = (taken-stays {T = g.row.T.Denot} {U = g.row.U.Denot} c.domain.inside.state c.assume_loan.new.state c.domain.invariant c.args.domain.now c.domain.view_is c.args.self.loan.number c.assume_loan.result c.assume_loan.ensures c.if-not-assume_loan.false).never_wait (unwritten_key c.args.self) never;
-  };
-  unblocked = λ free. (taken-stays {T = g.row.T.Denot} {U = g.row.U.Denot} c.domain.inside.state c.assume_loan.new.state c.domain.invariant c.args.domain.now c.domain.view_is c.args.self.loan.number c.assume_loan.result c.assume_loan.ensures c.if-not-assume_loan.false).unblocked (unwritten_key c.args.self) free tt;
-  key = refl;
-  lent = λ lent. (taken-stays {T = g.row.T.Denot} {U = g.row.U.Denot} c.domain.inside.state c.assume_loan.new.state c.domain.invariant c.args.domain.now c.domain.view_is c.args.self.loan.number c.assume_loan.result c.assume_loan.ensures c.if-not-assume_loan.false).publishers (lender_key (unwritten_key c.args.self)) lent tt;
+  becomes = taken-becomes {T = g.row.T.Denot} {U = g.row.U.Denot} c.domain.inside.state c.assume_loan.new.state c.domain.invariant c.args.domain.now c.domain.view_is c.args.self.loan.number c.assume_loan.result c.assume_loan.ensures c.if-not-assume_loan.false c.args.self refl c.requires.live;
   reads = λ value reads. taken-reads {T = g.row.T.Denot} {U = g.row.U.Denot} c.domain.inside.state c.assume_loan.new.state c.domain.invariant c.args.domain.now c.domain.view_is c.args.self.loan.number c.assume_loan.result c.assume_loan.ensures c.if-not-assume_loan.false c.args.self value refl reads;
   refused = λ reads. absurd (true≢false (sym c.if-not-assume_loan.false ∙ unwritten-left {T = g.row.T.Denot} {U = g.row.U.Denot} c.domain.inside.state c.assume_loan.new.state c.domain.invariant c.args.domain.now c.domain.view_is c.args.self.loan.number c.assume_loan.result c.assume_loan.ensures c.args.self refl reads));
   all_read = λ values has. taken-values {T = g.row.T.Denot} {U = g.row.U.Denot} c.domain.inside.state c.assume_loan.new.state c.domain.invariant c.args.domain.now c.domain.view_is c.args.self.loan.number c.assume_loan.result c.assume_loan.ensures c.if-not-assume_loan.false c.args.self.loan.number values refl has;
   some_unwritten = λ cells has some. absurd (true≢false (sym c.if-not-assume_loan.false ∙ some-left {T = g.row.T.Denot} {U = g.row.U.Denot} c.domain.inside.state c.assume_loan.new.state c.domain.invariant c.args.domain.now c.domain.view_is c.args.self.loan.number c.assume_loan.result c.assume_loan.ensures cells some has));
-  header = λ header. taken-header {T = g.row.T.Denot} {U = g.row.U.Denot} c.domain.inside.state c.assume_loan.new.state c.domain.invariant c.args.domain.now c.domain.view_is c.args.self.loan.number c.assume_loan.result c.assume_loan.ensures c.if-not-assume_loan.false (unwritten_key c.args.self) (written_key (record { service_id = c.args.self.service_id; loan = c.args.self.loan })) refl refl header;
-  user_header = λ header. taken-user-header {T = g.row.T.Denot} {U = g.row.U.Denot} c.domain.inside.state c.assume_loan.new.state c.domain.invariant c.args.domain.now c.domain.view_is c.args.self.loan.number c.assume_loan.result c.assume_loan.ensures c.if-not-assume_loan.false (unwritten_key c.args.self) (written_key (record { service_id = c.args.self.service_id; loan = c.args.self.loan })) refl refl header;
   handed_back = refl;
-  leaves = record {
-    stays = taken-stays {T = g.row.T.Denot} {U = g.row.U.Denot} c.domain.inside.state c.assume_loan.new.state c.domain.invariant c.args.domain.now c.domain.view_is c.args.self.loan.number c.assume_loan.result c.assume_loan.ensures c.if-not-assume_loan.false;
-    waits = taken-waits {T = g.row.T.Denot} {U = g.row.U.Denot} c.domain.inside.state c.assume_loan.new.state c.domain.invariant c.args.domain.now c.domain.view_is c.args.self.loan.number c.assume_loan.result c.assume_loan.ensures c.if-not-assume_loan.false;
-    up_to_date = taken-leaves {T = g.row.T.Denot} {U = g.row.U.Denot} c.domain.inside.state c.assume_loan.new.state c.domain.invariant c.args.domain.now c.domain.view_is c.args.self.loan.number c.assume_loan.result c.assume_loan.ensures c.if-not-assume_loan.false;
-    loans_left = taken-left {T = g.row.T.Denot} {U = g.row.U.Denot} c.domain.inside.state c.assume_loan.new.state c.domain.invariant c.args.domain.now c.domain.view_is c.args.self.loan.number c.assume_loan.result c.assume_loan.ensures c.if-not-assume_loan.false;
-  };
+  leaves = (taken-becomes {T = g.row.T.Denot} {U = g.row.U.Denot} c.domain.inside.state c.assume_loan.new.state c.domain.invariant c.args.domain.now c.domain.view_is c.args.self.loan.number c.assume_loan.result c.assume_loan.ensures c.if-not-assume_loan.false c.args.self refl c.requires.live).leaves;
 }

@@ -9,4 +9,4 @@ pub write_loan-requires : goal.write_loan-requires
 write_loan-requires g c = let single = single-inside {T = g.row.T.Denot} {U = g.row.U.Denot} _ c.args.domain.now c.domain.view_is c.requires.single_valued in record { agrees = c.domain.invariant; fixed_size = single.0; single = single.1; live = unwritten-out {T = g.row.T.Denot} {U = g.row.U.Denot} _ c.args.domain.now c.domain.view_is c.args.self c.requires.live }
 
 pub returns : goal.returns
-returns g c = let it = was-filled {T = g.row.T.Denot} {U = g.row.U.Denot} c.domain.inside.state c.write_loan.new.state c.domain.invariant c.args.domain.now c.domain.view_is c.args.self c.requires.live (c.args.value ∷ []) c.write_loan.ensures.writes c.write_loan.result (ap (λ (at : LoanAt). at.publisher) c.write_loan.ensures.same) (ap (λ (at : LoanAt). at.number) c.write_loan.ensures.same) in record { written = write-shown {T = g.row.T.Denot} {U = g.row.U.Denot} c.domain.inside.state c.write_loan.new.state c.args.domain.now c.domain.view_is c.args.self.loan.number c.args.value c.write_loan.ensures.writes; reads = it.written; out = it.out; live = it.live; unblocked = it.unblocked; key = it.key; lent = it.lent; header = it.header; user_header = it.user_header; leaves = it.leaves }
+returns g c = let it = was-filled {T = g.row.T.Denot} {U = g.row.U.Denot} c.domain.inside.state c.write_loan.new.state c.domain.invariant c.args.domain.now c.domain.view_is c.args.self c.requires.live (c.args.value ∷ []) c.write_loan.ensures.writes c.write_loan.result (ap (λ (at : LoanAt). at.publisher) c.write_loan.ensures.same) (ap (λ (at : LoanAt). at.number) c.write_loan.ensures.same) in record { written = write-shown {T = g.row.T.Denot} {U = g.row.U.Denot} c.domain.inside.state c.write_loan.new.state c.args.domain.now c.domain.view_is c.args.self.loan.number c.args.value c.write_loan.ensures.writes; reads = it.written; becomes = it.becomes }

@@ -19,10 +19,10 @@ pub returns-in-Blocked : goal.returns-in-Blocked
 returns-in-Blocked g c = rw (c.in-Blocked.is, c.send_reply-reply.ensures.reply, c.send_reply-reply.ensures.made) (record {
   carries = λ table of at.
       goes_on_carried {T = g.row.T.Denot} {U = g.row.U.Denot} _ c.args.domain.now c.give_up.new.domain table _ of _ (give_up_goes (answers_of g.F.BackpressureFn.allows g.G.DegradationFn.allows c.args.domain.now.boxes.publishers) of) c.in-Blocked.blocked c.give_up.result at
-      c.give_up.ensures.gives_up c.give_up.ensures.blocked refl;
+      c.give_up.ensures.gives_up c.give_up.ensures.goes_on.blocked refl;
   leaves = λ table of at.
-      leaves-going-on {T = g.row.T.Denot} {U = g.row.U.Denot} c.args.domain.now c.give_up.new.domain table _ of c.in-Blocked.blocked c.give_up.result at c.give_up.ensures.stays
-      (each_blocked _ _ (λ blocked is. ap (λ (k : Key). k.port) is.1) c.give_up.result c.give_up.ensures.blocked) refl;
+      leaves-going-on {T = g.row.T.Denot} {U = g.row.U.Denot} c.args.domain.now c.give_up.new.domain table _ of c.in-Blocked.blocked c.give_up.result at c.give_up.ensures.goes_on.stays
+      (each_blocked _ _ (λ blocked is. ap (λ (k : Key). k.port) is.1) c.give_up.result c.give_up.ensures.goes_on.blocked) refl;
 })
 
 pub returns-in_default : goal.returns-in_default

@@ -33,11 +33,11 @@ pub returns-else-is_blocked : goal.returns-else-is_blocked
 returns-else-is_blocked g c = rw (c.in-Written.is, c.send_reply-reply.ensures.reply, c.send_reply-reply.ensures.made) (record {
   carries = λ table of at.
       send_carried {T = g.row.T.Denot} {U = g.row.U.Denot} (answers_of g.F.BackpressureFn.allows g.G.DegradationFn.allows c.args.domain.now.boxes.publishers) _ c.args.domain.now c.send.new.domain table _ of c.in-Written.loan c.send.result at
-      (shown_free {T = g.row.T.Denot} {U = g.row.U.Denot} c.args.domain.now (written_key c.in-Written.loan) (c.is_blocked.ensures.0 c.if-is_blocked.false)) c.send.ensures.sent c.send.ensures.blocked
+      (shown_free {T = g.row.T.Denot} {U = g.row.U.Denot} c.args.domain.now (written_key c.in-Written.loan) (c.is_blocked.ensures.0 c.if-is_blocked.false)) c.send.ensures.sent c.send.ensures.spends.blocked
       (either-failure c.args.domain.now (written_key c.in-Written.loan) c.send.result c.send.ensures.errors) refl;
   leaves = λ table of at.
-      leaves-sending {T = g.row.T.Denot} {U = g.row.U.Denot} c.args.domain.now c.send.new.domain table _ of c.in-Written.loan c.send.result at c.send.ensures.stays
-      (each_blocked _ _ (λ blocked is. ap (λ (k : Key). k.port) is.1) c.send.result c.send.ensures.blocked) refl;
+      leaves-sending {T = g.row.T.Denot} {U = g.row.U.Denot} c.args.domain.now c.send.new.domain table _ of c.in-Written.loan c.send.result at c.send.ensures.spends.stays
+      (each_blocked _ _ (λ blocked is. ap (λ (k : Key). k.port) is.1) c.send.result c.send.ensures.spends.blocked) refl;
 })
 
 pub returns-in_default : goal.returns-in_default

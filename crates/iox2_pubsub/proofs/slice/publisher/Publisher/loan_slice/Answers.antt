@@ -33,7 +33,7 @@ returns-in-Ok-clause-reads g c =
     let written = c.write_from_fn.ensures.written in (
       written.0,
       all-answers _ g.T.Default.is_default (λ f i value h stepped. search rules) _ written.0 written.1,
-      c.write_from_fn.ensures.lengths (replicate c.args.slice_len None) written.0 c.in-Ok.ensures.unfilled.cells written.2 ∙ length-replicate {A = Option g.row.T.Denot} c.args.slice_len None,
+      c.write_from_fn.ensures.becomes.lengths (replicate c.args.slice_len None) written.0 c.in-Ok.ensures.unfilled.cells written.2 ∙ length-replicate {A = Option g.row.T.Denot} c.args.slice_len None,
       written.2,
     )
 

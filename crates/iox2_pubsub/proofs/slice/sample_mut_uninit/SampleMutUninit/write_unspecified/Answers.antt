@@ -9,4 +9,4 @@ pub write_loan_unspecified-loan-requires : goal.write_loan_unspecified-loan-requ
 write_loan_unspecified-loan-requires g c = record { agrees = c.domain.invariant; several = several-inside {T = g.row.T.Denot} {U = g.row.U.Denot} _ c.args.domain.now c.domain.view_is c.requires.sliced; live = unwritten-out {T = g.row.T.Denot} {U = g.row.U.Denot} _ c.args.domain.now c.domain.view_is c.args.self.sample c.requires.live }
 
 pub returns : goal.returns
-returns g c = let it = was-filled {T = g.row.T.Denot} {U = g.row.U.Denot} c.domain.inside.state c.write_loan_unspecified-loan.new.state c.domain.invariant c.args.domain.now c.domain.view_is c.args.self.sample c.requires.live c.write_loan_unspecified-loan.ensures.writes.0 c.write_loan_unspecified-loan.ensures.writes.1 c.write_loan_unspecified-loan.result (ap (λ (at : LoanAt). at.publisher) c.write_loan_unspecified-loan.ensures.same) (ap (λ (at : LoanAt). at.number) c.write_loan_unspecified-loan.ensures.same) in record { written = (c.write_loan_unspecified-loan.ensures.writes.0, it.written, it.shown); lengths = it.lengths; out = it.out; live = it.live; unblocked = it.unblocked; key = it.key; lent = it.lent; header = it.header; user_header = it.user_header; leaves = it.leaves }
+returns g c = let it = was-filled {T = g.row.T.Denot} {U = g.row.U.Denot} c.domain.inside.state c.write_loan_unspecified-loan.new.state c.domain.invariant c.args.domain.now c.domain.view_is c.args.self.sample c.requires.live c.write_loan_unspecified-loan.ensures.writes.0 c.write_loan_unspecified-loan.ensures.writes.1 c.write_loan_unspecified-loan.result (ap (λ (at : LoanAt). at.publisher) c.write_loan_unspecified-loan.ensures.same) (ap (λ (at : LoanAt). at.number) c.write_loan_unspecified-loan.ensures.same) in rw c.written.ensures (record { written = (c.write_loan_unspecified-loan.ensures.writes.0, it.written, it.shown); becomes = it.becomes })
