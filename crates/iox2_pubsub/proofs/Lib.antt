@@ -13,6 +13,7 @@ pub mod WrittenLoanCalls
 pub mod DefaultSlices
 pub mod SliceParts
 pub mod FilledLengths
+pub mod GrantedLoans
 pub mod FilledLoans
 mod FilledHandles
 mod GoneOn

@@ -16,8 +16,11 @@ use Rattle.iox2_domain.specs.Reaches.{Reaches}
 use Rattle.iox2_domain.specs.Shows.{Shows}
 use Rattle.iox2_domain.specs.declared.boxes.PortBox.{PortBox}
 use Rattle.iox2_pubsub.specs.Handlers.{may_wait}
-use Rattle.iox2_pubsub.specs.Live.{ConnectionsStay, IsConnected, IsNewIn, IsReadyPublisher, IsSubscriberKey, NeverFails, NeverWaits, NoneRefused, RoomStays, Stays, WaitingStays, publisher_key, publisher_port, subscriber_key, waiting}
-use Rattle.iox2_pubsub.specs.LoansLeft.{GrowsBy, HasLoansLeft, LendsFirst, LoansLeftStay}
+use Rattle.iox2_pubsub.specs.Live.{IsConnected, IsNewIn, IsReadyPublisher, IsSubscriberKey, NeverFails, NeverWaits, NoneRefused, WaitingStays, publisher_key, publisher_port, subscriber_key}
+use Rattle.iox2_pubsub.specs.Factories.{with_slots}
+use Rattle.iox2_pubsub.specs.Leaves.{LeavesNoFewer}
+use Rattle.iox2_pubsub.specs.LoansLeft.{GrowsBy, HasLoansLeft, LendsFirst}
+use Rattle.iox2_pubsub.specs.MadePublishers.{IsMade}
 use Rattle.iox2_pubsub.specs.declared.publisher.Publisher.{Publisher}
 use Rattle.iox2_pubsub.specs.declared.subscriber.Subscriber.{Subscriber}
 use Rattle.iox2_pubsub.proofs.CallsStay.{always-shown, apart-from-next, publisher-creation-stays, publisher-is-new}
@@ -28,15 +31,6 @@ use Rattle.iox2_pubsub.proofs.NextPorts.{next-sender-takes}
 use Rattle.iox2_pubsub.proofs.PublishersShown.{created-never-fails, created-never-waits, created-overflows, created-ready, created-shows}
 use Rattle.iox2_pubsub.proofs.StaysBut.{live-boxes}
 use Rattle.iox2_pubsub.proofs.WaitingShown.{publisher-no-fewer, publisher-refused}
-
--- What was there is there, as it was, and no fewer messages wait; where none was made, the same ones do.
-pub record CreationLeaves {T U F G : Type 0} (refusal : Option PublisherCreateError) (old new : Kept T U F G) : Type 0 where
-  pub refused : (e : PublisherCreateError) → refusal ≡ Some e → WaitingStays old new
-  pub no_fewer : (subscriber : Subscriber) → waiting old subscriber ≤ waiting new subscriber
-  pub connections : ConnectionsStay old new
-  pub room : RoomStays old new
-  pub loans_left : LoansLeftStay old new
-  pub stays : Stays old new
 
 -- The publisher was made with these settings.
 pub record Made {T U F G : Type 0} (environment : Environment) (given : PublisherSettings) (publisher : Publisher) (old new : Kept T U F G) : Type 0 where
@@ -53,20 +47,46 @@ pub record Made {T U F G : Type 0} (environment : Environment) (given : Publishe
 
 module _ {T U F G : Type 0} {boxes : DomainBoxes F G} {publishers : List (PortBox F G)} (f g : Fields T U) (sound : IsDomain f) (kept : Kept T U F G) (view : keeping boxes f ≡ kept)
     (others : (p : ℕ) → p ≢ f.next_port → boxes_of p publishers ≡ boxes_of p boxes.publishers) where
-  pub creation-leaves : (environment : Environment) (given : PublisherSettings) (refusal : Option PublisherCreateError) (t : State T U) → CreatePublisher environment (state_of (kept_of f)) given t refusal → Reaches f g t
-      → CreationLeaves refusal kept (keeping (record boxes { publishers = publishers }) g)
-  creation-leaves environment given refusal t made reached =
-      let new : Kept T U F G = keeping (record boxes { publishers = publishers }) g in
-      let it = always-shown f kept sound view in
-      let next = created-shows f g given environment kept view it.0 it.1 t refusal it.2 made reached in
-      record {
-        refused = publisher-refused kept new it.0 it.0 it.1 t it.2 next.0 environment given refusal next.1 (λ n entry at. at);
-        no_fewer = publisher-no-fewer kept new it.0 it.0 it.1 t it.2 next.0 environment given refusal next.1;
-        connections = made-connections kept new it.0 it.0 it.1 t it.2 next.0 environment given refusal next.1;
-        room = publisher-creation-room kept new it.0 it.0 it.1 t it.2 next.0 environment given refusal next.1;
-        loans_left = publisher-creation-left kept new it.0 it.0 it.1 t it.2 next.0 environment given refusal next.1;
-        stays = publisher-creation-stays kept new it.0 it.1 it.2 environment given refusal t next.0 next.1 (live-boxes f g kept view (λ key live other. others key.port (apart-from-next f kept sound view key live)));
-      }
+  -- what was there is there, as it was, and no fewer messages wait
+  module _ (environment : Environment) (given : PublisherSettings) (refusal : Option PublisherCreateError) (t : State T U) (made : CreatePublisher environment (state_of (kept_of f)) given t refusal) (reached : Reaches f g t) where
+    pub creation-leaves : LeavesNoFewer kept (keeping (record boxes { publishers = publishers }) g)
+    creation-leaves =
+        let new : Kept T U F G = keeping (record boxes { publishers = publishers }) g in
+        let it = always-shown f kept sound view in
+        let next = created-shows f g given environment kept view it.0 it.1 t refusal it.2 made reached in
+        record {
+          stays = publisher-creation-stays kept new it.0 it.1 it.2 environment given refusal t next.0 next.1 (live-boxes f g kept view (λ key live other. others key.port (apart-from-next f kept sound view key live)));
+          no_fewer = publisher-no-fewer kept new it.0 it.0 it.1 t it.2 next.0 environment given refusal next.1;
+          connections = made-connections kept new it.0 it.0 it.1 t it.2 next.0 environment given refusal next.1;
+          room = publisher-creation-room kept new it.0 it.0 it.1 t it.2 next.0 environment given refusal next.1;
+          loans_left = publisher-creation-left kept new it.0 it.0 it.1 t it.2 next.0 environment given refusal next.1;
+        }
+
+    -- where none was made, the same ones wait
+    pub creation-refused : (e : PublisherCreateError) → refusal ≡ Some e → WaitingStays kept (keeping (record boxes { publishers = publishers }) g)
+    creation-refused =
+        let new : Kept T U F G = keeping (record boxes { publishers = publishers }) g in
+        let it = always-shown f kept sound view in
+        let next = created-shows f g given environment kept view it.0 it.1 t refusal it.2 made reached in
+        publisher-refused kept new it.0 it.0 it.1 t it.2 next.0 environment given refusal next.1 (λ n entry at. at)
+
+-- how many slots were asked for says nothing of a publisher that was made
+pub made-unasked : {T U F G : Type 0} (given : PublisherSettings) (asked : Option ℕ) (box : Option F) (degrading : Option G) (port : Publisher) (old new : Kept T U F G)
+    → IsMade (with_slots given asked) box degrading port old new → IsMade given box degrading port old new
+made-unasked given asked box degrading port old after made = record {
+  grows = made.grows;
+  ready = made.ready;
+  discards = made.discards;
+  passes = made.passes;
+  overflows = made.overflows;
+  never_fails = made.never_fails;
+  boxed = made.boxed;
+  degrades = made.degrades;
+  strategy = made.strategy;
+  longest = made.longest;
+  is_new = made.is_new;
+  connects = made.connects;
+}
 
 module _ {T U F G : Type 0} {boxes : DomainBoxes F G} (f g : Fields T U) (sound : IsDomain f) (kept : Kept T U F G) (view : keeping boxes f ≡ kept) (environment : Environment) (given : PublisherSettings)
     (t : State T U) (made : CreatePublisher environment (state_of (kept_of f)) given t None) (reached : Reaches f g t) where

@@ -1,6 +1,7 @@
 -- What the words of slices say, part by part.
 use Rattle.std.proofs.Common.{◌≡◌, ℕ, List, [], ◌∷◌, map, true, false, refl, ap, sym, ◌∙◌, Option, Some}
 use Rattle.iox2_machine.specs.SingleValues.{is_single_valued}
+use Rattle.iox2_machine.specs.declared.service_config.ServiceConfig.{ServiceConfig}
 use Rattle.iox2_machine.specs.declared.service_config.TypeVariant.TheVariants.{Dynamic}
 use Rattle.iox2_machine.specs.machine.Records.{Entry, Loan}
 use Rattle.iox2_machine.specs.declared.key.Key.{Key}
@@ -9,7 +10,9 @@ use Rattle.iox2_domain.specs.Fields.{Fields, keeping}
 use Rattle.iox2_domain.specs.Kept.{Kept, state_of, entries_of}
 use Rattle.iox2_domain.specs.LoanCalls.{HasCells}
 use Rattle.iox2_domain.proofs.lemmas.fields.SingleSettings.{dynamic-several}
+use Rattle.iox2_pubsub.specs.NewDomains.{CarriesAs}
 use Rattle.iox2_pubsub.specs.Slices.{HoldsSlices, IsSliced, HasUnwrittenCells, HasValues, SampleHasValues}
+use Rattle.iox2_pubsub.proofs.LiveParts.{single-valued}
 
 -- values whose cells are the same are the same
 same-values : {T : Type 0} (xs ys : List T) → map Some xs ≡ map Some ys → xs ≡ ys
@@ -40,6 +43,16 @@ module _ {T U F G : Type 0} (kept : Kept T U F G) where
   -- and their cells are handed out where the settings say so
   pub dynamic-sliced : (kept.config).variant ≡ Dynamic → (kept.config).lists_cells ≡ true → IsSliced kept
   dynamic-sliced dynamic lists = record { holds = dynamic-holds dynamic; lists_cells = lists }
+
+  -- with these settings messages are as they say
+  pub carries-as : (config : ServiceConfig) → kept.config ≡ config → CarriesAs config kept
+  carries-as config same =
+      let variant = ap (λ (c : ServiceConfig). c.variant) same in
+      record {
+        single_valued = λ single units. single-valued kept (variant ∙ single) (ap (λ (c : ServiceConfig). c.units_per_element) same ∙ units);
+        holds_slices = λ dynamic. dynamic-holds (variant ∙ dynamic);
+        sliced = λ dynamic lists. dynamic-sliced (variant ∙ dynamic) (ap (λ (c : ServiceConfig). c.lists_cells) same ∙ lists);
+      }
 
   pub cells-parts : (n : ℕ) (cells : List (Option T)) → HasUnwrittenCells kept n cells → HasCells (state_of kept) n cells
   unfolding HasUnwrittenCells

@@ -2,8 +2,9 @@
 use Rattle.iox2_domain.specs.Kept.{Kept}
 use Rattle.std.specs.Prelude.{ℕ, ◌≡◌, ◌≢◌, ◌≤◌, true, false}
 use Rattle.iox2_machine.specs.machine.Channel.{Channel, is_closed, is_in_state}
-use Rattle.iox2_pubsub.specs.Live.{AddAtMost, IsConnected, IsUpToDate, Item, No_item, OthersStayUpToDate, OthersWait, RoomStays, Stays, StaysBut, UpToDateStay, WaitingStays, subscriber_port, waiting}
-use Rattle.iox2_pubsub.specs.LoansLeft.{LoansLeftStay}
+use Rattle.iox2_pubsub.specs.Live.{AddAtMost, ConnectionsStay, IsConnected, IsUpToDate, Item, No_item, OthersStayUpToDate, OthersWait, RoomStays, Stays, StaysBut, UpToDateStay, WaitingStays, subscriber_port, waiting}
+use Rattle.iox2_pubsub.specs.LoansLeft.{LoansLeftStay, TakesOneLeft}
+use Rattle.iox2_pubsub.specs.declared.publisher.Publisher.{Publisher}
 use Rattle.iox2_pubsub.specs.declared.subscriber.Subscriber.{Subscriber}
 
 -- The call leaves all as it was, but for this item: what else is live stays so, the same messages wait, who was up to date and
@@ -26,11 +27,26 @@ pub record LeavesButWaiting {T U F G : Type 0} (subscriber : Subscriber) (old ne
   pub up_to_date : UpToDateStay old new
   pub loans_left : LoansLeftStay old new
 
+-- The call leaves all as it was, but that the publisher has one loan fewer left, and the domain one number.
+pub record LeavesLending {T U F G : Type 0} (publisher : Publisher) (old new : Kept T U F G) : Type 0 where
+  pub stays : Stays old new
+  pub waits : WaitingStays old new
+  pub up_to_date : UpToDateStay old new
+  pub loans_left : TakesOneLeft publisher old new
+
 -- The call leaves all as it was, but that for no subscriber more than so many messages are added to what waits.
 pub record LeavesAdding {T U F G : Type 0} (more : ℕ) (old new : Kept T U F G) : Type 0 where
   pub stays : Stays old new
   pub adds : AddAtMost more old new
   pub up_to_date : UpToDateStay old new
+  pub loans_left : LoansLeftStay old new
+
+-- The call leaves all as it was, but that more messages may wait, and who was up to date may be due.
+pub record LeavesNoFewer {T U F G : Type 0} (old new : Kept T U F G) : Type 0 where
+  pub stays : Stays old new
+  pub no_fewer : (subscriber : Subscriber) → waiting old subscriber ≤ waiting new subscriber
+  pub connections : ConnectionsStay old new
+  pub room : RoomStays old new
   pub loans_left : LoansLeftStay old new
 
 -- The call leaves all as it was, but this subscriber, for which nothing waits afterwards.

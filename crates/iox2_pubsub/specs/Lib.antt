@@ -8,7 +8,11 @@ pub mod QuestionCalls
 pub mod UpdateCalls
 pub mod Payloads
 pub mod LoansLeft
+pub mod GrantedLoans
 pub mod Leaves
+pub mod MachineSteps
+pub mod MadePublishers
+pub mod NewDomains
 pub mod ChangedLoans
 pub mod LoanLends
 pub mod LoanCalls

@@ -1,12 +1,20 @@
--- What a receive returns.
+-- What a receive returns, and what it gives.
+use Rattle.std.specs.Prelude.{◌≡◌, ◌<◌, [], ◌∷◌, suc, List, IfNone, IfOk, IfSome, OnOk}
 use Rattle.std.specs.declared.option.Option.{Option}
 use Rattle.std.specs.declared.option.Option.TheVariants.{None, Some}
 use Rattle.std.specs.declared.result.Result.{Result}
 use Rattle.std.specs.declared.result.Result.TheVariants.{Ok, Err}
-use Rattle.iox2_machine.specs.machine.Receives.{ReceiveResult, Got_sample, No_sample, Receive_error}
+use Rattle.iox2_machine.specs.machine.Receives.{Receive, ReceiveResult, Got_sample, No_sample, Receive_error}
+use Rattle.iox2_machine.specs.machine.Records.{Environment}
 use Rattle.iox2_machine.specs.declared.errors.ReceiveError.{ReceiveError}
+use Rattle.iox2_domain.specs.Kept.{Kept}
+use Rattle.iox2_pubsub.specs.Leaves.{LeavesButWaiting}
+use Rattle.iox2_pubsub.specs.Live.{AreAllSlices, IsFromOrigin, IsLiveSample, IsNewIn, IsUpToDate, KeepsAll, LeavesLater, LeavesOthers, TakesFirst, TakesOldest, payloads, received_sample, sample_key, waiting}
+use Rattle.iox2_pubsub.specs.MachineSteps.{TakesStep}
+use Rattle.iox2_pubsub.specs.Slices.{SampleHasValues}
 use Rattle.iox2_pubsub.specs.declared.sample.Sample.{Sample}
 use Rattle.iox2_pubsub.specs.declared.slice.sample.Sample.{Sample as SliceSample}
+use Rattle.iox2_pubsub.specs.declared.subscriber.Subscriber.{Subscriber}
 
 -- The machine's result where a receive returns this.
 abbrev pub received_result : Result (Option Sample) ReceiveError → ReceiveResult
@@ -14,8 +22,34 @@ received_result (Ok None) = No_sample
 received_result (Ok (Some sample)) = Got_sample sample.origin sample.sample.number
 received_result (Err e) = Receive_error e
 
--- The machine's result where a receive of a slice returns this.
-abbrev pub received_slice : Result (Option SliceSample) ReceiveError → ReceiveResult
-received_slice (Ok None) = No_sample
-received_slice (Ok (Some sample)) = Got_sample sample.sample.origin sample.sample.sample.number
-received_slice (Err e) = Receive_error e
+-- The result of a receive of a slice, as one of a single value: a sample of a slice is that of a single value in other clothes.
+abbrev pub as_received : Result (Option SliceSample) ReceiveError → Result (Option Sample) ReceiveError
+as_received (Ok None) = Ok None
+as_received (Ok (Some it)) = Ok (Some it.sample)
+as_received (Err e) = Err e
+
+-- The subscriber is given the sample: it is borrowed from its origin, was the oldest that waited from there, reads as that did, and
+-- is none that was there before.
+pub record IsReceived {T U F G : Type 0} (receiver : Subscriber) (sample : Sample) (old new : Kept T U F G) : Type 0 where
+  pub live : IsLiveSample new sample
+  pub is_new : IsNewIn old (received_sample sample)
+  pub origin : IsFromOrigin new sample
+  pub subscriber : sample.sample.subscriber ≡ receiver.id
+  pub fewer : waiting new receiver < waiting old receiver
+  pub one_fewer : KeepsAll old receiver → suc (waiting new receiver) ≡ waiting old receiver
+  pub reads : (values : List T) → AreAllSlices (payloads old receiver) values → SampleHasValues new (sample_key sample) values
+  pub only : (values : List T) → payloads old receiver ≡ values ∷ [] → SampleHasValues new (sample_key sample) values
+  pub oldest : TakesOldest receiver sample old new
+  pub first : TakesFirst receiver sample old new
+  pub later : LeavesLater receiver old new
+  pub rest : KeepsAll old receiver → LeavesOthers receiver sample old new
+
+-- The subscriber receives as the machine does, where handlers answer so, with this result: it is given a sample, or nothing waits for
+-- it, or there is an error; and without an error it is up to date.
+pub record Receives {T U F G : Type 0} (environment : Environment) (receiver : Subscriber) (result : Result (Option Sample) ReceiveError) (old new : Kept T U F G) : Type 0 where
+  pub receives : TakesStep old new (λ before after. Receive environment before receiver.id after (received_result result))
+  pub received : IfOk result (λ sample. IfSome sample (λ it. IsReceived receiver it old new))
+  pub none : IfOk result (λ sample. IfNone sample (waiting new receiver ≡ 0))
+  pub nothing : KeepsAll old receiver → IfOk result (λ sample. IfNone sample (waiting old receiver ≡ 0))
+  pub updated : OnOk result (IsUpToDate new receiver)
+  pub leaves : LeavesButWaiting receiver old new

@@ -1,16 +1,13 @@
 //! A domain: all ports of a service, and what lies between them.
-ghost use Rattle.std.specs.Prelude.{◌≡◌, ◌<◌, ℕ, IfOk, true};
+ghost use Rattle.std.specs.Prelude.{◌≡◌, IfOk};
 ghost use Rattle.std.specs.List.{count_by};
 ghost use Rattle.std.specs.Option.{is_some};
 ghost use Rattle.circular_buffer.specs.Buffer.{buffer};
-ghost use Rattle.iox2_machine.specs.machine.Limits.{last_number, warning_limit};
-ghost use Rattle.iox2_machine.specs.machine.State.{Messages, fresh, no_messages};
+ghost use Rattle.iox2_machine.specs.machine.Limits.{warning_limit};
+ghost use Rattle.iox2_machine.specs.machine.State.{Messages};
 ghost use Rattle.iox2_domain.specs.Kept.{state_of};
-ghost use Rattle.iox2_machine.specs.declared.service_config.TypeVariant.TheVariants.{Dynamic, FixedSize};
 ghost use Rattle.iox2_domain.specs.Shows.{Shows};
-ghost use Rattle.iox2_pubsub.specs.Live.{IsSingleValued};
-ghost use Rattle.iox2_pubsub.specs.LoansLeft.{HasNumbersLeft};
-ghost use Rattle.iox2_pubsub.specs.Slices.{HoldsSlices, IsSliced};
+ghost use Rattle.iox2_pubsub.specs.NewDomains.{CarriesAs, IsNewDomain};
 
 mod holds;
 
@@ -65,12 +62,7 @@ impl<T: Drop, U: Default + Drop> Domain<T, U> {
     ///
     /// Fails with `DomainCreateError::OutOfMemory` where memory is refused.
     pub fn new(alloc: Global, config: ServiceConfig) -> Result<Self, DomainCreateError>
-        ensures fresh { IfOk result (λ d. Shows d no_messages (fresh config)) }
-        ensures settings { IfOk result (λ d. d.config ≡ config) }
-        ensures numbers_left { IfOk result (λ d. (n : ℕ) → n < last_number → HasNumbersLeft d n) }
-        ensures single_valued { IfOk result (λ d. config.variant ≡ FixedSize → config.units_per_element ≡ 1 → IsSingleValued d) }
-        ensures holds_slices { IfOk result (λ d. config.variant ≡ Dynamic → HoldsSlices d) }
-        ensures sliced { IfOk result (λ d. config.variant ≡ Dynamic → config.lists_cells ≡ true → IsSliced d) }
+        ensures { IfOk result (IsNewDomain config) }
     {
         Self::with_handlers(alloc, config)
     }
@@ -81,12 +73,7 @@ impl<T: Drop, U: Default + Drop, F: BackpressureFn, G: DegradationFn> Domain<T, 
     ///
     /// Fails with `DomainCreateError::OutOfMemory` where memory is refused.
     pub fn with_handlers(alloc: Global, config: ServiceConfig) -> Result<Self, DomainCreateError>
-        ensures fresh { IfOk result (λ d. Shows d no_messages (fresh config)) }
-        ensures settings { IfOk result (λ d. d.config ≡ config) }
-        ensures numbers_left { IfOk result (λ d. (n : ℕ) → n < last_number → HasNumbersLeft d n) }
-        ensures single_valued { IfOk result (λ d. config.variant ≡ FixedSize → config.units_per_element ≡ 1 → IsSingleValued d) }
-        ensures holds_slices { IfOk result (λ d. config.variant ≡ Dynamic → HoldsSlices d) }
-        ensures sliced { IfOk result (λ d. config.variant ≡ Dynamic → config.lists_cells ≡ true → IsSliced d) }
+        ensures { IfOk result (IsNewDomain config) }
     {
         let Ok(state) = DomainState::new(alloc, config) else {
             return Err(DomainCreateError::OutOfMemory);
@@ -101,9 +88,7 @@ impl<T: Drop, U: Default + Drop, F: BackpressureFn, G: DegradationFn> Domain<T, 
     /// The domain's settings. A domain always shows some state, with some messages.
     pub fn config(&self) -> &ServiceConfig
         ensures value { result.now ≡ self.now.config }
-        ensures single_valued { (result.now).variant ≡ FixedSize → (result.now).units_per_element ≡ 1 → IsSingleValued self.now }
-        ensures holds_slices { (result.now).variant ≡ Dynamic → HoldsSlices self.now }
-        ensures sliced { (result.now).variant ≡ Dynamic → (result.now).lists_cells ≡ true → IsSliced self.now }
+        ensures carries { CarriesAs result.now self.now }
         ensures shown { (messages : Messages T U) × Shows self.now messages (state_of self.now) }
     {
         self.state.config()

@@ -1,23 +1,22 @@
 //! The factory of publishers, of single values and of slices.
-ghost use Rattle.std.specs.Prelude.{◌≡◌, ◌≤◌, true, false, None, Some, IfOk, OnErr, MatchResult};
+ghost use Rattle.std.specs.Prelude.{◌≡◌, ◌≤◌, None, Some, IfOk, OnErr, MatchResult};
 ghost use Rattle.iox2_machine.specs.declared.degradation.DegradationAction.TheVariants.{Warn};
 ghost use Rattle.iox2_domain.specs.Boxes.{answers_of};
 ghost use Rattle.iox2_machine.specs.machine.Records.{Fixed};
 ghost use Rattle.iox2_machine.specs.machine.Limits.{worst_case};
 ghost use Rattle.iox2_machine.specs.machine.Ports.{CreatePublisher, slots_for};
 ghost use Rattle.iox2_machine.specs.machine.State.{State, Messages};
-ghost use Rattle.iox2_pubsub.specs.Live.{ConnectionsStay, IsConnected, IsNewIn, IsReadyPublisher, NeverFails, NeverWaits, NoneRefused, RoomStays, Stays, degradation_box, handler_box, publisher_key, publisher_port, waiting, WaitingStays, IsSubscriberKey, subscriber_key};
-ghost use Rattle.iox2_pubsub.specs.LoansLeft.{GrowsBy, HasLoansLeft, LendsFirst, LoansLeftStay};
+ghost use Rattle.iox2_pubsub.specs.Leaves.{LeavesNoFewer};
+ghost use Rattle.iox2_pubsub.specs.Live.{WaitingStays};
+ghost use Rattle.iox2_pubsub.specs.LoansLeft.{HasLoansLeft, LendsFirst};
+ghost use Rattle.iox2_pubsub.specs.MadePublishers.{IsMade};
 ghost use Rattle.iox2_domain.specs.NewPublisher.{plain_publisher};
-ghost use Rattle.iox2_domain.specs.Handlers.{handler_of, may_fail, may_fail_update};
 ghost use Rattle.iox2_ends.specs.Handlers.{marks_of};
 ghost use Rattle.iox2_ports.specs.Handlers.{custom_box};
 ghost use Rattle.iox2_ports.specs.Settings.{settings_with};
 ghost use Rattle.iox2_pubsub.specs.Factories.{with_callback, with_degradation, with_handler};
-ghost use Rattle.iox2_pubsub.specs.Handlers.{may_wait};
-ghost use Rattle.iox2_pubsub.specs.declared.subscriber.Subscriber.{Subscriber};
 ghost use Rattle.iox2_domain.specs.Shows.{Shows};
-ghost use Rattle.iox2_pubsub.specs.Handles.{max_slice_len_of, publisher_id, strategy_of};
+ghost use Rattle.iox2_pubsub.specs.Handles.{publisher_id};
 
 mod overridden;
 
@@ -250,8 +249,6 @@ impl<F: BackpressureFn, G: DegradationFn, H: PortHandle<Publisher>> PortFactoryP
     NoOverride,
     H,
 > {
-    ghost use Rattle.iox2_pubsub.specs.Handles.{max_slice_len_of, publisher_id, strategy_of};
-
     /// Makes the publisher, with the next id at the lowest free place, and connects it with the
     /// subscribers that there are. Each of its first slots has room for the longest loan that the
     /// factory was told of. Every subscriber is then due for an update. Where memory for a
@@ -275,25 +272,10 @@ impl<F: BackpressureFn, G: DegradationFn, H: PortHandle<Publisher>> PortFactoryP
             × MatchResult result
             (λ publisher. (publisher_id (H.as_port publisher) ≡ s.next_port) × CreatePublisher (answers_of F.allows G.allows (domain.new.boxes).publishers) s self.settings s' None)
             (λ e. CreatePublisher (answers_of F.allows G.allows (domain.new.boxes).publishers) s self.settings s' (Some e)) }
-        ensures grows { IfOk result (λ publisher. GrowsBy domain.new (H.as_port publisher) self.settings.allocation_strategy) }
-        ensures ready { IfOk result (λ publisher. IsReadyPublisher domain.new (H.as_port publisher)) }
-        ensures discards { self.settings.backpressure_strategy ≡ BackpressureStrategy.DiscardData → self.settings.backpressure_handler ≡ None → may_fail_update self.settings.degradation_handler ≡ false → IfOk result (λ publisher. NeverWaits domain.new (publisher_key (H.as_port publisher))) }
-        ensures passes { may_wait self.settings.backpressure_strategy self.settings.backpressure_handler ≡ false → may_fail self.settings.backpressure_handler ≡ false → may_fail_update self.settings.degradation_handler ≡ false → IfOk result (λ publisher. NeverWaits domain.new (publisher_key (H.as_port publisher))) }
-        ensures overflows { (domain.old.config).enable_safe_overflow ≡ true → may_fail_update self.settings.degradation_handler ≡ false → IfOk result (λ publisher. NeverWaits domain.new (publisher_key (H.as_port publisher))) }
-        ensures never_fails { may_fail self.settings.backpressure_handler ≡ false → may_fail_update self.settings.degradation_handler ≡ false → IfOk result (λ publisher. NeverFails domain.new (publisher_id (H.as_port publisher))) }
-        ensures boxed { IfOk result (λ publisher. handler_box domain.new (publisher_id (H.as_port publisher)) ≡ self.box) }
-        ensures degrades { IfOk result (λ publisher. degradation_box domain.new (publisher_id (H.as_port publisher)) ≡ self.degradation_box) }
-        ensures strategy { IfOk result (λ publisher. strategy_of (H.as_port publisher) ≡ self.settings.backpressure_strategy) }
-        ensures longest { IfOk result (λ publisher. max_slice_len_of (H.as_port publisher) ≡ self.settings.initial_max_slice_len) }
-        ensures new { IfOk result (λ publisher. IsNewIn domain.old (publisher_port (H.as_port publisher))) }
-        ensures refused { OnErr result (WaitingStays domain.old domain.new) }
-        ensures no_fewer { (subscriber : Subscriber) → waiting domain.old subscriber ≤ waiting domain.new subscriber }
-        ensures connections { ConnectionsStay domain.old domain.new }
-        ensures room { RoomStays domain.old domain.new }
-        ensures connects { IfOk result (λ publisher. NoneRefused domain.old domain.new → (subscriber : Subscriber) → IsSubscriberKey domain.old (subscriber_key subscriber) → IsConnected domain.new (publisher_id (H.as_port publisher)) subscriber) }
-        ensures loans_left { LoansLeftStay domain.old domain.new }
+        ensures made { IfOk result (λ publisher. IsMade self.settings self.box self.degradation_box (H.as_port publisher) domain.old domain.new) }
         ensures left { LendsFirst (domain.old.config) self.settings → IfOk result (λ publisher. HasLoansLeft domain.new (H.as_port publisher) self.settings.max_loaned_samples) }
-        ensures stays { Stays domain.old domain.new }
+        ensures refused { OnErr result (WaitingStays domain.old domain.new) }
+        ensures leaves { LeavesNoFewer domain.old domain.new }
     {
         let segments = SegmentOptions {
             allocation: self.slots.allocation,
@@ -321,25 +303,10 @@ pub(crate) fn create_plain<T: Drop, U: Default + Drop, F: BackpressureFn, G: Deg
         × MatchResult result
         (λ publisher. (publisher_id publisher ≡ s.next_port) × CreatePublisher (answers_of F.allows G.allows (domain.new.boxes).publishers) s (settings_with given.now (marks_of handler) segments) s' None)
         (λ e. CreatePublisher (answers_of F.allows G.allows (domain.new.boxes).publishers) s (settings_with given.now (marks_of handler) segments) s' (Some e)) }
-    ensures grows { IfOk result (λ publisher. GrowsBy domain.new publisher segments.allocation) }
-    ensures ready { IfOk result (λ publisher. IsReadyPublisher domain.new publisher) }
-    ensures discards { given.now.strategy ≡ BackpressureStrategy.DiscardData → marks_of handler ≡ None → may_fail_update (handler_of given.now.degradation) ≡ false → IfOk result (λ publisher. NeverWaits domain.new (publisher_key publisher)) }
-    ensures passes { may_wait given.now.strategy (marks_of handler) ≡ false → may_fail (marks_of handler) ≡ false → may_fail_update (handler_of given.now.degradation) ≡ false → IfOk result (λ publisher. NeverWaits domain.new (publisher_key publisher)) }
-    ensures overflows { (domain.old.config).enable_safe_overflow ≡ true → may_fail_update (handler_of given.now.degradation) ≡ false → IfOk result (λ publisher. NeverWaits domain.new (publisher_key publisher)) }
-    ensures never_fails { may_fail (marks_of handler) ≡ false → may_fail_update (handler_of given.now.degradation) ≡ false → IfOk result (λ publisher. NeverFails domain.new (publisher_id publisher)) }
-    ensures boxed { IfOk result (λ publisher. handler_box domain.new (publisher_id publisher) ≡ custom_box handler) }
-    ensures degrades { IfOk result (λ publisher. degradation_box domain.new (publisher_id publisher) ≡ degradation) }
-    ensures strategy { IfOk result (λ publisher. strategy_of publisher ≡ given.now.strategy) }
-    ensures longest { IfOk result (λ publisher. max_slice_len_of publisher ≡ given.now.initial_max_slice_len) }
-    ensures new { IfOk result (λ publisher. IsNewIn domain.old (publisher_port publisher)) }
-    ensures refused { OnErr result (WaitingStays domain.old domain.new) }
-    ensures no_fewer { (subscriber : Subscriber) → waiting domain.old subscriber ≤ waiting domain.new subscriber }
-    ensures connections { ConnectionsStay domain.old domain.new }
-    ensures room { RoomStays domain.old domain.new }
-    ensures connects { IfOk result (λ publisher. NoneRefused domain.old domain.new → (subscriber : Subscriber) → IsSubscriberKey domain.old (subscriber_key subscriber) → IsConnected domain.new (publisher_id publisher) subscriber) }
-    ensures loans_left { LoansLeftStay domain.old domain.new }
+    ensures made { IfOk result (λ publisher. IsMade (settings_with given.now (marks_of handler) segments) (custom_box handler) degradation publisher domain.old domain.new) }
     ensures left { worst_case (domain.old.config) given.now.max_loaned_samples ≤ slots_for (domain.old.config) (settings_with given.now (marks_of handler) segments) → LendsFirst (domain.old.config) (settings_with given.now (marks_of handler) segments) → IfOk result (λ publisher. HasLoansLeft domain.new publisher given.now.max_loaned_samples) }
-    ensures stays { Stays domain.old domain.new }
+    ensures refused { OnErr result (WaitingStays domain.old domain.new) }
+    ensures leaves { LeavesNoFewer domain.old domain.new }
 {
     let service_id = domain.state.config().service_id;
     let port = create_publisher(

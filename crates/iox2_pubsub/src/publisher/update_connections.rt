@@ -13,16 +13,13 @@ impl<T: Drop, U: Default + Drop, F: BackpressureFn, G: DegradationFn> UpdateConn
     for Publisher {
     ghost use Rattle.iox2_domain.specs.Boxes.{answers_of};
     ghost use Rattle.iox2_machine.specs.machine.PublisherUpdate.{UpdatePublisher};
-    ghost use Rattle.iox2_pubsub.specs.Live.{IsReadyPublisher, publisher_key, Connected};
+    ghost use Rattle.iox2_pubsub.specs.Live.{IsReadyPublisher, Connected};
+    ghost use Rattle.iox2_pubsub.specs.UpdateCalls.{ready_stays};
     ghost use Rattle.iox2_pubsub.specs.Handles.{publisher_id};
 
     ghost is_live = { IsReadyPublisher };
 
-    ghost live_stays = { λ old new publisher stays live. record {
-      there = stays.publishers (publisher_key publisher) live.there tt;
-      placed = stays.placed_publishers publisher live.placed;
-      unblocked = stays.unblocked (publisher_key publisher) live.unblocked tt;
-    } };
+    ghost live_stays = { ready_stays };
 
     ghost updates = { λ old s publisher s' failure. UpdatePublisher (answers_of F.allows G.allows (old.boxes).publishers) s (publisher_id publisher) s' failure };
 

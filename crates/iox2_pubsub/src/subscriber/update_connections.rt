@@ -13,15 +13,13 @@ impl<T: Drop, U: Default + Drop, F: BackpressureFn, G: DegradationFn> UpdateConn
     for Subscriber {
     ghost use Rattle.iox2_domain.specs.Boxes.{answers_of};
     ghost use Rattle.iox2_machine.specs.machine.SubscriberUpdate.{UpdateSubscriber};
-    ghost use Rattle.iox2_pubsub.specs.Live.{IsLiveSubscriber, IsUpToDate, KeepsAll, subscriber_key, WaitingStays};
+    ghost use Rattle.iox2_pubsub.specs.Live.{IsLiveSubscriber, IsUpToDate, KeepsAll, WaitingStays};
+    ghost use Rattle.iox2_pubsub.specs.UpdateCalls.{subscriber_stays};
     ghost use Rattle.iox2_pubsub.specs.Handles.{subscriber_id};
 
     ghost is_live = { IsLiveSubscriber };
 
-    ghost live_stays = { λ old new subscriber stays live. record {
-      there = stays.subscribers (subscriber_key subscriber) live.there tt;
-      placed = stays.placed_subscribers subscriber live.placed;
-    } };
+    ghost live_stays = { subscriber_stays };
 
     ghost updates = { λ old s subscriber s' failure. UpdateSubscriber (answers_of F.allows G.allows (old.boxes).subscribers) s (subscriber_id subscriber) s' failure };
 

@@ -28,14 +28,13 @@ pub struct LocatedLoan<T> {
 }
 
 impl Publisher {
-    ghost use Rattle.iox2_machine.specs.machine.State.{State, Messages};
-    ghost use Rattle.iox2_machine.specs.declared.service_config.TypeVariant.TheVariants.{Dynamic};
-    ghost use Rattle.iox2_domain.specs.Shows.{Shows};
-    ghost use Rattle.iox2_pubsub.specs.Live.{HasLender, IsNewIn, IsReadyPublisher, IsUnblocked, IsWritten, IsWrittenLoan, NeverWaits, Stays, UpToDateStay, WaitingStays, lender_key, publisher_key, written_key, written_loan};
-    ghost use Rattle.iox2_pubsub.specs.LoansLeft.{HasLoansLeft, HasNumbersLeft, LoansLeftStay, TakesOneLeft};
+    ghost use Rattle.iox2_pubsub.specs.GrantedLoans.{IsLentWritten, IsReadyForSlices};
+    ghost use Rattle.iox2_pubsub.specs.Handles.{as_publisher, as_written, max_slice_len_of, publisher_id, written_number};
+    ghost use Rattle.iox2_pubsub.specs.Leaves.{LeavesLending};
+    ghost use Rattle.iox2_pubsub.specs.LoansLeft.{HasLoansLeft, HasNumbersLeft, LoansLeftStay};
+    ghost use Rattle.iox2_pubsub.specs.MachineSteps.{TakesStep};
     ghost use Rattle.iox2_pubsub.specs.Slices.{HasValues};
     ghost use Rattle.iox2_pubsub.specs.WrittenLoans.{DefaultSliceCall};
-    ghost use Rattle.iox2_pubsub.specs.Handles.{as_publisher, as_written, max_slice_len_of, publisher_id, written_lender, written_number};
 
     // The handle of a loan of this publisher, which was just written.
     fn located<T>(&self, loan: LoanAt, start: Option<NonNull<T>>) -> LocatedLoan<T>
@@ -65,28 +64,15 @@ impl Publisher {
         F: BackpressureFn,
         G: DegradationFn,
     >(&self, domain: &mut Domain<T, U, F, G>, slice_len: usize) -> Result<LocatedLoan<T>, LoanError>
-        requires ready { IsReadyPublisher domain.old (as_publisher self.now) }
-        requires dynamic { (domain.old.config).variant ≡ Dynamic }
-        requires one_unit { (domain.old.config).units_per_element ≡ 1 }
-        ensures lends { (m : Messages T U) (s : State T U) → Shows domain.old m s
-            → (s' : State T U) × Shows domain.new m s' × DefaultSliceCall T.is_default U.is_default slice_len s (publisher_id (as_publisher self.now)) result s' }
+        requires ready { IsReadyForSlices domain.old (as_publisher self.now) }
+        ensures lends { TakesStep domain.old domain.new (λ before after. DefaultSliceCall T.is_default U.is_default slice_len before (publisher_id (as_publisher self.now)) result after) }
         ensures granted { (loans numbers : ℕ) → HasLoansLeft domain.old (as_publisher self.now) (loans + 1) → HasNumbersLeft domain.old (numbers + 1)
             → slice_len ≤ max_slice_len_of (as_publisher self.now) → IsOk result }
-        ensures out { IfOk result (λ it. IsWritten domain.new (as_written it.loan)) }
-        ensures live { NeverWaits domain.old (publisher_key (as_publisher self.now)) → IfOk result (λ it. IsWrittenLoan domain.new (as_written it.loan)) }
-        ensures unblocked { IfOk result (λ it. IsUnblocked domain.new (written_key (as_written it.loan))) }
+        ensures loan { IfOk result (λ it. IsLentWritten (as_publisher self.now) (as_written it.loan) domain.old domain.new) }
         ensures reads { IfOk result (λ it. (values : List T) × All T.is_default values × (length values ≡ slice_len) × HasValues domain.new (written_number (as_written it.loan)) values) }
         ensures start { IfOk result (λ it. IsSome it.start ↔ 0 < slice_len) }
-        ensures new { IfOk result (λ it. IsNewIn domain.old (written_loan (as_written it.loan))) }
-        ensures number { IfOk result (λ it. written_number (as_written it.loan) ≡ domain.old.next_message) }
-        ensures publisher { IfOk result (λ it. written_lender (as_written it.loan) ≡ publisher_id (as_publisher self.now)) }
-        ensures lender { IfOk result (λ it. lender_key (written_key (as_written it.loan)) ≡ publisher_key (as_publisher self.now)) }
-        ensures lent { IfOk result (λ it. HasLender domain.new (written_key (as_written it.loan))) }
-        ensures waits { WaitingStays domain.old domain.new }
-        ensures up_to_date { UpToDateStay domain.old domain.new }
-        ensures loans_left { TakesOneLeft (as_publisher self.now) domain.old domain.new }
         ensures refused { OnErr result (LoansLeftStay domain.old domain.new) }
-        ensures stays { Stays domain.old domain.new }
+        ensures leaves { LeavesLending (as_publisher self.now) domain.old domain.new }
     {
         match loan(&mut domain.state, self.publisher.place, true, slice_len) {
             Ok(loan) => {
@@ -111,28 +97,15 @@ impl Publisher {
         F: BackpressureFn,
         G: DegradationFn,
     >(&self, domain: &mut Domain<T, U, F, G>, slice_len: usize) -> Result<LocatedLoan<T>, LoanError>
-        requires ready { IsReadyPublisher domain.old (as_publisher self.now) }
-        requires dynamic { (domain.old.config).variant ≡ Dynamic }
-        requires one_unit { (domain.old.config).units_per_element ≡ 1 }
-        ensures lends { (m : Messages T U) (s : State T U) → Shows domain.old m s
-            → (s' : State T U) × Shows domain.new m s' × DefaultSliceCall (λ value. Unit {0}) U.is_default slice_len s (publisher_id (as_publisher self.now)) result s' }
+        requires ready { IsReadyForSlices domain.old (as_publisher self.now) }
+        ensures lends { TakesStep domain.old domain.new (λ before after. DefaultSliceCall (λ value. Unit {0}) U.is_default slice_len before (publisher_id (as_publisher self.now)) result after) }
         ensures granted { (loans numbers : ℕ) → HasLoansLeft domain.old (as_publisher self.now) (loans + 1) → HasNumbersLeft domain.old (numbers + 1)
             → slice_len ≤ max_slice_len_of (as_publisher self.now) → IsOk result }
-        ensures out { IfOk result (λ it. IsWritten domain.new (as_written it.loan)) }
-        ensures live { NeverWaits domain.old (publisher_key (as_publisher self.now)) → IfOk result (λ it. IsWrittenLoan domain.new (as_written it.loan)) }
-        ensures unblocked { IfOk result (λ it. IsUnblocked domain.new (written_key (as_written it.loan))) }
+        ensures loan { IfOk result (λ it. IsLentWritten (as_publisher self.now) (as_written it.loan) domain.old domain.new) }
         ensures reads { IfOk result (λ it. (values : List T) × (length values ≡ slice_len) × HasValues domain.new (written_number (as_written it.loan)) values) }
         ensures start { IfOk result (λ it. IsSome it.start ↔ 0 < slice_len) }
-        ensures new { IfOk result (λ it. IsNewIn domain.old (written_loan (as_written it.loan))) }
-        ensures number { IfOk result (λ it. written_number (as_written it.loan) ≡ domain.old.next_message) }
-        ensures publisher { IfOk result (λ it. written_lender (as_written it.loan) ≡ publisher_id (as_publisher self.now)) }
-        ensures lender { IfOk result (λ it. lender_key (written_key (as_written it.loan)) ≡ publisher_key (as_publisher self.now)) }
-        ensures lent { IfOk result (λ it. HasLender domain.new (written_key (as_written it.loan))) }
-        ensures waits { WaitingStays domain.old domain.new }
-        ensures up_to_date { UpToDateStay domain.old domain.new }
-        ensures loans_left { TakesOneLeft (as_publisher self.now) domain.old domain.new }
         ensures refused { OnErr result (LoansLeftStay domain.old domain.new) }
-        ensures stays { Stays domain.old domain.new }
+        ensures leaves { LeavesLending (as_publisher self.now) domain.old domain.new }
     {
         match loan(&mut domain.state, self.publisher.place, true, slice_len) {
             Ok(loan) => {

@@ -12,16 +12,13 @@ impl<T: Drop, U: Default + Drop, F: BackpressureFn, G: DegradationFn> UpdateConn
     for Publisher {
     ghost use Rattle.iox2_domain.specs.Boxes.{answers_of};
     ghost use Rattle.iox2_machine.specs.machine.PublisherUpdate.{UpdatePublisher};
-    ghost use Rattle.iox2_pubsub.specs.Live.{IsReadyPublisher, publisher_key, Connected};
+    ghost use Rattle.iox2_pubsub.specs.Live.{IsReadyPublisher, Connected};
+    ghost use Rattle.iox2_pubsub.specs.UpdateCalls.{ready_stays};
     ghost use Rattle.iox2_pubsub.specs.Handles.{as_publisher, publisher_id};
 
     ghost is_live = { λ domain publisher. IsReadyPublisher domain (as_publisher publisher) };
 
-    ghost live_stays = { λ old new publisher stays live. record {
-      there = stays.publishers (publisher_key publisher.publisher) live.there tt;
-      placed = stays.placed_publishers (as_publisher publisher) live.placed;
-      unblocked = stays.unblocked (publisher_key publisher.publisher) live.unblocked tt;
-    } };
+    ghost live_stays = { λ old new publisher. ready_stays old new (as_publisher publisher) };
 
     ghost updates = { λ old s publisher s' failure. UpdatePublisher (answers_of F.allows G.allows (old.boxes).publishers) s (publisher_id (as_publisher publisher)) s' failure };
 

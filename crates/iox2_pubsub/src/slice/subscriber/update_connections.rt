@@ -12,15 +12,13 @@ impl<T: Drop, U: Default + Drop, F: BackpressureFn, G: DegradationFn> UpdateConn
     for Subscriber {
     ghost use Rattle.iox2_domain.specs.Boxes.{answers_of};
     ghost use Rattle.iox2_machine.specs.machine.SubscriberUpdate.{UpdateSubscriber};
-    ghost use Rattle.iox2_pubsub.specs.Live.{IsLiveSubscriber, IsUpToDate, KeepsAll, subscriber_key, WaitingStays};
+    ghost use Rattle.iox2_pubsub.specs.Live.{IsLiveSubscriber, IsUpToDate, KeepsAll, WaitingStays};
+    ghost use Rattle.iox2_pubsub.specs.UpdateCalls.{subscriber_stays};
     ghost use Rattle.iox2_pubsub.specs.Handles.{as_subscriber, subscriber_id};
 
     ghost is_live = { λ domain subscriber. IsLiveSubscriber domain (as_subscriber subscriber) };
 
-    ghost live_stays = { λ old new subscriber stays live. record {
-      there = stays.subscribers (subscriber_key (as_subscriber subscriber)) live.there tt;
-      placed = stays.placed_subscribers (as_subscriber subscriber) live.placed;
-    } };
+    ghost live_stays = { λ old new subscriber. subscriber_stays old new (as_subscriber subscriber) };
 
     ghost updates = { λ old s subscriber s' failure. UpdateSubscriber (answers_of F.allows G.allows (old.boxes).subscribers) s (subscriber_id (as_subscriber subscriber)) s' failure };
 

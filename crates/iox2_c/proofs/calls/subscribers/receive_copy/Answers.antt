@@ -1,12 +1,11 @@
 use Rattle.std.proofs.Common.{◌≡◌, ℕ, ap, refl, subst, sym, ◌∙◌}
-use Rattle.std.specs.Prelude.{IfSome}
 use Rattle.std.specs.declared.option.Option.{Option}
 use Rattle.std.specs.declared.result.Result.TheVariants.{Ok}
 use Rattle.iox2_machine.specs.declared.key.Key.{Key}
 use Rattle.iox2_machine.specs.machine.Receives.{Got_sample, No_sample, Receive_error}
 use Rattle.iox2_pubsub.specs.Handles.{as_sample, as_subscriber, origin_of, receiver_of, sample_number, subscriber_id}
-use Rattle.iox2_pubsub.specs.Live.{IsLiveSample, sample_key}
-use Rattle.iox2_pubsub.specs.ReceivedSamples.{received_slice}
+use Rattle.iox2_pubsub.specs.Live.{sample_key}
+use Rattle.iox2_pubsub.specs.ReceivedSamples.{as_received, received_result}
 use Rattle.iox2_pubsub.specs.declared.slice.sample.Sample.{Sample as SliceSample}
 use Rattle.iox2_c.specs.Numbers.{wide}
 use Rattle.iox2_c.specs.Serving.{KeptBytes, Serving}
@@ -16,7 +15,7 @@ use Rattle.iox2_c.proofs.calls.subscribers.receive_copy.Goals as goal
 
 -- the sample's subscriber is the one that received it
 receiver : (c : goal.After-slice_known-in-Ok-Some-1) → receiver_of (as_sample c.in-Ok-Some.sample) ≡ subscriber_id (as_subscriber c.in-Some.subscriber)
-receiver c = subst (λ (o : Option SliceSample). IfSome o (λ it. receiver_of (as_sample it) ≡ subscriber_id (as_subscriber c.in-Some.subscriber))) c.in-Ok-Some.field-0-is c.in-Ok-Some.ensures.subscriber
+receiver c = let got = rw c.in-Ok-Some.field-0-is at c.in-Ok-Some.ensures.received in got.subscriber
 
 pub returns-in-Ok-Some-clause-copied : goal.returns-in-Ok-Some-clause-copied
 returns-in-Ok-Some-clause-copied c = λ ok. (
@@ -27,8 +26,8 @@ returns-in-Ok-Some-clause-copied c = λ ok. (
     received = c.receive-received.new.domain;
     receives =
         receives-moved c.service.inside.domain c.args.service.now.domain c.receive-received.new.domain _ (receiver_of (as_sample c.in-Ok-Some.sample)) _ _
-        (ap (λ (s : Serving). s.domain) c.service.view_is) (sym (receiver c)) (ap (λ (o : Option SliceSample). received_slice (Ok o)) c.in-Ok-Some.field-0-is) c.in-Ok-Some.ensures.receives;
-    live = subst (λ (o : Option SliceSample). IfSome o (λ it. IsLiveSample c.receive-received.new.domain (as_sample it))) c.in-Ok-Some.field-0-is c.in-Ok-Some.ensures.live;
+        (ap (λ (s : Serving). s.domain) c.service.view_is) (sym (receiver c)) (ap (λ (o : Option SliceSample). received_result (as_received (Ok o))) c.in-Ok-Some.field-0-is) c.in-Ok-Some.ensures.receives;
+    live = let got = rw c.in-Ok-Some.field-0-is at c.in-Ok-Some.ensures.received in got.live;
     reads = c.copy_out.ensures.copied ok;
     releases = c.copy_out.ensures.releases ok;
   },
@@ -40,14 +39,14 @@ returns-in-Ok-Some-clause-kept c = λ small.
     (sym (ap (λ (s : Serving). s.domain) (c.copy_out.ensures.kept small)))
     (receives-moved c.service.inside.domain c.args.service.now.domain c.receive-received.new.domain _ (wide c.args.numbers.now.id) _ _
     (ap (λ (s : Serving). s.domain) c.service.view_is) c.in-Some.ensures.id
-    (ap (λ (o : Option SliceSample). received_slice (Ok o)) c.in-Ok-Some.field-0-is
+    (ap (λ (o : Option SliceSample). received_result (as_received (Ok o))) c.in-Ok-Some.field-0-is
     ∙ ap (λ (o : ℕ). Got_sample o (sample_number (as_sample c.in-Ok-Some.sample))) (sym (c.copy_out.ensures.origin small))
     ∙ ap (Got_sample (wide c.copy_out.new.out.origin)) (sym (ap (λ (k : Key). k.message) (c.copy_out.ensures.named small)))) c.in-Ok-Some.ensures.receives)
 
 pub returns-in-Ok-None-clause-nothing : goal.returns-in-Ok-None-clause-nothing
 returns-in-Ok-None-clause-nothing c = λ none.
     receives-moved c.service.inside.domain c.args.service.now.domain c.receive-received.new.domain _ (wide c.args.numbers.now.id) _ No_sample
-    (ap (λ (s : Serving). s.domain) c.service.view_is) c.in-Some.ensures.id (ap (λ (o : Option SliceSample). received_slice (Ok o)) c.in-Ok-None.field-0-is) c.in-Ok-None.ensures.receives
+    (ap (λ (s : Serving). s.domain) c.service.view_is) c.in-Some.ensures.id (ap (λ (o : Option SliceSample). received_result (as_received (Ok o))) c.in-Ok-None.field-0-is) c.in-Ok-None.ensures.receives
 
 pub returns-in-Err-clause-errors : goal.returns-in-Err-clause-errors
 returns-in-Err-clause-errors c = λ high other. (

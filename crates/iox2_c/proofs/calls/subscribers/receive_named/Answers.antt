@@ -7,7 +7,7 @@ use Rattle.iox2_machine.specs.declared.service_config.ServiceConfig.{ServiceConf
 use Rattle.iox2_pubsub.specs.Handles.{as_sample}
 use Rattle.iox2_pubsub.specs.Live.{IsLiveSample}
 use Rattle.iox2_pubsub.proofs.LiveParts.{sample-parts, subscriber-parts}
-use Rattle.iox2_pubsub.specs.ReceivedSamples.{received_slice}
+use Rattle.iox2_pubsub.specs.ReceivedSamples.{as_received, received_result}
 use Rattle.iox2_pubsub.specs.declared.slice.sample.Sample.{Sample as SliceSample}
 use Rattle.iox2_c.specs.Numbers.{wide}
 use Rattle.iox2_c.specs.Serving.{Serving}
@@ -31,7 +31,7 @@ returns-in-Ok-Some c =
       received = λ _.
           receives-moved c.service.inside.domain c.args.service.now.domain c.receive-received.new.domain _ (wide c.args.numbers.now.id) _ _
           (ap (λ (s : Serving). s.domain) c.service.view_is) c.in-Some.ensures.id
-          (ap (λ (o : Option SliceSample). received_slice (Ok o)) c.in-Ok-Some.field-0-is
+          (ap (λ (o : Option SliceSample). received_result (as_received (Ok o))) c.in-Ok-Some.field-0-is
           ∙ ap (λ (o : ℕ). Got_sample o c.in-Ok-Some.sample.sample.sample.number) (sym origin) ∙ ap (Got_sample (wide (c.tell_received.new.out).origin)) (sym number))
           c.in-Ok-Some.ensures.receives;
       nothing = λ none. absurd (omega (arith, ok, none));
@@ -51,7 +51,7 @@ returns-in-Ok-None c = record {
   received = λ ok. absurd (omega (arith, ok));
   nothing = λ _.
       receives-moved c.service.inside.domain c.args.service.now.domain c.receive-received.new.domain _ (wide c.args.numbers.now.id) _ No_sample
-      (ap (λ (s : Serving). s.domain) c.service.view_is) c.in-Some.ensures.id (ap (λ (o : Option SliceSample). received_slice (Ok o)) c.in-Ok-None.field-0-is)
+      (ap (λ (s : Serving). s.domain) c.service.view_is) c.in-Some.ensures.id (ap (λ (o : Option SliceSample). received_result (as_received (Ok o))) c.in-Ok-None.field-0-is)
       c.in-Ok-None.ensures.receives;
   errors = λ high. absurd (omega (arith, high));
   not_live = λ two. absurd (omega (arith, two));

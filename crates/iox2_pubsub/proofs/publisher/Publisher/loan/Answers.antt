@@ -14,7 +14,7 @@ pub returns-clause-lends : goal.returns-clause-lends
 returns-clause-lends g c = λ m s shown.
     let lends = c.in_ok-loan.ensures.lends m s shown in
     let wrote = c.write_payload.ensures.written m lends.0 lends.1 in
-    let next = c.in_ok-loan.ensures.number ∙ sym (ap (λ (t : State g.row.T.Denot g.row.U.Denot). t.next_message) shown.state) in (
+    let next = c.in_ok-loan.ensures.loan.lent.number ∙ sym (ap (λ (t : State g.row.T.Denot g.row.U.Denot). t.next_message) shown.state) in (
       with_value s lends.0 c.args.self.now.id c.in_ok-loan.loan.loan.number next wrote.0 wrote.1 c.default.result (lends.2).0 (lends.2).2,
       wrote.2,
       (

@@ -35,34 +35,34 @@ pub returns-clause-sends : goal.returns-clause-sends
 returns-clause-sends g c = λ m s shown.
     let lends = c.in_ok-loan.ensures.lends m s shown in
     let wrote = c.write_payload.ensures.written m lends.0 lends.1 in
-    let next = c.in_ok-loan.ensures.number ∙ sym (ap (λ (t : State g.row.T.Denot g.row.U.Denot). t.next_message) shown.state) in
+    let next = c.in_ok-loan.ensures.loan.lent.number ∙ sym (ap (λ (t : State g.row.T.Denot g.row.U.Denot). t.next_message) shown.state) in
     let same = ap (λ (k : Key). k.message) c.write_payload.ensures.becomes.key in
     let mid = with_value s lends.0 c.args.self.now.id c.in_ok-loan.loan.loan.number next wrote.0 wrote.1 c.args.value (lends.2).0 (lends.2).2 in
     let out = written-out s lends.0 c.args.self.now.id c.in_ok-loan.loan.loan.number next wrote.0 wrote.1 c.args.value (lends.2).0 (lends.2).2 in
     let sent = c.send.ensures.sent m mid (written wrote.0 c.args.value) wrote.2 (ap mid.loans same ∙ out) in
     let key = publisher_key c.args.self.now in
     let there = c.requires.ready.there in
-    let still = c.in_ok-loan.ensures.stays.publishers key there tt in
-    let boxed = c.write_payload.ensures.becomes.leaves.stays.boxes key still tt ∙ c.in_ok-loan.ensures.stays.boxes key there tt in
-    let degrading = c.write_payload.ensures.becomes.leaves.stays.degradation_boxes key still tt ∙ c.in_ok-loan.ensures.stays.degradation_boxes key there tt in
+    let still = c.in_ok-loan.ensures.leaves.stays.publishers key there tt in
+    let boxed = c.write_payload.ensures.becomes.leaves.stays.boxes key still tt ∙ c.in_ok-loan.ensures.leaves.stays.boxes key there tt in
+    let degrading = c.write_payload.ensures.becomes.leaves.stays.degradation_boxes key still tt ∙ c.in_ok-loan.ensures.leaves.stays.degradation_boxes key there tt in
     let lender =
     written-lender _ c.write_payload.result c.write_payload.ensures.becomes.out m mid wrote.2 (written wrote.0 c.args.value) (ap mid.loans same ∙ out)
-    ∙ ap (λ (k : Key). k.port) c.write_payload.ensures.becomes.key ∙ c.in_ok-loan.ensures.publisher in (
+    ∙ ap (λ (k : Key). k.port) c.write_payload.ensures.becomes.key ∙ c.in_ok-loan.ensures.loan.lent.publisher in (
       _,
       sent.0,
       sent.1,
       copy-sent s lends.0 c.args.self.now.id c.in_ok-loan.loan.loan.number next wrote.0 wrote.1 c.args.value (lends.2).0 (lends.2).2
           (answers_of g.F.BackpressureFn.allows g.G.DegradationFn.allows c.args.domain.now.boxes.publishers) g.U.Default.is_default (lends.2).1 m c.write_payload.result.loan.number same c.send.result
-          (fails-there _ (written_key c.write_payload.result) (c.write_payload.ensures.becomes.lent c.in_ok-loan.ensures.lent) c.send.result c.send.ensures.errors) sent.0
+          (fails-there _ (written_key c.write_payload.result) (c.write_payload.ensures.becomes.lent c.in_ok-loan.ensures.loan.lent.lent) c.send.result c.send.ensures.errors) sent.0
           (sends-kept g.F.BackpressureFn.allows g.G.DegradationFn.allows c.args.domain.now _ c.args.self.now.id boxed degrading mid c.write_payload.result.loan.number (written wrote.0 c.args.value) c.send.result sent.0 lender sent.2),
     )
 
 pub send-requires-clause-unblocked : goal.send-requires-clause-unblocked
-send-requires-clause-unblocked g c = c.write_payload.ensures.becomes.unblocked c.in_ok-loan.ensures.unblocked
+send-requires-clause-unblocked g c = c.write_payload.ensures.becomes.unblocked c.in_ok-loan.ensures.loan.lent.unblocked
 
 pub returns-clause-whose : goal.returns-clause-whose
 returns-clause-whose g c =
-    whose-blocked _ (written_key c.write_payload.result) c.args.self.now.id (ap (λ (k : Key). k.port) c.write_payload.ensures.becomes.key ∙ c.in_ok-loan.ensures.publisher) c.send.result c.send.ensures.spends.blocked
+    whose-blocked _ (written_key c.write_payload.result) c.args.self.now.id (ap (λ (k : Key). k.port) c.write_payload.ensures.becomes.key ∙ c.in_ok-loan.ensures.loan.lent.publisher) c.send.result c.send.ensures.spends.blocked
 
 pub returns-in_err-loan-clause-errors : goal.returns-in_err-loan-clause-errors
 unfolding FailsCopy
@@ -72,50 +72,50 @@ returns-in_err-loan-clause-errors g c =
 
 pub returns-clause-errors : goal.returns-clause-errors
 returns-clause-errors g c =
-    fails-copy c.args.domain.now _ c.args.self.now (written_key c.write_payload.result) (ap (λ (k : Key). k.port) c.write_payload.ensures.becomes.key ∙ c.in_ok-loan.ensures.publisher)
-    (c.write_payload.ensures.becomes.lent c.in_ok-loan.ensures.lent) (λ never. c.write_payload.ensures.becomes.leaves.stays.never_fail _ (c.in_ok-loan.ensures.stays.never_fail _ never)) c.send.result c.send.ensures.errors
+    fails-copy c.args.domain.now _ c.args.self.now (written_key c.write_payload.result) (ap (λ (k : Key). k.port) c.write_payload.ensures.becomes.key ∙ c.in_ok-loan.ensures.loan.lent.publisher)
+    (c.write_payload.ensures.becomes.lent c.in_ok-loan.ensures.loan.lent.lent) (λ never. c.write_payload.ensures.becomes.leaves.stays.never_fail _ (c.in_ok-loan.ensures.leaves.stays.never_fail _ never)) c.send.result c.send.ensures.errors
 
 pub returns-in_err-loan-clause-brings : goal.returns-in_err-loan-clause-brings
-returns-in_err-loan-clause-brings g c = λ subscriber no_history none. none-are-all _ _ (none-still c.in_err-loan.ensures.waits subscriber none)
+returns-in_err-loan-clause-brings g c = λ subscriber no_history none. none-are-all _ _ (none-still c.in_err-loan.ensures.leaves.waits subscriber none)
 
 pub returns-clause-brings : goal.returns-clause-brings
 returns-clause-brings g c = λ subscriber no_history none.
-    let waits = waits-both c.in_ok-loan.ensures.waits c.write_payload.ensures.becomes.leaves.waits in
-    let settings = c.write_payload.ensures.becomes.leaves.stays.settings ∙ c.in_ok-loan.ensures.stays.settings in
+    let waits = waits-both c.in_ok-loan.ensures.leaves.waits c.write_payload.ensures.becomes.leaves.waits in
+    let settings = c.write_payload.ensures.becomes.leaves.stays.settings ∙ c.in_ok-loan.ensures.leaves.stays.settings in
     c.send.ensures.brings subscriber (c.args.value ∷ []) (ap (λ (config : ServiceConfig). config.history_size) settings ∙ no_history) (none-still waits subscriber none) c.write_payload.ensures.reads
 
 pub returns-clause-serves : goal.returns-clause-serves
 returns-clause-serves g c = λ subscriber connected.
-    let waits = waits-both c.in_ok-loan.ensures.waits c.write_payload.ensures.becomes.leaves.waits in
-    let settings = c.write_payload.ensures.becomes.leaves.stays.settings ∙ c.in_ok-loan.ensures.stays.settings in
-    let lender = ap (λ (k : Key). k.port) c.write_payload.ensures.becomes.key ∙ c.in_ok-loan.ensures.publisher in
-    let still = c.in_ok-loan.ensures.up_to_date.connections c.args.self.now.id subscriber connected in
-    copy-serves c.args.domain.now _ _ waits settings (λ it its. c.write_payload.ensures.becomes.leaves.stays.buffers it (c.in_ok-loan.ensures.stays.buffers it its)) c.args.self.now.id c.write_payload.result.loan.publisher lender subscriber (c.args.value ∷ []) c.send.result
+    let waits = waits-both c.in_ok-loan.ensures.leaves.waits c.write_payload.ensures.becomes.leaves.waits in
+    let settings = c.write_payload.ensures.becomes.leaves.stays.settings ∙ c.in_ok-loan.ensures.leaves.stays.settings in
+    let lender = ap (λ (k : Key). k.port) c.write_payload.ensures.becomes.key ∙ c.in_ok-loan.ensures.loan.lent.publisher in
+    let still = c.in_ok-loan.ensures.leaves.up_to_date.connections c.args.self.now.id subscriber connected in
+    copy-serves c.args.domain.now _ _ waits settings (λ it its. c.write_payload.ensures.becomes.leaves.stays.buffers it (c.in_ok-loan.ensures.leaves.stays.buffers it its)) c.args.self.now.id c.write_payload.result.loan.publisher lender subscriber (c.args.value ∷ []) c.send.result
     (c.send.ensures.serves subscriber (c.args.value ∷ []) (connected-as c.write_payload.ensures.becomes.leaves.up_to_date c.args.self.now.id c.write_payload.result.loan.publisher lender subscriber still) c.write_payload.ensures.reads)
 
 pub returns-clause-arrives : goal.returns-clause-arrives
 returns-clause-arrives g c = λ subscriber none connected.
-    let waits = waits-both c.in_ok-loan.ensures.waits c.write_payload.ensures.becomes.leaves.waits in
-    let lender = ap (λ (k : Key). k.port) c.write_payload.ensures.becomes.key ∙ c.in_ok-loan.ensures.publisher in
-    let still = c.in_ok-loan.ensures.up_to_date.connections c.args.self.now.id subscriber connected in
+    let waits = waits-both c.in_ok-loan.ensures.leaves.waits c.write_payload.ensures.becomes.leaves.waits in
+    let lender = ap (λ (k : Key). k.port) c.write_payload.ensures.becomes.key ∙ c.in_ok-loan.ensures.loan.lent.publisher in
+    let still = c.in_ok-loan.ensures.leaves.up_to_date.connections c.args.self.now.id subscriber connected in
     copy-arrives _ c.args.self.now.id c.write_payload.result.loan.publisher lender subscriber ((c.args.value ∷ []) ∷ []) c.send.result
     (c.send.ensures.arrives subscriber (c.args.value ∷ []) (none-still waits subscriber none) (connected-as c.write_payload.ensures.becomes.leaves.up_to_date c.args.self.now.id c.write_payload.result.loan.publisher lender subscriber still) c.write_payload.ensures.reads)
 
 pub returns-clause-joins : goal.returns-clause-joins
 returns-clause-joins g c = λ subscriber earlier all its room connected.
-    let waits = waits-both c.in_ok-loan.ensures.waits c.write_payload.ensures.becomes.leaves.waits in
-    let lender = ap (λ (k : Key). k.port) c.write_payload.ensures.becomes.key ∙ c.in_ok-loan.ensures.publisher in
-    let still = c.in_ok-loan.ensures.up_to_date.connections c.args.self.now.id subscriber connected in
-    let buffer = c.write_payload.ensures.becomes.leaves.stays.buffers subscriber (c.in_ok-loan.ensures.stays.buffers subscriber its) in
+    let waits = waits-both c.in_ok-loan.ensures.leaves.waits c.write_payload.ensures.becomes.leaves.waits in
+    let lender = ap (λ (k : Key). k.port) c.write_payload.ensures.becomes.key ∙ c.in_ok-loan.ensures.loan.lent.publisher in
+    let still = c.in_ok-loan.ensures.leaves.up_to_date.connections c.args.self.now.id subscriber connected in
+    let buffer = c.write_payload.ensures.becomes.leaves.stays.buffers subscriber (c.in_ok-loan.ensures.leaves.stays.buffers subscriber its) in
     copy-arrives _ c.args.self.now.id c.write_payload.result.loan.publisher lender subscriber (earlier ++ (c.args.value ∷ []) ∷ []) c.send.result
     (c.send.ensures.joins subscriber (c.args.value ∷ []) earlier (all-since waits c.args.self.now.id c.write_payload.result.loan.publisher lender subscriber earlier all) buffer room
     (connected-as c.write_payload.ensures.becomes.leaves.up_to_date c.args.self.now.id c.write_payload.result.loan.publisher lender subscriber still) c.write_payload.ensures.reads)
 
 pub returns-in_err-loan-clause-others : goal.returns-in_err-loan-clause-others
-returns-in_err-loan-clause-others g c = λ other away. ap (λ (f : ℕ → Subscriber → List (List g.row.T.Denot)). f other) c.in_err-loan.ensures.waits.from
+returns-in_err-loan-clause-others g c = λ other away. ap (λ (f : ℕ → Subscriber → List (List g.row.T.Denot)). f other) c.in_err-loan.ensures.leaves.waits.from
 
 pub returns-clause-others : goal.returns-clause-others
 returns-clause-others g c =
-    let waits = waits-both c.in_ok-loan.ensures.waits c.write_payload.ensures.becomes.leaves.waits in
-    let lender = ap (λ (k : Key). k.port) c.write_payload.ensures.becomes.key ∙ c.in_ok-loan.ensures.publisher in
+    let waits = waits-both c.in_ok-loan.ensures.leaves.waits c.write_payload.ensures.becomes.leaves.waits in
+    let lender = ap (λ (k : Key). k.port) c.write_payload.ensures.becomes.key ∙ c.in_ok-loan.ensures.loan.lent.publisher in
     copy-others c.args.domain.now _ _ waits c.args.self.now.id c.write_payload.result.loan.publisher lender c.send.ensures.spends.others

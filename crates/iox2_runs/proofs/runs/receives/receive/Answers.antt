@@ -1,8 +1,7 @@
 use Rattle.iox2_domain.specs.Boxes.{answers_of}
 use Rattle.iox2_pubsub.proofs.LiveParts.{sample-parts}
 use Rattle.iox2_pubsub.proofs.StaysBut.{nothing-is-new}
-use Rattle.iox2_pubsub.specs.Live.{IsLiveSample, IsNewIn, received_sample}
-use Rattle.iox2_pubsub.specs.ReceivedSamples.{received_result}
+use Rattle.iox2_pubsub.specs.ReceivedSamples.{IsReceived, received_result}
 use Rattle.iox2_pubsub.specs.declared.sample.Sample.{Sample}
 use Rattle.iox2_runs.proofs.CarriedSamples.{receive_passed, receive_of_other, receive_carried, receive_none, receive_denied}
 use Rattle.iox2_runs.proofs.FixedCalls.{received}
@@ -33,18 +32,14 @@ receive-requires g c = record { live = live_subscriber {T = g.row.T.Denot} {U = 
 pub returns-in-Ok-Some : goal.returns-in-Ok-Some
 returns-in-Ok-Some g c =
     let result : c.receive.result ≡ Ok (Some c.in-Ok-Some.sample) = c.in-Ok-Some.is ∙ ap (λ (o : Option Sample). Ok o) c.in-Ok-Some.field-0-is in
-    let live : IsLiveSample c.receive.new.domain c.in-Ok-Some.sample =
-    subst (λ (r : Result (Option Sample) ReceiveError). IfOk r (λ o. IfSome o (IsLiveSample c.receive.new.domain))) result c.receive.ensures.live in
-    let whose : c.in-Ok-Some.sample.sample.subscriber ≡ c.in-Subscriber.subscriber.id =
-    subst (λ (r : Result (Option Sample) ReceiveError). IfOk r (λ o. IfSome o (λ (it : Sample). it.sample.subscriber ≡ c.in-Subscriber.subscriber.id))) result c.receive.ensures.subscriber in
-    let new : IsNewIn c.args.domain.now (received_sample c.in-Ok-Some.sample) =
-    subst (λ (r : Result (Option Sample) ReceiveError). IfOk r (λ o. IfSome o (λ it. IsNewIn c.args.domain.now (received_sample it)))) result c.receive.ensures.new in
+    let got : IsReceived c.in-Subscriber.subscriber c.in-Ok-Some.sample c.args.domain.now c.receive.new.domain =
+    subst (λ (r : Result (Option Sample) ReceiveError). IfOk r (λ o. IfSome o (λ it. IsReceived c.in-Subscriber.subscriber it c.args.domain.now c.receive.new.domain))) result c.receive.ensures.received in
     rw c.in-Subscriber.is (makes {T = g.row.T.Denot} {U = g.row.U.Denot} _ _ c.args.domain.now c.receive.new.domain _ _ _ (MadeSample c.in-Ok-Some.sample) (λ table of at.
     receive_carried {T = g.row.T.Denot} {U = g.row.U.Denot} fixed_handlers _ c.args.domain.now c.receive.new.domain table table of c.in-Subscriber.subscriber c.in-Ok-Some.sample c.origin.result at
     (ap (λ (k : ServiceConfig). k.units_per_element) (sym c.config.ensures.value) ∙ c.if-config-ne1.false)
     (received {T = g.row.T.Denot} {U = g.row.U.Denot} (answers_of g.F.BackpressureFn.allows g.G.DegradationFn.allows c.args.domain.now.boxes.subscribers) c.args.domain.now c.receive.new.domain c.in-Subscriber.subscriber.id (unboxed_subscriber {T = g.row.T.Denot} {U = g.row.U.Denot} c.args.domain.now c.args.held c.requires c.in-Subscriber.subscriber c.in-Subscriber.is) (received_result (Ok (Some c.in-Ok-Some.sample)))
     (λ m s shown. let got = c.receive.ensures.receives m s shown in (got.0, got.1, subst (λ r. Receive (answers_of g.F.BackpressureFn.allows g.G.DegradationFn.allows c.args.domain.now.boxes.subscribers) s c.in-Subscriber.subscriber.id got.0 (received_result r)) result got.2)))
-    (sample-parts {T = g.row.T.Denot} {U = g.row.U.Denot} c.receive.new.domain _ live).0 whose c.origin.ensures) c.receive.ensures.leaves.stays new tt)
+    (sample-parts {T = g.row.T.Denot} {U = g.row.U.Denot} c.receive.new.domain _ got.live).0 got.subscriber c.origin.ensures) c.receive.ensures.leaves.stays got.is_new tt)
 
 pub returns-in-Ok-None : goal.returns-in-Ok-None
 returns-in-Ok-None g c =

@@ -10,7 +10,7 @@ returns-in-Ok-clause-lends c = λ m s shown.
     let written = c.write_unspecified.ensures.written in
     let lends = c.in-Ok.ensures.lends m s shown in
     let wrote = written.2 m lends.0 lends.1 in
-    let next = c.in-Ok.ensures.number ∙ sym (ap (λ (t : BytesState). t.next_message) shown.state) in (
+    let next = c.in-Ok.ensures.loan.lent.number ∙ sym (ap (λ (t : BytesState). t.next_message) shown.state) in (
       wrote.2,
       wrote.4,
       (

@@ -10,7 +10,7 @@ use Rattle.iox2_domain.specs.Boxes.{answers_of}
 use Rattle.iox2_pubsub.proofs.KeptAnswers.{publisher-updated}
 use Rattle.iox2_domain.specs.Connects.{UpdatesPublisher}
 use Rattle.iox2_domain.specs.Fields.{keeping}
-use Rattle.iox2_pubsub.specs.UpdateCalls.{returned_failure}
+use Rattle.iox2_pubsub.specs.UpdateCalls.{ready_stays, returned_failure}
 use Rattle.iox2_pubsub.specs.Live.{publisher_key}
 use Rattle.iox2_pubsub.proofs.PlacedHandles.{publisher-at-place}
 use Rattle.iox2_pubsub.proofs.CallsStay.{always-shown}
@@ -38,11 +38,7 @@ pub update_publisher-requires-clause-stands : goal.update_publisher-requires-cla
 update_publisher-requires-clause-stands g c = ((publisher-at-place {T = g.row.T.Denot} {U = g.row.U.Denot} c.domain.inside.state c.domain.invariant c.args.domain.now c.domain.view_is c.args.self.now c.requires.live).0, (publisher-at-place {T = g.row.T.Denot} {U = g.row.U.Denot} c.domain.inside.state c.domain.invariant c.args.domain.now c.domain.view_is c.args.self.now c.requires.live).1)
 
 pub returns-clause-live : goal.returns-clause-live
-returns-clause-live g c = record {
-  there = (returns-clause-rest g c).stays.publishers (publisher_key c.args.self.now) c.requires.live.there tt;
-  placed = (returns-clause-rest g c).stays.placed_publishers c.args.self.now c.requires.live.placed;
-  unblocked = (returns-clause-rest g c).stays.unblocked (publisher_key c.args.self.now) c.requires.live.unblocked tt;
-}
+returns-clause-live g c = ready_stays c.args.domain.now _ c.args.self.now (returns-clause-rest g c).stays c.requires.live
 
 pub update_publisher-requires-clause-unblocked : goal.update_publisher-requires-clause-unblocked
 update_publisher-requires-clause-unblocked g c = λ z at_z.

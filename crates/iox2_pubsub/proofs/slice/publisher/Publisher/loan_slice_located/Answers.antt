@@ -7,19 +7,19 @@ use Rattle.iox2_pubsub.proofs.LocatedLoans.{granted-out, granted-several, grante
 use Rattle.iox2_pubsub.proofs.slice.publisher.Publisher.loan_slice_located.Goals as goal
 
 pub loan-requires : goal.loan-requires
-loan-requires g c = let it = may-lend {T = g.row.T.Denot} {U = g.row.U.Denot} c.args.slice_len c.domain.inside.state c.domain.invariant c.args.domain.now c.domain.view_is c.args.self.now.publisher c.requires.ready c.requires.dynamic in record { agrees = c.domain.invariant; stands = it.0; unchecked = λ no. absurd (true≢false no); single = it.1 }
+loan-requires g c = let it = may-lend {T = g.row.T.Denot} {U = g.row.U.Denot} c.args.slice_len c.domain.inside.state c.domain.invariant c.args.domain.now c.domain.view_is c.args.self.now.publisher c.requires.ready in record { agrees = c.domain.invariant; stands = it.0; unchecked = λ no. absurd (true≢false no); single = it.1 }
 
 pub fill_from_fn-start-requires-clause-agrees : goal.fill_from_fn-start-requires-clause-agrees
 fill_from_fn-start-requires-clause-agrees g c = granted-sound {T = g.row.T.Denot} {U = g.row.U.Denot} g.U.Default.is_default c.args.slice_len c.domain.inside.state c.loan.new.state c.domain.invariant c.args.domain.now c.domain.view_is c.args.self.now.publisher c.requires.ready c.loan.result c.loan.ensures.reaches c.in-Ok.loan c.in-Ok.is c.in-Ok.ensures.named
 
 pub fill_from_fn-start-requires-clause-several : goal.fill_from_fn-start-requires-clause-several
-fill_from_fn-start-requires-clause-several g c = granted-several {T = g.row.T.Denot} {U = g.row.U.Denot} g.U.Default.is_default c.args.slice_len c.domain.inside.state c.loan.new.state c.domain.invariant c.args.domain.now c.domain.view_is c.args.self.now.publisher c.requires.ready c.loan.result c.loan.ensures.reaches c.in-Ok.loan c.in-Ok.is c.in-Ok.ensures.named c.requires.dynamic
+fill_from_fn-start-requires-clause-several g c = granted-several {T = g.row.T.Denot} {U = g.row.U.Denot} g.U.Default.is_default c.args.slice_len c.domain.inside.state c.loan.new.state c.domain.invariant c.args.domain.now c.domain.view_is c.args.self.now.publisher c.requires.ready c.loan.result c.loan.ensures.reaches c.in-Ok.loan c.in-Ok.is c.in-Ok.ensures.named
 
 pub fill_from_fn-start-requires-clause-live : goal.fill_from_fn-start-requires-clause-live
 fill_from_fn-start-requires-clause-live g c = granted-out {T = g.row.T.Denot} {U = g.row.U.Denot} g.U.Default.is_default c.args.slice_len c.domain.inside.state c.loan.new.state c.domain.invariant c.args.domain.now c.domain.view_is c.args.self.now.publisher c.requires.ready c.loan.result c.loan.ensures.reaches c.in-Ok.loan c.in-Ok.is c.in-Ok.ensures.named
 
 pub returns-in-Ok : goal.returns-in-Ok
-returns-in-Ok g c = let all : All g.T.Default.is_default c.fill_from_fn-start.ensures.0 = all-answers _ g.T.Default.is_default (λ f i value h stepped. search rules) _ c.fill_from_fn-start.ensures.0 c.fill_from_fn-start.ensures.1 in let it = was-located {T = g.row.T.Denot} {U = g.row.U.Denot} g.U.Default.is_default c.args.slice_len c.domain.inside.state c.loan.new.state c.domain.invariant c.args.domain.now c.domain.view_is c.args.self.now.publisher c.requires.ready c.loan.result c.loan.ensures.reaches c.in-Ok.loan c.in-Ok.is c.in-Ok.ensures.named c.fill_from_fn-start.new.state c.fill_from_fn-start.ensures.0 c.fill_from_fn-start.ensures.2 _ c.located.ensures.handle (LocatedLoan g.row.T.Denot) c.located.result g.T.Default.is_default all c.requires.one_unit in record { lends = it.lends; granted = λ loans numbers left numbered short. refl; out = it.out; live = it.live; unblocked = it.unblocked; reads = (c.fill_from_fn-start.ensures.0, all, it.size, it.reads); start = starts _ _ _ _ c.located.ensures.start c.fill_from_fn-start.ensures.3 it.size; new = it.new_in; number = it.number; publisher = it.its; lender = it.lender; lent = it.lent; waits = it.waits; up_to_date = it.up_to_date; loans_left = it.loans_left; refused = tt; stays = it.stays }
+returns-in-Ok g c = let all : All g.T.Default.is_default c.fill_from_fn-start.ensures.0 = all-answers _ g.T.Default.is_default (λ f i value h stepped. search rules) _ c.fill_from_fn-start.ensures.0 c.fill_from_fn-start.ensures.1 in let it = was-located {T = g.row.T.Denot} {U = g.row.U.Denot} g.U.Default.is_default c.args.slice_len c.domain.inside.state c.loan.new.state c.domain.invariant c.args.domain.now c.domain.view_is c.args.self.now.publisher c.requires.ready c.loan.result c.loan.ensures.reaches c.in-Ok.loan c.in-Ok.is c.in-Ok.ensures.named c.fill_from_fn-start.new.state c.fill_from_fn-start.ensures.0 c.fill_from_fn-start.ensures.2 _ c.located.ensures.handle (LocatedLoan g.row.T.Denot) c.located.result g.T.Default.is_default all in record { lends = it.lends; granted = λ loans numbers left numbered short. refl; loan = it.loan; reads = (c.fill_from_fn-start.ensures.0, all, it.size, it.reads); start = starts _ _ _ _ c.located.ensures.start c.fill_from_fn-start.ensures.3 it.size; refused = tt; leaves = it.leaves }
 
 pub returns-in-Err : goal.returns-in-Err
-returns-in-Err g c = let it = was-refused {T = g.row.T.Denot} {U = g.row.U.Denot} g.U.Default.is_default c.args.slice_len c.domain.inside.state c.loan.new.state c.domain.invariant c.args.domain.now c.domain.view_is c.args.self.now.publisher c.requires.ready c.loan.result c.loan.ensures.reaches c.in-Err.error c.in-Err.is (LocatedLoan g.row.T.Denot) g.T.Default.is_default c.requires.dynamic in record { lends = it.lends; granted = λ loans numbers left numbered short. absurd (it.none loans numbers left numbered short); out = tt; live = λ never. tt; unblocked = tt; reads = tt; start = tt; new = tt; number = tt; publisher = tt; lender = tt; lent = tt; waits = it.waits; up_to_date = it.up_to_date; loans_left = it.loans_left; refused = it.refused; stays = it.stays }
+returns-in-Err g c = let it = was-refused {T = g.row.T.Denot} {U = g.row.U.Denot} g.U.Default.is_default c.args.slice_len c.domain.inside.state c.loan.new.state c.domain.invariant c.args.domain.now c.domain.view_is c.args.self.now.publisher c.requires.ready c.loan.result c.loan.ensures.reaches c.in-Err.error c.in-Err.is (LocatedLoan g.row.T.Denot) g.T.Default.is_default in record { lends = it.lends; granted = λ loans numbers left numbered short. absurd (it.none loans numbers left numbered short); loan = tt; reads = tt; start = tt; refused = it.refused; leaves = it.leaves }

@@ -6,13 +6,13 @@ use Rattle.iox2_pubsub.proofs.LocatedLoans.{granted-out, granted-several, grante
 use Rattle.iox2_pubsub.proofs.slice.publisher.Publisher.loan_unspecified_located.Goals as goal
 
 pub loan-requires : goal.loan-requires
-loan-requires g c = let it = may-lend {T = g.row.T.Denot} {U = g.row.U.Denot} c.args.slice_len c.domain.inside.state c.domain.invariant c.args.domain.now c.domain.view_is c.args.self.now.publisher c.requires.ready c.requires.dynamic in record { agrees = c.domain.invariant; stands = it.0; unchecked = λ no. absurd (true≢false no); single = it.1 }
+loan-requires g c = let it = may-lend {T = g.row.T.Denot} {U = g.row.U.Denot} c.args.slice_len c.domain.inside.state c.domain.invariant c.args.domain.now c.domain.view_is c.args.self.now.publisher c.requires.ready in record { agrees = c.domain.invariant; stands = it.0; unchecked = λ no. absurd (true≢false no); single = it.1 }
 
 pub fill_unspecified-start-requires : goal.fill_unspecified-start-requires
-fill_unspecified-start-requires g c = record { agrees = granted-sound {T = g.row.T.Denot} {U = g.row.U.Denot} g.U.Default.is_default c.args.slice_len c.domain.inside.state c.loan.new.state c.domain.invariant c.args.domain.now c.domain.view_is c.args.self.now.publisher c.requires.ready c.loan.result c.loan.ensures.reaches c.in-Ok.loan c.in-Ok.is c.in-Ok.ensures.named; several = granted-several {T = g.row.T.Denot} {U = g.row.U.Denot} g.U.Default.is_default c.args.slice_len c.domain.inside.state c.loan.new.state c.domain.invariant c.args.domain.now c.domain.view_is c.args.self.now.publisher c.requires.ready c.loan.result c.loan.ensures.reaches c.in-Ok.loan c.in-Ok.is c.in-Ok.ensures.named c.requires.dynamic; live = granted-out {T = g.row.T.Denot} {U = g.row.U.Denot} g.U.Default.is_default c.args.slice_len c.domain.inside.state c.loan.new.state c.domain.invariant c.args.domain.now c.domain.view_is c.args.self.now.publisher c.requires.ready c.loan.result c.loan.ensures.reaches c.in-Ok.loan c.in-Ok.is c.in-Ok.ensures.named; lies = search rules }
+fill_unspecified-start-requires g c = record { agrees = granted-sound {T = g.row.T.Denot} {U = g.row.U.Denot} g.U.Default.is_default c.args.slice_len c.domain.inside.state c.loan.new.state c.domain.invariant c.args.domain.now c.domain.view_is c.args.self.now.publisher c.requires.ready c.loan.result c.loan.ensures.reaches c.in-Ok.loan c.in-Ok.is c.in-Ok.ensures.named; several = granted-several {T = g.row.T.Denot} {U = g.row.U.Denot} g.U.Default.is_default c.args.slice_len c.domain.inside.state c.loan.new.state c.domain.invariant c.args.domain.now c.domain.view_is c.args.self.now.publisher c.requires.ready c.loan.result c.loan.ensures.reaches c.in-Ok.loan c.in-Ok.is c.in-Ok.ensures.named; live = granted-out {T = g.row.T.Denot} {U = g.row.U.Denot} g.U.Default.is_default c.args.slice_len c.domain.inside.state c.loan.new.state c.domain.invariant c.args.domain.now c.domain.view_is c.args.self.now.publisher c.requires.ready c.loan.result c.loan.ensures.reaches c.in-Ok.loan c.in-Ok.is c.in-Ok.ensures.named; lies = search rules }
 
 pub returns-in-Ok : goal.returns-in-Ok
-returns-in-Ok g c = let it = was-located {T = g.row.T.Denot} {U = g.row.U.Denot} g.U.Default.is_default c.args.slice_len c.domain.inside.state c.loan.new.state c.domain.invariant c.args.domain.now c.domain.view_is c.args.self.now.publisher c.requires.ready c.loan.result c.loan.ensures.reaches c.in-Ok.loan c.in-Ok.is c.in-Ok.ensures.named c.fill_unspecified-start.new.state c.fill_unspecified-start.ensures.0 c.fill_unspecified-start.ensures.1 _ c.located.ensures.handle (LocatedLoan g.row.T.Denot) c.located.result (λ (value : g.row.T.Denot). Unit {0}) (any-values c.fill_unspecified-start.ensures.0) c.requires.one_unit in record { lends = it.lends; granted = λ loans numbers left numbered short. refl; out = it.out; live = it.live; unblocked = it.unblocked; reads = (c.fill_unspecified-start.ensures.0, it.size, it.reads); start = starts _ _ _ _ c.located.ensures.start c.fill_unspecified-start.ensures.2 it.size; new = it.new_in; number = it.number; publisher = it.its; lender = it.lender; lent = it.lent; waits = it.waits; up_to_date = it.up_to_date; loans_left = it.loans_left; refused = tt; stays = it.stays }
+returns-in-Ok g c = let it = was-located {T = g.row.T.Denot} {U = g.row.U.Denot} g.U.Default.is_default c.args.slice_len c.domain.inside.state c.loan.new.state c.domain.invariant c.args.domain.now c.domain.view_is c.args.self.now.publisher c.requires.ready c.loan.result c.loan.ensures.reaches c.in-Ok.loan c.in-Ok.is c.in-Ok.ensures.named c.fill_unspecified-start.new.state c.fill_unspecified-start.ensures.0 c.fill_unspecified-start.ensures.1 _ c.located.ensures.handle (LocatedLoan g.row.T.Denot) c.located.result (λ (value : g.row.T.Denot). Unit {0}) (any-values c.fill_unspecified-start.ensures.0) in record { lends = it.lends; granted = λ loans numbers left numbered short. refl; loan = it.loan; reads = (c.fill_unspecified-start.ensures.0, it.size, it.reads); start = starts _ _ _ _ c.located.ensures.start c.fill_unspecified-start.ensures.2 it.size; refused = tt; leaves = it.leaves }
 
 pub returns-in-Err : goal.returns-in-Err
-returns-in-Err g c = let it = was-refused {T = g.row.T.Denot} {U = g.row.U.Denot} g.U.Default.is_default c.args.slice_len c.domain.inside.state c.loan.new.state c.domain.invariant c.args.domain.now c.domain.view_is c.args.self.now.publisher c.requires.ready c.loan.result c.loan.ensures.reaches c.in-Err.error c.in-Err.is (LocatedLoan g.row.T.Denot) (λ (value : g.row.T.Denot). Unit {0}) c.requires.dynamic in record { lends = it.lends; granted = λ loans numbers left numbered short. absurd (it.none loans numbers left numbered short); out = tt; live = λ never. tt; unblocked = tt; reads = tt; start = tt; new = tt; number = tt; publisher = tt; lender = tt; lent = tt; waits = it.waits; up_to_date = it.up_to_date; loans_left = it.loans_left; refused = it.refused; stays = it.stays }
+returns-in-Err g c = let it = was-refused {T = g.row.T.Denot} {U = g.row.U.Denot} g.U.Default.is_default c.args.slice_len c.domain.inside.state c.loan.new.state c.domain.invariant c.args.domain.now c.domain.view_is c.args.self.now.publisher c.requires.ready c.loan.result c.loan.ensures.reaches c.in-Err.error c.in-Err.is (LocatedLoan g.row.T.Denot) (λ (value : g.row.T.Denot). Unit {0}) in record { lends = it.lends; granted = λ loans numbers left numbered short. absurd (it.none loans numbers left numbered short); loan = tt; reads = tt; start = tt; refused = it.refused; leaves = it.leaves }

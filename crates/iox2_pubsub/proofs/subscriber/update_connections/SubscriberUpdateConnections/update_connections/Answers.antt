@@ -1,11 +1,10 @@
 use Rattle.std.proofs.Common.{Option, subst, sym}
 use Rattle.iox2_domain.specs.ReceiverSteps.{UpdatesReceiver}
-use Rattle.iox2_pubsub.specs.UpdateCalls.{returned_failure}
+use Rattle.iox2_pubsub.specs.UpdateCalls.{returned_failure, subscriber_stays}
 use Rattle.iox2_machine.specs.declared.errors.ConnectionFailure.{ConnectionFailure}
 use Rattle.iox2_domain.specs.Boxes.{answers_of}
 use Rattle.iox2_pubsub.proofs.KeptAnswers.{subscriber-updated}
 use Rattle.iox2_domain.specs.Fields.{keeping}
-use Rattle.iox2_pubsub.specs.Live.{subscriber_key}
 use Rattle.iox2_pubsub.proofs.PlacedHandles.{subscriber-at-place, subscriber-there}
 use Rattle.iox2_pubsub.proofs.CallsStay.{always-shown}
 use Rattle.iox2_pubsub.proofs.StaysBut.{same-boxes}
@@ -31,10 +30,7 @@ returns-clause-rest g c =
     (same-boxes c.domain.inside.state c.update_subscriber.new.state c.args.domain.now c.domain.view_is) (answers_of g.F.BackpressureFn.allows g.G.DegradationFn.allows c.args.domain.now.boxes.subscribers) c.args.self.now (returned_failure c.outcome_of.result) (returns-clause-updates g c)
 
 pub returns-clause-live : goal.returns-clause-live
-returns-clause-live g c = record {
-  there = (returns-clause-rest g c).stays.subscribers (subscriber_key c.args.self.now) c.requires.live.there tt;
-  placed = (returns-clause-rest g c).stays.placed_subscribers c.args.self.now c.requires.live.placed;
-}
+returns-clause-live g c = subscriber_stays c.args.domain.now _ c.args.self.now (returns-clause-rest g c).stays c.requires.live
 
 pub returns-clause-updated : goal.returns-clause-updated
 returns-clause-updated g c =

@@ -10,9 +10,12 @@ use Rattle.iox2_machine.specs.declared.service_config.ServiceConfig.{ServiceConf
 use Rattle.iox2_domain.specs.Kept.{Kept}
 use Rattle.iox2_domain.specs.Shows.{Shows}
 use Rattle.iox2_ends.specs.Handlers.{marks_of}
+use Rattle.iox2_ports.specs.Handlers.{custom_box}
 use Rattle.iox2_ports.specs.Settings.{settings_with}
 use Rattle.iox2_pubsub.specs.Factories.{AsksFor, PublisherFactory, callback_of, with_slots}
 use Rattle.iox2_pubsub.specs.Handles.{publisher_id}
+use Rattle.iox2_pubsub.specs.MadePublishers.{IsMade}
+use Rattle.iox2_pubsub.proofs.PublishersMade.{made-unasked}
 use Rattle.iox2_pubsub.specs.declared.publisher.Publisher.{Publisher}
 use Rattle.iox2_pubsub.specs.declared.port_factory.preallocation.PreallocatedSamplesOverride.{PreallocatedSamplesOverride}
 use Rattle.iox2_pubsub.proofs.port_factory.publisher.overridden.PortFactoryPublisher+F+G+PreallocatedSamplesOverride+P+H.create.Goals as goal
@@ -42,3 +45,11 @@ returns-clause-creates g c =
     subst (λ (given : PublisherFactory g.row.F.Denot g.row.G.Denot (PreallocatedSamplesOverride g.row.P.Denot)). (x : Option ℕ)
     × AsksFor (goal.P-post g (callback_of given)) (worst_case (c.args.domain.now.config) given.settings.max_loaned_samples) x × Refuses (with_slots given.settings x)) c.self.view_is
     (asked, asks, refused)
+
+pub returns-in-Ok-clause-made : goal.returns-in-Ok-clause-made
+returns-in-Ok-clause-made g c =
+    let asked : Option ℕ = c.ask-segments.result.asked_slots in
+    let Is : AllocationStrategy → Publisher → Type 0 = λ a it. IsMade (settings_with c.self.inside.options (marks_of c.self.inside.backpressure_handler) (record { allocation = a; asked_slots = asked })) (custom_box c.self.inside.backpressure_handler) c.self.inside.degradation_box it c.args.domain.now c.create_plain.new.domain in
+    let made = subst (Is c.self.inside.slots.allocation) (sym c.of_port.ensures) (subst (λ (a : AllocationStrategy). Is a c.in-Ok.publisher) c.ask-segments.ensures.allocation c.in-Ok.ensures.made) in
+    subst (λ (given : PublisherFactory g.row.F.Denot g.row.G.Denot (PreallocatedSamplesOverride g.row.P.Denot)). IsMade given.settings given.box given.degradation_box (g.H.PortHandle.as_port c.of_port.result) c.args.domain.now c.create_plain.new.domain) c.self.view_is
+    (made-unasked (settings_with c.self.inside.options (marks_of c.self.inside.backpressure_handler) (record { allocation = c.self.inside.slots.allocation; asked_slots = None })) asked (custom_box c.self.inside.backpressure_handler) c.self.inside.degradation_box (g.H.PortHandle.as_port c.of_port.result) c.args.domain.now c.create_plain.new.domain made)
