@@ -1,3 +1,5 @@
+use crate::ports::when_full;
+use iox2_commands::NewPublisher;
 use iox2_machine::{AllocationStrategy, DegradationAction};
 use std::alloc::Global;
 
@@ -23,22 +25,28 @@ pub(crate) struct Publisher {
 }
 
 impl Publisher {
-    pub(crate) fn new(alloc: Global, place: usize, slots: usize, wanted: &Wanted) -> Publisher {
+    pub(crate) fn new(
+        alloc: Global,
+        place: usize,
+        slots: usize,
+        len: usize,
+        asked: &NewPublisher,
+    ) -> Publisher {
         Publisher {
             place,
             slots,
-            max_loaned_samples: wanted.loans,
+            max_loaned_samples: asked.loans,
             segments: Segments {
-                allocation: wanted.allocation,
-                len: wanted.max_slice_len,
+                allocation: asked.allocation,
+                len,
                 made: 1,
             },
             loans: Vec::new(alloc),
             history: Vec::new(alloc),
             ends: Vec::new(alloc),
             is_due: true,
-            when_full: wanted.when_full,
-            degradation: wanted.degradation,
+            when_full: when_full(asked.strategy, asked.backpressure),
+            degradation: asked.degradation,
             blocked: None,
         }
     }
@@ -52,19 +60,6 @@ pub(crate) struct Segments {
     pub(crate) len: usize,
     // How many were made, the first included.
     pub(crate) made: usize,
-}
-
-// What a command says of a publisher.
-#[derive(Clone, Copy)]
-pub(crate) struct Wanted {
-    pub(crate) loans: usize,
-    pub(crate) allocation: AllocationStrategy,
-    // The greatest length of a loan in the first segment.
-    pub(crate) max_slice_len: usize,
-    // So many slots are asked for in place of the worst case.
-    pub(crate) asked_slots: Option<usize>,
-    pub(crate) when_full: Put,
-    pub(crate) degradation: DegradationAction,
 }
 
 // What becomes of a message at a receiver.

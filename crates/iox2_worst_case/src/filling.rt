@@ -5,10 +5,9 @@ ghost use Rattle.iox2_worst_case.specs.Fills.{Fills};
 ghost use Rattle.iox2_worst_case.specs.FillingCommands.{loan_command as loan_spec, publisher_command as publisher_spec, sends, rounds, subscriber_filled, subscribers_filled, filling_length, filling_commands, IsFillable, RefusesForWantOfSlots};
 ghost use Rattle.iox2_commands.specs.declared.command.Command.TheVariants.{WriteAll, Send};
 
-use iox2_commands::Command;
+use iox2_commands::{Command, NewPublisher};
 use iox2_machine::{
-    AllocationStrategy, BackpressureStrategy, DegradationAction, ServiceConfig, TypeVariant,
-    worst_case_slots,
+    BackpressureStrategy, DegradationAction, ServiceConfig, TypeVariant, worst_case_slots,
 };
 use std::alloc::Global;
 
@@ -89,15 +88,10 @@ fn filling_length(config: &ServiceConfig) -> Option<usize>
 fn publisher_command<T, U>(loans: usize, slots: Option<usize>) -> Command<T, U>
     ensures { result ≡ publisher_spec loans slots }
 {
-    Command::CreatePublisher {
-        loans,
-        strategy: BackpressureStrategy::DiscardData,
-        allocation: AllocationStrategy::Static,
-        initial_max_slice_len: 1,
+    Command::CreatePublisher(NewPublisher {
         override_slots: slots,
-        degradation: DegradationAction::Warn,
-        backpressure: None,
-    }
+        ..NewPublisher::new(loans, BackpressureStrategy::DiscardData)
+    })
 }
 
 // Loans one element.

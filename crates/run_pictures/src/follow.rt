@@ -72,7 +72,8 @@ impl Follower {
     ) -> Result<(), Failure> {
         let at = self.story.commands.len();
         let messages = self.model.message_count();
-        let object = self.object_of(of_command(command));
+        let mut named = command;
+        let object = self.object_of(named.of_mut().map(|of| *of));
         let reply = self.model.carry_out(command, given(recorded))?;
         self.note_texts(alloc, &command, &reply, recorded, object)?;
         self.note_made(at)?;
@@ -440,35 +441,5 @@ fn ends_send(reply: &Reply<u64, u64>) -> bool {
     match reply {
         Reply::Delivered(_) | Reply::SendRefused(_) => true,
         _ => false,
-    }
-}
-
-// The position that a command names.
-fn of_command(command: Command<u64, u64>) -> Option<usize> {
-    match command {
-        Command::Nothing | Command::CreatePublisher { .. } | Command::CreateSubscriber { .. } => {
-            None
-        }
-        Command::LoanUninit { of }
-        | Command::Loan { of }
-        | Command::LoanSlice { of, .. }
-        | Command::WriteCell { of, .. }
-        | Command::WriteAll { of, .. }
-        | Command::AssumeInit { of }
-        | Command::WriteHeader { of, .. }
-        | Command::SetPayload { of, .. }
-        | Command::Send { of }
-        | Command::SendCopy { of, .. }
-        | Command::Discard { of }
-        | Command::Retry { of, .. }
-        | Command::GiveUp { of }
-        | Command::Update { of }
-        | Command::Receive { of }
-        | Command::HasSamples { of }
-        | Command::Read { of, .. }
-        | Command::ReadHeader { of }
-        | Command::ReadUserHeader { of }
-        | Command::Release { of }
-        | Command::Close { of } => Some(of),
     }
 }

@@ -16,7 +16,7 @@ ghost use Rattle.script_text.specs.Words.{line_words, texts, words_in};
 use crate::failure::ScriptError;
 use crate::lines::Lines;
 use arrayvec::ArrayVec;
-use iox2_commands::Command;
+use iox2_commands::{Command, NewPublisher};
 use iox2_machine::{
     AllocationStrategy, BackpressureAction, BackpressureStrategy, DegradationAction, ServiceConfig,
     TypeVariant,
@@ -154,15 +154,10 @@ fn parse_command(words: &[&str]) -> Option<Command<u64, u64>>
 {
     let command = match *words {
         ["nothing"] => Command::Nothing,
-        ["pub", loans, strategy] => Command::CreatePublisher {
-            loans: parse_size(loans)?,
-            strategy: parse_strategy(strategy)?,
-            allocation: AllocationStrategy::Static,
-            initial_max_slice_len: 1,
-            override_slots: None,
-            degradation: DegradationAction::Warn,
-            backpressure: None,
-        },
+        ["pub", loans, strategy] => {
+            let loans = parse_size(loans)?;
+            Command::CreatePublisher(NewPublisher::new(loans, parse_strategy(strategy)?))
+        }
         [
             "pub",
             loans,
@@ -172,7 +167,7 @@ fn parse_command(words: &[&str]) -> Option<Command<u64, u64>>
             slots,
             degradation,
             handler,
-        ] => Command::CreatePublisher {
+        ] => Command::CreatePublisher(NewPublisher {
             loans: parse_size(loans)?,
             strategy: parse_strategy(strategy)?,
             allocation: parse_allocation(allocation)?,
@@ -180,7 +175,7 @@ fn parse_command(words: &[&str]) -> Option<Command<u64, u64>>
             override_slots: parse_size_or_most(slots)?,
             degradation: parse_degradation(degradation)?,
             backpressure: parse_handler(handler)?,
-        },
+        }),
         ["sub", buffer] => Command::CreateSubscriber {
             buffer: parse_size_or_most(buffer)?,
             degradation: DegradationAction::Warn,
