@@ -71,7 +71,7 @@ impl Model {
         if self.memory.refuses() {
             return Ok(publisher_refused(refusal_of(given)));
         }
-        let id = self.publishers.len();
+        let id = self.publishers.next();
         let len = self.max_slice_len(asked);
         let publisher = Publisher::new(self.alloc, place, slots, len, asked);
         self.publishers.push(Some(publisher))?;
@@ -103,7 +103,7 @@ impl Model {
         if self.memory.refuses() {
             return Ok(subscriber_refused(SubscriberCreateError::FailedToDeployThreadsafetyPolicy));
         }
-        let id = self.subscribers.len();
+        let id = self.subscribers.next();
         let subscriber = Subscriber::new(self.alloc, place, buffer, degradation);
         self.subscribers.push(Some(subscriber))?;
         self.publishers.push(None)?;

@@ -1,25 +1,21 @@
+use crate::port::Port;
 use crate::ports::when_full;
 use iox2_commands::NewPublisher;
 use iox2_machine::{AllocationStrategy, DegradationAction};
-use std::alloc::Global;
+use std::alloc::{AllocError, Global};
 
 // A publisher that wasn't closed.
 #[derive(Drop)]
 pub(crate) struct Publisher {
-    pub(crate) place: usize,
+    pub(crate) port: Port,
     pub(crate) slots: usize,
     pub(crate) max_loaned_samples: usize,
     pub(crate) segments: Segments,
     pub(crate) loans: Vec<usize>,
     // The last messages sent, oldest first.
     pub(crate) history: Vec<usize>,
-    // At a subscriber's place, the subscriber to whose mailbox its end leads.
-    pub(crate) ends: Vec<Option<usize>>,
-    pub(crate) is_due: bool,
     // What becomes of a message at a full receiver.
     pub(crate) when_full: Put,
-    // What comes of a connection that is refused memory.
-    pub(crate) degradation: DegradationAction,
     // The send that waits for a receiver.
     pub(crate) blocked: Option<Delivery>,
 }
@@ -33,7 +29,7 @@ impl Publisher {
         asked: &NewPublisher,
     ) -> Publisher {
         Publisher {
-            place,
+            port: Port::new(alloc, place, asked.degradation),
             slots,
             max_loaned_samples: asked.loans,
             segments: Segments {
@@ -43,10 +39,7 @@ impl Publisher {
             },
             loans: Vec::new(alloc),
             history: Vec::new(alloc),
-            ends: Vec::new(alloc),
-            is_due: true,
             when_full: when_full(asked.strategy, asked.backpressure),
-            degradation: asked.degradation,
             blocked: None,
         }
     }
@@ -88,16 +81,11 @@ pub(crate) struct Delivery {
 // A subscriber that wasn't closed, or that was closed and has borrowed messages.
 #[derive(Drop)]
 pub(crate) struct Subscriber {
+    pub(crate) port: Port,
     pub(crate) is_open: bool,
-    pub(crate) place: usize,
     pub(crate) buffer: usize,
-    // At a publisher's place, the publisher from whose mailbox its end leads.
-    pub(crate) ends: Vec<Option<usize>>,
     // Departed publishers that it still has messages of, in order of entry.
     pub(crate) expired: Vec<usize>,
-    pub(crate) is_due: bool,
-    // What comes of a connection that is refused memory.
-    pub(crate) degradation: DegradationAction,
 }
 
 impl Subscriber {
@@ -108,14 +96,29 @@ impl Subscriber {
         degradation: DegradationAction,
     ) -> Subscriber {
         Subscriber {
+            port: Port::new(alloc, place, degradation),
             is_open: true,
-            place,
             buffer,
-            ends: Vec::new(alloc),
             expired: Vec::new(alloc),
-            is_due: true,
-            degradation,
         }
+    }
+
+    // The publishers with which it has mailboxes, but for the departed ones that it still knows.
+    pub(crate) fn connected(&self, alloc: Global) -> Result<Vec<usize>, AllocError> {
+        let mut found = Vec::new(alloc);
+        for end in self.port.ends.as_slice() {
+            if let Some(p) = *end {
+                found.push(p)?;
+            }
+        }
+        Ok(found)
+    }
+
+    // All publishers with which it has mailboxes.
+    pub(crate) fn sources(&self, alloc: Global) -> Result<Vec<usize>, AllocError> {
+        let mut found = self.connected(alloc)?;
+        found.extend_from_slice(self.expired.as_slice())?;
+        Ok(found)
     }
 }
 
