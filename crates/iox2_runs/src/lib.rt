@@ -13,5 +13,7 @@ pub use iox2_commands::{
     subscribers_are_isolated_without_refusals, views_stay_alike, views_stay_alike_without_refusals,
     worst_case_of_slots_grants,
 };
-pub use iox2_worst_case::{worst_case_commands, worst_case_is_least, worst_case_is_reached};
+pub use iox2_worst_case::{
+    is_granted, worst_case_commands, worst_case_is_least, worst_case_is_reached,
+};
 pub use runs::{Made, carry_out, disown_all, run};

@@ -1,11 +1,11 @@
 //! A list of commands that fills every slot of its publisher.
 ghost use Rattle.std.specs.Prelude.{◌≡◌, ◌+◌, ◌*◌, ◌≤◌, ◌<◌, ◌∷◌, [], ◌++◌, ◌↔◌, replicate, IsTrue, IfSome, OnSome, ℕ, vec_len, vec_capacity};
 ghost use Rattle.iox2_machine.specs.machine.Limits.{worst_case};
-ghost use Rattle.iox2_worst_case.specs.Fills.{Fills};
+ghost use Rattle.iox2_worst_case.specs.Fills.{Fills, is_granted};
 ghost use Rattle.iox2_worst_case.specs.FillingCommands.{loan_command as loan_spec, publisher_command as publisher_spec, sends, rounds, subscriber_filled, subscribers_filled, filling_length, filling_commands, IsFillable, RefusesForWantOfSlots};
 ghost use Rattle.iox2_commands.specs.declared.command.Command.TheVariants.{WriteAll, Send};
 
-use iox2_commands::{Command, NewPublisher};
+use iox2_commands::{Command, NewPublisher, Reply};
 use iox2_machine::{
     BackpressureStrategy, DegradationAction, ServiceConfig, TypeVariant, worst_case_slots,
 };
@@ -50,6 +50,22 @@ pub fn worst_case_commands<T: Copy + Drop, U: Drop>(
     push_subscribers(&mut commands, config, value);
     push_loans(&mut commands, config.variant, loans);
     Some(commands)
+}
+
+/// Whether a reply says that the command was neither skipped nor refused.
+pub fn is_granted<T, U>(reply: &Reply<T, U>) -> bool
+    ensures { result ≡ is_granted reply.now }
+{
+    !matches!(
+        reply,
+        Reply::Skipped
+            | Reply::PublisherRefused(_)
+            | Reply::SubscriberRefused(_)
+            | Reply::LoanRefused(_)
+            | Reply::SendRefused(_)
+            | Reply::UpdateRefused(_)
+            | Reply::ReceiveRefused(_)
+    )
 }
 
 // Whether there is such a list: without its length, and whatever memory there is.

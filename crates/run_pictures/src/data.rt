@@ -1,6 +1,6 @@
 //! The facts of a run for the script of a page, as JSON.
 use crate::drawing::Drawing;
-use crate::story::{Loan, Port, Story, Visit};
+use crate::story::{Port, Stay, Story};
 
 /// Adds the facts as one object.
 pub(crate) fn push_data(page: &mut Drawing, story: &Story) {
@@ -20,11 +20,11 @@ pub(crate) fn push_data(page: &mut Drawing, story: &Story) {
 fn push_messages(page: &mut Drawing, story: &Story) {
     page.text("],\n\"loans\":[");
     for (index, loan) in story.loans.iter().enumerate() {
-        push_loan(page, index, *loan);
+        push_stay(page, index, *loan, None);
     }
     page.text("],\n\"visits\":[");
     for (index, visit) in story.visits.iter().enumerate() {
-        push_visit(page, index, *visit);
+        push_stay(page, index, *visit, Some(visit.port));
     }
     push_numbers(page, story)
 }
@@ -55,28 +55,18 @@ fn push_port(page: &mut Drawing, index: usize, port: Port) {
     page.text("]");
 }
 
-fn push_loan(page: &mut Drawing, index: usize, loan: Loan) {
+// A message at a port, which is named where it isn't the publisher.
+fn push_stay(page: &mut Drawing, index: usize, stay: Stay, port: Option<usize>) {
     push_comma(page, index);
-    page.counted("[", loan.message, ",");
-    page.counted("", loan.publisher, ",");
-    page.counted("", loan.from, ",");
-    push_times(page, loan.blocked, loan.to)
-}
-
-fn push_visit(page: &mut Drawing, index: usize, visit: Visit) {
-    push_comma(page, index);
-    page.counted("[", visit.message, ",");
-    page.counted("", visit.publisher, ",");
-    page.counted("", visit.subscriber, ",");
-    page.counted("", visit.from, ",");
-    push_times(page, visit.received, visit.to)
-}
-
-// The last two times of a list.
-fn push_times(page: &mut Drawing, first: Option<usize>, last: Option<usize>) {
-    push_time(page, first);
+    page.counted("[", stay.message, ",");
+    page.counted("", stay.publisher, ",");
+    if let Some(port) = port {
+        page.counted("", port, ",");
+    }
+    page.counted("", stay.from, ",");
+    push_time(page, stay.turn);
     page.text(",");
-    push_time(page, last);
+    push_time(page, stay.to);
     page.text("]");
 }
 

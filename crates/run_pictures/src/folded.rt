@@ -5,7 +5,7 @@ use crate::curves;
 use crate::drawing::Drawing;
 use crate::failure::Failure;
 use crate::positions::Positions;
-use crate::story::{MarkKind, Port, Story, Visit, VisitEnd};
+use crate::story::{End, MarkKind, Port, Stay, Story};
 use std::alloc::Global;
 
 // How many columns there are at most, how wide each is, and how high a lane.
@@ -169,9 +169,9 @@ impl Folded {
         let end = story.commands.len();
         for loan in story.loans.iter() {
             let to = loan.to.unwrap_or(end);
-            self.add(What::Message, loan.publisher, loan.from, to);
-            if let Some(at) = loan.blocked {
-                self.add(What::Blocked, loan.publisher, at, to);
+            self.add(What::Message, loan.port, loan.from, to);
+            if let Some(at) = loan.turn {
+                self.add(What::Blocked, loan.port, at, to);
             }
         }
         for visit in story.visits.iter() {
@@ -179,10 +179,10 @@ impl Folded {
         }
     }
 
-    fn add_visit(&mut self, visit: Visit, to: usize) {
-        self.add(What::Message, visit.subscriber, visit.from, to);
-        if visit.end == VisitEnd::Overwritten || visit.end == VisitEnd::Lost {
-            self.add(What::Lost, visit.subscriber, to, to);
+    fn add_visit(&mut self, visit: Stay, to: usize) {
+        self.add(What::Message, visit.port, visit.from, to);
+        if visit.end == End::Overwritten || visit.end == End::Lost {
+            self.add(What::Lost, visit.port, to, to);
         }
     }
 

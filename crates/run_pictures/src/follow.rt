@@ -2,7 +2,7 @@
 use crate::failure::Failure;
 use crate::holders::Holders;
 use crate::mailboxes::Mailboxes;
-use crate::story::{Loan, LoanEnd, Mark, MarkKind, Point, Port, Story};
+use crate::story::{End, Mark, MarkKind, Point, Port, Stay, Story};
 use iox2_commands::{Command, Reply};
 use iox2_machine::UniquePublisherId;
 use iox2_model::{Memory, Model, Thing};
@@ -203,11 +203,11 @@ impl Follower {
         };
         match reply {
             Reply::Blocked => self.block_loan(at, message),
-            Reply::Delivered(_) => self.end_loan(at, message, LoanEnd::Sent),
-            Reply::SendRefused(_) => self.end_loan(at, message, LoanEnd::Refused),
+            Reply::Delivered(_) => self.end_loan(at, message, End::Sent),
+            Reply::SendRefused(_) => self.end_loan(at, message, End::Refused),
             Reply::Done => {
                 if is_discard(command) {
-                    self.end_loan(at, message, LoanEnd::Discarded);
+                    self.end_loan(at, message, End::Discarded);
                 }
             }
             _ => {}
@@ -217,28 +217,22 @@ impl Follower {
 
     fn take_loan(&mut self, at: usize, publisher: usize, message: usize) -> Result<(), Failure> {
         self.holders.hold(message)?;
-        self.story.loans.push(Loan {
-            message,
-            publisher,
-            from: at,
-            blocked: None,
-            to: None,
-            end: LoanEnd::Out,
-        })?;
+        let loan = Stay::new(message, publisher, publisher, at);
+        self.story.loans.push(loan)?;
         Ok(())
     }
 
     fn block_loan(&mut self, at: usize, message: usize) {
         for index in 0..self.story.loans.len() {
             if let Some(loan) = self.story.loans.get_mut(index) {
-                if loan.message == message && loan.blocked.is_none() {
-                    loan.blocked = Some(at);
+                if loan.message == message && loan.turn.is_none() {
+                    loan.turn = Some(at);
                 }
             }
         }
     }
 
-    fn end_loan(&mut self, at: usize, message: usize, end: LoanEnd) {
+    fn end_loan(&mut self, at: usize, message: usize, end: End) {
         for index in 0..self.story.loans.len() {
             if let Some(loan) = self.story.loans.get_mut(index) {
                 if loan.message == message && loan.to.is_none() {
@@ -378,7 +372,7 @@ impl Follower {
     fn first_sent(&self, at: usize, message: usize) -> usize {
         for loan in self.story.loans.iter().rev() {
             if loan.message == message {
-                return loan.blocked.unwrap_or(at);
+                return loan.turn.unwrap_or(at);
             }
         }
         at
@@ -390,7 +384,7 @@ impl Follower {
             if visit.from < since {
                 return false;
             }
-            if visit.message == message && visit.subscriber == subscriber {
+            if visit.message == message && visit.port == subscriber {
                 return true;
             }
         }

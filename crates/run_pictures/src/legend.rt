@@ -49,17 +49,16 @@ fn push_bar(svg: &mut Drawing, x: usize, y: usize, class: &str, text: &str) {
         width: 24,
         height: 12,
     };
-    if class == "waits" {
-        push_waiting(svg, place, COLOR, "");
-    } else {
-        rect(svg, place, class, COLOR, "");
-    }
+    push_part(svg, place, class, COLOR, "");
     label(svg, x.saturating_add(29), y.saturating_add(4), "note", text)
 }
 
-/// Draws the bar of a message that waits: light, with a line around it.
-pub(crate) fn push_waiting(svg: &mut Drawing, place: Place, color: &str, said: &str) {
-    rect(svg, place, "waits", color, said);
+/// Draws a part of a bar. Where a message waits it is light, with lines around it.
+pub(crate) fn push_part(svg: &mut Drawing, place: Place, class: &str, color: &str, said: &str) {
+    rect(svg, place, class, color, said);
+    if class != "waits" {
+        return;
+    }
     let right = place.x.saturating_add(place.width);
     let bottom = place.y.saturating_add(place.height);
     line(svg, (place.x, place.y), (right, place.y), "edge", color);

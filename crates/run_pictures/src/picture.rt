@@ -6,9 +6,9 @@ use crate::drawing::Drawing;
 use crate::failure::Failure;
 use crate::folded::folded_picture;
 use crate::lanes::{Lane, Lanes};
-use crate::legend::{self, push_legend, push_waiting};
+use crate::legend::{self, push_legend, push_part};
 use crate::marks::{mark_text, push_lost, push_mark};
-use crate::story::{Loan, LoanEnd, Mark, Story, Visit, VisitEnd};
+use crate::story::{End, Mark, Stay, Story};
 use std::alloc::Global;
 
 // Of more commands or ports a folded picture is drawn.
@@ -112,7 +112,7 @@ fn push_name(svg: &mut Drawing, lane: Lane) {
 fn push_ways(svg: &mut Drawing, story: &Story, ground: &Ground) {
     let lanes = &ground.lanes;
     for (visit, row) in story.visits.iter().zip(lanes.visit_rows.iter()) {
-        let (Some(from), Some(to)) = (lanes.of(visit.publisher), lanes.of(visit.subscriber)) else {
+        let (Some(from), Some(to)) = (lanes.of(visit.publisher), lanes.of(visit.port)) else {
             continue;
         };
         let x = ground.scale.x(visit.from);
@@ -126,7 +126,7 @@ fn push_ways(svg: &mut Drawing, story: &Story, ground: &Ground) {
 }
 
 // The row of the visit's loan, where the message was sent by the command that brought it there.
-fn loan_row(story: &Story, lanes: &Lanes, visit: &Visit) -> Option<usize> {
+fn loan_row(story: &Story, lanes: &Lanes, visit: &Stay) -> Option<usize> {
     for (loan, row) in story.loans.iter().zip(lanes.loan_rows.iter()) {
         if loan.message == visit.message && is_sent_at(loan, visit.from) {
             return Some(*row);
@@ -136,37 +136,112 @@ fn loan_row(story: &Story, lanes: &Lanes, visit: &Visit) -> Option<usize> {
 }
 
 // Whether the loan's message was sent, or waited to be, at a time.
-fn is_sent_at(loan: &Loan, at: usize) -> bool {
+fn is_sent_at(loan: &Stay, at: usize) -> bool {
     let last = loan.to.unwrap_or(at);
-    let first = loan.blocked.unwrap_or(last);
+    let first = loan.turn.unwrap_or(last);
     first <= at && at <= last
 }
 
 fn push_loans(svg: &mut Drawing, story: &Story, ground: &Ground) {
-    let (alloc, scale, lanes) = (ground.alloc, ground.scale, &ground.lanes);
-    for (loan, row) in story.loans.iter().zip(lanes.loan_rows.iter()) {
-        if let Some(lane) = lanes.of(loan.publisher) {
-            let said = loan_text(alloc, story, loan);
-            let y = lane.row(*row);
-            push_loan(svg, loan, scale, y, said.as_str());
-            let (x, end) = (scale.x(loan.from), scale.end(loan.to));
-            push_bar_label(svg, alloc, story, loan.message, x, end, y);
-            svg.takes(&said);
-        }
+    for (loan, row) in story.loans.iter().zip(ground.lanes.loan_rows.iter()) {
+        let said = loan_text(ground.alloc, story, loan);
+        push_stay(
+            svg,
+            story,
+            ground,
+            loan,
+            *row,
+            ["lent", "blocked"],
+            said.as_str(),
+        );
+        svg.takes(&said);
     }
 }
 
-fn push_loan(svg: &mut Drawing, loan: &Loan, scale: Scale, y: usize, said: &str) {
-    let color = color_of(loan.publisher);
-    let (x, end) = (scale.x(loan.from), scale.end(loan.to));
-    match loan.blocked {
-        None => rect(svg, bar(x, end, y), "lent", color, said),
+fn loan_text(alloc: Global, story: &Story, loan: &Stay) -> Drawing {
+    let mut text = message_text(alloc, story, loan.message);
+    text.command(": lent by command ", loan.from);
+    say_rest(&mut text, loan, ", its send blocked by ");
+    text
+}
+
+fn push_visits(svg: &mut Drawing, story: &Story, ground: &Ground) {
+    for (visit, row) in story.visits.iter().zip(ground.lanes.visit_rows.iter()) {
+        let said = visit_text(ground.alloc, story, visit);
+        push_stay(
+            svg,
+            story,
+            ground,
+            visit,
+            *row,
+            ["waits", "held"],
+            said.as_str(),
+        );
+        svg.takes(&said);
+    }
+}
+
+fn visit_text(alloc: Global, story: &Story, visit: &Stay) -> Drawing {
+    let mut text = message_text(alloc, story, visit.message);
+    text.counted(" of publisher ", visit.publisher, "");
+    text.counted(" at subscriber ", visit.port, "");
+    text.command(": there since command ", visit.from);
+    say_rest(&mut text, visit, ", received by ");
+    text
+}
+
+// What became of the message after it came there.
+fn say_rest(text: &mut Drawing, stay: &Stay, turned: &str) {
+    if let Some(at) = stay.turn {
+        text.command(turned, at);
+    }
+    if let Some(at) = stay.to {
+        text.text(end_text(stay.end));
+        text.command(" by ", at);
+    }
+}
+
+fn end_text(end: End) -> &'static str {
+    match end {
+        End::There | End::Sent => ", sent",
+        End::Discarded => ", given back",
+        End::Refused => ", refused",
+        End::Released => ", released",
+        End::Overwritten => ", overwritten",
+        End::Lost => ", lost",
+    }
+}
+
+// The bar of a message in a row of its port's lane, with the classes of its two parts.
+fn push_stay(
+    svg: &mut Drawing,
+    story: &Story,
+    ground: &Ground,
+    stay: &Stay,
+    row: usize,
+    classes: [&str; 2],
+    said: &str,
+) {
+    let Some(lane) = ground.lanes.of(stay.port) else {
+        return;
+    };
+    let (scale, y, color) = (ground.scale, lane.row(row), color_of(stay.publisher));
+    let (x, end) = (scale.x(stay.from), scale.end(stay.to));
+    let [first, second] = classes;
+    match stay.turn {
+        None => push_part(svg, bar(x, end, y), first, color, said),
         Some(at) => {
             let middle = scale.x(at);
-            rect(svg, bar(x, middle, y), "lent", color, said);
-            rect(svg, bar(middle, end, y), "blocked", color, said)
+            push_part(svg, bar(x, middle, y), first, color, said);
+            push_part(svg, bar(middle, end, y), second, color, said);
         }
     }
+    match stay.end {
+        End::Overwritten => push_lost(svg, end, y.saturating_add(6), true),
+        End::Lost => push_lost(svg, end, y.saturating_add(6), false),
+        _ => {}
+    }
+    push_bar_label(svg, ground.alloc, story, stay.message, x, end, y);
 }
 
 // The bar between two times. It is never too narrow to be seen.
@@ -187,82 +262,6 @@ fn bar(x: usize, end: usize, y: usize) -> Place {
             height: 12,
         }
     }
-}
-
-fn loan_text(alloc: Global, story: &Story, loan: &Loan) -> Drawing {
-    let mut text = message_text(alloc, story, loan.message);
-    text.command(": lent by command ", loan.from);
-    if let Some(at) = loan.blocked {
-        text.command(", its send blocked by ", at);
-    }
-    if let Some(at) = loan.to {
-        let what = match loan.end {
-            LoanEnd::Discarded => "given back",
-            LoanEnd::Refused => "refused",
-            _ => "sent",
-        };
-        text.text(", ");
-        text.text(what);
-        text.command(" by ", at);
-    }
-    text
-}
-
-fn push_visits(svg: &mut Drawing, story: &Story, ground: &Ground) {
-    let (alloc, scale, lanes) = (ground.alloc, ground.scale, &ground.lanes);
-    for (visit, row) in story.visits.iter().zip(lanes.visit_rows.iter()) {
-        if let Some(lane) = lanes.of(visit.subscriber) {
-            let said = visit_text(alloc, story, visit);
-            let y = lane.row(*row);
-            push_visit(svg, visit, scale, y, said.as_str());
-            let (x, end) = (scale.x(visit.from), scale.end(visit.to));
-            push_end(svg, visit.end, end, y.saturating_add(6));
-            push_bar_label(svg, alloc, story, visit.message, x, end, y);
-            svg.takes(&said);
-        }
-    }
-}
-
-fn push_visit(svg: &mut Drawing, visit: &Visit, scale: Scale, y: usize, said: &str) {
-    let color = color_of(visit.publisher);
-    let (x, end) = (scale.x(visit.from), scale.end(visit.to));
-    match visit.received {
-        None => push_waiting(svg, bar(x, end, y), color, said),
-        Some(at) => {
-            let middle = scale.x(at);
-            push_waiting(svg, bar(x, middle, y), color, said);
-            rect(svg, bar(middle, end, y), "held", color, said)
-        }
-    }
-}
-
-fn push_end(svg: &mut Drawing, end: VisitEnd, x: usize, y: usize) {
-    match end {
-        VisitEnd::Overwritten => push_lost(svg, x, y, true),
-        VisitEnd::Lost => push_lost(svg, x, y, false),
-        _ => {}
-    }
-}
-
-fn visit_text(alloc: Global, story: &Story, visit: &Visit) -> Drawing {
-    let mut text = message_text(alloc, story, visit.message);
-    text.counted(" of publisher ", visit.publisher, "");
-    text.counted(" at subscriber ", visit.subscriber, "");
-    text.command(": there since command ", visit.from);
-    if let Some(at) = visit.received {
-        text.command(", received by ", at);
-    }
-    if let Some(at) = visit.to {
-        let what = match visit.end {
-            VisitEnd::Overwritten => "overwritten",
-            VisitEnd::Lost => "lost",
-            _ => "released",
-        };
-        text.text(", ");
-        text.text(what);
-        text.command(" by ", at);
-    }
-    text
 }
 
 /// The number of a message, and its value where it was sent.

@@ -2,11 +2,9 @@
 
 use crate::tests::runs::{CREATE_SUBSCRIBER, replies_to_numbers};
 use iox2_fixtures::settings;
-use iox2_machine::{
-    AllocationStrategy, BackpressureStrategy, DegradationAction, ServiceConfig, UniquePublisherId,
-};
+use iox2_machine::{BackpressureStrategy, ServiceConfig, UniquePublisherId};
 use iox2_pubsub::Domain;
-use iox2_runs::{Command, Reply};
+use iox2_runs::{Command, NewPublisher, Reply};
 use std::time::Duration;
 
 // The command that makes a publisher that waits, with one loan.
