@@ -62,12 +62,13 @@ impl Model {
         let Some(subscriber) = self.subscribers.get(q) else {
             return Ok(None);
         };
-        let departed = self.choose_among(q, subscriber.expired.as_slice(), given);
+        let departed = self.choose_among(q, subscriber.expired.as_slice(), &given);
         if departed.is_some() {
             return Ok(departed);
         }
         let connected = subscriber.connected(self.alloc)?;
-        Ok(self.choose_among(q, connected.as_slice(), given))
+        let chosen = self.choose_among(q, connected.as_slice(), &given);
+        Ok(chosen)
     }
 
     // One of the publishers from which something may be received.
@@ -75,13 +76,13 @@ impl Model {
         &self,
         q: usize,
         publishers: &[usize],
-        given: Option<Reply<u64, u64>>,
+        given: &Option<Reply<u64, u64>>,
     ) -> Option<usize> {
         let limit = self.config.subscriber_max_borrowed_samples;
         let mut chosen = None;
         for p in publishers {
             if self.mailboxes.can_receive(*p, q, limit)
-                && (chosen.is_none() || given == Some(sample_of(*p)))
+                && (chosen.is_none() || *given == Some(sample_of(*p)))
             {
                 chosen = Some(*p);
             }

@@ -163,7 +163,7 @@ module _ {T U : Type 0} (environment : Environment) (defaults : Defaults T U) (S
         (made.0).2,
         λ y at boxed.
             let same : y ≡ (made.0).0 = same_Some y (made.0).0 (sym at ∙ (made.0).1) in
-            let clash : Fixed asked.degradation ≡ Custom = sym (made.0).3 ∙ ap (λ (z : Subscriber). z.degradation_handler) (sym same) ∙ boxed in absurd cc,
+            let clash : Fixed degradation ≡ Custom = sym (made.0).3 ∙ ap (λ (z : Subscriber). z.degradation_handler) (sym same) ∙ boxed in absurd cc,
       ) refl made.1
       (λ n e. let clash : Subscriber_handle s.next_port ≡ Loan_handle n = e in absurd (cc)) (λ p q n e. let clash : Subscriber_handle s.next_port ≡ Sample_handle p q n = e in absurd (cc)) (λ p n e. let clash : Subscriber_handle s.next_port ≡ Blocked_handle p n = e in absurd (cc))
 

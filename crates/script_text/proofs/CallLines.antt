@@ -1,10 +1,12 @@
 -- Lines of so many words name the calls of these words.
-use Rattle.std.proofs.Common.{ℕ, ◌≡◌, ◌∙◌, sym, arith, inl, inr}
+use Rattle.std.proofs.Common.{ℕ, ◌≡◌, ◌∙◌, List, true, false, nat_eq, get_or, refl, sym, ap, subst, arith, inl, inr}
+use Rattle.std.proofs.lemmas.Bool.{false≢true}
 use Rattle.std.specs.Prelude.{codes, Option, Some, None, IfSome, IfNone}
 use Rattle.iox2_commands.specs.declared.command.Command.{Command}
 use Rattle.iox2_commands.specs.declared.command.Command.TheVariants as command
+use Rattle.iox2_commands.specs.declared.new_publisher.NewPublisher.{NewPublisher}
 use Rattle.script_text.specs.Calls.{IsCall, IsCallWith, IsWrite}
-use Rattle.script_text.specs.Commands.{IsCommandLine, IsNameAt, IsNumberAt}
+use Rattle.script_text.specs.Commands.{IsCommandLine, IsNameAt, IsNumberAt, IsPublisherLine}
 use Rattle.script_text.specs.Words.{Words}
 
 -- What is named so, the line names, where that is what the line says.
@@ -18,6 +20,41 @@ pub line-refused : (words : Words) (Named : Command ℕ ℕ → Type 0) (result 
     → IfNone result ((c : Command ℕ ℕ) → ¬ Named c) → IfNone result ((c : Command ℕ ℕ) → ¬ IsCommandLine words c)
 line-refused words Named None says refused = λ c names. refused c (says c names)
 line-refused words Named (Some c) says refused = tt
+
+-- The line begins with `pub`, and with no word of another first letter.
+other-word : (words : Words) → words.word 0 ≡ codes "pub" → (name : List ℕ) → words.word 0 ≡ name → nat_eq (get_or name 0 0) 112 ≡ false → ⊥
+other-word words is name named apart =
+    let first : get_or name 0 0 ≡ 112 = ap (λ (word : List ℕ). get_or word 0 0) (sym named ∙ is) in
+    let same : true ≡ false = subst (λ (n : ℕ). nat_eq n 112 ≡ false) first apart in
+    false≢true (sym same)
+
+-- Where a line begins with `pub` and asks for no publisher, it names nothing.
+pub publisher-refused : (words : Words) → words.word 0 ≡ codes "pub" → ((asked : NewPublisher) → ¬ IsPublisherLine words asked)
+    → (c : Command ℕ ℕ) → ¬ IsCommandLine words c
+publisher-refused words is refused command.Nothing names = other-word words is (codes "nothing") names.1 refl
+publisher-refused words is refused (command.CreatePublisher it) names = refused it names
+publisher-refused words is refused (command.CreateSubscriber it b) names = other-word words is (codes "sub") names.0 refl
+publisher-refused words is refused (command.LoanUninit it) names = other-word words is (codes "loan") names.0.1 refl
+publisher-refused words is refused (command.Loan it) names = other-word words is (codes "default") names.0.1 refl
+publisher-refused words is refused (command.AssumeInit it) names = other-word words is (codes "init") names.0.1 refl
+publisher-refused words is refused (command.Send it) names = other-word words is (codes "send") names.0.1 refl
+publisher-refused words is refused (command.Discard it) names = other-word words is (codes "discard") names.0.1 refl
+publisher-refused words is refused (command.GiveUp it) names = other-word words is (codes "giveup") names.0.1 refl
+publisher-refused words is refused (command.Update it) names = other-word words is (codes "update") names.0.1 refl
+publisher-refused words is refused (command.Receive it) names = other-word words is (codes "recv") names.0.1 refl
+publisher-refused words is refused (command.HasSamples it) names = other-word words is (codes "has") names.0.1 refl
+publisher-refused words is refused (command.ReadHeader it) names = other-word words is (codes "header") names.0.1 refl
+publisher-refused words is refused (command.ReadUserHeader it) names = other-word words is (codes "user") names.0.1 refl
+publisher-refused words is refused (command.Release it) names = other-word words is (codes "release") names.0.1 refl
+publisher-refused words is refused (command.Close it) names = other-word words is (codes "close") names.0.1 refl
+publisher-refused words is refused (command.LoanSlice it b) names = other-word words is (codes "slice") names.0.1 refl
+publisher-refused words is refused (command.WriteAll it b) names = other-word words is (codes "write") names.0.1 refl
+publisher-refused words is refused (command.WriteHeader it b) names = other-word words is (codes "user") names.0.1 refl
+publisher-refused words is refused (command.SendCopy it b) names = other-word words is (codes "copy") names.0.1 refl
+publisher-refused words is refused (command.WriteCell it b d) names = other-word words is (codes "cell") names.0.1 refl
+publisher-refused words is refused (command.SetPayload it b d) names = other-word words is (codes "set") names.0.1 refl
+publisher-refused words is refused (command.Retry it b) names = other-word words is (codes "retry") names.0 refl
+publisher-refused words is refused (command.Read it b) names = other-word words is (codes "read") names.0 refl
 
 module _ (words : Words) (of : ℕ) (two : words.count ≡ 2) (name : IsNameAt words 1 of) where
   -- The call of two words is what the line names.

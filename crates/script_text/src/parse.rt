@@ -9,7 +9,7 @@ ghost use Rattle.iox2_machine.specs.declared.backpressure.BackpressureStrategy.{
 ghost use Rattle.iox2_machine.specs.declared.service_config.ServiceConfig.{ServiceConfig};
 ghost use Rattle.iox2_commands.specs.declared.command.Command.{Command};
 ghost use Rattle.iox2_commands.specs.declared.new_publisher.NewPublisher.{NewPublisher};
-ghost use Rattle.script_text.specs.Commands.{IsAllocation, IsCommandLine, IsDegradation, IsDomainLine, IsHandler, IsKind, IsMode, IsPublisherLine, IsSizeOrMost, IsStrategy, IsSubscriberLine, NamesCommand, NamesDomain};
+ghost use Rattle.script_text.specs.Commands.{IsAllocation, IsCommandLine, IsDegradation, IsDomainLine, IsHandler, IsKind, IsMode, IsPublisherLine, IsSizeOrMost, IsStrategy, NamesCommand, NamesDomain};
 ghost use Rattle.script_text.specs.Calls.{IsCall, IsCallWith, IsWrite};
 ghost use Rattle.script_text.specs.Numbers.{IsNumber, position_of, value_of};
 ghost use Rattle.script_text.specs.ScriptText.{IsRefused, IsScript};
@@ -156,14 +156,16 @@ fn parse_command(words: &[&str]) -> Option<Command<u64, u64>>
 {
     match *words {
         ["nothing"] => Some(Command::Nothing),
-        ["pub", ..] => Some(Command::CreatePublisher(parse_publisher(words)?)),
-        ["sub", ..] => {
-            let (buffer, degradation) = parse_subscriber(words)?;
-            Some(Command::CreateSubscriber {
-                buffer,
-                degradation,
-            })
-        }
+        ["pub", _, _] => Some(Command::CreatePublisher(parse_publisher(words)?)),
+        ["pub", _, _, _, _, _, _, _] => Some(Command::CreatePublisher(parse_publisher(words)?)),
+        ["sub", buffer] => Some(Command::CreateSubscriber {
+            buffer: parse_size_or_most(buffer)?,
+            degradation: DegradationAction::Warn,
+        }),
+        ["sub", buffer, degradation] => Some(Command::CreateSubscriber {
+            buffer: parse_size_or_most(buffer)?,
+            degradation: parse_degradation(degradation)?,
+        }),
         ["retry", of, seconds, nanoseconds] => Some(Command::Retry {
             of: parse_name(of)?,
             elapsed: parse_elapsed(seconds, nanoseconds)?,
@@ -206,21 +208,6 @@ fn parse_publisher(words: &[&str]) -> Option<NewPublisher>
             degradation: parse_degradation(degradation)?,
             backpressure: parse_handler(handler)?,
         }),
-        _ => None,
-    }
-}
-
-/// The buffer of the subscriber that a line asks for, and the answer of its handler.
-fn parse_subscriber(words: &[&str]) -> Option<(Option<usize>, DegradationAction)>
-    ensures reads { IfSome result (λ asked. IsSubscriberLine (words_in words.now) asked.0 asked.1) }
-    ensures refuses { IfNone result ((buffer : Option ℕ) (degradation : DegradationAction) → ¬ IsSubscriberLine (words_in words.now) buffer degradation) }
-{
-    match *words {
-        ["sub", buffer] => Some((parse_size_or_most(buffer)?, DegradationAction::Warn)),
-        ["sub", buffer, degradation] => Some((
-            parse_size_or_most(buffer)?,
-            parse_degradation(degradation)?,
-        )),
         _ => None,
     }
 }

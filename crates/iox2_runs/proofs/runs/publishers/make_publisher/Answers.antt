@@ -22,13 +22,13 @@ returns-in-FixedSize-clause-creates g c = λ m s shown.
           (λ (publisher : Publisher). publisher.id ≡ s.next_port) made.0 c.create.result
           (subst (λ (given : PublisherSettings). MatchResult c.create.result
           (λ publisher. (publisher.id ≡ s.next_port) × CreatePublisher (answers_of g.F.BackpressureFn.allows g.G.DegradationFn.allows c.create.new.domain.boxes.publishers) s given made.0 None) (λ e. CreatePublisher (answers_of g.F.BackpressureFn.allows g.G.DegradationFn.allows c.create.new.domain.boxes.publishers) s given made.0 (Some e)))
-          (told-settings {T = g.row.T.Denot} {U = g.row.U.Denot} c.args.domain.now c.args.asked FixedSize _ _ c.told-factory.ensures (ap (λ (it : PublisherFactory g.row.F.Denot g.row.G.Denot NoOverride). it.settings.initial_max_slice_len) c.publisher_builder.ensures)
+          (told-settings {T = g.row.T.Denot} {U = g.row.U.Denot} c.args.domain.now c.args.asked FixedSize c.publisher_builder.result.settings c.told-factory.result.settings c.told-factory.ensures (ap (λ (it : PublisherFactory g.row.F.Denot g.row.G.Denot NoOverride). it.settings.initial_max_slice_len) c.publisher_builder.ensures)
           (sym c.variant.ensures ∙ c.in-FixedSize.is) m s shown) made.2),
     )
 
 pub returns-in_ok-publisher-in-Dynamic-clause-creates : goal.returns-in_ok-publisher-in-Dynamic-clause-creates
 returns-in_ok-publisher-in-Dynamic-clause-creates g c = λ m s shown.
-    let is = told-settings {T = g.row.T.Denot} {U = g.row.U.Denot} c.args.domain.now c.args.asked Dynamic _ _ c.told-factory-in-Dynamic.ensures (ap (λ (it : PublisherFactory g.row.F.Denot g.row.G.Denot NoOverride). it.settings.initial_max_slice_len) c.initial_max_slice_len-unasked.ensures)
+    let is = told-settings {T = g.row.T.Denot} {U = g.row.U.Denot} c.args.domain.now c.args.asked Dynamic c.initial_max_slice_len-unasked.result.settings c.told-factory-in-Dynamic.result.settings c.told-factory-in-Dynamic.ensures (ap (λ (it : PublisherFactory g.row.F.Denot g.row.G.Denot NoOverride). it.settings.initial_max_slice_len) c.initial_max_slice_len-unasked.ensures)
     (sym c.variant.ensures ∙ c.in-Dynamic.is) m s shown in
     let made = c.in_ok-publisher-in-Dynamic.ensures.creates m s shown in (
       made.0,
@@ -42,7 +42,7 @@ returns-in_ok-publisher-in-Dynamic-clause-creates g c = λ m s shown.
 
 pub returns-in_err-publisher-in-Dynamic-clause-creates : goal.returns-in_err-publisher-in-Dynamic-clause-creates
 returns-in_err-publisher-in-Dynamic-clause-creates g c = λ m s shown.
-    let is = told-settings {T = g.row.T.Denot} {U = g.row.U.Denot} c.args.domain.now c.args.asked Dynamic _ _ c.told-factory-in-Dynamic.ensures (ap (λ (it : PublisherFactory g.row.F.Denot g.row.G.Denot NoOverride). it.settings.initial_max_slice_len) c.initial_max_slice_len-unasked.ensures)
+    let is = told-settings {T = g.row.T.Denot} {U = g.row.U.Denot} c.args.domain.now c.args.asked Dynamic c.initial_max_slice_len-unasked.result.settings c.told-factory-in-Dynamic.result.settings c.told-factory-in-Dynamic.ensures (ap (λ (it : PublisherFactory g.row.F.Denot g.row.G.Denot NoOverride). it.settings.initial_max_slice_len) c.initial_max_slice_len-unasked.ensures)
     (sym c.variant.ensures ∙ c.in-Dynamic.is) m s shown in
     let refused = err_from_is_err_and c.from_residual.result c.from_residual.ensures.1 in
     let made = c.in_err-publisher-in-Dynamic.ensures.creates m s shown in
