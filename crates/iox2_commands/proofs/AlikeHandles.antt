@@ -153,7 +153,7 @@ module _ {T U : Type 0} where
     -- The handle fits the command.
     pub step_fits : (command : Command T U) (o : Outcome T U) → Steps command o → Fits s handles command o
     step_fits Nothing o h = by o (done s) h (refl, refl)
-    step_fits (CreatePublisher loans strategy allocation len override_slots degradation backpressure) o h = by o _ h.3 (plain_publisher h.0 s.next_port h.1)
+    step_fits (CreatePublisher asked) o h = by o _ h.3 (plain_publisher h.0 s.next_port h.1)
     step_fits (CreateSubscriber buffer degradation) o h = subst (MayMakeSubscriber s) (sym h.3) (create_fits s h.0 _ h.1 h.2)
     step_fits (LoanUninit of) o h = plain_grant false 1 (if_fixed_size s (unblocked_at s handles of)) o h
     step_fits (LoanDefault of) o h =

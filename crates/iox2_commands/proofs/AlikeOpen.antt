@@ -11,10 +11,7 @@ use Rattle.iox2_machine.specs.machine.Loans.{GrantLoan, is_static, is_initialize
 use Rattle.iox2_machine.specs.machine.Sends.{SendResult, Delivered_to, Blocked_send, Send_error}
 use Rattle.iox2_machine.specs.machine.Receives.{ReceiveResult, Got_sample, No_sample, Receive_error}
 use Rattle.iox2_machine.specs.declared.service_config.ServiceConfig.{ServiceConfig}
-use Rattle.iox2_machine.specs.declared.allocation.AllocationStrategy.{AllocationStrategy}
-use Rattle.iox2_machine.specs.declared.backpressure.BackpressureStrategy.{BackpressureStrategy}
 use Rattle.iox2_machine.specs.declared.backpressure.BackpressureAction.{BackpressureAction}
-use Rattle.iox2_machine.specs.declared.degradation.DegradationAction.{DegradationAction}
 use Rattle.iox2_machine.specs.declared.errors.ConnectionFailure.{ConnectionFailure}
 use Rattle.iox2_machine.specs.declared.errors.LoanError.{LoanError}
 use Rattle.iox2_machine.specs.declared.errors.SendError.TheVariants.{ConnectionBrokenSinceSenderNoLongerExists, ConnectionCorrupted, LoanError as NotLoaned, ConnectionError, UnableToDeliver, InternalError}
@@ -26,6 +23,7 @@ use Rattle.iox2_commands.specs.Isolation.{IsIndependent, HasBorrowedNothing, mak
 use Rattle.iox2_commands.specs.Outcomes.{Handle, Subscriber_handle, Outcome, replied, done, skipped}
 use Rattle.iox2_commands.specs.Step.{Step, after_publisher, after_subscriber, after_loan, after_send, after_retry, after_receive, after_update, after_question, publisher_settings, unblocked_at, subscriber_at, loan_at, unwritten_at, written_at, with_cell_at, sendable_at, blocked_at, sample_at, if_single_units, if_fixed_size, if_dynamic}
 use Rattle.iox2_commands.specs.declared.command.Command.{Command}
+use Rattle.iox2_commands.specs.declared.new_publisher.NewPublisher.{NewPublisher}
 use Rattle.iox2_commands.specs.declared.command.Command.TheVariants.{Nothing, CreatePublisher as PublisherCommand, CreateSubscriber as SubscriberCommand, LoanUninit, Loan as LoanDefault, LoanSlice, WriteCell, WriteAll, AssumeInit, WriteHeader, SetPayload, Send as SendLoan, SendCopy, Discard, Retry, GiveUp, Update, Receive, HasSamples, Read, ReadHeader, ReadUserHeader, Release, Close}
 use Rattle.iox2_commands.specs.declared.reply.Reply.TheVariants.{PublisherMade, Unwritten}
 use Rattle.iox2_commands.proofs.AlikeNamed.{subscriber_handle_at}
@@ -33,15 +31,15 @@ use Rattle.iox2_commands.proofs.AlikeIndependent.{StaysOpen, AreIndependentSetti
 use Rattle.iox2_commands.proofs.AlikeSteps.{open_of, none_blocked}
 
 -- what a command says of an independent publisher
-independent_settings : (c : ServiceConfig) (loans : ℕ) (strategy : BackpressureStrategy) (allocation : AllocationStrategy) (len : ℕ) (override_slots : Option ℕ) (degradation : DegradationAction) (backpressure : Option BackpressureAction)
-    → (is_static allocation
-    && eqb (slots_for c (publisher_settings c.variant loans strategy allocation len override_slots degradation backpressure)) (worst_case c loans)
-    && never_waits c strategy (option_map {U = Handler BackpressureAction} (λ action. Fixed action) backpressure)) ≡ true
-    → AreIndependentSettings c (publisher_settings c.variant loans strategy allocation len override_slots degradation backpressure)
-independent_settings c loans strategy allocation len override_slots degradation backpressure h =
-    let given : PublisherSettings = publisher_settings c.variant loans strategy allocation len override_slots degradation backpressure in
-    let parts : (is_static allocation ≡ true) × (eqb (slots_for c given) (worst_case c loans) ≡ true) × (never_waits c strategy (option_map {U = Handler BackpressureAction} (λ action. Fixed action) backpressure) ≡ true) = three _ _ _ h in
-    record { static = parts.0; slots = eqb-true (slots_for c given) (worst_case c loans) parts.1; never_waits = parts.2 }
+independent_settings : (c : ServiceConfig) (asked : NewPublisher)
+    → (is_static asked.allocation
+    && eqb (slots_for c (publisher_settings c.variant asked)) (worst_case c asked.loans)
+    && never_waits c asked.strategy (option_map {U = Handler BackpressureAction} (λ action. Fixed action) asked.backpressure)) ≡ true
+    → AreIndependentSettings c (publisher_settings c.variant asked)
+independent_settings c asked h =
+    let given : PublisherSettings = publisher_settings c.variant asked in
+    let parts : (is_static asked.allocation ≡ true) × (eqb (slots_for c given) (worst_case c asked.loans) ≡ true) × (never_waits c asked.strategy (option_map {U = Handler BackpressureAction} (λ action. Fixed action) asked.backpressure) ≡ true) = three _ _ _ h in
+    record { static = parts.0; slots = eqb-true (slots_for c given) (worst_case c asked.loans) parts.1; never_waits = parts.2 }
   where
     three : (x y z : Bool) → (x && y && z) ≡ true → (x ≡ true) × (y ≡ true) × (z ≡ true)
     three true true true h = (refl, refl, refl)
@@ -117,9 +115,9 @@ module _ {T U : Type 0} where
     pub step_open : (command : Command T U) (o : Outcome T U) → ((p : ℕ) → o.reply ≡ PublisherMade p → makes_independent_publisher s.config command ≡ true)
         → ((of r : ℕ) → r ≢ q → command ≡ Close of → slice_get handles of ≡ Some (Subscriber_handle r) → HasBorrowedNothing s r) → Steps command o → StaysOpen q o.state
     step_open Nothing o makes closes h = by o (done s) s h refl kept
-    step_open (PublisherCommand loans strategy allocation len override_slots degradation backpressure) o makes closes h =
+    step_open (PublisherCommand asked) o makes closes h =
         by o _ h.0 h.3 (state_publisher h.0 s.next_port h.1) (create_publisher_open q s h.0 _ h.1
-        (λ e. independent_settings s.config loans strategy allocation len override_slots degradation backpressure
+        (λ e. independent_settings s.config asked
         (makes s.next_port (ap (λ (v : Outcome T U). v.reply) h.3 ∙ ap (λ (v : Option PublisherCreateError). (after_publisher h.0 s.next_port v).reply) e)))
         h.2 kept)
     step_open (SubscriberCommand buffer degradation) o makes closes h =

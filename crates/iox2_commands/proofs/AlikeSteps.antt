@@ -211,8 +211,8 @@ module _ {T U : Type 0} where
       pub step_alike : (command : Command T U) (o o' : Outcome T U) → ClosesUnborrowed q a b handles command → StepA command o → StepB command o'
           → ((of : ℕ) → command ≡ Receive of → slice_get handles of ≡ Some (Subscriber_handle q) → o.reply ≡ o'.reply) → IsAlike q o o'
       step_alike Nothing o o' closes h k replies = alike_equal q o (done a) o' (done b) h k (done_alike a b e)
-      step_alike (PublisherCommand loans strategy allocation len override_slots degradation backpressure) o o' closes h k replies =
-          let settings : ServiceConfig → PublisherSettings = λ (c : ServiceConfig). publisher_settings c.variant loans strategy allocation len override_slots degradation backpressure in
+      step_alike (PublisherCommand asked) o o' closes h k replies =
+          let settings : ServiceConfig → PublisherSettings = λ (c : ServiceConfig). publisher_settings c.variant asked in
           let config : b.config ≡ a.config = ap (λ (v : View T U). v.config) (sym e) in
           let made : (view_of q h.0 ≡ view_of q k.0) × (h.1 ≡ k.1) = create_publisher_alike q a b h.0 k.0 (settings a.config) h.1 k.1 e h.2
           (subst (λ (c : ServiceConfig). CreatePublisher ample_memory b (settings c) k.0 k.1) config k.2) in

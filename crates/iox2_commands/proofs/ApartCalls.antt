@@ -121,7 +121,7 @@ module _ {T U : Type 0} (q : ℕ) where
     others_alike (ReadHeader of') of o all e other h = header_quiet of' _ _ o h
     others_alike (ReadUserHeader of') of o all e other h = header_quiet of' _ _ o h
     others_alike Nothing of o all e other h = absurd (none-some of e)
-    others_alike (CreatePublisher a b c d x f g) of o all e other h = absurd (none-some of e)
+    others_alike (CreatePublisher a) of o all e other h = absurd (none-some of e)
     others_alike (CreateSubscriber a b) of o all e other h = absurd (none-some of e)
     others_alike (LoanUninit a) of o all e other h = absurd (none-some of e)
     others_alike (LoanDefault a) of o all e other h = absurd (none-some of e)

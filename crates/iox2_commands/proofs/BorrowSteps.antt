@@ -136,7 +136,7 @@ module _ {T U : Type 0} where
     -- Each command but a receive and a release leaves what is borrowed.
     step_borrows : (command : Command T U) (o : Outcome T U) → takes_or_gives command ≡ false → Steps command o → SameBorrows s o.state
     step_borrows Nothing o k h = same o (done s) h refl
-    step_borrows (PublisherCommand loans strategy allocation len override_slots degradation backpressure) o k h =
+    step_borrows (PublisherCommand asked) o k h =
         by o _ h.0 h.3 (state_publisher h.0 s.next_port h.1) (create_publisher_stays environment s _ h.0 h.1 h.2).borrowed
     step_borrows (SubscriberCommand buffer degradation) o k h =
         by o _ h.0 h.3 (state_subscriber h.0 s.next_port h.1) (create_subscriber_stays environment s _ h.0 h.1 h.2).borrowed

@@ -158,8 +158,8 @@ module _ {T U : Type 0} where
     -- Each command comes to something.
     pub step_comes : (command : Command T U) → Ends (Step ample_memory default_value default_header m s handles command)
     step_comes Nothing = ends_so (done s) k
-    step_comes (PublisherCommand loans strategy allocation len override_slots degradation backpressure) =
-        ends_call _ _ (λ s' r. after_publisher s' s.next_port r) (λ s' r. state_publisher s' s.next_port r) (create_publisher_comes s _ (given_fixed backpressure) k)
+    step_comes (PublisherCommand asked) =
+        ends_call _ _ (λ s' r. after_publisher s' s.next_port r) (λ s' r. state_publisher s' s.next_port r) (create_publisher_comes s _ (given_fixed asked.backpressure) k)
     step_comes (SubscriberCommand buffer degradation) =
         ends_call _ _ (λ s' r. after_subscriber s' s.next_port r) (λ s' r. state_subscriber s' s.next_port r) (create_subscriber_comes s _ k)
     step_comes (LoanUninit of) =

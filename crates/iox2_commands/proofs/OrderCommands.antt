@@ -256,7 +256,7 @@ module _ {T U : Type 0} (p0 n0 : ℕ) (out : ℕ → List ℕ) (got : ℕ → �
     -- Each command keeps the order.
     pub command_goes : (command : Command T U) (o : Outcome T U) → Step environment default_value default_header m s handles command o → Goes o
     command_goes Nothing o h = unchanged o _ h
-    command_goes (CreatePublisher loans strategy allocation len override_slots degradation backpressure) o h =
+    command_goes (CreatePublisher asked) o h =
         by_equal o _ h.3 (after_publisher_goes h.0 s.next_port h.1 w.ports (create_publisher_ordered p0 n0 out got environment s w _ h.0 h.1 v h.2))
     command_goes (CreateSubscriber buffer degradation) o h =
         by_equal o _ h.3 (after_subscriber_goes h.0 s.next_port h.1 w.ports (create_subscriber_ordered p0 n0 out got environment s w _ h.0 h.1 h.2))

@@ -293,7 +293,7 @@ module _ {T U : Type 0} (environment : Environment) (default_value : T) (default
   -- Each step tells so.
   pub step_told : (command : Command T U) (o : Outcome T U) → Step environment default_value default_header m s handles command o → IsTold past s handles command o
   step_told Nothing o h = nothing past s handles Nothing o (done s) h refl refl refl refl t
-  step_told (CreatePublisher loans strategy allocation len override_slots degradation backpressure) o h =
+  step_told (CreatePublisher asked) o h =
       subst (IsTold past s handles _) (sym h.3) (publisher_tells past s handles _ h.0 (create_publisher_follows
       (scope_of past) environment s _ h.0 h.1 ports t h.2) s.next_port h.1 ports)
   step_told (CreateSubscriber buffer degradation) o h =

@@ -58,7 +58,7 @@ module _ {T U : Type 0} (default_value : T) (default_header : U) (m : Messages T
   -- Publishers stay static, whether or not memory is refused.
   pub step_static : (command : Command T U) (o : Outcome T U) → TellsOfRefusals command → Step fixed_handlers default_value default_header m s handles command o → AllStatic o.state
   step_static Nothing o plain h = by AllStatic o (done s) s h refl k
-  step_static (CreatePublisher loans strategy allocation len override_slots degradation backpressure) o plain h =
+  step_static (CreatePublisher asked) o plain h =
       by AllStatic o _ h.0 h.3 (state_publisher h.0 s.next_port h.1)
       (create_publisher_static fixed_handlers s h.0 _ h.1 (ap is_static plain) h.2 k)
   step_static (CreateSubscriber buffer degradation) o plain h =
@@ -130,14 +130,14 @@ module _ {T U : Type 0} (default_value : T) (default_header : U) (m : Messages T
       → Step fixed_handlers default_value default_header m s handles command o
       → Step ample_memory default_value default_header m s handles command o × TellNoRefusal s.warnings
   step_ample Nothing o plain port told h = (h, back Told o (done s) s h refl told)
-  step_ample (CreatePublisher loans strategy allocation len override_slots degradation backpressure) o plain port told h =
-      let given : PublisherSettings = publisher_settings (s.config).variant loans strategy allocation len override_slots degradation backpressure in
+  step_ample (CreatePublisher asked) o plain port told h =
+      let given : PublisherSettings = publisher_settings (s.config).variant asked in
       let replied : (e : PublisherCreateError) → h.1 ≡ Some e → o.reply ≡ (after_publisher h.0 s.next_port (Some e)).reply =
       λ e some. ap (λ (v : Outcome T U). v.reply) h.3 ∙ ap (λ (r : Option PublisherCreateError). (after_publisher h.0 s.next_port r).reply) some in
       let went = create_publisher_ample s h.0 given
       (back Told o _ h.0 h.3 (state_publisher h.0 s.next_port h.1) told) h.1
-      (λ fit some. port (subst (RefusesPort s.config (CreatePublisher loans strategy allocation len override_slots degradation backpressure)) (sym (replied UnableToCreateDataSegment some)) fit))
-      (λ some. port (subst (RefusesPort s.config (CreatePublisher loans strategy allocation len override_slots degradation backpressure)) (sym (replied NoPublisherState some)) tt))
+      (λ fit some. port (subst (RefusesPort s.config (CreatePublisher asked)) (sym (replied UnableToCreateDataSegment some)) fit))
+      (λ some. port (subst (RefusesPort s.config (CreatePublisher asked)) (sym (replied NoPublisherState some)) tt))
       h.2 in
       ((h.0, h.1, went.0, h.3), went.1)
   step_ample (CreateSubscriber buffer degradation) o plain port told h =

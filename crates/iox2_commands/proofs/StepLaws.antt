@@ -165,7 +165,7 @@ module _ {T U : Type 0} (environment : Environment) (default_value : T) (default
 
   pub step_sound : (command : Command T U) (o : Outcome T U) → Step environment default_value default_header m s handles command o → IsSound s o
   step_sound Nothing o h = by_equal s o (done s) h (nothing_done s (done s) w refl refl)
-  step_sound (CreatePublisher loans strategy allocation len override_slots degradation backpressure) o h =
+  step_sound (CreatePublisher asked) o h =
       by_equal s o _ h.3 (after_publisher_sound s h.0 s.next_port h.1
       (create_publisher_keeps environment s _ h.0 h.1 w h.2) (create_publisher_advances environment s _ h.0 h.1 h.2)
       (create_publisher_follows environment s _ h.0 h.1 h.2))

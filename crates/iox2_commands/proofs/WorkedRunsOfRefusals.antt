@@ -12,6 +12,7 @@ use Rattle.iox2_machine.specs.declared.errors.ZeroCopyCreationError.TheVariants.
 use Rattle.iox2_machine.specs.declared.warning.Warning.TheVariants.{ConnectionNotMade, PublisherPartlyConnected}
 use Rattle.iox2_commands.specs.Outcomes.{Event}
 use Rattle.iox2_machine.specs.machine.Environments.{fixed_handlers}
+use Rattle.iox2_commands.specs.NewPublishers.{publisher_with}
 use Rattle.iox2_commands.specs.Runs.{Run, only_defaults}
 use Rattle.iox2_commands.specs.declared.command.Command.TheVariants.{CreatePublisher, CreateSubscriber, SendCopy, Receive, Read}
 use Rattle.iox2_commands.specs.declared.reply.Reply.TheVariants.{PublisherMade, SubscriberMade, Delivered, Sample, NoSample, Cell}
@@ -21,8 +22,8 @@ use Rattle.iox2_commands.proofs.WorkedRunDomains.{domain, ◌▸◌}
 -- connects by the next send, and it receives the message after its own next update.
 pub unconnected_subscriber_connects_later : (events : List (Event ℕ ℕ)) × (m : Messages ℕ ℕ) × (s : State ℕ ℕ)
     × Run fixed_handlers (only_defaults 0 0) no_messages (fresh (domain 2 1 2 1 0 1 false))
-    (CreatePublisher 1 DiscardData Static 1 None Warn None ∷ CreateSubscriber (Some 2) Warn ∷ SendCopy 0 1 ∷ Receive 1 ∷
-    CreatePublisher 1 DiscardData Static 1 None Warn None ∷ Receive 1 ∷ Read 5 0 ∷ [])
+    (CreatePublisher (publisher_with 1 DiscardData) ∷ CreateSubscriber (Some 2) Warn ∷ SendCopy 0 1 ∷ Receive 1 ∷
+    CreatePublisher (publisher_with 1 DiscardData) ∷ Receive 1 ∷ Read 5 0 ∷ [])
     (PublisherMade 1 ∷ SubscriberMade 2 ∷ Delivered 1 ∷ NoSample ∷ PublisherMade 3 ∷ Sample 1 ∷ Cell (Some 1) ∷ [])
     events m s
     × (s.warnings ≡ record { latest = ConnectionNotMade 1 2 ∷ []; refused_connections = 1 })
@@ -45,7 +46,7 @@ unconnected_subscriber_connects_later = (
 -- counted, though its handler doesn't warn. It connects when the next subscriber comes.
 pub unconnected_publisher_connects_later : (events : List (Event ℕ ℕ)) × (m : Messages ℕ ℕ) × (s : State ℕ ℕ)
     × Run fixed_handlers (only_defaults 0 0) no_messages (fresh (domain 1 2 1 1 0 1 false))
-    (CreateSubscriber (Some 1) DegradeAndFail ∷ CreatePublisher 1 DiscardData Static 1 None DegradeAndFail None ∷ SendCopy 1 1 ∷ Receive 0 ∷
+    (CreateSubscriber (Some 1) DegradeAndFail ∷ CreatePublisher (record (publisher_with 1 DiscardData) { degradation = DegradeAndFail }) ∷ SendCopy 1 1 ∷ Receive 0 ∷
     CreateSubscriber (Some 1) DegradeAndFail ∷ SendCopy 1 2 ∷ Receive 0 ∷ Read 6 0 ∷ [])
     (SubscriberMade 1 ∷ PublisherMade 2 ∷ Delivered 0 ∷ NoSample ∷ SubscriberMade 3 ∷ Delivered 2 ∷ Sample 2 ∷ Cell (Some 2) ∷ [])
     events m s

@@ -11,6 +11,7 @@ use Rattle.iox2_machine.specs.declared.errors.LoanError.TheVariants.{ExceedsMaxL
 use Rattle.iox2_machine.specs.declared.warning.Warning.TheVariants.{ExpiredBufferRaised}
 use Rattle.iox2_commands.specs.Outcomes.{Event}
 use Rattle.iox2_machine.specs.machine.Environments.{ample_memory}
+use Rattle.iox2_commands.specs.NewPublishers.{publisher_with}
 use Rattle.iox2_commands.specs.Runs.{Run, only_defaults}
 use Rattle.iox2_commands.specs.declared.command.Command.TheVariants.{CreatePublisher, CreateSubscriber, LoanSlice, WriteAll, Send}
 use Rattle.iox2_commands.specs.declared.command.Command.TheVariants.{Receive, Read}
@@ -28,7 +29,7 @@ not_up_to a b lt le = omega (arith, lt, le)
 -- machine word is refused, and a later loan is granted.
 pub growing_publisher_keeps_older_samples : (events : List (Event ℕ ℕ)) × (m : Messages ℕ ℕ) × (s : State ℕ ℕ)
     × Run ample_memory (only_defaults 0 0) no_messages (fresh (slice_domain 1 1 1 1 0 0 false))
-    (CreateSubscriber (Some 1) Warn ∷ CreatePublisher 1 DiscardData BestFit 1 None Warn None ∷ LoanSlice 1 1 ∷ WriteAll 2 5 ∷ Send 2 ∷ Receive 0 ∷
+    (CreateSubscriber (Some 1) Warn ∷ CreatePublisher (record (publisher_with 1 DiscardData) { allocation = BestFit }) ∷ LoanSlice 1 1 ∷ WriteAll 2 5 ∷ Send 2 ∷ Receive 0 ∷
     LoanSlice 1 4 ∷ WriteAll 6 6 ∷ Send 6 ∷ Read 5 0 ∷ Read 5 1 ∷ LoanSlice 1 18446744073709551615 ∷ LoanSlice 1 4 ∷ [])
     (SubscriberMade 1 ∷ PublisherMade 2 ∷ Loaned ∷ Done ∷ Delivered 1 ∷ Sample 2 ∷ Loaned ∷ Done ∷ Delivered 1 ∷ Cell (Some 5) ∷ Skipped ∷
     LoanRefused InternalFailure ∷ Loaned ∷ [])
@@ -59,7 +60,7 @@ growing_publisher_keeps_older_samples = (
 -- number.
 pub growing_publisher_keeps_its_limit_of_loans : (events : List (Event ℕ ℕ)) × (m : Messages ℕ ℕ) × (s : State ℕ ℕ)
     × Run ample_memory (only_defaults 0 0) no_messages (fresh (slice_domain 1 1 1 1 0 0 false))
-    (CreatePublisher 2 DiscardData BestFit 1 (Some 1) Warn None ∷ LoanSlice 0 1 ∷ LoanSlice 0 1 ∷ LoanSlice 0 1 ∷ [])
+    (CreatePublisher (record (publisher_with 2 DiscardData) { allocation = BestFit; override_slots = Some 1 }) ∷ LoanSlice 0 1 ∷ LoanSlice 0 1 ∷ LoanSlice 0 1 ∷ [])
     (PublisherMade 1 ∷ Loaned ∷ Loaned ∷ LoanRefused ExceedsMaxLoans ∷ [])
     events m s
     × ((s.warnings).latest ≡ [])

@@ -59,10 +59,10 @@ pub record IsIndependent {T U : Type 0} (q : ℕ) (s : State T U) : Type 0 where
 
 -- The publisher that the command makes, if it makes one, is independent.
 abbrev pub makes_independent_publisher : {T U : Type 0} → ServiceConfig → Command T U → Bool
-makes_independent_publisher c (CreatePublisher loans strategy allocation len override_slots degradation backpressure) =
-    is_static allocation
-    && slots_for c (publisher_settings c.variant loans strategy allocation len override_slots degradation backpressure) == worst_case c loans
-    && never_waits c strategy (option_map {U = Handler BackpressureAction} (λ action. Fixed action) backpressure)
+makes_independent_publisher c (CreatePublisher asked) =
+    is_static asked.allocation
+    && slots_for c (publisher_settings c.variant asked) == worst_case c asked.loans
+    && never_waits c asked.strategy (option_map {U = Handler BackpressureAction} (λ action. Fixed action) asked.backpressure)
 makes_independent_publisher c _ = true
 
 -- Each sample that the subscriber made at `of` received before the command at i was released before that command.

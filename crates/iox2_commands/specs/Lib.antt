@@ -1,3 +1,4 @@
+pub mod NewPublishers
 pub mod Outcomes
 pub mod Step
 pub mod Runs

@@ -29,7 +29,7 @@ module _ {T U : Type 0} where
   -- start.
   abbrev pub TellsOfRefusals : Command T U → Type 0
   TellsOfRefusals Nothing = Unit {0}
-  TellsOfRefusals (CreatePublisher loans strategy allocation len override_slots degradation backpressure) = allocation ≡ Static
+  TellsOfRefusals (CreatePublisher asked) = asked.allocation ≡ Static
   TellsOfRefusals (CreateSubscriber buffer degradation) = Unit {0}
   TellsOfRefusals (LoanUninit of) = Unit {0}
   TellsOfRefusals (Loan of) = Unit {0}
@@ -55,8 +55,8 @@ module _ {T U : Type 0} where
 
   -- The reply to the command refuses a port for want of memory.
   abbrev pub RefusesPort : ServiceConfig → Command T U → Reply T U → Type 0
-  RefusesPort c (CreatePublisher loans strategy allocation len override_slots degradation backpressure) (PublisherRefused UnableToCreateDataSegment) =
-      first_segment_fits c (publisher_settings c.variant loans strategy allocation len override_slots degradation backpressure) ≡ true
+  RefusesPort c (CreatePublisher asked) (PublisherRefused UnableToCreateDataSegment) =
+      first_segment_fits c (publisher_settings c.variant asked) ≡ true
   RefusesPort c command (PublisherRefused NoPublisherState) = Unit {0}
   RefusesPort c command (SubscriberRefused NoSubscriberState) = Unit {0}
   RefusesPort c command _ = ⊥

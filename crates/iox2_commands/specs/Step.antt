@@ -18,10 +18,7 @@ use Rattle.iox2_machine.specs.machine.Ports.{CreatePublisher, CreateSubscriber, 
 use Rattle.iox2_machine.specs.machine.SingleCalls.{GrantWrittenLoan}
 use Rattle.iox2_machine.specs.declared.service_config.TypeVariant.{TypeVariant}
 use Rattle.iox2_machine.specs.declared.service_config.TypeVariant.TheVariants.{FixedSize, Dynamic}
-use Rattle.iox2_machine.specs.declared.allocation.AllocationStrategy.{AllocationStrategy}
 use Rattle.iox2_machine.specs.declared.backpressure.BackpressureAction.{BackpressureAction}
-use Rattle.iox2_machine.specs.declared.backpressure.BackpressureStrategy.{BackpressureStrategy}
-use Rattle.iox2_machine.specs.declared.degradation.DegradationAction.{DegradationAction}
 use Rattle.iox2_machine.specs.declared.errors.ConnectionFailure.{ConnectionFailure}
 use Rattle.iox2_machine.specs.declared.errors.LoanError.{LoanError}
 use Rattle.iox2_machine.specs.declared.errors.SendError.TheVariants.{LoanError as NotLoaned, UnableToDeliver}
@@ -29,6 +26,7 @@ use Rattle.iox2_machine.specs.declared.errors.PublisherCreateError.{PublisherCre
 use Rattle.iox2_machine.specs.declared.errors.SubscriberCreateError.{SubscriberCreateError}
 use Rattle.iox2_commands.specs.Outcomes.{Handle, No_handle, Publisher_handle, Subscriber_handle, Loan_handle, Blocked_handle, Sample_handle, Message_sent, Message_received, Outcome, outcome, replied, done, skipped}
 use Rattle.iox2_commands.specs.declared.command.Command.{Command}
+use Rattle.iox2_commands.specs.declared.new_publisher.NewPublisher.{NewPublisher}
 use Rattle.iox2_commands.specs.declared.command.Command.TheVariants.{Nothing, CreatePublisher as PublisherCommand, CreateSubscriber as SubscriberCommand, LoanUninit, Loan as LoanDefault, LoanSlice, WriteCell, WriteAll, AssumeInit, WriteHeader, SetPayload, Send as SendLoan, SendCopy, Discard, Retry as RetrySend, GiveUp as GiveUpSend, Update, Receive as ReceiveSample, HasSamples as AskForSamples, Read, ReadHeader, ReadUserHeader, Release, Close}
 use Rattle.iox2_commands.specs.declared.reply.Reply.TheVariants.{PublisherMade, PublisherRefused, SubscriberMade, SubscriberRefused, Loaned, LoanRefused, Unwritten, Delivered, Blocked, SendRefused, UpdateRefused, Sample, NoSample, ReceiveRefused, Has, Cell, Header as HeaderRead, UserHeader}
 
@@ -153,15 +151,15 @@ module _ {T U : Type 0} where
   after_question s (Some e) has_samples = replied (UpdateRefused e) s
 
 -- What a command says of a publisher. In a service for single values there is nothing to say of its length.
-abbrev pub publisher_settings : TypeVariant → (loans : ℕ) → BackpressureStrategy → AllocationStrategy → (initial_max_slice_len : ℕ) → Option ℕ → DegradationAction → Option BackpressureAction → PublisherSettings
-publisher_settings variant loans strategy allocation len override_slots degradation backpressure = record {
-  max_loaned_samples = loans;
-  backpressure_strategy = strategy;
-  allocation_strategy = allocation;
-  initial_max_slice_len = elim variant [ FixedSize ↦ 1 | Dynamic ↦ len ];
-  asked_slots = override_slots;
-  degradation_handler = Fixed degradation;
-  backpressure_handler = option_map {U = Handler BackpressureAction} (λ action. Fixed action) backpressure;
+abbrev pub publisher_settings : TypeVariant → NewPublisher → PublisherSettings
+publisher_settings variant asked = record {
+  max_loaned_samples = asked.loans;
+  backpressure_strategy = asked.strategy;
+  allocation_strategy = asked.allocation;
+  initial_max_slice_len = elim variant [ FixedSize ↦ 1 | Dynamic ↦ asked.initial_max_slice_len ];
+  asked_slots = asked.override_slots;
+  degradation_handler = Fixed asked.degradation;
+  backpressure_handler = option_map {U = Handler BackpressureAction} (λ action. Fixed action) asked.backpressure;
 }
 
 -- The step of a command in a state, with the handles that the commands before it made.
@@ -243,9 +241,9 @@ module _ {T U : Type 0} (environment : Environment) (default_value : T) (default
   -- What a command comes to.
   abbrev pub Step : Command T U → Outcome T U → Type 0
   Step Nothing o = o ≡ done s
-  Step (PublisherCommand loans strategy allocation len override_slots degradation backpressure) o =
+  Step (PublisherCommand asked) o =
       (s' : State T U) × (refusal : Option PublisherCreateError)
-      × CreatePublisher environment s (publisher_settings (s.config).variant loans strategy allocation len override_slots degradation backpressure) s' refusal
+      × CreatePublisher environment s (publisher_settings (s.config).variant asked) s' refusal
       × (o ≡ after_publisher s' s.next_port refusal)
   Step (SubscriberCommand buffer degradation) o =
       (s' : State T U) × (refusal : Option SubscriberCreateError)

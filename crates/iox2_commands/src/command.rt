@@ -1,8 +1,7 @@
 ghost use Rattle.std.specs.Prelude.{◌≡◌, ⊤};
 
-use iox2_machine::{
-    AllocationStrategy, BackpressureAction, BackpressureStrategy, DegradationAction,
-};
+use crate::new_publisher::NewPublisher;
+use iox2_machine::DegradationAction;
 use std::alloc::AllocError;
 use std::time::Duration;
 
@@ -18,23 +17,8 @@ use std::time::Duration;
 pub enum Command<T, U> {
     /// Does nothing.
     Nothing,
-    /// Makes a publisher, with handlers that always give the answers named here.
-    CreatePublisher {
-        /// How many loans may be out at a time.
-        loans: usize,
-        /// What it does with a full receiver where no handler says otherwise.
-        strategy: BackpressureStrategy,
-        /// How its segments grow. It is taken as given in services for single values too.
-        allocation: AllocationStrategy,
-        /// The number of elements for which its first segment has room; in a service for single values it counts as 1.
-        initial_max_slice_len: usize,
-        /// What the override of the preallocation answers, if there is one.
-        override_slots: Option<usize>,
-        /// The answer of its degradation handler.
-        degradation: DegradationAction,
-        /// The answer of its backpressure handler, if there is one.
-        backpressure: Option<BackpressureAction>,
-    },
+    /// Makes a publisher.
+    CreatePublisher(NewPublisher),
     /// Makes a subscriber, with a degradation handler that always gives the answer named here.
     CreateSubscriber {
         /// How many messages of one publisher may wait; the service's limit where nothing is named. 0 means 1.
@@ -167,6 +151,38 @@ pub enum Command<T, U> {
         /// The port.
         of: usize,
     },
+}
+
+impl<T, U> Command<T, U> {
+    /// The position that the command names, where it names one.
+    pub fn of_mut(&mut self) -> Option<&mut usize> {
+        match self {
+            Command::Nothing | Command::CreatePublisher(_) | Command::CreateSubscriber { .. } => {
+                None
+            }
+            Command::LoanUninit { of }
+            | Command::Loan { of }
+            | Command::LoanSlice { of, .. }
+            | Command::WriteCell { of, .. }
+            | Command::WriteAll { of, .. }
+            | Command::AssumeInit { of }
+            | Command::WriteHeader { of, .. }
+            | Command::SetPayload { of, .. }
+            | Command::Send { of }
+            | Command::SendCopy { of, .. }
+            | Command::Discard { of }
+            | Command::Retry { of, .. }
+            | Command::GiveUp { of }
+            | Command::Update { of }
+            | Command::Receive { of }
+            | Command::HasSamples { of }
+            | Command::Read { of, .. }
+            | Command::ReadHeader { of }
+            | Command::ReadUserHeader { of }
+            | Command::Release { of }
+            | Command::Close { of } => Some(of),
+        }
+    }
 }
 
 impl<T: Copy, U: Copy> Clone for Command<T, U> {

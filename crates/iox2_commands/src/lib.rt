@@ -3,6 +3,7 @@
 
 mod command;
 mod laws;
+mod new_publisher;
 mod reply;
 
 pub use command::Command;
@@ -13,4 +14,5 @@ pub use laws::{
     steps_lift, subscribers_are_isolated, subscribers_are_isolated_without_refusals,
     views_stay_alike, views_stay_alike_without_refusals, worst_case_of_slots_grants,
 };
+pub use new_publisher::NewPublisher;
 pub use reply::Reply;

@@ -1,7 +1,7 @@
 //! Ports are closed.
 use crate::error::ModelError;
 use crate::model::Model;
-use crate::places::{occupant, vacate};
+use crate::places::vacate;
 use iox2_commands::Reply;
 
 impl Model {
@@ -20,20 +20,18 @@ impl Model {
     // What is borrowed stays, and what waits stays where its subscriber is open and has its end.
     // Subscribers forget the departed publishers of which they have no message, and are due.
     fn close_publisher(&mut self, p: usize) -> Result<(), ModelError> {
-        let Some(publisher) = self.publisher(p) else {
+        let Some(publisher) = self.publishers.get(p) else {
             return Err(ModelError::NoRule);
         };
-        let place = publisher.place;
-        for q in 0..self.subscribers.len() {
+        let place = publisher.port.place;
+        for q in 0..self.subscribers.next() {
             if !self.keeps_waiting(q, place, p) {
                 self.mailboxes.drop_waiting(p, q);
             }
         }
-        if let Some(record) = self.publishers.get_mut(p) {
-            *record = None;
-        }
+        self.publishers.take(p);
         vacate(&mut self.publisher_places, p);
-        for q in 0..self.subscribers.len() {
+        for q in 0..self.subscribers.next() {
             self.prune(q)?;
         }
         self.make_subscribers_due();
@@ -42,28 +40,25 @@ impl Model {
 
     // The subscriber is open and has its end of the mailbox with the publisher at the place.
     fn keeps_waiting(&self, q: usize, place: usize, p: usize) -> bool {
-        match self.subscriber(q) {
+        match self.subscribers.get(q) {
             None => false,
-            Some(subscriber) => {
-                subscriber.is_open && occupant(subscriber.ends.as_slice(), place) == Some(p)
-            }
+            Some(subscriber) => { subscriber.is_open && subscriber.port.end(place) == Some(p) }
         }
     }
 
     // What waits from departed publishers is lost. It is gone at once where it has borrowed nothing.
     fn close_subscriber(&mut self, q: usize) -> Result<(), ModelError> {
-        let Some(subscriber) = self.subscriber_mut(q) else {
+        let Some(subscriber) = self.subscribers.get_mut(q) else {
             return Err(ModelError::NoRule);
         };
         subscriber.is_open = false;
-        for p in 0..self.publishers.len() {
+        for p in 0..self.publishers.next() {
             if !self.is_present(p) {
                 self.mailboxes.drop_waiting(p, q);
             }
         }
         self.make_publishers_due();
         self.prune(q)?;
-        self.free_if_unused(q);
-        Ok(())
+        self.free_if_unused(q)
     }
 }

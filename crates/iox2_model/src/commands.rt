@@ -1,8 +1,6 @@
 //! A command is carried out.
 use crate::error::ModelError;
 use crate::model::{Model, Outcome};
-use crate::ports::when_full;
-use crate::records::Wanted;
 use crate::views::Thing;
 use iox2_commands::{Command, Reply};
 
@@ -30,25 +28,7 @@ impl Model {
         given: Option<Reply<u64, u64>>,
     ) -> Result<Outcome, ModelError> {
         match command {
-            Command::CreatePublisher {
-                loans,
-                strategy,
-                allocation,
-                initial_max_slice_len,
-                override_slots,
-                degradation,
-                backpressure,
-            } => {
-                let wanted = Wanted {
-                    loans,
-                    allocation,
-                    max_slice_len: initial_max_slice_len,
-                    asked_slots: override_slots,
-                    when_full: when_full(strategy, backpressure),
-                    degradation,
-                };
-                self.create_publisher(wanted, given)
-            }
+            Command::CreatePublisher(asked) => self.create_publisher(&asked, given),
             Command::CreateSubscriber {
                 buffer,
                 degradation,

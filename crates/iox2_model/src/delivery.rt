@@ -1,7 +1,6 @@
 //! A loan is sent; a send that is blocked is tried again or given up.
 use crate::error::ModelError;
 use crate::model::{Model, Outcome};
-use crate::places::occupant;
 use crate::records::{Delivery, Entry, Loan, Put};
 use crate::sender::last;
 use crate::views::Thing;
@@ -15,7 +14,7 @@ impl Model {
         let Thing::Loan(message) = self.thing_at(of) else {
             return None;
         };
-        match self.loan(message) {
+        match self.loans.get(message) {
             Some(loan) if loan.is_written && !self.is_blocked(loan.publisher) => Some(message),
             _ => None,
         }
@@ -31,7 +30,7 @@ impl Model {
     // The written loan is sent. Of a closed publisher it is lost. Else connections are updated first;
     // where that fails the loan is given back.
     pub(crate) fn send(&mut self, message: usize) -> Result<Outcome, ModelError> {
-        let Some(loan) = self.take_loan(message) else {
+        let Some(loan) = self.loans.take(message) else {
             return Err(ModelError::NoRule);
         };
         let publisher = loan.publisher;
@@ -79,13 +78,12 @@ impl Model {
     // What was a loan is a message from now on, and enters the history.
     fn publish(&mut self, message: usize, loan: Loan) -> Result<(), ModelError> {
         let values = values_of(self.alloc, loan.cells.as_slice())?;
-        if let Some(entry) = self.entries.get_mut(message) {
-            *entry = Some(Entry {
-                publisher: loan.publisher,
-                user_header: loan.user_header,
-                values,
-            });
-        }
+        let entry = Entry {
+            publisher: loan.publisher,
+            user_header: loan.user_header,
+            values,
+        };
+        self.entries.set(message, entry);
         self.enter_history(loan.publisher, message)
     }
 
@@ -93,7 +91,7 @@ impl Model {
     fn enter_history(&mut self, p: usize, message: usize) -> Result<(), ModelError> {
         let alloc = self.alloc;
         let size = self.config.history_size;
-        let Some(publisher) = self.publisher_mut(p) else {
+        let Some(publisher) = self.publishers.get_mut(p) else {
             return Err(ModelError::NoRule);
         };
         publisher.history.push(message)?;
@@ -127,26 +125,26 @@ impl Model {
     }
 
     fn set_blocked(&mut self, p: usize, blocked: Option<Delivery>) {
-        if let Some(publisher) = self.publisher_mut(p) {
+        if let Some(publisher) = self.publishers.get_mut(p) {
             publisher.blocked = blocked;
         }
     }
 
     fn end_count(&self, p: usize) -> usize {
-        match self.publisher(p) {
+        match self.publishers.get(p) {
             None => 0,
-            Some(publisher) => publisher.ends.len(),
+            Some(publisher) => publisher.port.ends.len(),
         }
     }
 
     // The message is put into the mailbox to which the end at its place leads. Where there is none
     // nothing happens.
     fn put_at_end(&mut self, p: usize, delivery: Delivery) -> Result<Put, ModelError> {
-        let Some(publisher) = self.publisher(p) else {
+        let Some(publisher) = self.publishers.get(p) else {
             return Err(ModelError::NoRule);
         };
         let when_full = publisher.when_full;
-        match occupant(publisher.ends.as_slice(), delivery.place) {
+        match publisher.port.end(delivery.place) {
             None => Ok(Put::Skipped),
             Some(q) => self.put(p, q, delivery.message, when_full),
         }

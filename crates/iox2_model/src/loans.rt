@@ -23,8 +23,8 @@ impl Model {
         len: usize,
         cell: Option<u64>,
     ) -> Result<Result<usize, LoanError>, ModelError> {
-        let message = self.loans.len();
-        let Some(publisher) = self.publisher_mut(p) else {
+        let message = self.loans.next();
+        let Some(publisher) = self.publishers.get_mut(p) else {
             return Err(ModelError::NoRule);
         };
         let is_static = publisher.segments.allocation == AllocationStrategy::Static;
@@ -37,7 +37,7 @@ impl Model {
         if let Err(refusal) = self.make_room(p, len)? {
             return Ok(Err(refusal));
         }
-        let Some(publisher) = self.publisher_mut(p) else {
+        let Some(publisher) = self.publishers.get_mut(p) else {
             return Err(ModelError::NoRule);
         };
         publisher.loans.push(message)?;
@@ -100,17 +100,9 @@ impl Model {
         }
     }
 
-    // The loan leaves its user's hands.
-    pub(crate) fn take_loan(&mut self, message: usize) -> Option<Loan> {
-        let Some(loan) = self.loans.get_mut(message) else {
-            return None;
-        };
-        loan.take()
-    }
-
     // The loan is out no more.
     pub(crate) fn return_loan(&mut self, p: usize, message: usize) {
-        if let Some(publisher) = self.publisher_mut(p) {
+        if let Some(publisher) = self.publishers.get_mut(p) {
             publisher.loans.retain(|other| *other != message);
         }
     }
@@ -119,7 +111,7 @@ impl Model {
         let Some(message) = self.any_loan_at(of) else {
             return Reply::Skipped;
         };
-        if let Some(loan) = self.take_loan(message) {
+        if let Some(loan) = self.loans.take(message) {
             self.return_loan(loan.publisher, message);
         }
         Reply::Done
@@ -132,7 +124,7 @@ impl Model {
         let Some(message) = self.loan_at(of, is_written) else {
             return None;
         };
-        self.loan_mut(message)
+        self.loans.get_mut(message)
     }
 
     // Each cell of a loan is written, and it is a written one from now on.
@@ -173,7 +165,7 @@ impl Model {
         let Some(message) = self.any_loan_at(of) else {
             return Reply::Skipped;
         };
-        if let Some(loan) = self.loan_mut(message) {
+        if let Some(loan) = self.loans.get_mut(message) {
             loan.user_header = value;
         }
         Reply::Done

@@ -1,10 +1,11 @@
 use crate::error::ModelError;
 use crate::mailboxes::Mailboxes;
 use crate::memory::Memory;
+use crate::numbered::Numbered;
 use crate::records::{Delivery, Entry, Loan, Publisher, Subscriber};
 use crate::views::Thing;
 use iox2_commands::Reply;
-use iox2_machine::{ConnectionFailure, DegradationAction, ServiceConfig, ZeroCopyCreationError};
+use iox2_machine::{ConnectionFailure, ServiceConfig};
 use std::alloc::Global;
 
 /// The state of a domain of numbers or slices of numbers, with numbers as user headers.
@@ -15,12 +16,12 @@ pub struct Model {
     pub(crate) memory: Memory,
     refused_connections: u64,
     has_refused_segment: bool,
-    // By id. None has the id 0.
-    pub(crate) publishers: Vec<Option<Publisher>>,
-    pub(crate) subscribers: Vec<Option<Subscriber>>,
-    // By number: loans in a user's hands, and messages that were sent. None has the number 0.
-    pub(crate) loans: Vec<Option<Loan>>,
-    pub(crate) entries: Vec<Option<Entry>>,
+    // By id.
+    pub(crate) publishers: Numbered<Publisher>,
+    pub(crate) subscribers: Numbered<Subscriber>,
+    // By the number of the message: loans in a user's hands, and messages that were sent.
+    pub(crate) loans: Numbered<Loan>,
+    pub(crate) entries: Numbered<Entry>,
     // By number: in which of its publisher's segments the message lies, counted from 1.
     pub(crate) segments: Vec<usize>,
     pub(crate) mailboxes: Mailboxes,
@@ -41,6 +42,9 @@ pub enum Kind {
     Sample,
 }
 
+// The first failure of an update, if there is one.
+pub(crate) type Updated = Result<Option<ConnectionFailure>, ModelError>;
+
 // The reply of a command, and what it made.
 pub(crate) type Outcome = (Reply<u64, u64>, Thing);
 
@@ -53,20 +57,16 @@ impl Model {
             memory,
             refused_connections: 0,
             has_refused_segment: false,
-            publishers: Vec::new(alloc),
-            subscribers: Vec::new(alloc),
-            loans: Vec::new(alloc),
-            entries: Vec::new(alloc),
+            publishers: Numbered::new(alloc)?,
+            subscribers: Numbered::new(alloc)?,
+            loans: Numbered::new(alloc)?,
+            entries: Numbered::new(alloc)?,
             segments: Vec::new(alloc),
             mailboxes: Mailboxes::new(alloc),
             publisher_places: Vec::new(alloc),
             subscriber_places: Vec::new(alloc),
             made: Vec::new(alloc),
         };
-        model.publishers.push(None)?;
-        model.subscribers.push(None)?;
-        model.loans.push(None)?;
-        model.entries.push(None)?;
         model.segments.push(0)?;
         Ok(model)
     }
@@ -109,17 +109,6 @@ impl Model {
         refuses
     }
 
-    // The failure of a port's update where a connection was refused memory and this is its answer.
-    pub(crate) fn failure_by(answer: DegradationAction) -> Option<ConnectionFailure> {
-        match answer {
-            DegradationAction::Ignore | DegradationAction::Warn => None,
-            DegradationAction::DegradeAndFail => {
-                let cause = ZeroCopyCreationError::OutOfMemory;
-                Some(ConnectionFailure::FailedToEstablishConnection(cause))
-            }
-        }
-    }
-
     /// Whether the command at this position made such a thing, which is still live.
     pub fn is_live(&self, of: usize, kind: Kind) -> bool {
         match kind {
@@ -156,7 +145,7 @@ impl Model {
     // The number of the loan.
     pub(crate) fn any_loan_at(&self, of: usize) -> Option<usize> {
         match self.thing_at(of) {
-            Thing::Loan(message) if self.loan(message).is_some() => Some(message),
+            Thing::Loan(message) if self.loans.get(message).is_some() => Some(message),
             _ => None,
         }
     }
@@ -165,7 +154,7 @@ impl Model {
         let Thing::Loan(message) = self.thing_at(of) else {
             return None;
         };
-        match self.loan(message) {
+        match self.loans.get(message) {
             Some(loan) if loan.is_written == is_written => Some(message),
             _ => None,
         }
@@ -196,40 +185,10 @@ impl Model {
         }
     }
 
-    // ---- loans and messages
-
-    pub(crate) fn loan(&self, message: usize) -> Option<&Loan> {
-        self.loans.get(message)?.as_ref()
-    }
-
-    pub(crate) fn loan_mut(&mut self, message: usize) -> Option<&mut Loan> {
-        self.loans.get_mut(message)?.as_mut()
-    }
-
-    pub(crate) fn entry(&self, message: usize) -> Option<&Entry> {
-        self.entries.get(message)?.as_ref()
-    }
-
     // ---- ports
 
-    pub(crate) fn publisher(&self, id: usize) -> Option<&Publisher> {
-        self.publishers.get(id)?.as_ref()
-    }
-
-    pub(crate) fn publisher_mut(&mut self, id: usize) -> Option<&mut Publisher> {
-        self.publishers.get_mut(id)?.as_mut()
-    }
-
-    pub(crate) fn subscriber(&self, id: usize) -> Option<&Subscriber> {
-        self.subscribers.get(id)?.as_ref()
-    }
-
-    pub(crate) fn subscriber_mut(&mut self, id: usize) -> Option<&mut Subscriber> {
-        self.subscribers.get_mut(id)?.as_mut()
-    }
-
     pub(crate) fn is_present(&self, publisher: usize) -> bool {
-        self.publisher(publisher).is_some()
+        self.publishers.get(publisher).is_some()
     }
 
     // The publisher waits for a receiver. One that was closed doesn't.
@@ -239,7 +198,7 @@ impl Model {
 
     // The publisher's send that waits for a receiver.
     fn blocked_delivery(&self, publisher: usize) -> Option<Delivery> {
-        match self.publisher(publisher) {
+        match self.publishers.get(publisher) {
             None => None,
             Some(publisher) => publisher.blocked,
         }
@@ -247,40 +206,40 @@ impl Model {
 
     // The buffer of a subscriber that takes messages.
     pub(crate) fn receiving_buffer(&self, subscriber: usize) -> Option<usize> {
-        match self.subscriber(subscriber) {
+        match self.subscribers.get(subscriber) {
             Some(record) if record.is_open => Some(record.buffer),
             _ => None,
         }
     }
 
     pub(crate) fn has_sender_end(&self, publisher: usize, subscriber: usize) -> bool {
-        match self.subscriber(subscriber) {
-            Some(record) => self.sender_end(publisher, record.place) == Some(subscriber),
+        match self.subscribers.get(subscriber) {
+            Some(record) => self.sender_end(publisher, record.port.place) == Some(subscriber),
             None => false,
         }
     }
 
     pub(crate) fn has_receiver_end(&self, publisher: usize, subscriber: usize) -> bool {
-        match self.publisher(publisher) {
-            Some(record) => self.receiver_end(subscriber, record.place) == Some(publisher),
+        match self.publishers.get(publisher) {
+            Some(record) => self.receiver_end(subscriber, record.port.place) == Some(publisher),
             None => false,
         }
     }
 
     // The list of subscribers has changed.
     pub(crate) fn make_publishers_due(&mut self) {
-        for id in 0..self.publishers.len() {
-            if let Some(publisher) = self.publisher_mut(id) {
-                publisher.is_due = true;
+        for id in 0..self.publishers.next() {
+            if let Some(publisher) = self.publishers.get_mut(id) {
+                publisher.port.is_due = true;
             }
         }
     }
 
     // The list of publishers has changed.
     pub(crate) fn make_subscribers_due(&mut self) {
-        for id in 0..self.subscribers.len() {
-            if let Some(subscriber) = self.subscriber_mut(id) {
-                subscriber.is_due = true;
+        for id in 0..self.subscribers.next() {
+            if let Some(subscriber) = self.subscribers.get_mut(id) {
+                subscriber.port.is_due = true;
             }
         }
     }

@@ -2,9 +2,9 @@
 use crate::error::ModelError;
 use crate::model::{Model, Outcome};
 use crate::places::{free_place, set_place};
-use crate::records::{Publisher, Put, Subscriber, Wanted};
+use crate::records::{Publisher, Put, Subscriber};
 use crate::views::Thing;
-use iox2_commands::Reply;
+use iox2_commands::{NewPublisher, Reply};
 use iox2_machine::{
     BackpressureAction, BackpressureStrategy, DegradationAction, PublisherCreateError,
     SubscriberCreateError, TypeVariant, UniquePublisherId, UniqueSubscriberId,
@@ -35,49 +35,45 @@ impl Model {
     // A publisher has a slot for each message of the worst case, or as many as are asked for, if
     // these are fewer, but one at least where it needs one; and room in each for its longest loan.
     // Nothing where that doesn't fit.
-    fn slots_for(&self, wanted: &Wanted) -> Option<usize> {
-        let worst = self.worst_case(wanted.loans)?;
-        let slots = match wanted.asked_slots {
+    fn slots_for(&self, asked: &NewPublisher) -> Option<usize> {
+        let worst = self.worst_case(asked.loans)?;
+        let slots = match asked.override_slots {
             None => worst,
             Some(0) => worst.min(1),
-            Some(asked) => worst.min(asked),
+            Some(count) => worst.min(count),
         };
-        let elements = slots.checked_mul(self.max_slice_len(wanted.max_slice_len))?;
+        let elements = slots.checked_mul(self.max_slice_len(asked))?;
         elements.checked_mul(self.config.units_per_element)?;
         Some(slots)
     }
 
-    // The greatest length of a loan, where it is set to that. A single value has the length 1.
-    fn max_slice_len(&self, len: usize) -> usize {
+    // The greatest length of a loan in the first segment. A single value has the length 1.
+    fn max_slice_len(&self, asked: &NewPublisher) -> usize {
         match self.config.variant {
             TypeVariant::FixedSize => 1,
-            TypeVariant::Dynamic => len,
+            TypeVariant::Dynamic => asked.initial_max_slice_len,
         }
     }
 
     // A publisher is made at the lowest free place. Where memory is refused, `given` is the reply.
     pub(crate) fn create_publisher(
         &mut self,
-        wanted: Wanted,
+        asked: &NewPublisher,
         given: Option<Reply<u64, u64>>,
     ) -> Result<Outcome, ModelError> {
         let limit = self.config.max_publishers;
         let Some(place) = free_place(limit, self.publisher_places.as_slice()) else {
             return Ok(publisher_refused(PublisherCreateError::ExceedsMaxSupportedPublishers));
         };
-        let Some(slots) = self.slots_for(&wanted) else {
+        let Some(slots) = self.slots_for(asked) else {
             return Ok(publisher_refused(PublisherCreateError::UnableToCreateDataSegment));
         };
         if self.memory.refuses() {
             return Ok(publisher_refused(refusal_of(given)));
         }
-        let id = self.publishers.len();
-        let max_slice_len = self.max_slice_len(wanted.max_slice_len);
-        let wanted = Wanted {
-            max_slice_len,
-            ..wanted
-        };
-        let publisher = Publisher::new(self.alloc, place, slots, &wanted);
+        let id = self.publishers.next();
+        let len = self.max_slice_len(asked);
+        let publisher = Publisher::new(self.alloc, place, slots, len, asked);
         self.publishers.push(Some(publisher))?;
         self.subscribers.push(None)?;
         set_place(&mut self.publisher_places, place, Some(id))?;
@@ -107,7 +103,7 @@ impl Model {
         if self.memory.refuses() {
             return Ok(subscriber_refused(SubscriberCreateError::FailedToDeployThreadsafetyPolicy));
         }
-        let id = self.subscribers.len();
+        let id = self.subscribers.next();
         let subscriber = Subscriber::new(self.alloc, place, buffer, degradation);
         self.subscribers.push(Some(subscriber))?;
         self.publishers.push(None)?;

@@ -33,9 +33,9 @@ impl Model {
             let error = ReceiveError::ConnectionFailure(failure);
             return Ok((Reply::ReceiveRefused(error), Thing::Nothing));
         }
-        match self.choose_publisher(q, given) {
+        match self.choose_publisher(q, given)? {
             Some(p) => self.take_sample(p, q),
-            None if self.has_any_data(q) => Ok((
+            None if self.has_any_data(q)? => Ok((
                 Reply::ReceiveRefused(ReceiveError::ExceedsMaxBorrows),
                 Thing::Nothing,
             )),
@@ -54,52 +54,49 @@ impl Model {
     }
 
     // The publisher to receive from: a departed one where there is such a one, and else any other.
-    fn choose_publisher(&self, q: usize, given: Option<Reply<u64, u64>>) -> Option<usize> {
-        let limit = self.config.subscriber_max_borrowed_samples;
-        let Some(subscriber) = self.subscriber(q) else {
-            return None;
+    fn choose_publisher(
+        &self,
+        q: usize,
+        given: Option<Reply<u64, u64>>,
+    ) -> Result<Option<usize>, ModelError> {
+        let Some(subscriber) = self.subscribers.get(q) else {
+            return Ok(None);
         };
+        let departed = self.choose_among(q, subscriber.expired.as_slice(), &given);
+        if departed.is_some() {
+            return Ok(departed);
+        }
+        let connected = subscriber.connected(self.alloc)?;
+        let chosen = self.choose_among(q, connected.as_slice(), &given);
+        Ok(chosen)
+    }
+
+    // One of the publishers from which something may be received.
+    fn choose_among(
+        &self,
+        q: usize,
+        publishers: &[usize],
+        given: &Option<Reply<u64, u64>>,
+    ) -> Option<usize> {
+        let limit = self.config.subscriber_max_borrowed_samples;
         let mut chosen = None;
-        for p in subscriber.expired.as_slice() {
+        for p in publishers {
             if self.mailboxes.can_receive(*p, q, limit)
-                && (chosen.is_none() || given == Some(sample_of(*p)))
+                && (chosen.is_none() || *given == Some(sample_of(*p)))
             {
                 chosen = Some(*p);
-            }
-        }
-        if chosen.is_some() {
-            return chosen;
-        }
-        for end in subscriber.ends.as_slice() {
-            if let Some(p) = *end {
-                if self.mailboxes.can_receive(p, q, limit)
-                    && (chosen.is_none() || given == Some(sample_of(p)))
-                {
-                    chosen = Some(p);
-                }
             }
         }
         chosen
     }
 
     // Something waits from a publisher with which the subscriber is connected.
-    fn has_any_data(&self, q: usize) -> bool {
-        let Some(subscriber) = self.subscriber(q) else {
-            return false;
+    fn has_any_data(&self, q: usize) -> Result<bool, ModelError> {
+        let Some(subscriber) = self.subscribers.get(q) else {
+            return Ok(false);
         };
-        for p in subscriber.expired.as_slice() {
-            if self.mailboxes.has_data(*p, q) {
-                return true;
-            }
-        }
-        for end in subscriber.ends.as_slice() {
-            if let Some(p) = *end {
-                if self.mailboxes.has_data(p, q) {
-                    return true;
-                }
-            }
-        }
-        false
+        let sources = subscriber.sources(self.alloc)?;
+        Ok(sources.iter().any(|p| self.mailboxes.has_data(*p, q)))
     }
 
     pub(crate) fn has_samples(&mut self, of: usize) -> Result<Reply<u64, u64>, ModelError> {
@@ -107,7 +104,7 @@ impl Model {
             return Ok(Reply::Skipped);
         };
         match self.update_subscriber(q)? {
-            None => Ok(Reply::Has(self.has_any_data(q))),
+            None => Ok(Reply::Has(self.has_any_data(q)?)),
             Some(failure) => Ok(Reply::UpdateRefused(failure)),
         }
     }
@@ -142,7 +139,7 @@ impl Model {
     // A cell of a loan, or a value of a sample's message, where it has one there.
     fn cell_at(&self, of: usize, at: usize) -> Option<Option<u64>> {
         if let Some(message) = self.any_loan_at(of) {
-            return match self.loan(message) {
+            return match self.loans.get(message) {
                 Some(loan) => loan.cells.get(at).copied(),
                 None => None,
             };
@@ -159,7 +156,7 @@ impl Model {
     // What the headers of a loan or of a sample's message say.
     fn headers_at(&self, of: usize) -> Option<Headers> {
         if let Some(message) = self.any_loan_at(of) {
-            return match self.loan(message) {
+            return match self.loans.get(message) {
                 Some(loan) => Some(Headers {
                     publisher: loan.publisher,
                     user_header: loan.user_header,
@@ -181,7 +178,7 @@ impl Model {
     // The message of the sample.
     fn entry_at(&self, of: usize) -> Option<&Entry> {
         match self.sample_at(of) {
-            Some((_, _, message)) => self.entry(message),
+            Some((_, _, message)) => self.entries.get(message),
             None => None,
         }
     }

@@ -1,44 +1,45 @@
+use crate::port::Port;
+use crate::ports::when_full;
+use iox2_commands::NewPublisher;
 use iox2_machine::{AllocationStrategy, DegradationAction};
-use std::alloc::Global;
+use std::alloc::{AllocError, Global};
 
 // A publisher that wasn't closed.
 #[derive(Drop)]
 pub(crate) struct Publisher {
-    pub(crate) place: usize,
+    pub(crate) port: Port,
     pub(crate) slots: usize,
     pub(crate) max_loaned_samples: usize,
     pub(crate) segments: Segments,
     pub(crate) loans: Vec<usize>,
     // The last messages sent, oldest first.
     pub(crate) history: Vec<usize>,
-    // At a subscriber's place, the subscriber to whose mailbox its end leads.
-    pub(crate) ends: Vec<Option<usize>>,
-    pub(crate) is_due: bool,
     // What becomes of a message at a full receiver.
     pub(crate) when_full: Put,
-    // What comes of a connection that is refused memory.
-    pub(crate) degradation: DegradationAction,
     // The send that waits for a receiver.
     pub(crate) blocked: Option<Delivery>,
 }
 
 impl Publisher {
-    pub(crate) fn new(alloc: Global, place: usize, slots: usize, wanted: &Wanted) -> Publisher {
+    pub(crate) fn new(
+        alloc: Global,
+        place: usize,
+        slots: usize,
+        len: usize,
+        asked: &NewPublisher,
+    ) -> Publisher {
         Publisher {
-            place,
+            port: Port::new(alloc, place, asked.degradation),
             slots,
-            max_loaned_samples: wanted.loans,
+            max_loaned_samples: asked.loans,
             segments: Segments {
-                allocation: wanted.allocation,
-                len: wanted.max_slice_len,
+                allocation: asked.allocation,
+                len,
                 made: 1,
             },
             loans: Vec::new(alloc),
             history: Vec::new(alloc),
-            ends: Vec::new(alloc),
-            is_due: true,
-            when_full: wanted.when_full,
-            degradation: wanted.degradation,
+            when_full: when_full(asked.strategy, asked.backpressure),
             blocked: None,
         }
     }
@@ -52,19 +53,6 @@ pub(crate) struct Segments {
     pub(crate) len: usize,
     // How many were made, the first included.
     pub(crate) made: usize,
-}
-
-// What a command says of a publisher.
-#[derive(Clone, Copy)]
-pub(crate) struct Wanted {
-    pub(crate) loans: usize,
-    pub(crate) allocation: AllocationStrategy,
-    // The greatest length of a loan in the first segment.
-    pub(crate) max_slice_len: usize,
-    // So many slots are asked for in place of the worst case.
-    pub(crate) asked_slots: Option<usize>,
-    pub(crate) when_full: Put,
-    pub(crate) degradation: DegradationAction,
 }
 
 // What becomes of a message at a receiver.
@@ -93,16 +81,11 @@ pub(crate) struct Delivery {
 // A subscriber that wasn't closed, or that was closed and has borrowed messages.
 #[derive(Drop)]
 pub(crate) struct Subscriber {
+    pub(crate) port: Port,
     pub(crate) is_open: bool,
-    pub(crate) place: usize,
     pub(crate) buffer: usize,
-    // At a publisher's place, the publisher from whose mailbox its end leads.
-    pub(crate) ends: Vec<Option<usize>>,
     // Departed publishers that it still has messages of, in order of entry.
     pub(crate) expired: Vec<usize>,
-    pub(crate) is_due: bool,
-    // What comes of a connection that is refused memory.
-    pub(crate) degradation: DegradationAction,
 }
 
 impl Subscriber {
@@ -113,14 +96,29 @@ impl Subscriber {
         degradation: DegradationAction,
     ) -> Subscriber {
         Subscriber {
+            port: Port::new(alloc, place, degradation),
             is_open: true,
-            place,
             buffer,
-            ends: Vec::new(alloc),
             expired: Vec::new(alloc),
-            is_due: true,
-            degradation,
         }
+    }
+
+    // The publishers with which it has mailboxes, but for the departed ones that it still knows.
+    pub(crate) fn connected(&self, alloc: Global) -> Result<Vec<usize>, AllocError> {
+        let mut found = Vec::new(alloc);
+        for end in self.port.ends.as_slice() {
+            if let Some(p) = *end {
+                found.push(p)?;
+            }
+        }
+        Ok(found)
+    }
+
+    // All publishers with which it has mailboxes.
+    pub(crate) fn sources(&self, alloc: Global) -> Result<Vec<usize>, AllocError> {
+        let mut found = self.connected(alloc)?;
+        found.extend_from_slice(self.expired.as_slice())?;
+        Ok(found)
     }
 }
 

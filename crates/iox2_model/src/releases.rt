@@ -15,7 +15,7 @@ impl Model {
             mailbox.release(message);
         }
         self.prune(q)?;
-        self.free_if_unused(q);
+        self.free_if_unused(q)?;
         Ok(Reply::Done)
     }
 
@@ -28,11 +28,11 @@ impl Model {
     pub(crate) fn prune(&mut self, q: usize) -> Result<(), ModelError> {
         let mut ends = Vec::new(self.alloc);
         let mut expired = Vec::new(self.alloc);
-        let Some(subscriber) = self.subscriber(q) else {
+        let Some(subscriber) = self.subscribers.get(q) else {
             return Ok(());
         };
-        for place in 0..subscriber.ends.len() {
-            let end = crate::places::occupant(subscriber.ends.as_slice(), place);
+        for place in 0..subscriber.port.ends.len() {
+            let end = subscriber.port.end(place);
             let kept = end.filter(|p| self.is_connected(q, *p));
             set_place(&mut ends, place, kept)?;
         }
@@ -41,45 +41,32 @@ impl Model {
                 expired.push(*p)?;
             }
         }
-        if let Some(subscriber) = self.subscriber_mut(q) {
-            subscriber.ends = ends;
+        if let Some(subscriber) = self.subscribers.get_mut(q) {
+            subscriber.port.ends = ends;
             subscriber.expired = expired;
         }
         Ok(())
     }
 
     // The subscriber was closed, and has borrowed nothing.
-    fn is_unused(&self, q: usize) -> bool {
-        let Some(subscriber) = self.subscriber(q) else {
-            return false;
+    fn is_unused(&self, q: usize) -> Result<bool, ModelError> {
+        let Some(subscriber) = self.subscribers.get(q) else {
+            return Ok(false);
         };
         if subscriber.is_open {
-            return false;
+            return Ok(false);
         }
-        for p in subscriber.expired.as_slice() {
-            if self.mailboxes.has_borrows(*p, q) {
-                return false;
-            }
-        }
-        for end in subscriber.ends.as_slice() {
-            if let Some(p) = *end {
-                if self.mailboxes.has_borrows(p, q) {
-                    return false;
-                }
-            }
-        }
-        true
+        let sources = subscriber.sources(self.alloc)?;
+        Ok(!sources.iter().any(|p| self.mailboxes.has_borrows(*p, q)))
     }
 
     // A closed subscriber that has borrowed nothing is gone, and its place is free.
-    pub(crate) fn free_if_unused(&mut self, q: usize) {
-        if !self.is_unused(q) {
-            return;
+    pub(crate) fn free_if_unused(&mut self, q: usize) -> Result<(), ModelError> {
+        if self.is_unused(q)? {
+            self.subscribers.take(q);
+            vacate(&mut self.subscriber_places, q);
+            self.make_publishers_due();
         }
-        if let Some(record) = self.subscribers.get_mut(q) {
-            *record = None;
-        }
-        vacate(&mut self.subscriber_places, q);
-        self.make_publishers_due();
+        Ok(())
     }
 }

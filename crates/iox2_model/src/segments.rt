@@ -30,7 +30,7 @@ impl Model {
         let Some(p) = self.publisher_at(of) else {
             return None;
         };
-        self.publisher(p)
+        self.publishers.get(p)
     }
 
     // There is a free slot for a loan of that length in the last segment of the publisher, if need be
@@ -40,7 +40,7 @@ impl Model {
         p: usize,
         len: usize,
     ) -> Result<Result<(), LoanError>, ModelError> {
-        let Some(publisher) = self.publisher(p) else {
+        let Some(publisher) = self.publishers.get(p) else {
             return Err(ModelError::NoRule);
         };
         let Segments {
@@ -65,7 +65,7 @@ impl Model {
 
     // The publisher gets a further segment, for a loan of that length.
     fn grow(&mut self, p: usize, len: usize) -> Result<Result<(), LoanError>, ModelError> {
-        let Some(publisher) = self.publisher(p) else {
+        let Some(publisher) = self.publishers.get(p) else {
             return Err(ModelError::NoRule);
         };
         if publisher.segments.made >= MOST_SEGMENTS {
@@ -77,7 +77,7 @@ impl Model {
         if self.refuses_segment() {
             return Ok(Err(LoanError::InternalFailure));
         }
-        if let Some(publisher) = self.publisher_mut(p) {
+        if let Some(publisher) = self.publishers.get_mut(p) {
             publisher.segments = segments;
         }
         Ok(Ok(()))
@@ -104,16 +104,16 @@ impl Model {
     // How many messages and loans have a slot of the publisher's, or of one of its segments: its loans,
     // its history, and what waits or is borrowed in the mailboxes that it has an end to.
     fn held_count(&self, p: usize, segment: Option<usize>) -> Result<usize, ModelError> {
-        let Some(publisher) = self.publisher(p) else {
+        let Some(publisher) = self.publishers.get(p) else {
             return Err(ModelError::NoRule);
         };
         let mut is_held = Vec::new(self.alloc);
-        for _ in 0..self.loans.len() {
+        for _ in 0..self.loans.next() {
             is_held.push(false)?;
         }
         mark(&mut is_held, publisher.loans.as_slice());
         mark(&mut is_held, publisher.history.as_slice());
-        for end in publisher.ends.as_slice() {
+        for end in publisher.port.ends.as_slice() {
             if let Some(mailbox) = end.and_then(|q| self.mailboxes.get(p, q)) {
                 mark(&mut is_held, mailbox.waiting());
                 mark(&mut is_held, mailbox.borrowed());

@@ -1,24 +1,17 @@
 //! A publisher's update: it goes over the subscribers that are listed now.
 use crate::error::ModelError;
-use crate::model::Model;
-use crate::places::{occupant, set_place};
-use iox2_machine::ConnectionFailure;
+use crate::model::{Model, Updated};
+use crate::places::occupant;
+use crate::port::Port;
 use std::alloc::Global;
 
 impl Model {
     // The publisher, where it is due, goes over the subscribers' places. Returns the first failure,
     // which there is where a connection is refused memory and the publisher's answer fails the call.
-    pub(crate) fn update_publisher(
-        &mut self,
-        p: usize,
-    ) -> Result<Option<ConnectionFailure>, ModelError> {
-        let Some(publisher) = self.publisher_mut(p) else {
-            return Err(ModelError::NoRule);
-        };
-        if !publisher.is_due {
+    pub(crate) fn update_publisher(&mut self, p: usize) -> Updated {
+        if !self.sender_mut(p)?.take_due() {
             return Ok(None);
         }
-        publisher.is_due = false;
         let mut first = None;
         for place in 0..self.subscriber_places.len() {
             let failure = self.update_sender_place(p, place)?;
@@ -27,13 +20,16 @@ impl Model {
         Ok(first)
     }
 
+    fn sender_mut(&mut self, p: usize) -> Result<&mut Port, ModelError> {
+        match self.publishers.get_mut(p) {
+            Some(publisher) => Ok(&mut publisher.port),
+            None => Err(ModelError::NoRule),
+        }
+    }
+
     // An end to the subscriber that stands at the place stays, and what waits for it is lost where
     // it is closed. Any other end goes, and one to an open subscriber is made.
-    fn update_sender_place(
-        &mut self,
-        p: usize,
-        place: usize,
-    ) -> Result<Option<ConnectionFailure>, ModelError> {
+    fn update_sender_place(&mut self, p: usize, place: usize) -> Updated {
         let Some(q) = occupant(self.subscriber_places.as_slice(), place) else {
             self.disconnect_sender(p, place)?;
             return Ok(None);
@@ -53,50 +49,26 @@ impl Model {
 
     // The subscriber to whose mailbox the publisher's end at the place leads.
     pub(crate) fn sender_end(&self, p: usize, place: usize) -> Option<usize> {
-        match self.publisher(p) {
-            Some(publisher) => occupant(publisher.ends.as_slice(), place),
-            None => None,
-        }
+        self.publishers.get(p)?.port.end(place)
     }
 
     // The end at the place goes, if there is one, and what waits in its mailbox with it.
     fn disconnect_sender(&mut self, p: usize, place: usize) -> Result<(), ModelError> {
         if let Some(q) = self.sender_end(p, place) {
             self.mailboxes.drop_waiting(p, q);
-            self.set_sender_end(p, place, None)?;
+            self.sender_mut(p)?.set_end(place, None)?;
         }
         Ok(())
-    }
-
-    fn set_sender_end(
-        &mut self,
-        p: usize,
-        place: usize,
-        end: Option<usize>,
-    ) -> Result<(), ModelError> {
-        let Some(publisher) = self.publisher_mut(p) else {
-            return Err(ModelError::NoRule);
-        };
-        set_place(&mut publisher.ends, place, end)
     }
 
     // An end to q is made at the place, and the last messages of the history that the buffer holds
     // wait there. Where q has no end either, memory may be refused in place of that: the publisher
     // answers.
-    fn connect_sender(
-        &mut self,
-        p: usize,
-        place: usize,
-        q: usize,
-        buffer: usize,
-    ) -> Result<Option<ConnectionFailure>, ModelError> {
+    fn connect_sender(&mut self, p: usize, place: usize, q: usize, buffer: usize) -> Updated {
         if !self.has_receiver_end(p, q) && self.refuses_connection() {
-            return Ok(
-                self.publisher(p)
-                    .and_then(|it| Self::failure_by(it.degradation)),
-            );
+            return Ok(self.sender_mut(p)?.failure());
         }
-        self.set_sender_end(p, place, Some(q))?;
+        self.sender_mut(p)?.set_end(place, Some(q))?;
         let messages = self.last_messages(p, buffer)?;
         self.mailboxes.made(p, q)?.set_waiting(messages.as_slice())?;
         Ok(None)
@@ -104,7 +76,7 @@ impl Model {
 
     // The last messages of a publisher's history, at most so many.
     fn last_messages(&self, p: usize, count: usize) -> Result<Vec<usize>, ModelError> {
-        let Some(publisher) = self.publisher(p) else {
+        let Some(publisher) = self.publishers.get(p) else {
             return Err(ModelError::NoRule);
         };
         last(self.alloc, publisher.history.as_slice(), count)

@@ -1,9 +1,9 @@
 //! A subscriber's update: it goes over the publishers that are listed now, then over the places that
 //! became empty.
 use crate::error::ModelError;
-use crate::model::Model;
-use crate::places::{occupant, set_place};
-use iox2_machine::ConnectionFailure;
+use crate::model::{Model, Updated};
+use crate::places::occupant;
+use crate::port::Port;
 
 // What becomes of a departed publisher.
 #[derive(Clone, Copy)]
@@ -19,17 +19,10 @@ impl Model {
     // The subscriber, where it is due, goes over the publishers' places. Returns the first failure,
     // which there is where a departed publisher couldn't be kept among the expired ones, and where a
     // connection is refused memory and the subscriber's answer fails the call.
-    pub(crate) fn update_subscriber(
-        &mut self,
-        q: usize,
-    ) -> Result<Option<ConnectionFailure>, ModelError> {
-        let Some(subscriber) = self.subscriber_mut(q) else {
-            return Err(ModelError::NoRule);
-        };
-        if !subscriber.is_due {
+    pub(crate) fn update_subscriber(&mut self, q: usize) -> Updated {
+        if !self.receiver_mut(q)?.take_due() {
             return Ok(None);
         }
-        subscriber.is_due = false;
         let mut first = None;
         for place in 0..self.publisher_places.len() {
             let failure = self.connect_at_place(q, place)?;
@@ -42,21 +35,21 @@ impl Model {
         Ok(first)
     }
 
+    fn receiver_mut(&mut self, q: usize) -> Result<&mut Port, ModelError> {
+        match self.subscribers.get_mut(q) {
+            Some(subscriber) => Ok(&mut subscriber.port),
+            None => Err(ModelError::NoRule),
+        }
+    }
+
     // The publisher from whose mailbox the subscriber's end at the place leads.
     pub(crate) fn receiver_end(&self, q: usize, place: usize) -> Option<usize> {
-        match self.subscriber(q) {
-            Some(subscriber) => occupant(subscriber.ends.as_slice(), place),
-            None => None,
-        }
+        self.subscribers.get(q)?.port.end(place)
     }
 
     // At a place where a publisher stands, an end to it stays or is made, after the one that stood
     // there was retired.
-    fn connect_at_place(
-        &mut self,
-        q: usize,
-        place: usize,
-    ) -> Result<Option<ConnectionFailure>, ModelError> {
+    fn connect_at_place(&mut self, q: usize, place: usize) -> Updated {
         let Some(p) = occupant(self.publisher_places.as_slice(), place) else {
             return Ok(None);
         };
@@ -69,21 +62,14 @@ impl Model {
             }
         }
         if !self.has_sender_end(p, q) && self.refuses_connection() {
-            return Ok(
-                self.subscriber(q)
-                    .and_then(|it| Self::failure_by(it.degradation)),
-            );
+            return Ok(self.receiver_mut(q)?.failure());
         }
-        self.set_receiver_end(q, place, Some(p))?;
+        self.receiver_mut(q)?.set_end(place, Some(p))?;
         Ok(None)
     }
 
     // At an empty place, the publisher that stood there is retired.
-    fn disconnect_at_place(
-        &mut self,
-        q: usize,
-        place: usize,
-    ) -> Result<Option<ConnectionFailure>, ModelError> {
+    fn disconnect_at_place(&mut self, q: usize, place: usize) -> Updated {
         if occupant(self.publisher_places.as_slice(), place).is_some() {
             return Ok(None);
         }
@@ -93,25 +79,8 @@ impl Model {
         }
     }
 
-    fn set_receiver_end(
-        &mut self,
-        q: usize,
-        place: usize,
-        end: Option<usize>,
-    ) -> Result<(), ModelError> {
-        let Some(subscriber) = self.subscriber_mut(q) else {
-            return Err(ModelError::NoRule);
-        };
-        set_place(&mut subscriber.ends, place, end)
-    }
-
     // The departed publisher leaves the place, or that fails.
-    fn retire(
-        &mut self,
-        q: usize,
-        place: usize,
-        old: usize,
-    ) -> Result<Option<ConnectionFailure>, ModelError> {
+    fn retire(&mut self, q: usize, place: usize, old: usize) -> Updated {
         let retirement = self.retirement(q, old);
         let limit_is_kept = match retirement {
             Retirement::Refused => false,
@@ -131,12 +100,10 @@ impl Model {
             }
         };
         if limit_is_kept {
-            self.set_receiver_end(q, place, None)?;
+            self.receiver_mut(q)?.set_end(place, None)?;
             return Ok(None);
         }
-        if let Some(subscriber) = self.subscriber_mut(q) {
-            subscriber.is_due = true;
-        }
+        self.receiver_mut(q)?.is_due = true;
         Ok(Some(Self::expired_buffer_full()))
     }
 
@@ -144,7 +111,7 @@ impl Model {
     // of which none are, and is refused where there is no such one; and one of which none are
     // borrowed loses what waits.
     fn retirement(&self, q: usize, old: usize) -> Retirement {
-        let Some(subscriber) = self.subscriber(q) else {
+        let Some(subscriber) = self.subscribers.get(q) else {
             return Retirement::Refused;
         };
         let limit = self
@@ -166,14 +133,14 @@ impl Model {
     }
 
     fn push_expired(&mut self, q: usize, p: usize) -> Result<(), ModelError> {
-        if let Some(subscriber) = self.subscriber_mut(q) {
+        if let Some(subscriber) = self.subscribers.get_mut(q) {
             subscriber.expired.push(p)?;
         }
         Ok(())
     }
 
     fn forget_expired(&mut self, q: usize, p: usize) {
-        if let Some(subscriber) = self.subscriber_mut(q) {
+        if let Some(subscriber) = self.subscribers.get_mut(q) {
             subscriber.expired.retain(|other| *other != p);
         }
     }

@@ -33,12 +33,12 @@ impl Model {
 
     /// One more than the greatest id that a port has had: ids are counted from 1.
     pub fn port_count(&self) -> usize {
-        self.publishers.len().max(self.subscribers.len())
+        self.publishers.next().max(self.subscribers.next())
     }
 
     /// One more than the greatest number that a message has had: numbers are counted from 1.
     pub fn message_count(&self) -> usize {
-        self.loans.len()
+        self.loans.next()
     }
 
     /// Whether the publisher is open.
@@ -74,7 +74,7 @@ impl Model {
 
     /// The message whose send waits for a receiver, if one of the publisher's does.
     pub fn blocked_message(&self, publisher: usize) -> Option<usize> {
-        match self.publisher(publisher) {
+        match self.publishers.get(publisher) {
             Some(record) => record.blocked.map(|delivery| delivery.message),
             None => None,
         }
@@ -82,7 +82,7 @@ impl Model {
 
     /// The publisher's messages that are lent or whose send is blocked.
     pub fn loans_of(&self, publisher: usize) -> &[usize] {
-        match self.publisher(publisher) {
+        match self.publishers.get(publisher) {
             Some(record) => record.loans.as_slice(),
             None => &[],
         }
@@ -90,7 +90,7 @@ impl Model {
 
     /// The publisher's history, oldest message first.
     pub fn history_of(&self, publisher: usize) -> &[usize] {
-        match self.publisher(publisher) {
+        match self.publishers.get(publisher) {
             Some(record) => record.history.as_slice(),
             None => &[],
         }
@@ -98,7 +98,7 @@ impl Model {
 
     /// The first value of a message that was sent.
     pub fn first_value(&self, message: usize) -> Option<u64> {
-        let Some(entry) = self.entry(message) else {
+        let Some(entry) = self.entries.get(message) else {
             return None;
         };
         entry.values.first().copied()
@@ -106,7 +106,7 @@ impl Model {
 
     /// How many values a message has that was sent.
     pub fn value_count(&self, message: usize) -> usize {
-        match self.entry(message) {
+        match self.entries.get(message) {
             Some(entry) => entry.values.len(),
             None => 0,
         }

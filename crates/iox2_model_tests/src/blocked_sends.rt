@@ -1,9 +1,9 @@
 //! Sends that find a full receiver. All runs but the last get the same replies from `run`, in the tests
 //! of `pubsub_script` (`blocked_sends.rt`) and of `iox2_run_tests` (`handlers.rt`).
-use iox2_commands::{Command, Reply};
+use iox2_commands::{Command, NewPublisher, Reply};
 use iox2_machine::{
-    AllocationStrategy, BackpressureAction, BackpressureStrategy, DegradationAction, ReceiveError,
-    SendError, ServiceConfig, UniquePublisherId, UniqueSubscriberId,
+    BackpressureAction, BackpressureStrategy, DegradationAction, ReceiveError, SendError,
+    ServiceConfig, UniquePublisherId, UniqueSubscriberId,
 };
 use iox2_model::{Memory, Model};
 use std::alloc::Global;
@@ -35,15 +35,10 @@ fn publisher(
     strategy: BackpressureStrategy,
     backpressure: Option<BackpressureAction>,
 ) -> Command<u64, u64> {
-    Command::CreatePublisher {
-        loans,
-        strategy,
-        allocation: AllocationStrategy::Static,
-        initial_max_slice_len: 1,
-        override_slots: None,
-        degradation: DegradationAction::Warn,
+    Command::CreatePublisher(NewPublisher {
         backpressure,
-    }
+        ..NewPublisher::new(loans, strategy)
+    })
 }
 
 // A publisher with one loan that retries until its message is delivered.

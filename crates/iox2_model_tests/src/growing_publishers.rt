@@ -1,5 +1,5 @@
 //! Publishers whose memory grows.
-use iox2_commands::{Command, Reply};
+use iox2_commands::{Command, NewPublisher, Reply};
 use iox2_machine::{
     AllocationStrategy, BackpressureStrategy, DegradationAction, LoanError, ServiceConfig,
     TypeVariant, UniquePublisherId,
@@ -27,15 +27,11 @@ fn publisher(
     allocation: AllocationStrategy,
     override_slots: Option<usize>,
 ) -> Command<u64, u64> {
-    Command::CreatePublisher {
-        loans,
-        strategy: BackpressureStrategy::DiscardData,
+    Command::CreatePublisher(NewPublisher {
         allocation,
-        initial_max_slice_len: 1,
         override_slots,
-        degradation: DegradationAction::Warn,
-        backpressure: None,
-    }
+        ..NewPublisher::new(loans, BackpressureStrategy::DiscardData)
+    })
 }
 
 const SUBSCRIBER: Command<u64, u64> = Command::CreateSubscriber {

@@ -10,9 +10,6 @@ use Rattle.iox2_machine.specs.machine.State.{State, Messages}
 use Rattle.iox2_machine.specs.machine.Environments.{fixed_handlers}
 use Rattle.iox2_machine.specs.machine.Loans.{GrantLoan, StaticLoan, DynamicLoan, limit_error, is_static}
 use Rattle.iox2_machine.specs.machine.Ports.{FirstPublisherUpdate, FirstSubscriberUpdate, CreatePublisher, CreateSubscriber, with_new_publisher, with_new_subscriber, new_subscriber}
-use Rattle.iox2_machine.specs.declared.allocation.AllocationStrategy.{AllocationStrategy}
-use Rattle.iox2_machine.specs.declared.backpressure.BackpressureAction.{BackpressureAction}
-use Rattle.iox2_machine.specs.declared.backpressure.BackpressureStrategy.{BackpressureStrategy}
 use Rattle.iox2_machine.specs.declared.degradation.DegradationAction.{DegradationAction}
 use Rattle.iox2_machine.specs.declared.errors.LoanError.{LoanError}
 use Rattle.iox2_machine.specs.declared.errors.LoanError.TheVariants.{OutOfMemory, ExceedsMaxLoans, ExceedsMaxLoanSize, InternalFailure}
@@ -29,6 +26,7 @@ use Rattle.iox2_runs.specs.Tables.{port_of, TableEntry, No_entry, Publisher_entr
 use Rattle.iox2_runs.specs.RunSteps.{Comes}
 use Rattle.iox2_runs.specs.Services.{has_slices}
 use Rattle.iox2_commands.specs.declared.command.Command.{Command}
+use Rattle.iox2_commands.specs.declared.new_publisher.NewPublisher.{NewPublisher}
 use Rattle.iox2_commands.specs.declared.command.Command.TheVariants.{CreatePublisher as PublisherCommand, CreateSubscriber as SubscriberCommand, LoanUninit, LoanSlice}
 use Rattle.iox2_commands.specs.declared.reply.Reply.{Reply}
 use Rattle.iox2_commands.specs.declared.reply.Reply.TheVariants.{Skipped, PublisherMade, PublisherRefused, SubscriberMade, SubscriberRefused, Loaned, LoanRefused}
@@ -119,32 +117,30 @@ module _ {T U : Type 0} (environment : Environment) (defaults : Defaults T U) (S
         }) once;
   }
 
-  pub publisher_comes : (loans : ℕ) (strategy : BackpressureStrategy) (allocation : AllocationStrategy) (len : ℕ) (override_slots : Option ℕ) (degradation : DegradationAction)
-      (backpressure : Option BackpressureAction) (s' : State T U)
-      → CreatePublisher environment s (publisher_settings (s.config).variant loans strategy allocation len override_slots degradation backpressure) s' None
+  pub publisher_comes : (asked : NewPublisher) (s' : State T U)
+      → CreatePublisher environment s (publisher_settings (s.config).variant asked) s' None
       → s.next_message ≤ s'.next_message → Shown m s' → (service : ℕ) → service ≡ (s'.config).service_id
-      → Comes environment defaults Shown m s handles events (PublisherCommand loans strategy allocation len override_slots degradation backpressure) (PublisherMade s.next_port)
+      → Comes environment defaults Shown m s handles events (PublisherCommand asked) (PublisherMade s.next_port)
       (table ++ Publisher_entry service s.next_port ∷ [])
-  publisher_comes loans strategy allocation len override_slots degradation backpressure s' h rises shown service ours =
-      let given = publisher_settings (s.config).variant loans strategy allocation len override_slots degradation backpressure in
+  publisher_comes asked s' h rises shown service ours =
+      let given = publisher_settings (s.config).variant asked in
       let stay : PortsStay s s' = create_publisher_stays environment s given s' None h in
       let made = publisher_made environment s given s' h in
-      let unboxed : HasNoBox s' s.next_port = unboxed_there s' s.next_port (made.0).0 (made.0).1 (λ boxed. fixed_unboxed backpressure (sym (made.0).2 ∙ boxed))
-      (λ boxed. let clash : Fixed degradation ≡ Custom = sym (made.0).3 ∙ boxed in cc) in
-      port_comes (PublisherCommand loans strategy allocation len override_slots degradation backpressure) (PublisherMade s.next_port) (Publisher_handle s.next_port)
+      let unboxed : HasNoBox s' s.next_port = unboxed_there s' s.next_port (made.0).0 (made.0).1 (λ boxed. fixed_unboxed asked.backpressure (sym (made.0).2 ∙ boxed))
+      (λ boxed. let clash : Fixed asked.degradation ≡ Custom = sym (made.0).3 ∙ boxed in cc) in
+      port_comes (PublisherCommand asked) (PublisherMade s.next_port) (Publisher_handle s.next_port)
       (Publisher_entry service s.next_port) s' (s', None, h, refl) shown stay (create_publisher_comes environment s given s' None h) (create_publisher_waits Nobody environment s given s' None h) (create_publisher_loans environment s given s' None h) rises
       (ours, refl, (made.0).0, (made.0).1, unboxed) refl made.1
       (λ n e. let clash : Publisher_handle s.next_port ≡ Loan_handle n = e in absurd (cc)) (λ p q n e. let clash : Publisher_handle s.next_port ≡ Sample_handle p q n = e in absurd (cc)) (λ p n e. let clash : Publisher_handle s.next_port ≡ Blocked_handle p n = e in absurd (cc))
 
-  pub publisher_refused_comes : (loans : ℕ) (strategy : BackpressureStrategy) (allocation : AllocationStrategy) (len : ℕ) (override_slots : Option ℕ) (degradation : DegradationAction)
-      (backpressure : Option BackpressureAction) (s' : State T U) (e : PublisherCreateError)
-      → CreatePublisher environment s (publisher_settings (s.config).variant loans strategy allocation len override_slots degradation backpressure) s' (Some e)
+  pub publisher_refused_comes : (asked : NewPublisher) (s' : State T U) (e : PublisherCreateError)
+      → CreatePublisher environment s (publisher_settings (s.config).variant asked) s' (Some e)
       → s.next_message ≤ s'.next_message → Shown m s'
-      → Comes environment defaults Shown m s handles events (PublisherCommand loans strategy allocation len override_slots degradation backpressure) (PublisherRefused e) (table ++ No_entry ∷ [])
-  publisher_refused_comes loans strategy allocation len override_slots degradation backpressure s' e h rises shown =
-      let given = publisher_settings (s.config).variant loans strategy allocation len override_slots degradation backpressure in
+      → Comes environment defaults Shown m s handles events (PublisherCommand asked) (PublisherRefused e) (table ++ No_entry ∷ [])
+  publisher_refused_comes asked s' e h rises shown =
+      let given = publisher_settings (s.config).variant asked in
       quiet_comes environment defaults Shown m s handles events table w default_value default_header is_default_value is_default_header
-      (PublisherCommand loans strategy allocation len override_slots degradation backpressure) (PublisherRefused e) s' (s', Some e, h, refl) shown
+      (PublisherCommand asked) (PublisherRefused e) s' (s', Some e, h, refl) shown
       (create_publisher_stays environment s given s' (Some e) h) (create_publisher_comes environment s given s' (Some e) h) (create_publisher_waits Nobody environment s given s' (Some e) h) (λ n _. ap (λ (f : ℕ → Option (Loan T U)). f n) (create_publisher_loans environment s given s' (Some e) h)) rises
 
   -- what a command says of a subscriber

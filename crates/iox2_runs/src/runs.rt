@@ -78,24 +78,7 @@ pub fn carry_out<
     ensures { CarriesOut fixed_handlers (defaults_of T.is_default U.is_default) domain.old domain.new table.old table.new command result.0 result.1 }
 {
     match command {
-        Command::CreatePublisher {
-            loans,
-            strategy,
-            allocation,
-            initial_max_slice_len,
-            override_slots,
-            degradation,
-            backpressure,
-        } => create_publisher(
-            domain,
-            loans,
-            strategy,
-            allocation,
-            initial_max_slice_len,
-            override_slots,
-            degradation,
-            backpressure,
-        ),
+        Command::CreatePublisher(asked) => create_publisher(domain, asked),
         Command::CreateSubscriber {
             buffer,
             degradation,

@@ -16,7 +16,6 @@ use Rattle.iox2_machine.specs.machine.WellFormed.{IsWellFormed}
 use Rattle.iox2_machine.specs.declared.service_config.ServiceConfig.{ServiceConfig}
 use Rattle.iox2_machine.specs.declared.service_config.TypeVariant.{TypeVariant}
 use Rattle.iox2_machine.specs.declared.service_config.TypeVariant.TheVariants.{FixedSize, Dynamic}
-use Rattle.iox2_machine.specs.declared.allocation.AllocationStrategy.TheVariants.{Static}
 use Rattle.iox2_machine.specs.declared.backpressure.BackpressureStrategy.TheVariants.{DiscardData}
 use Rattle.iox2_machine.specs.declared.degradation.DegradationAction.{DegradationAction}
 use Rattle.iox2_machine.specs.declared.degradation.DegradationAction.TheVariants.{Warn}
@@ -25,11 +24,13 @@ use Rattle.iox2_machine.specs.declared.errors.PublisherCreateError.{PublisherCre
 use Rattle.iox2_machine.specs.declared.errors.SubscriberCreateError.{SubscriberCreateError}
 use Rattle.iox2_machine.specs.declared.warning.Warning.TheVariants.{PublisherPartlyConnected, SubscriberPartlyConnected}
 use Rattle.iox2_laws.proofs.Puts.{put_at-own, put_at-same, at_each}
+use Rattle.iox2_commands.specs.NewPublishers.{publisher_with}
 use Rattle.iox2_commands.specs.Outcomes.{Handle, Publisher_handle, Subscriber_handle, Outcome}
 use Rattle.iox2_commands.specs.Step.{Step, after_publisher, after_subscriber, publisher_settings}
 use Rattle.iox2_machine.specs.machine.Environments.{ample_memory}
-use Rattle.iox2_commands.specs.declared.command.Command.TheVariants.{CreatePublisher as PublisherCommand, CreateSubscriber as SubscriberCommand}
+use Rattle.iox2_commands.specs.declared.command.Command.TheVariants.{CreateSubscriber as SubscriberCommand}
 use Rattle.iox2_commands.specs.declared.reply.Reply.TheVariants.{PublisherMade, SubscriberMade}
+use Rattle.iox2_worst_case.specs.FillingCommands.{publisher_command}
 use Rattle.iox2_worst_case.proofs.FillingNumbers.{numbers_from, recent, lowest_free-ports_from, set_place-ports_from}
 use Rattle.iox2_worst_case.proofs.FillingShape.{filler, reader, IsFilling, at_some, at_none, concluded}
 
@@ -172,7 +173,7 @@ module _ {T U : Type 0} (c : ServiceConfig) (most available : ℕ) (s : State T 
 
 -- what it is made with
 abbrev pub filler_settings : ServiceConfig → (most : ℕ) → (slots : Option ℕ) → PublisherSettings
-filler_settings c most slots = publisher_settings c.variant most DiscardData Static 1 slots Warn None
+filler_settings c most slots = publisher_settings c.variant (record (publisher_with most DiscardData) { override_slots = slots })
 
 pub length_one : (v : TypeVariant) → elim v as (λ _. ℕ) [ FixedSize ↦ 1 | Dynamic ↦ 1 ] ≡ 1
 length_one FixedSize = refl
@@ -228,7 +229,7 @@ module _ {T U : Type 0} (c : ServiceConfig) (most : ℕ) (slots : Option ℕ) wh
   -- the publisher is made
   pub publisher_step : (default_value : T) (default_header : U) (m : Messages T U) (handles : List Handle) (o : Outcome T U)
       → 0 < c.max_publishers → first_segment_fits c (filler_settings c most slots) ≡ true
-      → Step ample_memory default_value default_header m (fresh c) handles (PublisherCommand most DiscardData Static 1 slots Warn None) o → IsWellFormed o.state
+      → Step ample_memory default_value default_header m (fresh c) handles (publisher_command most slots) o → IsWellFormed o.state
       → IsBegun o
   publisher_step default_value default_header m handles o low fits step w =
       let free : free_place c.max_publishers [] ≡ Some 0 = ap (λ b. cond b (Some 0) None) (lt-ltb 0 c.max_publishers low) in

@@ -8,10 +8,10 @@ use Rattle.iox2_machine.specs.machine.State.{State, Messages, fresh, no_messages
 use Rattle.iox2_machine.specs.declared.service_config.ServiceConfig.{ServiceConfig}
 use Rattle.iox2_machine.specs.declared.service_config.TypeVariant.{TypeVariant}
 use Rattle.iox2_machine.specs.declared.service_config.TypeVariant.TheVariants.{FixedSize, Dynamic}
-use Rattle.iox2_machine.specs.declared.allocation.AllocationStrategy.TheVariants.{Static}
 use Rattle.iox2_machine.specs.declared.backpressure.BackpressureStrategy.TheVariants.{DiscardData}
 use Rattle.iox2_machine.specs.declared.degradation.DegradationAction.TheVariants.{Warn}
 use Rattle.iox2_machine.specs.declared.errors.LoanError.TheVariants.{OutOfMemory}
+use Rattle.iox2_commands.specs.NewPublishers.{publisher_with}
 use Rattle.iox2_commands.specs.Outcomes.{Handle, Event}
 use Rattle.iox2_machine.specs.machine.Environments.{ample_memory}
 use Rattle.iox2_commands.specs.Runs.{Run, RunFrom, RunTo, any_defaults}
@@ -23,7 +23,7 @@ use Rattle.iox2_commands.specs.declared.reply.Reply.TheVariants.{PublisherMade, 
 
 -- A static publisher is made, with that limit of loans and that override of its slots. It skips receivers that are full.
 abbrev pub publisher_command : {T U : Type 0} → (loans : ℕ) → (slots : Option ℕ) → Command T U
-publisher_command loans slots = CreatePublisher loans DiscardData Static 1 slots Warn None
+publisher_command loans slots = CreatePublisher (record (publisher_with loans DiscardData) { override_slots = slots })
 
 -- One element is loaned from the publisher that the first command made.
 abbrev pub loan_command : {T U : Type 0} → TypeVariant → Command T U

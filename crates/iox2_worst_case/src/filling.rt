@@ -1,14 +1,13 @@
 //! A list of commands that fills every slot of its publisher.
 ghost use Rattle.std.specs.Prelude.{◌≡◌, ◌+◌, ◌*◌, ◌≤◌, ◌<◌, ◌∷◌, [], ◌++◌, ◌↔◌, replicate, IsTrue, IfSome, OnSome, ℕ, vec_len, vec_capacity};
 ghost use Rattle.iox2_machine.specs.machine.Limits.{worst_case};
-ghost use Rattle.iox2_worst_case.specs.Fills.{Fills};
+ghost use Rattle.iox2_worst_case.specs.Fills.{Fills, is_granted};
 ghost use Rattle.iox2_worst_case.specs.FillingCommands.{loan_command as loan_spec, publisher_command as publisher_spec, sends, rounds, subscriber_filled, subscribers_filled, filling_length, filling_commands, IsFillable, RefusesForWantOfSlots};
 ghost use Rattle.iox2_commands.specs.declared.command.Command.TheVariants.{WriteAll, Send};
 
-use iox2_commands::Command;
+use iox2_commands::{Command, NewPublisher, Reply};
 use iox2_machine::{
-    AllocationStrategy, BackpressureStrategy, DegradationAction, ServiceConfig, TypeVariant,
-    worst_case_slots,
+    BackpressureStrategy, DegradationAction, ServiceConfig, TypeVariant, worst_case_slots,
 };
 use std::alloc::Global;
 
@@ -53,6 +52,22 @@ pub fn worst_case_commands<T: Copy + Drop, U: Drop>(
     Some(commands)
 }
 
+/// Whether a reply says that the command was neither skipped nor refused.
+pub fn is_granted<T, U>(reply: &Reply<T, U>) -> bool
+    ensures { result ≡ is_granted reply.now }
+{
+    !matches!(
+        reply,
+        Reply::Skipped
+            | Reply::PublisherRefused(_)
+            | Reply::SubscriberRefused(_)
+            | Reply::LoanRefused(_)
+            | Reply::SendRefused(_)
+            | Reply::UpdateRefused(_)
+            | Reply::ReceiveRefused(_)
+    )
+}
+
 // Whether there is such a list: without its length, and whatever memory there is.
 fn is_fillable(config: &ServiceConfig, loans: usize) -> bool
     ensures { IsTrue result ↔ IsFillable config.now loans }
@@ -89,15 +104,10 @@ fn filling_length(config: &ServiceConfig) -> Option<usize>
 fn publisher_command<T, U>(loans: usize, slots: Option<usize>) -> Command<T, U>
     ensures { result ≡ publisher_spec loans slots }
 {
-    Command::CreatePublisher {
-        loans,
-        strategy: BackpressureStrategy::DiscardData,
-        allocation: AllocationStrategy::Static,
-        initial_max_slice_len: 1,
+    Command::CreatePublisher(NewPublisher {
         override_slots: slots,
-        degradation: DegradationAction::Warn,
-        backpressure: None,
-    }
+        ..NewPublisher::new(loans, BackpressureStrategy::DiscardData)
+    })
 }
 
 // Loans one element.

@@ -4,5 +4,5 @@
 mod filling;
 mod laws;
 
-pub use filling::worst_case_commands;
+pub use filling::{is_granted, worst_case_commands};
 pub use laws::{worst_case_is_least, worst_case_is_reached};

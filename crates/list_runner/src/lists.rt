@@ -2,7 +2,7 @@
 use crate::failure::Failure;
 use crate::sizes::Sizes;
 use iox2_pubsub::{Domain, worst_case_slots};
-use iox2_runs::{Command, Reply, compare_runs, run, worst_case_commands};
+use iox2_runs::{Command, Reply, compare_runs, is_granted, run, worst_case_commands};
 use std::alloc::{AllocError, Global};
 use std::io;
 
@@ -15,20 +15,12 @@ fn filling(alloc: Global, sizes: &Sizes) -> Result<Vec<Command<u64, ()>>, Failur
 
 // How many commands of a run were skipped or refused, or received nothing.
 fn refused(replies: &[Reply<u64, ()>]) -> usize {
-    replies.iter().filter(|reply| !is_granted(reply)).count()
+    replies.iter().filter(|reply| !is_met(reply)).count()
 }
 
 // Whether a command of the list was neither skipped nor refused, and received what it was to.
-fn is_granted(reply: &Reply<u64, ()>) -> bool {
-    matches!(
-        reply,
-        Reply::PublisherMade(_)
-            | Reply::SubscriberMade(_)
-            | Reply::Loaned
-            | Reply::Done
-            | Reply::Delivered(_)
-            | Reply::Sample(_)
-    )
+fn is_met(reply: &Reply<u64, ()>) -> bool {
+    is_granted(reply) && *reply != Reply::NoSample
 }
 
 /// Prints how many slots a publisher needs and how long the list is, and runs it on a new domain. Where
@@ -53,7 +45,7 @@ pub(crate) fn fill(rt: &HostRuntime, sizes: &Sizes) -> Result<(), Failure> {
 fn print_first_refused(rt: &HostRuntime, replies: &[Reply<u64, ()>]) -> io::Result<()> {
     for position in 0..replies.len() {
         let reply = &replies[position];
-        if !is_granted(reply) {
+        if !is_met(reply) {
             return println!(rt; "command {}: {reply:?}", position.saturating_add(1));
         }
     }

@@ -2,7 +2,7 @@
 use crate::chance::Chance;
 use crate::moods::Wish;
 use crate::positions::{any, live, live_or_any};
-use iox2_commands::Command;
+use iox2_commands::{Command, NewPublisher};
 use iox2_machine::{
     AllocationStrategy, BackpressureAction, BackpressureStrategy, DegradationAction, ServiceConfig,
     TypeVariant,
@@ -59,7 +59,7 @@ fn make_publisher(chance: &mut Chance) -> Command<u64, u64> {
         2..=15 => 1,
         _ => chance.below(5),
     };
-    Command::CreatePublisher {
+    Command::CreatePublisher(NewPublisher {
         loans,
         strategy: strategy(chance),
         allocation: allocation(chance),
@@ -67,7 +67,7 @@ fn make_publisher(chance: &mut Chance) -> Command<u64, u64> {
         override_slots: override_slots(chance),
         degradation: degradation(chance),
         backpressure: handler(chance),
-    }
+    })
 }
 
 fn allocation(chance: &mut Chance) -> AllocationStrategy {

@@ -5,12 +5,10 @@
 mod chance;
 mod commands;
 mod fewer;
-mod lines;
 mod moods;
 mod positions;
 mod scripts;
 mod sizes;
 
 pub use fewer::without;
-pub use lines::script_text;
 pub use scripts::{Script, draw_script};

@@ -94,7 +94,7 @@ impl Limit {
 // The limit of the port that the command makes.
 fn own_limit(command: &Command<u64, u64>) -> usize {
     match command {
-        Command::CreatePublisher { loans, .. } => *loans,
+        Command::CreatePublisher(asked) => asked.loans,
         Command::CreateSubscriber {
             buffer: Some(size),
             ..
@@ -106,29 +106,22 @@ fn own_limit(command: &Command<u64, u64>) -> usize {
 // How many slots the override asks for of the publisher that the command makes.
 fn own_slots(command: &Command<u64, u64>) -> usize {
     match command {
-        Command::CreatePublisher {
-            override_slots: Some(slots),
-            ..
-        } => *slots,
+        Command::CreatePublisher(asked) => asked.override_slots.unwrap_or(0),
         _ => 0,
     }
 }
 
 // Such an override asks for that many.
 fn set_own_slots(command: &mut Command<u64, u64>, value: usize) {
-    if let Command::CreatePublisher {
-        override_slots: Some(slots),
-        ..
-    } = command
-    {
-        *slots = value;
+    if let Command::CreatePublisher(asked) = command {
+        asked.override_slots = asked.override_slots.map(|_| value);
     }
 }
 
 // The port that the command makes gets this limit.
 fn set_own_limit(command: &mut Command<u64, u64>, value: usize) {
     match command {
-        Command::CreatePublisher { loans, .. } => *loans = value,
+        Command::CreatePublisher(asked) => asked.loans = value,
         Command::CreateSubscriber {
             buffer: Some(size),
             ..

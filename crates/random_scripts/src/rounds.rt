@@ -4,7 +4,8 @@ use crate::failure::Failure;
 use crate::shortest::shortest;
 use crate::tally::Tally;
 use iox2_model::Memory;
-use random_commands::{Script, draw_script, script_text};
+use random_commands::{Script, draw_script};
+use recordings::push_script;
 
 /// How many commands a script has at most.
 pub(crate) const MOST_COMMANDS: usize = 200;
@@ -88,7 +89,8 @@ fn print_shortest(rt: &HostRuntime, script: &Script) -> Result<(), Failure> {
 
 /// Prints the lines of a script.
 pub(crate) fn print_lines(rt: &HostRuntime, script: &Script) -> Result<(), Failure> {
-    let text = script_text(rt.alloc(), &script.config, script.commands.as_slice())?;
+    let mut text = String::new(rt.alloc());
+    push_script(&mut text, &script.config, script.commands.as_slice())?;
     print!(rt; "{text}")?;
     Ok(())
 }
@@ -96,7 +98,7 @@ pub(crate) fn print_lines(rt: &HostRuntime, script: &Script) -> Result<(), Failu
 // What to do where a script fails.
 fn print_advice(rt: &HostRuntime, number: u64, seed: u64) -> Result<(), Failure> {
     println!(rt; "What now: 'tools/random_scripts one {number} {seed}' runs this script alone.")?;
-    println!(rt; "A script of lines of docs/SCRIPT.md can be given to pubsub_script.")?;
+    println!(rt; "Its lines are those of docs/SCRIPT.md, and can be given to pubsub_script.")?;
     println!(rt; "docs/MACHINE.md says whether the library is wrong, or crates/iox2_model.")?;
     Ok(())
 }

@@ -106,7 +106,7 @@ fn is_refusal(reply: &Reply<u64, u64>) -> bool {
 fn position_of(command: &Command<u64, u64>) -> usize {
     match *command {
         Command::Nothing => 0,
-        Command::CreatePublisher { .. } => 1,
+        Command::CreatePublisher(_) => 1,
         Command::CreateSubscriber { .. } => 2,
         Command::LoanUninit { .. } => 3,
         Command::Loan { .. } => 4,

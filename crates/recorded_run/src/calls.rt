@@ -1,6 +1,6 @@
 //! What is called.
-use iox2_commands::Command;
-use iox2_machine::{AllocationStrategy, BackpressureStrategy, DegradationAction, ServiceConfig};
+use iox2_commands::{Command, NewPublisher};
+use iox2_machine::{BackpressureStrategy, DegradationAction, ServiceConfig};
 use std::time::Duration;
 
 /// The settings of a service with one subscriber, which keeps what it has where its buffer is full.
@@ -24,15 +24,7 @@ pub(crate) fn calls() -> [Command<u64, u64>; 14] {
             buffer: None,
             degradation: DegradationAction::Warn,
         },
-        Command::CreatePublisher {
-            loans: 2,
-            strategy: BackpressureStrategy::RetryUntilDelivered,
-            allocation: AllocationStrategy::Static,
-            initial_max_slice_len: 1,
-            override_slots: None,
-            degradation: DegradationAction::Warn,
-            backpressure: None,
-        },
+        Command::CreatePublisher(NewPublisher::new(2, BackpressureStrategy::RetryUntilDelivered)),
         Command::SendCopy { of: 2, value: 20 },
         Command::SendCopy { of: 2, value: 21 },
         Command::SendCopy { of: 2, value: 22 },

@@ -1,11 +1,27 @@
 //! Settings and commands as lines.
-use iox2_commands::Command;
+use iox2_commands::{Command, NewPublisher};
 use iox2_machine::{
     AllocationStrategy, BackpressureAction, BackpressureStrategy, DegradationAction, ServiceConfig,
     TypeVariant,
 };
 use std::alloc::AllocError;
 use std::fmt::Write;
+
+/// Adds the script with these settings and commands, for which a script has words all but for the settings that
+/// `docs/SCRIPT.md` doesn't name.
+pub fn push_script(
+    text: &mut String,
+    config: &ServiceConfig,
+    commands: &[Command<u64, u64>],
+) -> Result<(), AllocError> {
+    push_domain(text, config)?;
+    text.push('\n')?;
+    for command in commands {
+        push_command(text, command)?;
+        text.push('\n')?;
+    }
+    Ok(())
+}
 
 // The line of a script that makes a domain with these settings, but for those that `push_service` has.
 pub(crate) fn push_domain(text: &mut String, config: &ServiceConfig) -> Result<(), AllocError> {
@@ -52,36 +68,7 @@ pub(crate) fn push_service(text: &mut String, config: &ServiceConfig) -> Result<
 pub fn push_command(text: &mut String, command: &Command<u64, u64>) -> Result<(), AllocError> {
     match *command {
         Command::Nothing => text.push_str("nothing"),
-        Command::CreatePublisher {
-            loans,
-            strategy,
-            allocation: AllocationStrategy::Static,
-            initial_max_slice_len: 1,
-            override_slots: None,
-            degradation: DegradationAction::Warn,
-            backpressure: None,
-        } => write!(text, "pub {loans} {}", strategy_word(strategy)),
-        Command::CreatePublisher {
-            loans,
-            strategy,
-            allocation,
-            initial_max_slice_len,
-            override_slots,
-            degradation,
-            backpressure,
-        } => {
-            let (strategy, allocation) = (strategy_word(strategy), allocation_word(allocation));
-            write!(
-                text,
-                "pub {loans} {strategy} {allocation} {initial_max_slice_len} "
-            )?;
-            push_size(text, override_slots)?;
-            let (degradation, handler) = (
-                degradation_word(degradation),
-                handler_word(backpressure),
-            );
-            write!(text, " {degradation} {handler}")
-        }
+        Command::CreatePublisher(asked) => push_publisher(text, asked),
         Command::CreateSubscriber {
             buffer,
             degradation: DegradationAction::Warn,
@@ -110,6 +97,28 @@ pub fn push_command(text: &mut String, command: &Command<u64, u64>) -> Result<()
         Command::Discard { of } => push_use(text, "discard", of),
         _ => push_call(text, command),
     }
+}
+
+fn push_publisher(text: &mut String, asked: NewPublisher) -> Result<(), AllocError> {
+    write!(
+        text,
+        "pub {} {}",
+        asked.loans,
+        strategy_word(asked.strategy)
+    )?;
+    if asked == NewPublisher::new(asked.loans, asked.strategy) {
+        return Ok(());
+    }
+    push_word(text, allocation_word(asked.allocation))?;
+    write!(text, " {} ", asked.initial_max_slice_len)?;
+    push_size(text, asked.override_slots)?;
+    push_word(text, degradation_word(asked.degradation))?;
+    push_word(text, handler_word(asked.backpressure))
+}
+
+fn push_word(text: &mut String, word: &str) -> Result<(), AllocError> {
+    text.push(' ')?;
+    text.push_str(word)
 }
 
 // The same for a command on a port, a sample or a blocked send.

@@ -9,7 +9,7 @@ mod replies;
 mod saving;
 mod sum;
 
-pub use commands::push_command;
+pub use commands::{push_command, push_script};
 pub use load_error::{Fault, LoadError};
 pub use loading::load;
 pub use recording::Recording;

@@ -1,8 +1,7 @@
 //! Times across a picture, and the commands below it.
-use crate::canvas::{line, push_escaped, push_word};
-use crate::failure::Failure;
+use crate::canvas::line;
+use crate::drawing::Drawing;
 use crate::story::Story;
-use std::fmt::Write;
 
 /// Where times lie across a picture.
 #[derive(Clone, Copy)]
@@ -61,29 +60,22 @@ pub(crate) fn label_height(story: &Story) -> usize {
 
 /// Draws a line for each command and its text below, upright.
 pub(crate) fn push_commands(
-    svg: &mut String,
+    svg: &mut Drawing,
     story: &Story,
     scale: Scale,
     top: usize,
     bottom: usize,
-) -> Result<(), Failure> {
+) {
     for at in 0..scale.count {
         let x = scale.x(at);
-        line(svg, (x, top), (x, bottom), "grid", "#ddd")?;
-        push_command(svg, story, at, x, bottom.saturating_add(4))?;
+        line(svg, (x, top), (x, bottom), "grid", "#ddd");
+        push_command(svg, story, at, x, bottom.saturating_add(4));
     }
-    Ok(())
 }
 
-fn push_command(
-    svg: &mut String,
-    story: &Story,
-    at: usize,
-    x: usize,
-    y: usize,
-) -> Result<(), Failure> {
+fn push_command(svg: &mut Drawing, story: &Story, at: usize, x: usize, y: usize) {
     let (Some(command), Some(reply)) = (story.commands.get(at), story.replies.get(at)) else {
-        return Ok(());
+        return;
     };
     let class = if reply.as_str().starts_with("err ") {
         "refused"
@@ -93,16 +85,14 @@ fn push_command(
         "command"
     };
     let x = x.saturating_add(3);
-    svg.push_str("<text")?;
-    push_word(svg, "class", class)?;
-    svg.push_str(" transform=\"translate(")?;
-    write!(svg, "{x} {y}")?;
-    svg.push_str(") rotate(-90)\" text-anchor=\"end\">")?;
-    push_escaped(svg, command.as_str())?;
-    svg.push_str("<tspan dx=\"6\" font-weight=\"bold\">")?;
-    write!(svg, "{}", at.saturating_add(1))?;
-    svg.push_str("</tspan><title>")?;
-    push_escaped(svg, reply.as_str())?;
-    svg.push_str("</title></text>\n")?;
-    Ok(())
+    svg.text("<text");
+    svg.word("class", class);
+    svg.moved(x, y);
+    svg.text(" rotate(-90)\" text-anchor=\"end\">");
+    svg.escaped(command.as_str());
+    svg.text("<tspan dx=\"6\" font-weight=\"bold\">");
+    svg.number(at.saturating_add(1));
+    svg.text("</tspan><title>");
+    svg.escaped(reply.as_str());
+    svg.text("</title></text>\n");
 }

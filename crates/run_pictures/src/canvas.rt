@@ -1,6 +1,5 @@
 //! Shapes and texts of a picture.
-use crate::failure::Failure;
-use std::fmt::Write;
+use crate::drawing::Drawing;
 
 /// A box: its left upper corner, its width and its height.
 #[derive(Clone, Copy)]
@@ -11,118 +10,70 @@ pub(crate) struct Place {
     pub(crate) height: usize,
 }
 
-/// Adds a text with the signs replaced that mean something in a picture or a page.
-pub(crate) fn push_escaped(svg: &mut String, text: &str) -> Result<(), Failure> {
-    for sign in text.chars() {
-        match sign {
-            '<' => svg.push_str("&lt;")?,
-            '>' => svg.push_str("&gt;")?,
-            '&' => svg.push_str("&amp;")?,
-            '"' => svg.push_str("&quot;")?,
-            other => svg.push(other)?,
-        }
-    }
-    Ok(())
-}
-
-/// What a shape is said to be: ` name="value"`. Each is written by itself, since a short text is proved
-/// in seconds and a long one in minutes.
-pub(crate) fn push_word(svg: &mut String, name: &str, value: &str) -> Result<(), Failure> {
-    write!(svg, " {name}=\"{value}\"")?;
-    Ok(())
-}
-
-/// The same of a number.
-pub(crate) fn push_number(svg: &mut String, name: &str, value: usize) -> Result<(), Failure> {
-    write!(svg, " {name}=\"{value}\"")?;
-    Ok(())
-}
-
 /// A rectangle of a class and a color, which says something when it is pointed at.
-pub(crate) fn rect(
-    svg: &mut String,
-    place: Place,
-    class: &str,
-    color: &str,
-    said: &str,
-) -> Result<(), Failure> {
-    svg.push_str("<rect")?;
-    push_word(svg, "class", class)?;
-    push_number(svg, "x", place.x)?;
-    push_number(svg, "y", place.y)?;
-    push_number(svg, "width", place.width)?;
-    push_number(svg, "height", place.height)?;
-    push_word(svg, "fill", color)?;
+pub(crate) fn rect(svg: &mut Drawing, place: Place, class: &str, color: &str, said: &str) {
+    svg.text("<rect");
+    svg.word("class", class);
+    svg.attribute("x", place.x);
+    svg.attribute("y", place.y);
+    svg.attribute("width", place.width);
+    svg.attribute("height", place.height);
+    svg.word("fill", color);
     if said.is_empty() {
-        svg.push_str("/>\n")?;
-        return Ok(());
+        svg.text("/>\n");
+        return;
     }
-    svg.push_str("><title>")?;
-    push_escaped(svg, said)?;
-    svg.push_str("</title></rect>\n")?;
-    Ok(())
+    svg.text("><title>");
+    svg.escaped(said);
+    svg.text("</title></rect>\n");
 }
 
 /// A line of a class and a color.
 pub(crate) fn line(
-    svg: &mut String,
+    svg: &mut Drawing,
     from: (usize, usize),
     to: (usize, usize),
     class: &str,
     color: &str,
-) -> Result<(), Failure> {
+) {
     let ((x1, y1), (x2, y2)) = (from, to);
-    svg.push_str("<line")?;
-    push_word(svg, "class", class)?;
-    push_number(svg, "x1", x1)?;
-    push_number(svg, "y1", y1)?;
-    push_number(svg, "x2", x2)?;
-    push_number(svg, "y2", y2)?;
-    push_word(svg, "stroke", color)?;
-    svg.push_str("/>\n")?;
-    Ok(())
+    svg.text("<line");
+    svg.word("class", class);
+    svg.attribute("x1", x1);
+    svg.attribute("y1", y1);
+    svg.attribute("x2", x2);
+    svg.attribute("y2", y2);
+    svg.word("stroke", color);
+    svg.text("/>\n");
 }
 
 /// A text of a class whose line begins there.
-pub(crate) fn label(
-    svg: &mut String,
-    x: usize,
-    y: usize,
-    class: &str,
-    text: &str,
-) -> Result<(), Failure> {
-    begin_label(svg, x, y, class)?;
-    push_escaped(svg, text)?;
+pub(crate) fn label(svg: &mut Drawing, x: usize, y: usize, class: &str, text: &str) {
+    begin_label(svg, x, y, class);
+    svg.escaped(text);
     end_label(svg)
 }
 
 /// Begins such a text.
-pub(crate) fn begin_label(
-    svg: &mut String,
-    x: usize,
-    y: usize,
-    class: &str,
-) -> Result<(), Failure> {
-    svg.push_str("<text")?;
-    push_word(svg, "class", class)?;
-    push_number(svg, "x", x)?;
-    push_number(svg, "y", y)?;
-    svg.push('>')?;
-    Ok(())
+pub(crate) fn begin_label(svg: &mut Drawing, x: usize, y: usize, class: &str) {
+    svg.text("<text");
+    svg.word("class", class);
+    svg.attribute("x", x);
+    svg.attribute("y", y);
+    svg.text(">");
 }
 
 /// Ends it.
-pub(crate) fn end_label(svg: &mut String) -> Result<(), Failure> {
-    svg.push_str("</text>\n")?;
-    Ok(())
+pub(crate) fn end_label(svg: &mut Drawing) {
+    svg.text("</text>\n");
 }
 
 /// A path whose beginning is moved there, up to its paint.
-pub(crate) fn begin_path(svg: &mut String, x: usize, y: usize, path: &str) -> Result<(), Failure> {
-    svg.push_str("<path transform=\"translate(")?;
-    write!(svg, "{x} {y}")?;
-    svg.push_str(")\"")?;
-    push_word(svg, "d", path)
+pub(crate) fn begin_path(svg: &mut Drawing, x: usize, y: usize, path: &str) {
+    svg.text("<path");
+    svg.moved(x, y);
+    svg.text("\"");
+    svg.word("d", path)
 }
 
 /// The color of a publisher's messages. The five are told apart by the colour-blind too.
@@ -137,20 +88,18 @@ pub(crate) fn color_of(publisher: usize) -> &'static str {
 }
 
 /// What all pictures begin with.
-pub(crate) fn push_head(svg: &mut String, width: usize, height: usize) -> Result<(), Failure> {
-    svg.push_str(NAMESPACE)?;
-    push_number(svg, "width", width)?;
-    push_number(svg, "height", height)?;
-    svg.push_str(" viewBox=\"0 0 ")?;
-    write!(svg, "{width} {height}")?;
-    svg.push('"')?;
-    svg.push_str(FONTS)?;
-    svg.push_str(STYLE)?;
-    svg.push_str("<rect")?;
-    push_number(svg, "width", width)?;
-    push_number(svg, "height", height)?;
-    svg.push_str(" fill=\"#ffffff\"/>\n")?;
-    Ok(())
+pub(crate) fn push_head(svg: &mut Drawing, width: usize, height: usize) {
+    svg.text(NAMESPACE);
+    svg.attribute("width", width);
+    svg.attribute("height", height);
+    svg.counted(" viewBox=\"0 0 ", width, " ");
+    svg.counted("", height, "\"");
+    svg.text(FONTS);
+    svg.text(STYLE);
+    svg.text("<rect");
+    svg.attribute("width", width);
+    svg.attribute("height", height);
+    svg.text(" fill=\"#ffffff\"/>\n");
 }
 
 const NAMESPACE: &str = "<svg xmlns=\"http://www.w3.org/2000/svg\"";

@@ -1,20 +1,14 @@
 //! Slots in use and messages waiting, as curves.
 use crate::axis::Scale;
-use crate::canvas::{end_label, label, line, push_number, push_word};
-use crate::failure::Failure;
+use crate::canvas::{end_label, label, line};
+use crate::drawing::Drawing;
 use crate::story::{Point, Story};
-use std::fmt::Write;
 
 /// How high the curves are.
 pub(crate) const HEIGHT: usize = 70;
 
 /// Draws both curves below a height.
-pub(crate) fn push_curves(
-    svg: &mut String,
-    story: &Story,
-    scale: Scale,
-    top: usize,
-) -> Result<(), Failure> {
+pub(crate) fn push_curves(svg: &mut Drawing, story: &Story, scale: Scale, top: usize) {
     let bottom = top.saturating_add(HEIGHT);
     let most = greatest(story);
     line(
@@ -23,20 +17,20 @@ pub(crate) fn push_curves(
         (scale.right(), bottom),
         "axis",
         "#000",
-    )?;
-    line(svg, (scale.left, top), (scale.right(), top), "grid", "#ddd")?;
-    push_name(svg, top.saturating_add(16), false, "slots in use")?;
-    push_name(svg, top.saturating_add(44), true, "messages waiting")?;
-    push_limit(svg, scale.left, top.saturating_add(9), most)?;
-    push_limit(svg, scale.left, bottom, 0)?;
-    push_curve(svg, story, scale, bottom, most, false)?;
+    );
+    line(svg, (scale.left, top), (scale.right(), top), "grid", "#ddd");
+    push_name(svg, top.saturating_add(16), false, "slots in use");
+    push_name(svg, top.saturating_add(44), true, "messages waiting");
+    push_limit(svg, scale.left, top.saturating_add(9), most);
+    push_limit(svg, scale.left, bottom, 0);
+    push_curve(svg, story, scale, bottom, most, false);
     push_curve(svg, story, scale, bottom, most, true)
 }
 
 // The name of a curve, with a piece of it below.
-fn push_name(svg: &mut String, y: usize, is_waiting: bool, name: &str) -> Result<(), Failure> {
+fn push_name(svg: &mut Drawing, y: usize, is_waiting: bool, name: &str) {
     let (class, color) = paint_of(is_waiting);
-    label(svg, 6, y, "name", name)?;
+    label(svg, 6, y, "name", name);
     let below = y.saturating_add(6);
     line(svg, (6, below), (46, below), class, color)
 }
@@ -50,12 +44,12 @@ fn paint_of(is_waiting: bool) -> (&'static str, &'static str) {
     }
 }
 
-fn push_limit(svg: &mut String, x: usize, y: usize, number: usize) -> Result<(), Failure> {
+fn push_limit(svg: &mut Drawing, x: usize, y: usize, number: usize) {
     let x = x.saturating_sub(4);
-    svg.push_str("<text class=\"small\" text-anchor=\"end\"")?;
-    push_number(svg, "x", x)?;
-    push_number(svg, "y", y)?;
-    write!(svg, ">{number}")?;
+    svg.text("<text class=\"small\" text-anchor=\"end\"");
+    svg.attribute("x", x);
+    svg.attribute("y", y);
+    svg.counted(">", number, "");
     end_label(svg)
 }
 
@@ -68,19 +62,20 @@ fn greatest(story: &Story) -> usize {
 }
 
 fn push_curve(
-    svg: &mut String,
+    svg: &mut Drawing,
     story: &Story,
     scale: Scale,
     bottom: usize,
     most: usize,
     is_waiting: bool,
-) -> Result<(), Failure> {
+) {
     let (class, color) = paint_of(is_waiting);
-    svg.push_str("<path")?;
-    push_word(svg, "class", class)?;
-    push_word(svg, "stroke", color)?;
-    svg.push_str(" d=\"")?;
-    write!(svg, "M{} {bottom}", scale.left)?;
+    svg.text("<path");
+    svg.word("class", class);
+    svg.word("stroke", color);
+    svg.text(" d=\"");
+    svg.counted("M", scale.left, " ");
+    svg.number(bottom);
     let count = story.points.len().max(1);
     let width = scale.right().saturating_sub(scale.left);
     let mut last = bottom;
@@ -93,13 +88,13 @@ fn push_curve(
                 .left
                 .saturating_add(at.saturating_mul(width) / count)
                 .saturating_add(scale.step / 2);
-            write!(svg, "H{x}V{y}")?;
+            svg.counted("H", x, "");
+            svg.counted("V", y, "");
             last = y;
         }
     }
-    write!(svg, "H{}", scale.right())?;
-    svg.push_str("\"/>\n")?;
-    Ok(())
+    svg.counted("H", scale.right(), "");
+    svg.text("\"/>\n");
 }
 
 fn value_of(point: Point, is_waiting: bool) -> usize {

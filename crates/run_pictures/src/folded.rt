@@ -2,11 +2,11 @@
 use crate::axis::Scale;
 use crate::canvas::{Place, begin_label, end_label, label, line, push_head, rect};
 use crate::curves;
+use crate::drawing::Drawing;
 use crate::failure::Failure;
 use crate::positions::Positions;
-use crate::story::{MarkKind, Port, Story, Visit, VisitEnd};
+use crate::story::{End, MarkKind, Port, Stay, Story};
 use std::alloc::Global;
-use std::fmt::Write;
 
 // How many columns there are at most, how wide each is, and how high a lane.
 const MOST_COLUMNS: usize = 300;
@@ -169,9 +169,9 @@ impl Folded {
         let end = story.commands.len();
         for loan in story.loans.iter() {
             let to = loan.to.unwrap_or(end);
-            self.add(What::Message, loan.publisher, loan.from, to);
-            if let Some(at) = loan.blocked {
-                self.add(What::Blocked, loan.publisher, at, to);
+            self.add(What::Message, loan.port, loan.from, to);
+            if let Some(at) = loan.turn {
+                self.add(What::Blocked, loan.port, at, to);
             }
         }
         for visit in story.visits.iter() {
@@ -179,10 +179,10 @@ impl Folded {
         }
     }
 
-    fn add_visit(&mut self, visit: Visit, to: usize) {
-        self.add(What::Message, visit.subscriber, visit.from, to);
-        if visit.end == VisitEnd::Overwritten || visit.end == VisitEnd::Lost {
-            self.add(What::Lost, visit.subscriber, to, to);
+    fn add_visit(&mut self, visit: Stay, to: usize) {
+        self.add(What::Message, visit.port, visit.from, to);
+        if visit.end == End::Overwritten || visit.end == End::Lost {
+            self.add(What::Lost, visit.port, to, to);
         }
     }
 
@@ -225,47 +225,48 @@ fn draw(story: &Story, folded: &Folded) -> Result<String, Failure> {
     let curves_top = bottom.saturating_add(40);
     let height = curves_top.saturating_add(curves::HEIGHT).saturating_add(20);
     let width = scale.right().saturating_add(30).max(880);
-    let mut svg = String::new(folded.alloc);
-    push_head(&mut svg, width, height)?;
-    push_title(&mut svg, story, folded)?;
-    push_keys(&mut svg, folded)?;
+    let mut svg = Drawing::new(folded.alloc);
+    push_head(&mut svg, width, height);
+    push_title(&mut svg, story, folded);
+    push_keys(&mut svg, folded);
     for (position, lane) in folded.lanes.iter().enumerate() {
         let y = TOP.saturating_add(position.saturating_mul(LANE));
-        push_lane(&mut svg, folded, lane, y)?;
+        push_lane(&mut svg, folded, lane, y);
     }
-    push_times(&mut svg, story, folded, bottom)?;
-    curves::push_curves(&mut svg, story, scale, curves_top)?;
-    svg.push_str("</svg>\n")?;
-    Ok(svg)
+    push_times(&mut svg, story, folded, bottom);
+    curves::push_curves(&mut svg, story, scale, curves_top);
+    svg.text("</svg>\n");
+    svg.finish()
 }
 
-fn push_title(svg: &mut String, story: &Story, folded: &Folded) -> Result<(), Failure> {
+fn push_title(svg: &mut Drawing, story: &Story, folded: &Folded) {
     let commands = story.commands.len();
     let ports = story.ports.len();
     let group = folded.group;
-    svg.push_str("<text class=\"title\" x=\"6\" y=\"16\">")?;
-    write!(svg, "{commands} commands, {group} in each column; ")?;
-    write!(svg, "{ports} ports")?;
-    svg.push_str(", one after another in a lane</text>\n")?;
-    Ok(())
+    svg.text("<text class=\"title\" x=\"6\" y=\"16\">");
+    svg.counted("", commands, " commands, ");
+    svg.counted("", group, " in each column; ");
+    svg.counted("", ports, " ports");
+    svg.text(", one after another in a lane</text>\n");
 }
 
 // What bars and strips mean. The bars of either side are as high as the most on that side.
-fn push_keys(svg: &mut String, folded: &Folded) -> Result<(), Failure> {
-    let mut bars = String::new(folded.alloc);
+fn push_keys(svg: &mut Drawing, folded: &Folded) {
+    let mut bars = Drawing::new(folded.alloc);
     let (lent, there) = (folded.most(true), folded.most(false));
-    bars.push_str("height of a bar: messages that are lent by a publisher")?;
-    write!(bars, ", at most {lent}")?;
-    bars.push_str(", or that wait for a subscriber or are received")?;
-    write!(bars, ", at most {there}")?;
-    push_key(svg, 10, 24, "#0072B2")?;
-    label(svg, 26, 32, "note", bars.as_str())?;
+    bars.text("height of a bar: messages that are lent by a publisher");
+    bars.counted(", at most ", lent, "");
+    bars.text(", or that wait for a subscriber or are received");
+    bars.counted(", at most ", there, "");
+    push_key(svg, 10, 24, "#0072B2");
+    label(svg, 26, 32, "note", bars.as_str());
+    svg.takes(&bars);
     let y = 50;
-    push_key(svg, 10, 42, "#D55E00")?;
-    label(svg, 26, y, "note", "calls refused")?;
-    push_key(svg, 126, 42, "#CC79A7")?;
-    label(svg, 142, y, "note", "a send is blocked")?;
-    push_key(svg, 266, 42, "#000000")?;
+    push_key(svg, 10, 42, "#D55E00");
+    label(svg, 26, y, "note", "calls refused");
+    push_key(svg, 126, 42, "#CC79A7");
+    label(svg, 142, y, "note", "a send is blocked");
+    push_key(svg, 266, 42, "#000000");
     label(
         svg,
         282,
@@ -275,7 +276,7 @@ fn push_keys(svg: &mut String, folded: &Folded) -> Result<(), Failure> {
     )
 }
 
-fn push_key(svg: &mut String, x: usize, y: usize, color: &str) -> Result<(), Failure> {
+fn push_key(svg: &mut Drawing, x: usize, y: usize, color: &str) {
     let place = Place {
         x,
         y,
@@ -285,25 +286,21 @@ fn push_key(svg: &mut String, x: usize, y: usize, color: &str) -> Result<(), Fai
     rect(svg, place, "key", color, "")
 }
 
-fn push_lane(
-    svg: &mut String,
-    folded: &Folded,
-    lane: &FoldedLane,
-    y: usize,
-) -> Result<(), Failure> {
+fn push_lane(svg: &mut Drawing, folded: &Folded, lane: &FoldedLane, y: usize) {
     let kind = kind_of(lane.is_publisher);
     if let Some(port) = lane.ports.first() {
         let more = if lane.ports.len() > 1 { " .." } else { "" };
         let base = y.saturating_add(14);
-        begin_label(svg, 6, base, "port")?;
-        write!(svg, "{kind} {}{more}", port.id)?;
-        end_label(svg)?;
+        begin_label(svg, 6, base, "port");
+        svg.text(kind);
+        svg.counted(" ", port.id, more);
+        end_label(svg);
     }
-    push_lives(svg, folded, lane, y)?;
+    push_lives(svg, folded, lane, y);
     let most = folded.most(lane.is_publisher);
     for (column, cell) in lane.cells.iter().enumerate() {
         if cell.messages > 0 || cell.refused > 0 || cell.lost > 0 || cell.blocked > 0 {
-            let said = cell_text(folded.alloc, *cell, column, folded.group)?;
+            let said = cell_text(folded.alloc, *cell, column, folded.group);
             push_cell(
                 svg,
                 *cell,
@@ -311,10 +308,10 @@ fn push_lane(
                 y,
                 most,
                 said.as_str(),
-            )?;
+            );
+            svg.takes(&said);
         }
     }
-    Ok(())
 }
 
 fn kind_of(is_publisher: bool) -> &'static str {
@@ -331,12 +328,7 @@ fn column_x(scale: Scale, column: usize) -> usize {
 }
 
 // When the lane's ports were open.
-fn push_lives(
-    svg: &mut String,
-    folded: &Folded,
-    lane: &FoldedLane,
-    y: usize,
-) -> Result<(), Failure> {
+fn push_lives(svg: &mut Drawing, folded: &Folded, lane: &FoldedLane, y: usize) {
     let scale = folded.scale;
     for port in lane.ports.iter() {
         let x = column_x(scale, folded.column(port.from));
@@ -350,32 +342,30 @@ fn push_lives(
             width: end.saturating_sub(x).max(2),
             height: LANE.saturating_sub(2),
         };
-        let said = life_text(folded.alloc, *port)?;
-        rect(svg, place, "life", "#e6e6e6", said.as_str())?;
+        let said = life_text(folded.alloc, *port);
+        rect(svg, place, "life", "#e6e6e6", said.as_str());
+        svg.takes(&said);
     }
-    Ok(())
 }
 
-fn life_text(alloc: Global, port: Port) -> Result<String, Failure> {
-    let mut text = String::new(alloc);
-    let kind = kind_of(port.is_publisher);
-    let first = port.from.saturating_add(1);
-    write!(text, "{kind} {}: made by command {first}", port.id)?;
+fn life_text(alloc: Global, port: Port) -> Drawing {
+    let mut text = Drawing::new(alloc);
+    text.text(kind_of(port.is_publisher));
+    text.counted(" ", port.id, "");
+    text.command(": made by command ", port.from);
     if let Some(at) = port.to {
-        write!(text, ", closed by {}", at.saturating_add(1))?;
+        text.command(", closed by ", at);
     }
-    Ok(text)
+    text
 }
 
-fn cell_text(alloc: Global, cell: Cell, column: usize, group: usize) -> Result<String, Failure> {
+fn cell_text(alloc: Global, cell: Cell, column: usize, group: usize) -> Drawing {
     let first = column.saturating_mul(group).saturating_add(1);
     let last = column.saturating_add(1).saturating_mul(group);
-    let mut text = String::new(alloc);
-    write!(
-        text,
-        "commands {first} to {last}: {} messages",
-        cell.messages
-    )?;
+    let mut text = Drawing::new(alloc);
+    text.counted("commands ", first, "");
+    text.counted(" to ", last, "");
+    text.counted(": ", cell.messages, " messages");
     let Cell {
         refused,
         lost,
@@ -383,25 +373,18 @@ fn cell_text(alloc: Global, cell: Cell, column: usize, group: usize) -> Result<S
         ..
     } = cell;
     if refused > 0 {
-        write!(text, ", {refused} calls refused")?;
+        text.counted(", ", refused, " calls refused");
     }
     if blocked > 0 {
-        write!(text, ", {blocked} sends blocked")?;
+        text.counted(", ", blocked, " sends blocked");
     }
     if lost > 0 {
-        write!(text, ", {lost} lost or not delivered")?;
+        text.counted(", ", lost, " lost or not delivered");
     }
-    Ok(text)
+    text
 }
 
-fn push_cell(
-    svg: &mut String,
-    cell: Cell,
-    x: usize,
-    y: usize,
-    most: usize,
-    said: &str,
-) -> Result<(), Failure> {
+fn push_cell(svg: &mut Drawing, cell: Cell, x: usize, y: usize, most: usize, said: &str) {
     let up = cell.messages.saturating_mul(BAR) / most.max(1);
     let up = if cell.messages > 0 { up.max(2) } else { 0 };
     let second = y.saturating_add(STRIP);
@@ -412,23 +395,16 @@ fn push_cell(
         width: COLUMN,
         height: up,
     };
-    rect(svg, place, "held", "#0072B2", said)?;
-    push_strip(svg, x, y, cell.refused, "#D55E00", said)?;
-    push_strip(svg, x, second, cell.blocked, "#CC79A7", said)?;
+    rect(svg, place, "held", "#0072B2", said);
+    push_strip(svg, x, y, cell.refused, "#D55E00", said);
+    push_strip(svg, x, second, cell.blocked, "#CC79A7", said);
     let below = bars.saturating_add(BAR);
     push_strip(svg, x, below, cell.lost, "#000000", said)
 }
 
-fn push_strip(
-    svg: &mut String,
-    x: usize,
-    y: usize,
-    count: usize,
-    color: &str,
-    said: &str,
-) -> Result<(), Failure> {
+fn push_strip(svg: &mut Drawing, x: usize, y: usize, count: usize, color: &str, said: &str) {
     if count == 0 {
-        return Ok(());
+        return;
     }
     let place = Place {
         x,
@@ -440,26 +416,25 @@ fn push_strip(
 }
 
 // The numbers of some commands below the lanes: the first one, and round ones.
-fn push_times(svg: &mut String, story: &Story, folded: &Folded, y: usize) -> Result<(), Failure> {
+fn push_times(svg: &mut Drawing, story: &Story, folded: &Folded, y: usize) {
     let count = story.commands.len();
     let step = tick_step(count);
     for tick in 0..11usize {
         let number = tick.saturating_mul(step).max(1);
         if number <= count {
             let column = folded.column(number.saturating_sub(1));
-            push_time(svg, column_x(folded.scale, column), number, y)?;
+            push_time(svg, column_x(folded.scale, column), number, y);
         }
     }
-    Ok(())
 }
 
-fn push_time(svg: &mut String, left: usize, number: usize, y: usize) -> Result<(), Failure> {
+fn push_time(svg: &mut Drawing, left: usize, number: usize, y: usize) {
     let x = left.saturating_add(COLUMN / 2);
     let below = y.saturating_add(5);
-    line(svg, (x, y), (x, below), "grid", "#000")?;
+    line(svg, (x, y), (x, below), "grid", "#000");
     let base = y.saturating_add(16);
-    begin_label(svg, x, base, "number")?;
-    write!(svg, "{number}")?;
+    begin_label(svg, x, base, "number");
+    svg.number(number);
     end_label(svg)
 }
 

@@ -2,7 +2,7 @@
 use crate::failure::Failure;
 use crate::holders::Holders;
 use crate::mailboxes::Mailboxes;
-use crate::story::{Loan, LoanEnd, Mark, MarkKind, Point, Port, Story};
+use crate::story::{End, Mark, MarkKind, Point, Port, Stay, Story};
 use iox2_commands::{Command, Reply};
 use iox2_machine::UniquePublisherId;
 use iox2_model::{Memory, Model, Thing};
@@ -72,7 +72,8 @@ impl Follower {
     ) -> Result<(), Failure> {
         let at = self.story.commands.len();
         let messages = self.model.message_count();
-        let object = self.object_of(of_command(command));
+        let mut named = command;
+        let object = self.object_of(named.of_mut().map(|of| *of));
         let reply = self.model.carry_out(command, given(recorded))?;
         self.note_texts(alloc, &command, &reply, recorded, object)?;
         self.note_made(at)?;
@@ -202,11 +203,11 @@ impl Follower {
         };
         match reply {
             Reply::Blocked => self.block_loan(at, message),
-            Reply::Delivered(_) => self.end_loan(at, message, LoanEnd::Sent),
-            Reply::SendRefused(_) => self.end_loan(at, message, LoanEnd::Refused),
+            Reply::Delivered(_) => self.end_loan(at, message, End::Sent),
+            Reply::SendRefused(_) => self.end_loan(at, message, End::Refused),
             Reply::Done => {
                 if is_discard(command) {
-                    self.end_loan(at, message, LoanEnd::Discarded);
+                    self.end_loan(at, message, End::Discarded);
                 }
             }
             _ => {}
@@ -216,28 +217,22 @@ impl Follower {
 
     fn take_loan(&mut self, at: usize, publisher: usize, message: usize) -> Result<(), Failure> {
         self.holders.hold(message)?;
-        self.story.loans.push(Loan {
-            message,
-            publisher,
-            from: at,
-            blocked: None,
-            to: None,
-            end: LoanEnd::Out,
-        })?;
+        let loan = Stay::new(message, publisher, publisher, at);
+        self.story.loans.push(loan)?;
         Ok(())
     }
 
     fn block_loan(&mut self, at: usize, message: usize) {
         for index in 0..self.story.loans.len() {
             if let Some(loan) = self.story.loans.get_mut(index) {
-                if loan.message == message && loan.blocked.is_none() {
-                    loan.blocked = Some(at);
+                if loan.message == message && loan.turn.is_none() {
+                    loan.turn = Some(at);
                 }
             }
         }
     }
 
-    fn end_loan(&mut self, at: usize, message: usize, end: LoanEnd) {
+    fn end_loan(&mut self, at: usize, message: usize, end: End) {
         for index in 0..self.story.loans.len() {
             if let Some(loan) = self.story.loans.get_mut(index) {
                 if loan.message == message && loan.to.is_none() {
@@ -377,7 +372,7 @@ impl Follower {
     fn first_sent(&self, at: usize, message: usize) -> usize {
         for loan in self.story.loans.iter().rev() {
             if loan.message == message {
-                return loan.blocked.unwrap_or(at);
+                return loan.turn.unwrap_or(at);
             }
         }
         at
@@ -389,7 +384,7 @@ impl Follower {
             if visit.from < since {
                 return false;
             }
-            if visit.message == message && visit.subscriber == subscriber {
+            if visit.message == message && visit.port == subscriber {
                 return true;
             }
         }
@@ -440,35 +435,5 @@ fn ends_send(reply: &Reply<u64, u64>) -> bool {
     match reply {
         Reply::Delivered(_) | Reply::SendRefused(_) => true,
         _ => false,
-    }
-}
-
-// The position that a command names.
-fn of_command(command: Command<u64, u64>) -> Option<usize> {
-    match command {
-        Command::Nothing | Command::CreatePublisher { .. } | Command::CreateSubscriber { .. } => {
-            None
-        }
-        Command::LoanUninit { of }
-        | Command::Loan { of }
-        | Command::LoanSlice { of, .. }
-        | Command::WriteCell { of, .. }
-        | Command::WriteAll { of, .. }
-        | Command::AssumeInit { of }
-        | Command::WriteHeader { of, .. }
-        | Command::SetPayload { of, .. }
-        | Command::Send { of }
-        | Command::SendCopy { of, .. }
-        | Command::Discard { of }
-        | Command::Retry { of, .. }
-        | Command::GiveUp { of }
-        | Command::Update { of }
-        | Command::Receive { of }
-        | Command::HasSamples { of }
-        | Command::Read { of, .. }
-        | Command::ReadHeader { of }
-        | Command::ReadUserHeader { of }
-        | Command::Release { of }
-        | Command::Close { of } => Some(of),
     }
 }

@@ -2,7 +2,7 @@
 use crate::failure::Failure;
 use crate::positions::Positions;
 use crate::rows::Rows;
-use crate::story::{Port, Story};
+use crate::story::{Port, Stay, Story};
 use std::alloc::Global;
 
 /// The distance of two rows of a lane.
@@ -85,16 +85,25 @@ impl Lanes {
         for _ in 0..self.lanes.len() {
             rows.push(Rows::new(alloc))?;
         }
-        for loan in story.loans.iter() {
-            let row = self.take(&mut rows, loan.publisher, loan.from, loan.to.unwrap_or(end))?;
-            self.loan_rows.push(row)?;
-        }
-        for visit in story.visits.iter() {
-            let to = visit.to.unwrap_or(end);
-            let row = self.take(&mut rows, visit.subscriber, visit.from, to)?;
-            self.visit_rows.push(row)?;
-        }
+        self.loan_rows = self.take_rows(alloc, &mut rows, story.loans.as_slice(), end)?;
+        self.visit_rows = self.take_rows(alloc, &mut rows, story.visits.as_slice(), end)?;
         counts_of(alloc, rows.as_slice())
+    }
+
+    // The row of each of these bars, which is taken until the bar ends.
+    fn take_rows(
+        &self,
+        alloc: Global,
+        rows: &mut Vec<Rows>,
+        stays: &[Stay],
+        end: usize,
+    ) -> Result<Vec<usize>, Failure> {
+        let mut taken = Vec::new(alloc);
+        for stay in stays {
+            let row = self.take(rows, stay.port, stay.from, stay.to.unwrap_or(end))?;
+            taken.push(row)?;
+        }
+        Ok(taken)
     }
 
     fn take(

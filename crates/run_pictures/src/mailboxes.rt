@@ -1,7 +1,7 @@
 //! What is in mailboxes, and what has changed there since a command before.
 use crate::failure::Failure;
 use crate::holders::Holders;
-use crate::story::{Visit, VisitEnd};
+use crate::story::{End, Stay};
 use iox2_model::Model;
 use std::alloc::Global;
 
@@ -72,7 +72,7 @@ impl Mailboxes {
         publisher: usize,
         subscriber: usize,
         sends: bool,
-        visits: &mut Vec<Visit>,
+        visits: &mut Vec<Stay>,
         holders: &mut Holders,
     ) -> Result<(), Failure> {
         if !self.is_used(publisher, subscriber) && model.waiting(publisher, subscriber).is_empty() {
@@ -94,7 +94,7 @@ impl Mailboxes {
                 now.push(visits.len())?;
                 holders.hold(*message)?;
                 self.waiting = self.waiting.saturating_add(1);
-                visits.push(new_visit(*message, publisher, subscriber, at))?;
+                visits.push(Stay::new(*message, publisher, subscriber, at))?;
             }
         }
         self.put(publisher, subscriber, now);
@@ -102,14 +102,14 @@ impl Mailboxes {
     }
 
     // Follows one message, and returns whether it is in the mailbox still.
-    fn goes_on(&mut self, model: &Model, at: usize, sends: bool, visit: &mut Visit) -> bool {
+    fn goes_on(&mut self, model: &Model, at: usize, sends: bool, visit: &mut Stay) -> bool {
         let waits = model
-            .waiting(visit.publisher, visit.subscriber)
+            .waiting(visit.publisher, visit.port)
             .contains(&visit.message);
         let is_borrowed = model
-            .borrowed(visit.publisher, visit.subscriber)
+            .borrowed(visit.publisher, visit.port)
             .contains(&visit.message);
-        let waited = visit.received.is_none();
+        let waited = visit.turn.is_none();
         if waited && !waits {
             self.waiting = self.waiting.saturating_sub(1);
         }
@@ -118,36 +118,24 @@ impl Mailboxes {
         }
         if is_borrowed {
             if waited {
-                visit.received = Some(at);
+                visit.turn = Some(at);
             }
             return true;
         }
         visit.to = Some(at);
         visit.end = if !waited {
-            VisitEnd::Released
+            End::Released
         } else if sends {
-            VisitEnd::Overwritten
+            End::Overwritten
         } else {
-            VisitEnd::Lost
+            End::Lost
         };
         false
     }
 }
 
-fn new_visit(message: usize, publisher: usize, subscriber: usize, at: usize) -> Visit {
-    Visit {
-        message,
-        publisher,
-        subscriber,
-        from: at,
-        received: None,
-        to: None,
-        end: VisitEnd::There,
-    }
-}
-
 // Whether one of these visits is that of the message.
-fn has_message(indices: &[usize], visits: &[Visit], message: usize) -> bool {
+fn has_message(indices: &[usize], visits: &[Stay], message: usize) -> bool {
     for index in indices {
         if let Some(visit) = visits.get(*index) {
             if visit.message == message {

@@ -5,6 +5,7 @@ mod axis;
 mod canvas;
 mod curves;
 mod data;
+mod drawing;
 mod failure;
 mod folded;
 mod follow;

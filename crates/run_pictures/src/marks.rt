@@ -1,24 +1,17 @@
 //! Marks, each with a shape of its own.
-use crate::canvas::{begin_path, push_escaped};
-use crate::failure::Failure;
+use crate::canvas::begin_path;
+use crate::drawing::Drawing;
 use crate::story::MarkKind;
 
 /// Draws a mark with its middle there, which says something when it is pointed at.
-pub(crate) fn push_mark(
-    svg: &mut String,
-    x: usize,
-    y: usize,
-    kind: MarkKind,
-    said: &str,
-) -> Result<(), Failure> {
+pub(crate) fn push_mark(svg: &mut Drawing, x: usize, y: usize, kind: MarkKind, said: &str) {
     let (path, paint) = shape_of(kind);
-    begin_path(svg, x, y, path)?;
-    svg.push(' ')?;
-    svg.push_str(paint)?;
-    svg.push_str("><title>")?;
-    push_escaped(svg, said)?;
-    svg.push_str("</title></path>\n")?;
-    Ok(())
+    begin_path(svg, x, y, path);
+    svg.text(" ");
+    svg.text(paint);
+    svg.text("><title>");
+    svg.escaped(said);
+    svg.text("</title></path>\n");
 }
 
 // The path around the middle, and how it is painted.
@@ -50,20 +43,14 @@ fn shape_of(kind: MarkKind) -> (&'static str, &'static str) {
 }
 
 /// Draws the end of a message that was overwritten or lost before it was received.
-pub(crate) fn push_lost(
-    svg: &mut String,
-    x: usize,
-    y: usize,
-    is_overwritten: bool,
-) -> Result<(), Failure> {
+pub(crate) fn push_lost(svg: &mut Drawing, x: usize, y: usize, is_overwritten: bool) {
     let path = if is_overwritten {
         "M-5 -5L5 0L-5 5z"
     } else {
         "M-5 5L0 -5L5 5z"
     };
-    begin_path(svg, x, y, path)?;
-    svg.push_str(" fill=\"#000\"/>\n")?;
-    Ok(())
+    begin_path(svg, x, y, path);
+    svg.text(" fill=\"#000\"/>\n");
 }
 
 /// What a mark says.

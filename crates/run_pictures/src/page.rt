@@ -1,39 +1,39 @@
 //! A page around a picture, in one file: it shows the state after the command that is pointed at.
 use crate::axis::Scale;
 use crate::data::push_data;
+use crate::drawing::Drawing;
 use crate::failure::Failure;
 use crate::folded::folded_scale;
 use crate::picture::{is_folded, picture};
 use crate::story::Story;
 use std::alloc::Global;
-use std::fmt::Write;
 
 /// The page of a run, as the text of an HTML file that needs no other.
 pub(crate) fn page(alloc: Global, story: &Story) -> Result<String, Failure> {
-    let mut page = String::new(alloc);
-    page.push_str(HEAD)?;
+    let mut page = Drawing::new(alloc);
+    page.text(HEAD);
     let drawn = picture(alloc, story)?;
-    page.push_str(drawn.as_str())?;
-    page.push_str(MIDDLE)?;
-    push_data(&mut page, story)?;
+    page.text(drawn.as_str());
+    page.text(MIDDLE);
+    push_data(&mut page, story);
     let (scale, group) = if is_folded(story) {
         folded_scale(story)
     } else {
         (Scale::new(story.commands.len()), 1)
     };
     let Scale { left, step, .. } = scale;
-    page.push_str(";\nconst")?;
-    push_constant(&mut page, " left", left)?;
-    push_constant(&mut page, ", step", step)?;
-    push_constant(&mut page, ", group", group)?;
-    page.push_str(";\n")?;
-    page.push_str(SCRIPT)?;
-    Ok(page)
+    page.text(";\nconst");
+    push_constant(&mut page, " left", left);
+    push_constant(&mut page, ", step", step);
+    push_constant(&mut page, ", group", group);
+    page.text(";\n");
+    page.text(SCRIPT);
+    page.finish()
 }
 
-fn push_constant(page: &mut String, name: &str, value: usize) -> Result<(), Failure> {
-    write!(page, "{name} = {value}")?;
-    Ok(())
+fn push_constant(page: &mut Drawing, name: &str, value: usize) {
+    page.text(name);
+    page.counted(" = ", value, "");
 }
 
 const HEAD: &str =

@@ -2,14 +2,14 @@
 use crate::axis::{Scale, label_height, push_commands};
 use crate::canvas::{Place, begin_label, color_of, end_label, label, line, push_head, rect};
 use crate::curves;
+use crate::drawing::Drawing;
 use crate::failure::Failure;
 use crate::folded::folded_picture;
 use crate::lanes::{Lane, Lanes};
-use crate::legend::{self, push_legend, push_waiting};
+use crate::legend::{self, push_legend, push_part};
 use crate::marks::{mark_text, push_lost, push_mark};
-use crate::story::{Loan, LoanEnd, Mark, Story, Visit, VisitEnd};
+use crate::story::{End, Mark, Stay, Story};
 use std::alloc::Global;
-use std::fmt::Write;
 
 // Of more commands or ports a folded picture is drawn.
 const MOST_COMMANDS: usize = 240;
@@ -27,20 +27,20 @@ pub(crate) fn picture(alloc: Global, story: &Story) -> Result<String, Failure> {
     let labels = lanes.bottom.saturating_add(label_height(story));
     let height = labels.saturating_add(curves::HEIGHT).saturating_add(24);
     let width = scale.right().saturating_add(30).max(880);
-    let mut svg = String::new(alloc);
-    push_head(&mut svg, width, height)?;
-    push_legend(&mut svg, 14)?;
+    let mut svg = Drawing::new(alloc);
+    push_head(&mut svg, width, height);
+    push_legend(&mut svg, 14);
     let ground = Ground {
         alloc,
         scale,
         lanes,
     };
-    push_lanes(&mut svg, &ground)?;
-    push_commands(&mut svg, story, scale, top, ground.lanes.bottom)?;
-    push_messages(&mut svg, story, &ground)?;
-    curves::push_curves(&mut svg, story, scale, labels)?;
-    svg.push_str("</svg>\n")?;
-    Ok(svg)
+    push_lanes(&mut svg, &ground);
+    push_commands(&mut svg, story, scale, top, ground.lanes.bottom);
+    push_messages(&mut svg, story, &ground);
+    curves::push_curves(&mut svg, story, scale, labels);
+    svg.text("</svg>\n");
+    svg.finish()
 }
 
 // Where ports, messages and commands lie.
@@ -52,10 +52,10 @@ struct Ground {
 }
 
 // What lies in the lanes.
-fn push_messages(svg: &mut String, story: &Story, ground: &Ground) -> Result<(), Failure> {
-    push_ways(svg, story, ground)?;
-    push_loans(svg, story, ground)?;
-    push_visits(svg, story, ground)?;
+fn push_messages(svg: &mut Drawing, story: &Story, ground: &Ground) {
+    push_ways(svg, story, ground);
+    push_loans(svg, story, ground);
+    push_visits(svg, story, ground);
     push_marks(svg, story, ground)
 }
 
@@ -64,7 +64,7 @@ pub(crate) fn is_folded(story: &Story) -> bool {
     story.commands.len() > MOST_COMMANDS || story.ports.len() > MOST_PORTS
 }
 
-fn push_lanes(svg: &mut String, ground: &Ground) -> Result<(), Failure> {
+fn push_lanes(svg: &mut Drawing, ground: &Ground) {
     let scale = ground.scale;
     for lane in ground.lanes.lanes.iter() {
         let width = scale.right().saturating_sub(scale.left);
@@ -74,29 +74,29 @@ fn push_lanes(svg: &mut String, ground: &Ground) -> Result<(), Failure> {
             width,
             height: lane.height,
         };
-        rect(svg, all, "lane", "#f4f4f4", "")?;
+        rect(svg, all, "lane", "#f4f4f4", "");
         let x = scale.x(lane.port.from);
         let life = Place {
             x,
             width: scale.end(lane.port.to).saturating_sub(x),
             ..all
         };
-        rect(svg, life, "life", "#e6e6e6", "")?;
-        push_name(svg, *lane)?;
+        rect(svg, life, "life", "#e6e6e6", "");
+        push_name(svg, *lane);
     }
-    Ok(())
 }
 
-fn push_name(svg: &mut String, lane: Lane) -> Result<(), Failure> {
+fn push_name(svg: &mut Drawing, lane: Lane) {
     let y = lane.top.saturating_add(13);
     let kind = if lane.port.is_publisher {
         "publisher"
     } else {
         "subscriber"
     };
-    begin_label(svg, 6, y, "port")?;
-    write!(svg, "{kind} {}", lane.port.id)?;
-    end_label(svg)?;
+    begin_label(svg, 6, y, "port");
+    svg.text(kind);
+    svg.counted(" ", lane.port.id, "");
+    end_label(svg);
     if lane.port.is_publisher {
         let place = Place {
             x: 6,
@@ -104,16 +104,15 @@ fn push_name(svg: &mut String, lane: Lane) -> Result<(), Failure> {
             width: 40,
             height: 6,
         };
-        rect(svg, place, "color", color_of(lane.port.id), "")?;
+        rect(svg, place, "color", color_of(lane.port.id), "");
     }
-    Ok(())
 }
 
 // The lines from publishers to the mailboxes that their messages come to.
-fn push_ways(svg: &mut String, story: &Story, ground: &Ground) -> Result<(), Failure> {
+fn push_ways(svg: &mut Drawing, story: &Story, ground: &Ground) {
     let lanes = &ground.lanes;
     for (visit, row) in story.visits.iter().zip(lanes.visit_rows.iter()) {
-        let (Some(from), Some(to)) = (lanes.of(visit.publisher), lanes.of(visit.subscriber)) else {
+        let (Some(from), Some(to)) = (lanes.of(visit.publisher), lanes.of(visit.port)) else {
             continue;
         };
         let x = ground.scale.x(visit.from);
@@ -122,13 +121,12 @@ fn push_ways(svg: &mut String, story: &Story, ground: &Ground) -> Result<(), Fai
             None => (from.top.saturating_add(from.height), "late"),
         };
         let end = to.row(*row).saturating_add(6);
-        line(svg, (x, start), (x, end), class, color_of(visit.publisher))?;
+        line(svg, (x, start), (x, end), class, color_of(visit.publisher));
     }
-    Ok(())
 }
 
 // The row of the visit's loan, where the message was sent by the command that brought it there.
-fn loan_row(story: &Story, lanes: &Lanes, visit: &Visit) -> Option<usize> {
+fn loan_row(story: &Story, lanes: &Lanes, visit: &Stay) -> Option<usize> {
     for (loan, row) in story.loans.iter().zip(lanes.loan_rows.iter()) {
         if loan.message == visit.message && is_sent_at(loan, visit.from) {
             return Some(*row);
@@ -138,43 +136,112 @@ fn loan_row(story: &Story, lanes: &Lanes, visit: &Visit) -> Option<usize> {
 }
 
 // Whether the loan's message was sent, or waited to be, at a time.
-fn is_sent_at(loan: &Loan, at: usize) -> bool {
+fn is_sent_at(loan: &Stay, at: usize) -> bool {
     let last = loan.to.unwrap_or(at);
-    let first = loan.blocked.unwrap_or(last);
+    let first = loan.turn.unwrap_or(last);
     first <= at && at <= last
 }
 
-fn push_loans(svg: &mut String, story: &Story, ground: &Ground) -> Result<(), Failure> {
-    let (alloc, scale, lanes) = (ground.alloc, ground.scale, &ground.lanes);
-    for (loan, row) in story.loans.iter().zip(lanes.loan_rows.iter()) {
-        if let Some(lane) = lanes.of(loan.publisher) {
-            let said = loan_text(alloc, story, loan)?;
-            let y = lane.row(*row);
-            push_loan(svg, loan, scale, y, said.as_str())?;
-            let (x, end) = (scale.x(loan.from), scale.end(loan.to));
-            push_bar_label(svg, alloc, story, loan.message, x, end, y)?;
-        }
+fn push_loans(svg: &mut Drawing, story: &Story, ground: &Ground) {
+    for (loan, row) in story.loans.iter().zip(ground.lanes.loan_rows.iter()) {
+        let said = loan_text(ground.alloc, story, loan);
+        push_stay(
+            svg,
+            story,
+            ground,
+            loan,
+            *row,
+            ["lent", "blocked"],
+            said.as_str(),
+        );
+        svg.takes(&said);
     }
-    Ok(())
 }
 
-fn push_loan(
-    svg: &mut String,
-    loan: &Loan,
-    scale: Scale,
-    y: usize,
+fn loan_text(alloc: Global, story: &Story, loan: &Stay) -> Drawing {
+    let mut text = message_text(alloc, story, loan.message);
+    text.command(": lent by command ", loan.from);
+    say_rest(&mut text, loan, ", its send blocked by ");
+    text
+}
+
+fn push_visits(svg: &mut Drawing, story: &Story, ground: &Ground) {
+    for (visit, row) in story.visits.iter().zip(ground.lanes.visit_rows.iter()) {
+        let said = visit_text(ground.alloc, story, visit);
+        push_stay(
+            svg,
+            story,
+            ground,
+            visit,
+            *row,
+            ["waits", "held"],
+            said.as_str(),
+        );
+        svg.takes(&said);
+    }
+}
+
+fn visit_text(alloc: Global, story: &Story, visit: &Stay) -> Drawing {
+    let mut text = message_text(alloc, story, visit.message);
+    text.counted(" of publisher ", visit.publisher, "");
+    text.counted(" at subscriber ", visit.port, "");
+    text.command(": there since command ", visit.from);
+    say_rest(&mut text, visit, ", received by ");
+    text
+}
+
+// What became of the message after it came there.
+fn say_rest(text: &mut Drawing, stay: &Stay, turned: &str) {
+    if let Some(at) = stay.turn {
+        text.command(turned, at);
+    }
+    if let Some(at) = stay.to {
+        text.text(end_text(stay.end));
+        text.command(" by ", at);
+    }
+}
+
+fn end_text(end: End) -> &'static str {
+    match end {
+        End::There | End::Sent => ", sent",
+        End::Discarded => ", given back",
+        End::Refused => ", refused",
+        End::Released => ", released",
+        End::Overwritten => ", overwritten",
+        End::Lost => ", lost",
+    }
+}
+
+// The bar of a message in a row of its port's lane, with the classes of its two parts.
+fn push_stay(
+    svg: &mut Drawing,
+    story: &Story,
+    ground: &Ground,
+    stay: &Stay,
+    row: usize,
+    classes: [&str; 2],
     said: &str,
-) -> Result<(), Failure> {
-    let color = color_of(loan.publisher);
-    let (x, end) = (scale.x(loan.from), scale.end(loan.to));
-    match loan.blocked {
-        None => rect(svg, bar(x, end, y), "lent", color, said),
+) {
+    let Some(lane) = ground.lanes.of(stay.port) else {
+        return;
+    };
+    let (scale, y, color) = (ground.scale, lane.row(row), color_of(stay.publisher));
+    let (x, end) = (scale.x(stay.from), scale.end(stay.to));
+    let [first, second] = classes;
+    match stay.turn {
+        None => push_part(svg, bar(x, end, y), first, color, said),
         Some(at) => {
             let middle = scale.x(at);
-            rect(svg, bar(x, middle, y), "lent", color, said)?;
-            rect(svg, bar(middle, end, y), "blocked", color, said)
+            push_part(svg, bar(x, middle, y), first, color, said);
+            push_part(svg, bar(middle, end, y), second, color, said);
         }
     }
+    match stay.end {
+        End::Overwritten => push_lost(svg, end, y.saturating_add(6), true),
+        End::Lost => push_lost(svg, end, y.saturating_add(6), false),
+        _ => {}
+    }
+    push_bar_label(svg, ground.alloc, story, stay.message, x, end, y);
 }
 
 // The bar between two times. It is never too narrow to be seen.
@@ -197,115 +264,33 @@ fn bar(x: usize, end: usize, y: usize) -> Place {
     }
 }
 
-fn loan_text(alloc: Global, story: &Story, loan: &Loan) -> Result<String, Failure> {
-    let mut text = message_text(alloc, story, loan.message)?;
-    write!(text, ": lent by command {}", loan.from.saturating_add(1))?;
-    if let Some(at) = loan.blocked {
-        write!(text, ", its send blocked by {}", at.saturating_add(1))?;
-    }
-    if let Some(at) = loan.to {
-        let what = match loan.end {
-            LoanEnd::Discarded => "given back",
-            LoanEnd::Refused => "refused",
-            _ => "sent",
-        };
-        write!(text, ", {what} by {}", at.saturating_add(1))?;
-    }
-    Ok(text)
-}
-
-fn push_visits(svg: &mut String, story: &Story, ground: &Ground) -> Result<(), Failure> {
-    let (alloc, scale, lanes) = (ground.alloc, ground.scale, &ground.lanes);
-    for (visit, row) in story.visits.iter().zip(lanes.visit_rows.iter()) {
-        if let Some(lane) = lanes.of(visit.subscriber) {
-            let said = visit_text(alloc, story, visit)?;
-            let y = lane.row(*row);
-            push_visit(svg, visit, scale, y, said.as_str())?;
-            let (x, end) = (scale.x(visit.from), scale.end(visit.to));
-            push_end(svg, visit.end, end, y.saturating_add(6))?;
-            push_bar_label(svg, alloc, story, visit.message, x, end, y)?;
-        }
-    }
-    Ok(())
-}
-
-fn push_visit(
-    svg: &mut String,
-    visit: &Visit,
-    scale: Scale,
-    y: usize,
-    said: &str,
-) -> Result<(), Failure> {
-    let color = color_of(visit.publisher);
-    let (x, end) = (scale.x(visit.from), scale.end(visit.to));
-    match visit.received {
-        None => push_waiting(svg, bar(x, end, y), color, said),
-        Some(at) => {
-            let middle = scale.x(at);
-            push_waiting(svg, bar(x, middle, y), color, said)?;
-            rect(svg, bar(middle, end, y), "held", color, said)
-        }
-    }
-}
-
-fn push_end(svg: &mut String, end: VisitEnd, x: usize, y: usize) -> Result<(), Failure> {
-    match end {
-        VisitEnd::Overwritten => push_lost(svg, x, y, true),
-        VisitEnd::Lost => push_lost(svg, x, y, false),
-        _ => Ok(()),
-    }
-}
-
-fn visit_text(alloc: Global, story: &Story, visit: &Visit) -> Result<String, Failure> {
-    let mut text = message_text(alloc, story, visit.message)?;
-    let (publisher, subscriber) = (visit.publisher, visit.subscriber);
-    write!(text, " of publisher {publisher} at subscriber {subscriber}")?;
-    write!(
-        text,
-        ": there since command {}",
-        visit.from.saturating_add(1)
-    )?;
-    if let Some(at) = visit.received {
-        write!(text, ", received by {}", at.saturating_add(1))?;
-    }
-    if let Some(at) = visit.to {
-        let what = match visit.end {
-            VisitEnd::Overwritten => "overwritten",
-            VisitEnd::Lost => "lost",
-            _ => "released",
-        };
-        write!(text, ", {what} by {}", at.saturating_add(1))?;
-    }
-    Ok(text)
-}
-
 /// The number of a message, and its value where it was sent.
-pub(crate) fn message_text(
-    alloc: Global,
-    story: &Story,
-    message: usize,
-) -> Result<String, Failure> {
-    let mut text = String::new(alloc);
-    write!(text, "#{message}")?;
-    match story.values.get(message) {
-        Some((value, 1)) => write!(text, " = {value}")?,
-        Some((_, 0)) | None => {}
-        Some((value, _)) => write!(text, " = {value} ..")?,
+pub(crate) fn message_text(alloc: Global, story: &Story, message: usize) -> Drawing {
+    let mut text = Drawing::new(alloc);
+    text.counted("#", message, "");
+    let (value, count) = story.values.get(message).copied().unwrap_or((0, 0));
+    if count > 0 {
+        text.text(" = ");
+        text.value(value);
     }
-    Ok(text)
+    if count > 1 {
+        text.text(" ..");
+    }
+    text
 }
 
 // The message's number and value, or the number alone where there is little room.
 fn push_bar_label(
-    svg: &mut String,
+    svg: &mut Drawing,
     alloc: Global,
     story: &Story,
     message: usize,
     x: usize,
     end: usize,
     y: usize,
-) -> Result<(), Failure> {
-    let text = message_text(alloc, story, message)?;
+) {
+    let text = message_text(alloc, story, message);
+    svg.takes(&text);
     let width = end.saturating_sub(x);
     let y = y.saturating_add(10);
     let x = x.saturating_add(3);
@@ -313,34 +298,36 @@ fn push_bar_label(
         return label(svg, x, y, "message", text.as_str());
     }
     if width >= 20 {
-        begin_label(svg, x, y, "small")?;
-        write!(svg, "#{message}")?;
-        end_label(svg)?;
+        begin_label(svg, x, y, "small");
+        svg.counted("#", message, "");
+        end_label(svg);
     }
-    Ok(())
 }
 
-fn push_marks(svg: &mut String, story: &Story, ground: &Ground) -> Result<(), Failure> {
+fn push_marks(svg: &mut Drawing, story: &Story, ground: &Ground) {
     let (alloc, scale, lanes) = (ground.alloc, ground.scale, &ground.lanes);
     for mark in story.marks.iter() {
         let top = match lanes.of(mark.port) {
             Some(lane) => lane.top,
             None => legend::HEIGHT.saturating_sub(2),
         };
-        let said = mark_said(alloc, story, *mark)?;
+        let said = mark_said(alloc, story, *mark);
         let (x, y) = (scale.x(mark.at), top.saturating_add(9));
-        push_mark(svg, x, y, mark.kind, said.as_str())?;
+        push_mark(svg, x, y, mark.kind, said.as_str());
+        svg.takes(&said);
     }
-    Ok(())
 }
 
 /// What a mark says: what it is, the command and its reply.
-pub(crate) fn mark_said(alloc: Global, story: &Story, mark: Mark) -> Result<String, Failure> {
-    let mut text = String::new(alloc);
-    let command = mark.at.saturating_add(1);
-    write!(text, "{}: command {command}", mark_text(mark.kind))?;
+pub(crate) fn mark_said(alloc: Global, story: &Story, mark: Mark) -> Drawing {
+    let mut text = Drawing::new(alloc);
+    text.text(mark_text(mark.kind));
+    text.command(": command ", mark.at);
     if let (Some(called), Some(reply)) = (story.commands.get(mark.at), story.replies.get(mark.at)) {
-        write!(text, " {} = {}", called.as_str(), reply.as_str())?;
+        text.text(" ");
+        text.text(called.as_str());
+        text.text(" = ");
+        text.text(reply.as_str());
     }
-    Ok(text)
+    text
 }

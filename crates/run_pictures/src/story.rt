@@ -10,50 +10,50 @@ pub(crate) struct Port {
     pub(crate) to: Option<usize>,
 }
 
-/// How a loan ended.
+/// How a message left a port.
 #[derive(Clone, Copy, PartialEq, Eq)]
-pub(crate) enum LoanEnd {
-    Out,
+pub(crate) enum End {
+    /// It is there still.
+    There,
     Sent,
+    /// Its loan was given back.
     Discarded,
     /// Its send was refused.
     Refused,
-}
-
-/// A loan, from the command that lent it until it was sent or given back.
-#[derive(Clone, Copy)]
-pub(crate) struct Loan {
-    pub(crate) message: usize,
-    pub(crate) publisher: usize,
-    pub(crate) from: usize,
-    /// When its send was blocked first, if it was.
-    pub(crate) blocked: Option<usize>,
-    pub(crate) to: Option<usize>,
-    pub(crate) end: LoanEnd,
-}
-
-/// How a message left a mailbox.
-#[derive(Clone, Copy, PartialEq, Eq)]
-pub(crate) enum VisitEnd {
-    /// It is there still.
-    There,
     Released,
-    /// A newer message took its place.
+    /// A newer message took its place in the mailbox.
     Overwritten,
     /// Its mailbox went before it was received.
     Lost,
 }
 
-/// A message in a mailbox, from its delivery until it was released or lost.
+/// A message at a port: as a loan until it was sent or given back, or in a mailbox from its delivery until
+/// it was released or lost.
 #[derive(Clone, Copy)]
-pub(crate) struct Visit {
+pub(crate) struct Stay {
     pub(crate) message: usize,
     pub(crate) publisher: usize,
-    pub(crate) subscriber: usize,
+    /// The publisher that lent it, or the subscriber of the mailbox.
+    pub(crate) port: usize,
     pub(crate) from: usize,
-    pub(crate) received: Option<usize>,
+    /// When its send was blocked first, or when it was received, if it was.
+    pub(crate) turn: Option<usize>,
     pub(crate) to: Option<usize>,
-    pub(crate) end: VisitEnd,
+    pub(crate) end: End,
+}
+
+impl Stay {
+    pub(crate) fn new(message: usize, publisher: usize, port: usize, from: usize) -> Stay {
+        Stay {
+            message,
+            publisher,
+            port,
+            from,
+            turn: None,
+            to: None,
+            end: End::There,
+        }
+    }
 }
 
 /// What else is drawn in the lane of a port.
@@ -97,8 +97,9 @@ pub(crate) struct Story {
     pub(crate) commands: Vec<String>,
     pub(crate) replies: Vec<String>,
     pub(crate) ports: Vec<Port>,
-    pub(crate) loans: Vec<Loan>,
-    pub(crate) visits: Vec<Visit>,
+    pub(crate) loans: Vec<Stay>,
+    /// The messages in mailboxes.
+    pub(crate) visits: Vec<Stay>,
     pub(crate) marks: Vec<Mark>,
     pub(crate) points: Vec<Point>,
     /// By message number, the first value and how many there are.

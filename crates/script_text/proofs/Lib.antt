@@ -1,3 +1,4 @@
+pub mod CallLines
 pub mod LineFeeds
 pub mod LineLemmas
 pub mod ReplyLines

@@ -53,29 +53,11 @@ command-refused line words (Some found) same refused = tt
 -- More than 8 words name no command.
 pub words-long : (words : Words) → 8 < words.count → (c : Command ℕ ℕ) → ¬ IsCommandLine words c
 words-long words long command.Nothing names = omega (arith, long, names.0)
-words-long words long (command.LoanUninit a) names = omega (arith, long, names.0.0)
-words-long words long (command.Loan a) names = omega (arith, long, names.0.0)
-words-long words long (command.LoanSlice a b) names = omega (arith, long, names.0.0)
-words-long words long (command.WriteAll a b) names = omega (arith, long, names.0.0)
-words-long words long (command.WriteCell a b d) names = omega (arith, long, names.0.0)
-words-long words long (command.SetPayload a b d) names = omega (arith, long, names.0.0)
-words-long words long (command.AssumeInit a) names = omega (arith, long, names.0.0)
-words-long words long (command.WriteHeader a b) names = omega (arith, long, names.0.0)
-words-long words long (command.Send a) names = omega (arith, long, names.0.0)
-words-long words long (command.SendCopy a b) names = omega (arith, long, names.0.0)
-words-long words long (command.Discard a) names = omega (arith, long, names.0.0)
-words-long words long (command.GiveUp a) names = omega (arith, long, names.0.0)
-words-long words long (command.Update a) names = omega (arith, long, names.0.0)
-words-long words long (command.Receive a) names = omega (arith, long, names.0.0)
-words-long words long (command.HasSamples a) names = omega (arith, long, names.0.0)
-words-long words long (command.Close a) names = omega (arith, long, names.0.0)
-words-long words long (command.ReadHeader a) names = omega (arith, long, names.0.0)
-words-long words long (command.ReadUserHeader a) names = omega (arith, long, names.0.0)
-words-long words long (command.Release a) names = omega (arith, long, names.0.0)
-words-long words long (command.CreatePublisher a b d e f h k) names = elim names.3 [ inl short ↦ omega (arith, long, short.0) | inr full ↦ omega (arith, long, full.0) ]
+words-long words long (command.CreatePublisher a) names = elim names.3 [ inl short ↦ omega (arith, long, short.0) | inr full ↦ omega (arith, long, full.0) ]
 words-long words long (command.CreateSubscriber a b) names = elim names.2 [ inl short ↦ omega (arith, long, short.0) | inr full ↦ omega (arith, long, full.0) ]
 words-long words long (command.Retry a b) names = elim names.2 [ inl short ↦ omega (arith, long, short.0) | inr full ↦ omega (arith, long, full.0) ]
 words-long words long (command.Read a b) names = elim names.2 [ inl short ↦ omega (arith, long, short.0) | inr full ↦ omega (arith, long, full.0) ]
+words-long words long c names = omega (arith, long, names.0.0)
 
 -- A line with more than 8 words names no command.
 pub command-long : (line : List ℕ) → 8 < length (line_words line) → (c : Command ℕ ℕ) → ¬ NamesCommand line c

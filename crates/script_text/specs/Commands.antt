@@ -17,6 +17,8 @@ use Rattle.iox2_machine.specs.declared.backpressure.BackpressureAction.TheVarian
 use Rattle.iox2_machine.specs.declared.degradation.DegradationAction.{DegradationAction}
 use Rattle.iox2_machine.specs.declared.degradation.DegradationAction.TheVariants.{Ignore, Warn, DegradeAndFail}
 use Rattle.iox2_machine.specs.machine.Delivery.{no_time}
+use Rattle.iox2_commands.specs.NewPublishers.{publisher_with}
+use Rattle.iox2_commands.specs.declared.new_publisher.NewPublisher.{NewPublisher}
 use Rattle.iox2_commands.specs.declared.command.Command.{Command}
 use Rattle.iox2_commands.specs.declared.command.Command.TheVariants as command
 
@@ -110,12 +112,12 @@ pub record IsDomainLine (words : Words) (config : ServiceConfig) : Type 0 where
 
 -- `pub L retry` or `.. discard`: a publisher with so many loans and this strategy, whose memory is static. With five words more:
 -- how its memory grows, the length of a slice that its first slots hold, the number of its slots, and its handlers' answers.
-abbrev pub IsPublisherLine : Words → (loans : ℕ) → BackpressureStrategy → AllocationStrategy → (len : ℕ) → (slots : Option ℕ) → DegradationAction → Option BackpressureAction → Type 0
-IsPublisherLine words loans strategy allocation len slots degradation backpressure =
-    (words.word 0 ≡ codes "pub") × IsNumberAt words 1 loans × IsStrategy (words.word 2) strategy
-    × ((words.count ≡ 3) × (allocation ≡ Static) × (len ≡ 1) × (slots ≡ None) × (degradation ≡ Warn) × (backpressure ≡ None)
-    ⊎ (words.count ≡ 8) × IsAllocation (words.word 3) allocation × IsNumberAt words 4 len × IsSizeOrMost (words.word 5) slots
-    × IsDegradation (words.word 6) degradation × IsHandler (words.word 7) backpressure)
+abbrev pub IsPublisherLine : Words → NewPublisher → Type 0
+IsPublisherLine words asked =
+    (words.word 0 ≡ codes "pub") × IsNumberAt words 1 asked.loans × IsStrategy (words.word 2) asked.strategy
+    × ((words.count ≡ 3) × (asked ≡ publisher_with asked.loans asked.strategy)
+    ⊎ (words.count ≡ 8) × IsAllocation (words.word 3) asked.allocation × IsNumberAt words 4 asked.initial_max_slice_len
+    × IsSizeOrMost (words.word 5) asked.override_slots × IsDegradation (words.word 6) asked.degradation × IsHandler (words.word 7) asked.backpressure)
 
 -- `sub B`: a subscriber with this buffer. With one word more: its handler's answer.
 abbrev pub IsSubscriberLine : Words → Option ℕ → DegradationAction → Type 0
@@ -140,8 +142,7 @@ IsReadLine words of at =
 abbrev pub IsCommandLine : Words → Command ℕ ℕ → Type 0
 -- `nothing` does nothing.
 IsCommandLine words command.Nothing = HasForm words (codes "nothing") 1
-IsCommandLine words (command.CreatePublisher loans strategy allocation initial_max_slice_len override_slots degradation backpressure) =
-    IsPublisherLine words loans strategy allocation initial_max_slice_len override_slots degradation backpressure
+IsCommandLine words (command.CreatePublisher asked) = IsPublisherLine words asked
 IsCommandLine words (command.CreateSubscriber buffer degradation) = IsSubscriberLine words buffer degradation
 -- `loan N`, `default N`, `slice N L`: a loan of publisher N, unwritten, of a default value, or of so many elements.
 IsCommandLine words (command.LoanUninit of) = HasForm words (codes "loan") 2 × IsNameAt words 1 of

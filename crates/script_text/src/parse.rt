@@ -8,7 +8,9 @@ ghost use Rattle.iox2_machine.specs.declared.service_config.TypeVariant.{TypeVar
 ghost use Rattle.iox2_machine.specs.declared.backpressure.BackpressureStrategy.{BackpressureStrategy};
 ghost use Rattle.iox2_machine.specs.declared.service_config.ServiceConfig.{ServiceConfig};
 ghost use Rattle.iox2_commands.specs.declared.command.Command.{Command};
-ghost use Rattle.script_text.specs.Commands.{IsAllocation, IsCommandLine, IsDegradation, IsDomainLine, IsHandler, IsKind, IsMode, IsSizeOrMost, IsStrategy, NamesCommand, NamesDomain};
+ghost use Rattle.iox2_commands.specs.declared.new_publisher.NewPublisher.{NewPublisher};
+ghost use Rattle.script_text.specs.Commands.{IsAllocation, IsCommandLine, IsDegradation, IsDomainLine, IsHandler, IsKind, IsMode, IsPublisherLine, IsSizeOrMost, IsStrategy, NamesCommand, NamesDomain};
+ghost use Rattle.script_text.specs.Calls.{IsCall, IsCallWith, IsWrite};
 ghost use Rattle.script_text.specs.Numbers.{IsNumber, position_of, value_of};
 ghost use Rattle.script_text.specs.ScriptText.{IsRefused, IsScript};
 ghost use Rattle.script_text.specs.Words.{line_words, texts, words_in};
@@ -16,7 +18,7 @@ ghost use Rattle.script_text.specs.Words.{line_words, texts, words_in};
 use crate::failure::ScriptError;
 use crate::lines::Lines;
 use arrayvec::ArrayVec;
-use iox2_commands::Command;
+use iox2_commands::{Command, NewPublisher};
 use iox2_machine::{
     AllocationStrategy, BackpressureAction, BackpressureStrategy, DegradationAction, ServiceConfig,
     TypeVariant,
@@ -152,17 +154,42 @@ fn parse_command(words: &[&str]) -> Option<Command<u64, u64>>
     ensures reads { IfSome result (IsCommandLine (words_in words.now)) }
     ensures refuses { IfNone result ((command : Command ℕ ℕ) → ¬ IsCommandLine (words_in words.now) command) }
 {
-    let command = match *words {
-        ["nothing"] => Command::Nothing,
-        ["pub", loans, strategy] => Command::CreatePublisher {
-            loans: parse_size(loans)?,
-            strategy: parse_strategy(strategy)?,
-            allocation: AllocationStrategy::Static,
-            initial_max_slice_len: 1,
-            override_slots: None,
+    match *words {
+        ["nothing"] => Some(Command::Nothing),
+        ["pub", _, _] => Some(Command::CreatePublisher(parse_publisher(words)?)),
+        ["pub", _, _, _, _, _, _, _] => Some(Command::CreatePublisher(parse_publisher(words)?)),
+        ["sub", buffer] => Some(Command::CreateSubscriber {
+            buffer: parse_size_or_most(buffer)?,
             degradation: DegradationAction::Warn,
-            backpressure: None,
-        },
+        }),
+        ["sub", buffer, degradation] => Some(Command::CreateSubscriber {
+            buffer: parse_size_or_most(buffer)?,
+            degradation: parse_degradation(degradation)?,
+        }),
+        ["retry", of, seconds, nanoseconds] => Some(Command::Retry {
+            of: parse_name(of)?,
+            elapsed: parse_elapsed(seconds, nanoseconds)?,
+        }),
+        [call, of] => parse_call(call, parse_name(of)?),
+        [call, of, number] => {
+            let of = parse_name(of)?;
+            parse_call_with(call, of, parse_number(number)?)
+        }
+        [call, of, at, value] => parse_write(call, of, at, value),
+        _ => None,
+    }
+}
+
+/// The publisher that a line asks for: one that is static, or one with all its settings.
+fn parse_publisher(words: &[&str]) -> Option<NewPublisher>
+    ensures reads { IfSome result (IsPublisherLine (words_in words.now)) }
+    ensures refuses { IfNone result ((asked : NewPublisher) → ¬ IsPublisherLine (words_in words.now) asked) }
+{
+    match *words {
+        ["pub", loans, strategy] => {
+            let loans = parse_size(loans)?;
+            Some(NewPublisher::new(loans, parse_strategy(strategy)?))
+        }
         [
             "pub",
             loans,
@@ -172,7 +199,7 @@ fn parse_command(words: &[&str]) -> Option<Command<u64, u64>>
             slots,
             degradation,
             handler,
-        ] => Command::CreatePublisher {
+        ] => Some(NewPublisher {
             loans: parse_size(loans)?,
             strategy: parse_strategy(strategy)?,
             allocation: parse_allocation(allocation)?,
@@ -180,82 +207,73 @@ fn parse_command(words: &[&str]) -> Option<Command<u64, u64>>
             override_slots: parse_size_or_most(slots)?,
             degradation: parse_degradation(degradation)?,
             backpressure: parse_handler(handler)?,
+        }),
+        _ => None,
+    }
+}
+
+/// The call of this name, on what the command at the position made.
+fn parse_call(call: &str, of: usize) -> Option<Command<u64, u64>>
+    ensures reads { IfSome result (IsCall call.now of) }
+    ensures refuses { IfNone result ((command : Command ℕ ℕ) → ¬ IsCall call.now of command) }
+{
+    Some(match call {
+        "loan" => Command::LoanUninit { of },
+        "default" => Command::Loan { of },
+        "init" => Command::AssumeInit { of },
+        "send" => Command::Send { of },
+        "discard" => Command::Discard { of },
+        "retry" => Command::Retry {
+            of,
+            elapsed: Duration::ZERO,
         },
-        ["sub", buffer] => Command::CreateSubscriber {
-            buffer: parse_size_or_most(buffer)?,
-            degradation: DegradationAction::Warn,
-        },
-        ["sub", buffer, degradation] => Command::CreateSubscriber {
-            buffer: parse_size_or_most(buffer)?,
-            degradation: parse_degradation(degradation)?,
-        },
-        ["retry", of, seconds, nanoseconds] => Command::Retry {
-            of: parse_name(of)?,
-            elapsed: parse_elapsed(seconds, nanoseconds)?,
-        },
-        [call, of] => {
-            let of = parse_name(of)?;
-            match call {
-                "loan" => Command::LoanUninit { of },
-                "default" => Command::Loan { of },
-                "init" => Command::AssumeInit { of },
-                "send" => Command::Send { of },
-                "discard" => Command::Discard { of },
-                "retry" => Command::Retry {
-                    of,
-                    elapsed: Duration::ZERO,
-                },
-                "giveup" => Command::GiveUp { of },
-                "update" => Command::Update { of },
-                "recv" => Command::Receive { of },
-                "has" => Command::HasSamples { of },
-                "read" => Command::Read { of, at: 0 },
-                "header" => Command::ReadHeader { of },
-                "user" => Command::ReadUserHeader { of },
-                "release" => Command::Release { of },
-                "close" => Command::Close { of },
-                _ => return None,
-            }
-        }
-        [call, of, number] => {
-            let of = parse_name(of)?;
-            match call {
-                "slice" => Command::LoanSlice {
-                    of,
-                    len: parse_size(number)?,
-                },
-                "write" => Command::WriteAll {
-                    of,
-                    value: parse_number(number)?,
-                },
-                "user" => Command::WriteHeader {
-                    of,
-                    value: parse_number(number)?,
-                },
-                "copy" => Command::SendCopy {
-                    of,
-                    value: parse_number(number)?,
-                },
-                "read" => Command::Read {
-                    of,
-                    at: parse_size(number)?,
-                },
-                _ => return None,
-            }
-        }
-        [call, of, at, value] => {
-            let of = parse_name(of)?;
-            let at = parse_size(at)?;
-            let value = parse_number(value)?;
-            match call {
-                "cell" => Command::WriteCell { of, at, value },
-                "set" => Command::SetPayload { of, at, value },
-                _ => return None,
-            }
-        }
+        "giveup" => Command::GiveUp { of },
+        "update" => Command::Update { of },
+        "recv" => Command::Receive { of },
+        "has" => Command::HasSamples { of },
+        "read" => Command::Read { of, at: 0 },
+        "header" => Command::ReadHeader { of },
+        "user" => Command::ReadUserHeader { of },
+        "release" => Command::Release { of },
+        "close" => Command::Close { of },
         _ => return None,
-    };
-    Some(command)
+    })
+}
+
+/// The call of this name with a number, on what the command at the position made.
+fn parse_call_with(call: &str, of: usize, number: u64) -> Option<Command<u64, u64>>
+    ensures reads { IfSome result (IsCallWith call.now of number) }
+    ensures refuses { IfNone result ((command : Command ℕ ℕ) → ¬ IsCallWith call.now of number command) }
+{
+    Some(match call {
+        "slice" => Command::LoanSlice {
+            of,
+            len: number as usize,
+        },
+        "write" => Command::WriteAll { of, value: number },
+        "user" => Command::WriteHeader { of, value: number },
+        "copy" => Command::SendCopy { of, value: number },
+        "read" => Command::Read {
+            of,
+            at: number as usize,
+        },
+        _ => return None,
+    })
+}
+
+/// The write of one cell or value of a loan.
+fn parse_write(call: &str, of: &str, at: &str, value: &str) -> Option<Command<u64, u64>>
+    ensures reads { IfSome result (IsWrite call.now of.now at.now value.now) }
+    ensures refuses { IfNone result ((command : Command ℕ ℕ) → ¬ IsWrite call.now of.now at.now value.now command) }
+{
+    let of = parse_name(of)?;
+    let at = parse_size(at)?;
+    let value = parse_number(value)?;
+    match call {
+        "cell" => Some(Command::WriteCell { of, at, value }),
+        "set" => Some(Command::SetPayload { of, at, value }),
+        _ => None,
+    }
 }
 
 /// How a publisher's memory grows.

@@ -6,7 +6,7 @@ use crate::config::strategy_of;
 use crate::numbers::{PublisherNumbers, SubscriberNumbers};
 use crate::options::{PublisherOptions, SubscriberOptions, allocation_of, degradation_of};
 use call_recorder::Name;
-use iox2_commands::{Command, Reply};
+use iox2_commands::{Command, NewPublisher, Reply};
 use iox2_pubsub::{
     BackpressureAction, BackpressureHandler, ConnectionFailure, DegradationAction,
     DegradationHandler,
@@ -18,7 +18,7 @@ impl Recording {
         let Some(recorder) = &mut self.recorder else {
             return;
         };
-        let command = Command::CreatePublisher {
+        let command = Command::CreatePublisher(NewPublisher {
             loans: options.max_loaned_samples,
             strategy: strategy_of(options.backpressure_strategy),
             allocation: allocation_of(options.allocation_strategy),
@@ -26,7 +26,7 @@ impl Recording {
             override_slots: asked_slots(options.preallocated_samples),
             degradation: degradation_action(options.degradation),
             backpressure: handler_action(options),
-        };
+        });
         match reply {
             Reply::PublisherMade(id) => {
                 recorder.keep_maker(Name::Publisher(id.value()), command, reply);

@@ -2,23 +2,15 @@
 
 use crate::tests::runs::{CREATE_SUBSCRIBER, replies_to_numbers};
 use iox2_fixtures::settings;
-use iox2_machine::{
-    AllocationStrategy, BackpressureStrategy, DegradationAction, ServiceConfig, UniquePublisherId,
-};
+use iox2_machine::{BackpressureStrategy, ServiceConfig, UniquePublisherId};
 use iox2_pubsub::Domain;
-use iox2_runs::{Command, Reply};
+use iox2_runs::{Command, NewPublisher, Reply};
 use std::time::Duration;
 
 // The command that makes a publisher that waits, with one loan.
-const WAITING_PUBLISHER: Command<u64, u8> = Command::CreatePublisher {
-    loans: 1,
-    strategy: BackpressureStrategy::RetryUntilDelivered,
-    allocation: AllocationStrategy::Static,
-    initial_max_slice_len: 1,
-    override_slots: None,
-    degradation: DegradationAction::Warn,
-    backpressure: None,
-};
+fn waiting_publisher() -> Command<u64, u8> {
+    Command::CreatePublisher(NewPublisher::new(1, BackpressureStrategy::RetryUntilDelivered))
+}
 
 // A send that the first run leaves blocked stays so, and hinders no other publisher.
 #[test]
@@ -30,14 +22,14 @@ fn a_send_may_be_left_blocked(rt: HostRuntime) {
     let mut domain: Domain<u64, u8> = Domain::new(rt.alloc(), config).expect(&rt, "a domain");
     let commands = [
         CREATE_SUBSCRIBER,
-        WAITING_PUBLISHER,
+        waiting_publisher(),
         Command::SendCopy { of: 1, value: 1 },
         Command::SendCopy { of: 1, value: 2 },
     ];
     let commands = Vec::from_array(rt.alloc(), commands).expect(&rt, "commands");
     let first = replies_to_numbers(rt.alloc(), &mut domain, commands);
     let commands = [
-        WAITING_PUBLISHER,
+        waiting_publisher(),
         Command::Nothing,
         Command::SendCopy { of: 0, value: 3 },
         Command::Retry {

@@ -4,11 +4,11 @@ ghost use Rattle.iox2_commands.specs.Refusals.{TellNoRefusal};
 
 use iox2_fixtures::smallest;
 use iox2_machine::{
-    AllocationStrategy, BackpressureAction, BackpressureStrategy, DegradationAction, SendError,
-    ServiceConfig, SubscriberCreateError, TypeVariant, UniquePublisherId, UniqueSubscriberId,
+    BackpressureAction, BackpressureStrategy, DegradationAction, SendError, ServiceConfig,
+    SubscriberCreateError, TypeVariant, UniquePublisherId, UniqueSubscriberId,
 };
 use iox2_pubsub::Domain;
-use iox2_runs::{Command, Reply, compare_runs};
+use iox2_runs::{Command, NewPublisher, Reply, compare_runs};
 use std::alloc::{AllocError, Global};
 use std::process::Abort;
 
@@ -24,27 +24,17 @@ const SUBSCRIBER: Command<u64, u8> = Command::CreateSubscriber {
 };
 
 // The command that makes a publisher with one loan.
-const PUBLISHER: Command<u64, u8> = Command::CreatePublisher {
-    loans: 1,
-    strategy: BackpressureStrategy::DiscardData,
-    allocation: AllocationStrategy::Static,
-    initial_max_slice_len: 1,
-    override_slots: None,
-    degradation: DegradationAction::Warn,
-    backpressure: None,
-};
+fn publisher() -> Command<u64, u8> {
+    publisher_of(1, None)
+}
 
 // The same with slices of this length, and with this answer to a full subscriber.
 fn publisher_of(length: usize, answer: Option<BackpressureAction>) -> Command<u64, u8> {
-    Command::CreatePublisher {
-        loans: 1,
-        strategy: BackpressureStrategy::DiscardData,
-        allocation: AllocationStrategy::Static,
+    Command::CreatePublisher(NewPublisher {
         initial_max_slice_len: length,
-        override_slots: None,
-        degradation: DegradationAction::Warn,
         backpressure: answer,
-    }
+        ..NewPublisher::new(1, BackpressureStrategy::DiscardData)
+    })
 }
 
 // The command, or nothing in its place.
@@ -98,7 +88,7 @@ fn close_of_another(alloc: Global, receives: bool, releases: bool) -> Result<Com
     let commands = [
         SUBSCRIBER,
         SUBSCRIBER,
-        PUBLISHER,
+        publisher(),
         Command::LoanUninit { of: 2 },
         Command::WriteAll { of: 3, value: 1 },
         Command::Send { of: 3 },
@@ -122,7 +112,7 @@ fn close_with_a_sample(alloc: Global, other_receives: bool) -> Result<Commands, 
     let commands = [
         SUBSCRIBER,
         SUBSCRIBER,
-        PUBLISHER,
+        publisher(),
         Command::LoanUninit { of: 2 },
         Command::WriteAll { of: 3, value: 1 },
         Command::Send { of: 3 },
@@ -202,7 +192,7 @@ fn answers_with_a_receive() -> [Reply<u64, u8>; 9] {
 
 #[test]
 fn a_subscriber_sees_the_same_beside_a_slower_one(rt: HostRuntime) {
-    let (replies, others) = two_messages_compared(&rt, rt.alloc(), &two_subscribers(), PUBLISHER);
+    let (replies, others) = two_messages_compared(&rt, rt.alloc(), &two_subscribers(), publisher());
     let mut slower = answers_with_a_receive();
     slower[4] = Reply::Done;
     slower[5] = Reply::Delivered(0);
@@ -217,7 +207,7 @@ fn runs_are_compared_where_buffers_overflow(rt: HostRuntime) {
         enable_safe_overflow: true,
         ..two_subscribers()
     };
-    let (replies, others) = two_messages_compared(&rt, rt.alloc(), &config, PUBLISHER);
+    let (replies, others) = two_messages_compared(&rt, rt.alloc(), &config, publisher());
     let mut expected = answers_with_a_receive();
     expected[5] = Reply::Delivered(2);
     expected[7] = Reply::Cell(Some(2));
@@ -245,7 +235,7 @@ fn runs_are_compared_where_an_element_has_many_units(rt: HostRuntime) {
         units_per_element: 2,
         ..two_subscribers()
     };
-    let (replies, others) = two_messages_compared(&rt, rt.alloc(), &config, PUBLISHER);
+    let (replies, others) = two_messages_compared(&rt, rt.alloc(), &config, publisher());
     let mut expected = answers_with_a_receive();
     for index in 3..9 {
         expected[index] = Reply::Skipped;
@@ -364,41 +354,18 @@ fn a_subscriber_sees_the_same_where_it_is_closed_with_a_sample(rt: HostRuntime) 
     assert!(rt; others.as_slice() == without.as_slice());
 }
 
-// Before these, 100 subscribers were made. The first of the two that follow receives a message.
-const WITH_A_LATE_RECEIVE: [Command<u64, u8>; 9] = [
-    SUBSCRIBER,
-    SUBSCRIBER,
-    PUBLISHER,
-    Command::LoanUninit { of: 102 },
-    Command::WriteAll { of: 103, value: 1 },
-    Command::Send { of: 103 },
-    Command::Receive { of: 100 },
-    Command::Receive { of: 101 },
-    Command::Read { of: 107, at: 0 },
-];
-
-// The same, but it receives nothing.
-const WITHOUT_IT_LATE: [Command<u64, u8>; 9] = [
-    SUBSCRIBER,
-    SUBSCRIBER,
-    PUBLISHER,
-    Command::LoanUninit { of: 102 },
-    Command::WriteAll { of: 103, value: 1 },
-    Command::Send { of: 103 },
-    Command::Nothing,
-    Command::Receive { of: 101 },
-    Command::Read { of: 107, at: 0 },
-];
-
-// The commands, after those that make 100 subscribers.
-fn after_many_subscribers(
-    rt: &impl Abort,
-    alloc: Global,
-    last: &[Command<u64, u8>],
-) -> Vec<Command<u64, u8>> {
-    let mut commands = Vec::from_array(alloc, [SUBSCRIBER; 100]).expect(rt, "subscribers");
-    commands.extend_from_slice(last).expect(rt, "commands");
-    commands
+// Of two subscribers that come after 100 others the first receives a message, or doesn't.
+fn after_many_subscribers(alloc: Global, receives: bool) -> Result<Commands, AllocError> {
+    let mut commands = Vec::from_array(alloc, [SUBSCRIBER; 102])?;
+    let last = [
+        publisher(),
+        Command::SendCopy { of: 102, value: 1 },
+        if_kept(receives, Command::Receive { of: 100 }),
+        Command::Receive { of: 101 },
+        Command::Read { of: 105, at: 0 },
+    ];
+    commands.extend_from_slice(&last)?;
+    Ok(commands)
 }
 
 // Whether the domain of a run was refused no connection, as the law of two runs asks.
@@ -416,18 +383,18 @@ fn runs_are_compared_after_more_warnings_than_are_kept(rt: HostRuntime) {
         subscriber_expired_connection_buffer: 0,
         ..smallest()
     };
-    let commands = after_many_subscribers(&rt, rt.alloc(), &WITH_A_LATE_RECEIVE);
-    let reduced = after_many_subscribers(&rt, rt.alloc(), &WITHOUT_IT_LATE);
+    let commands = after_many_subscribers(rt.alloc(), true).expect(&rt, "commands");
+    let reduced = after_many_subscribers(rt.alloc(), false).expect(&rt, "fewer commands");
     let ends: Option<(End, End)> = compare_runs(rt.alloc(), &config, commands, reduced);
     let (first, second) = ends.expect(&rt, "two runs");
     assert!(rt; met_no_refusal(&first) && met_no_refusal(&second));
     let replies = replies_of(first);
     let others = replies_of(second);
-    assert!(rt; matches!(replies.get(105), Some(Reply::Delivered(102))));
-    assert!(rt; matches!(replies.get(106), Some(Reply::Sample(_))));
-    assert!(rt; matches!(others.get(106), Some(Reply::Done)));
-    assert!(rt; matches!(replies.get(107), Some(Reply::Sample(_))));
-    assert!(rt; matches!(others.get(107), Some(Reply::Sample(_))));
-    assert!(rt; matches!(replies.get(108), Some(Reply::Cell(Some(1)))));
-    assert!(rt; matches!(others.get(108), Some(Reply::Cell(Some(1)))));
+    assert!(rt; matches!(replies.get(103), Some(Reply::Delivered(102))));
+    assert!(rt; matches!(replies.get(104), Some(Reply::Sample(_))));
+    assert!(rt; matches!(others.get(104), Some(Reply::Done)));
+    assert!(rt; matches!(replies.get(105), Some(Reply::Sample(_))));
+    assert!(rt; matches!(others.get(105), Some(Reply::Sample(_))));
+    assert!(rt; matches!(replies.get(106), Some(Reply::Cell(Some(1)))));
+    assert!(rt; matches!(others.get(106), Some(Reply::Cell(Some(1)))));
 }

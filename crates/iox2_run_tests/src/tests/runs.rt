@@ -6,11 +6,10 @@ ghost use Rattle.iox2_machine.specs.machine.State.{State, Messages};
 
 use iox2_fixtures::settings;
 use iox2_machine::{
-    AllocationStrategy, BackpressureStrategy, DegradationAction, PublisherCreateError,
-    UniquePublisherId,
+    BackpressureStrategy, DegradationAction, PublisherCreateError, UniquePublisherId,
 };
 use iox2_pubsub::Domain;
-use iox2_runs::{Command, Reply, run};
+use iox2_runs::{Command, NewPublisher, Reply, run};
 use std::alloc::Global;
 
 pub(crate) const CREATE_SUBSCRIBER: Command<u64, u8> = Command::CreateSubscriber {
@@ -20,15 +19,7 @@ pub(crate) const CREATE_SUBSCRIBER: Command<u64, u8> = Command::CreateSubscriber
 
 /// The command that makes a publisher with so many loans.
 pub(crate) fn create_publisher(loans: usize) -> Command<u64, u8> {
-    Command::CreatePublisher {
-        loans,
-        strategy: BackpressureStrategy::DiscardData,
-        allocation: AllocationStrategy::Static,
-        initial_max_slice_len: 1,
-        override_slots: None,
-        degradation: DegradationAction::Warn,
-        backpressure: None,
-    }
+    Command::CreatePublisher(NewPublisher::new(loans, BackpressureStrategy::DiscardData))
 }
 
 /// Replies of a run whose types have one default value each, which the run uses throughout.

@@ -1,23 +1,18 @@
 use iox2_fixtures::{settings, smallest};
 use iox2_machine::{
-    AllocationStrategy, BackpressureStrategy, DegradationAction, LoanError, ServiceConfig,
-    TypeVariant, UniquePublisherId, UniqueSubscriberId, worst_case_slots,
+    BackpressureStrategy, DegradationAction, LoanError, ServiceConfig, TypeVariant,
+    UniquePublisherId, UniqueSubscriberId, worst_case_slots,
 };
 use iox2_pubsub::Domain;
-use iox2_runs::{Command, Reply, run, worst_case_commands};
+use iox2_runs::{Command, NewPublisher, Reply, is_granted, run, worst_case_commands};
 use std::alloc::Global;
 use std::process::Abort;
 
 fn publisher(slots: Option<usize>) -> Command<u64, u8> {
-    Command::CreatePublisher {
-        loans: 1,
-        strategy: BackpressureStrategy::DiscardData,
-        allocation: AllocationStrategy::Static,
-        initial_max_slice_len: 1,
+    Command::CreatePublisher(NewPublisher {
         override_slots: slots,
-        degradation: DegradationAction::Warn,
-        backpressure: None,
-    }
+        ..NewPublisher::new(1, BackpressureStrategy::DiscardData)
+    })
 }
 
 const SUBSCRIBER: Command<u64, u8> = Command::CreateSubscriber {
@@ -135,19 +130,6 @@ fn replies_to_list(
         return None;
     };
     Some(replies)
-}
-
-// Whether a command of the list was neither skipped nor refused, and received what it was to.
-fn is_granted(reply: &Reply<u64, u8>) -> bool {
-    matches!(
-        reply,
-        Reply::PublisherMade(_)
-            | Reply::SubscriberMade(_)
-            | Reply::Loaned
-            | Reply::Done
-            | Reply::Delivered(_)
-            | Reply::Sample(_)
-    )
 }
 
 // Whether a loan found no slot.

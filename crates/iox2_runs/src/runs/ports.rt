@@ -10,44 +10,20 @@ ghost use Rattle.iox2_commands.specs.declared.command.Command.TheVariants.{Creat
 
 use super::made::Made;
 use super::publishers::make_publisher;
-use iox2_commands::Reply;
-use iox2_machine::{
-    AllocationStrategy, BackpressureAction, BackpressureFn, BackpressureStrategy,
-    DegradationAction, DegradationFn,
-};
+use iox2_commands::{NewPublisher, Reply};
+use iox2_machine::{BackpressureFn, DegradationAction, DegradationFn};
 use iox2_pubsub::{DegradationHandler, Domain, PortFactorySubscriber};
 
-/// Makes a publisher with so many loans, with that strategy, with memory that grows so and is for
-/// slices up to that length at first, with an override that asks for so many slots where there is one, with that answer to a refused connection,
-/// and with a handler that answers so where there is one, and returns it too.
+/// Makes the publisher that is asked for, and returns it too.
 pub(crate) fn create_publisher<
     T: Default + Drop,
     U: Default + Drop,
     F: BackpressureFn,
     G: DegradationFn,
->(
-    domain: &mut Domain<T, U, F, G>,
-    loans: usize,
-    strategy: BackpressureStrategy,
-    allocation: AllocationStrategy,
-    len: usize,
-    asked_slots: Option<usize>,
-    degradation: DegradationAction,
-    backpressure: Option<BackpressureAction>,
-) -> (Reply<T, U>, Made)
-    ensures { Makes fixed_handlers (defaults_of T.is_default U.is_default) domain.old domain.new
-        (CreatePublisher loans strategy allocation len asked_slots degradation backpressure) result.0 result.1 }
+>(domain: &mut Domain<T, U, F, G>, asked: NewPublisher) -> (Reply<T, U>, Made)
+    ensures { Makes fixed_handlers (defaults_of T.is_default U.is_default) domain.old domain.new (CreatePublisher asked) result.0 result.1 }
 {
-    match make_publisher(
-        domain,
-        loans,
-        strategy,
-        allocation,
-        len,
-        asked_slots,
-        degradation,
-        backpressure,
-    ) {
+    match make_publisher(domain, asked) {
         Ok(publisher) => (
             Reply::PublisherMade(publisher.id()),
             Made::Publisher(publisher),

@@ -5,68 +5,35 @@ ghost use Rattle.iox2_machine.specs.machine.Environments.{fixed_handlers};
 ghost use Rattle.iox2_machine.specs.machine.Ports.{CreatePublisher};
 ghost use Rattle.iox2_machine.specs.machine.State.{State, Messages};
 ghost use Rattle.iox2_domain.specs.Boxes.{answers_of};
-ghost use Rattle.iox2_domain.specs.Handlers.{fixed_handler};
-ghost use Rattle.iox2_domain.specs.NewPublisher.{static_publisher};
-ghost use Rattle.iox2_domain.specs.declared.handlers.HandlerMark.TheVariants.{Fixed};
 ghost use Rattle.iox2_domain.specs.Shows.{Shows};
 ghost use Rattle.iox2_pubsub.specs.Factories.{with_slots};
 ghost use Rattle.iox2_pubsub.specs.Handles.{publisher_id};
 ghost use Rattle.iox2_pubsub.specs.Live.{IsNewIn, IsReadyPublisher, Stays, publisher_port};
 ghost use Rattle.iox2_commands.specs.Step.{publisher_settings};
+ghost use Rattle.iox2_runs.specs.Services.{told};
 
+use iox2_commands::NewPublisher;
 use iox2_machine::{
-    AllocationStrategy, BackpressureAction, BackpressureFn, BackpressureHandler,
-    BackpressureStrategy, DegradationAction, DegradationFn, PublisherCreateError, TypeVariant,
+    BackpressureFn, BackpressureHandler, DegradationFn, PublisherCreateError, TypeVariant,
 };
 use iox2_pubsub::{
-    DegradationHandler, Domain, NoOverride, PortFactoryPublisher, PortHandle, Publisher, slice,
+    DegradationHandler, Domain, NoOverride, PortFactoryPublisher, PortHandle, Publisher,
 };
 
-// A factory of publishers of single values, with so many loans, memory that grows so and that answer
-// to a refused connection, which follow the strategy, or the handler with that answer where there is
-// one.
-fn value_factory<T: Drop, U: Default + Drop, F: BackpressureFn, G: DegradationFn>(
-    domain: &Domain<T, U, F, G>,
-    loans: usize,
-    strategy: BackpressureStrategy,
-    allocation: AllocationStrategy,
-    degradation: DegradationAction,
-    backpressure: Option<BackpressureAction>,
-) -> PortFactoryPublisher<F, G>
-    ensures { result.settings ≡ record (static_publisher (record { max_loaned_samples = loans; strategy = strategy; degradation = Fixed degradation; initial_max_slice_len = 1 }) (fixed_handler backpressure)) { allocation_strategy = allocation } }
+// The factory, told what the command asks of the publisher, but for its length and its slots.
+fn told<F: BackpressureFn, G: DegradationFn, H>(
+    factory: PortFactoryPublisher<F, G, NoOverride, H>,
+    asked: NewPublisher,
+) -> PortFactoryPublisher<F, G, NoOverride, H>
+    requires { factory.settings.backpressure_handler ≡ None }
+    ensures { result.settings ≡ told factory.settings asked }
 {
-    let factory = domain
-        .publisher_builder()
-        .max_loaned_samples(loans)
-        .backpressure_strategy(strategy)
-        .allocation_strategy(allocation)
-        .set_degradation_handler(DegradationHandler::Fixed(degradation));
-    match backpressure {
-        Some(action) => factory.set_backpressure_handler(BackpressureHandler::Fixed(action)),
-        None => factory,
-    }
-}
-
-// The same for publishers of slices, whose first slots have room for so many elements.
-fn slice_factory<T: Drop, U: Default + Drop, F: BackpressureFn, G: DegradationFn>(
-    domain: &Domain<T, U, F, G>,
-    loans: usize,
-    strategy: BackpressureStrategy,
-    allocation: AllocationStrategy,
-    len: usize,
-    degradation: DegradationAction,
-    backpressure: Option<BackpressureAction>,
-) -> slice::PortFactoryPublisher<F, G>
-    ensures { result.settings ≡ record (static_publisher (record { max_loaned_samples = loans; strategy = strategy; degradation = Fixed degradation; initial_max_slice_len = len }) (fixed_handler backpressure)) { allocation_strategy = allocation } }
-{
-    let factory = domain
-        .slice_publisher_builder()
-        .max_loaned_samples(loans)
-        .backpressure_strategy(strategy)
-        .allocation_strategy(allocation)
-        .initial_max_slice_len(len)
-        .set_degradation_handler(DegradationHandler::Fixed(degradation));
-    match backpressure {
+    let factory = factory
+        .max_loaned_samples(asked.loans)
+        .backpressure_strategy(asked.strategy)
+        .allocation_strategy(asked.allocation)
+        .set_degradation_handler(DegradationHandler::Fixed(asked.degradation));
+    match asked.backpressure {
         Some(action) => factory.set_backpressure_handler(BackpressureHandler::Fixed(action)),
         None => factory,
     }
@@ -127,52 +94,31 @@ fn create<
     }
 }
 
-/// Makes a publisher with so many loans and memory that grows so, with an override that asks for so
-/// many slots where there is one, and with that answer to a refused connection, which follows the
-/// strategy, or the handler with that answer where there is one. Where messages are slices, its first
-/// slots have room for so many elements.
+/// Makes the publisher that the command asks for. In a service for single values its length counts as 1.
 pub(crate) fn make_publisher<T: Drop, U: Default + Drop, F: BackpressureFn, G: DegradationFn>(
     domain: &mut Domain<T, U, F, G>,
-    loans: usize,
-    strategy: BackpressureStrategy,
-    allocation: AllocationStrategy,
-    len: usize,
-    asked_slots: Option<usize>,
-    degradation: DegradationAction,
-    backpressure: Option<BackpressureAction>,
+    asked: NewPublisher,
 ) -> Result<Publisher, PublisherCreateError>
     ensures creates { (m : Messages T U) (s : State T U) → Shows domain.old m s → (s' : State T U) × Shows domain.new m s'
         × MatchResult result
         (λ publisher. (publisher.id ≡ s.next_port)
-        × CreatePublisher fixed_handlers s (publisher_settings (s.config).variant loans strategy allocation len asked_slots degradation backpressure) s' None)
-        (λ e. CreatePublisher fixed_handlers s (publisher_settings (s.config).variant loans strategy allocation len asked_slots degradation backpressure) s' (Some e)) }
+        × CreatePublisher fixed_handlers s (publisher_settings (s.config).variant asked) s' None)
+        (λ e. CreatePublisher fixed_handlers s (publisher_settings (s.config).variant asked) s' (Some e)) }
     ensures ready { IfOk result (λ publisher. IsReadyPublisher domain.new publisher) }
     ensures new { IfOk result (λ publisher. IsNewIn domain.old (publisher_port publisher)) }
     ensures stays { Stays domain.old domain.new }
 {
     match domain.variant() {
         TypeVariant::FixedSize => {
-            let factory = value_factory(
-                domain,
-                loans,
-                strategy,
-                allocation,
-                degradation,
-                backpressure,
-            );
-            create(domain, factory, asked_slots)
+            let factory = told(domain.publisher_builder(), asked);
+            create(domain, factory, asked.override_slots)
         }
         TypeVariant::Dynamic => {
-            let factory = slice_factory(
-                domain,
-                loans,
-                strategy,
-                allocation,
-                len,
-                degradation,
-                backpressure,
-            );
-            let publisher = create(domain, factory, asked_slots)?;
+            let unasked = domain
+                .slice_publisher_builder()
+                .initial_max_slice_len(asked.initial_max_slice_len);
+            let factory = told(unasked, asked);
+            let publisher = create(domain, factory, asked.override_slots)?;
             Ok(publisher.into_inner())
         }
     }
