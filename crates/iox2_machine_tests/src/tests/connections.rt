@@ -101,6 +101,26 @@ fn too_much_room_is_refused(rt: HostRuntime) {
     }
 }
 
+// The states of three channels, and that of one which isn't there.
+fn states(connection: &Connection) -> [u64; 4] {
+    [
+        connection.channel_state(0),
+        connection.channel_state(1),
+        connection.channel_state(2),
+        connection.channel_state(3),
+    ]
+}
+
+// Whether a disconnect is hinted in each of them.
+fn hints(connection: &Connection) -> [bool; 4] {
+    [
+        connection.has_disconnect_hint(0),
+        connection.has_disconnect_hint(1),
+        connection.has_disconnect_hint(2),
+        connection.has_disconnect_hint(3),
+    ]
+}
+
 #[test]
 fn each_channel_has_a_state_of_its_own(rt: HostRuntime) {
     let mut connection = Connection::new(rt.alloc(), HOME, 2, 1, 3).expect(&rt, "a connection");
@@ -109,18 +129,8 @@ fn each_channel_has_a_state_of_its_own(rt: HostRuntime) {
     connection.change_state(2, CHANNEL_STATE_OPEN, CHANNEL_STATE_CLOSED);
     connection.set_disconnect_hint(1, CHANNEL_STATE_OPEN);
     connection.set_disconnect_hint(3, CHANNEL_STATE_OPEN);
-    let states = [
-        connection.channel_state(0),
-        connection.channel_state(1),
-        connection.channel_state(2),
-        connection.channel_state(3),
-    ];
-    let hints = [
-        connection.has_disconnect_hint(0),
-        connection.has_disconnect_hint(1),
-        connection.has_disconnect_hint(2),
-        connection.has_disconnect_hint(3),
-    ];
+    let states = states(&connection);
+    let hints = hints(&connection);
     let marked = connection.is_open() && !connection.is_closed(0);
     connection.change_state(0, CHANNEL_STATE_OPEN, CHANNEL_STATE_CLOSED);
     let unmarked = !connection.is_open() && connection.is_closed(0) && !connection.is_closed(1);
