@@ -175,7 +175,7 @@ fn lent_to_a_share(rt: &impl Abort, alloc: Global) -> Contents<Rc<u8>, Station>
     let mut contents: Contents<Rc<u8>, Station> = Contents::new(alloc, 1, 1, false, 1).expect(
         rt, "room",
     );
-    contents.start(0, 1);
+    start(&mut contents, 0, 1);
     contents
 }
 
