@@ -82,8 +82,8 @@ fn two_loans(rt: &impl Abort, alloc: Global) -> Contents<Reading, Station>
     let mut contents: Contents<Reading, Station> = Contents::new(alloc, 2, 1, false, 2).expect(
         rt, "room",
     );
-    contents.start(0, 1);
-    contents.start(1, 1);
+    start(&mut contents, 0, 1);
+    start(&mut contents, 1, 1);
     contents
 }
 
@@ -175,7 +175,7 @@ fn lent_to_a_share(rt: &impl Abort, alloc: Global) -> Contents<Rc<u8>, Station>
     let mut contents: Contents<Rc<u8>, Station> = Contents::new(alloc, 1, 1, false, 1).expect(
         rt, "room",
     );
-    contents.start(0, 1);
+    start(&mut contents, 0, 1);
     contents
 }
 
