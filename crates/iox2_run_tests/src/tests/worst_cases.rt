@@ -187,7 +187,10 @@ fn assert_list_is_granted(rt: &impl Abort, alloc: Global, config: &ServiceConfig
         "at {config:?} and {loans}"
     );
     assert_eq!(rt; counts(&replies), expected, "at {config:?} and {loans}");
-    assert!(rt; replies.iter().all(is_granted), "at {config:?} and {loans}");
+    assert!(rt;
+        replies.iter().all(|reply| is_granted(reply)),
+        "at {config:?} and {loans}"
+    );
     let fewer = replies_to_list(alloc, config, loans, Some(slots.saturating_sub(1)));
     let fewer = fewer.expect(rt, "replies");
     assert!(rt; fewer.iter().any(lacks_a_slot), "at {config:?} and {loans}");
@@ -241,7 +244,10 @@ fn lists_of_slices_are_granted_with_their_slots(rt: HostRuntime) {
 fn assert_slots_are_needed(rt: &impl Abort, alloc: Global, config: &ServiceConfig, slots: usize) {
     assert_eq!(rt; worst_case_slots(config, 1), Some(slots), "at {config:?}");
     let replies = replies_to_list(alloc, config, 1, Some(slots)).expect(rt, "replies");
-    assert!(rt; replies.iter().all(is_granted), "at {config:?}");
+    assert!(rt;
+        replies.iter().all(|reply| is_granted(reply)),
+        "at {config:?}"
+    );
     let fewer = replies_to_list(alloc, config, 1, Some(slots.saturating_sub(1)));
     let fewer = fewer.expect(rt, "replies");
     let last = fewer.as_slice().last().expect(rt, "replies");
