@@ -98,14 +98,6 @@ module _ {T U F G : Type 0} {boxes : DomainBoxes F G} (f g : Fields T U) (sound 
     taken-values m values its has = has-values (keeping boxes g) m values
         (assumed, ap (state_of (kept_of g)).loans its ∙ changed-out f g kept view n assumes.0 assumed assumes.1 reaches, had-cells (map Some values) has)
 
-    -- its headers stay
-    module _ (key key' : Key) (here : key.message ≡ n) (there : key'.message ≡ n) where
-      pub taken-header : (header : Header) → LoanHasHeader kept key header → LoanHasHeader (keeping boxes g) key' header
-      taken-header = change-header f g kept view n assumes.0 assumed assumes.1 reaches key key' here there refl
-
-      pub taken-user-header : (header : U) → LoanHasUserHeader kept key header → LoanHasUserHeader (keeping boxes g) key' header
-      taken-user-header = change-user-header f g kept view n assumes.0 assumed assumes.1 reaches key key' here there refl
-
     pub taken-stays : StaysBut (A_loan n) kept (keeping boxes g)
     taken-stays =
         let it = always-shown f kept sound view in
@@ -152,8 +144,8 @@ module _ {T U F G : Type 0} {boxes : DomainBoxes F G} (f g : Fields T U) (sound 
         key = refl;
         lent = λ lent. stays.publishers (lender_key (unwritten_key loan)) lent tt;
         lengths = λ cells values has reads. taken-lengths is cells values (subst (λ (k : ℕ). HasUnwrittenCells kept k cells) its has) (subst (λ (k : ℕ). HasValues (keeping boxes g) k values) its reads);
-        header = taken-header is (unwritten_key loan) (written_key written) its its;
-        user_header = taken-user-header is (unwritten_key loan) (written_key written) its its;
+        header = change-header f g kept view n assumes.0 assumed assumes.1 (reaches is) (unwritten_key loan) (written_key written) its its refl;
+        user_header = change-user-header f g kept view n assumes.0 assumed assumes.1 (reaches is) (unwritten_key loan) (written_key written) its its refl;
         leaves = subst (λ (k : ℕ). LeavesBut (A_loan k) kept (keeping boxes g)) (sym its) (record { stays = stays; waits = taken-waits is; up_to_date = taken-leaves is; loans_left = taken-left is });
       }
 

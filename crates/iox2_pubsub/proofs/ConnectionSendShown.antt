@@ -194,12 +194,6 @@ module _ {T U F G : Type 0} (old new : Kept T U F G) (m : Messages T U) (s : Sta
       ∙ ap (λ (t : State T U). t.loans n) shown'.state ∙ ap (state_of new).loans (sym its) ∙ has.1 in
       absurd cc
 
-  -- where it isn't blocked, its publisher waits as it did
-  unblocked-waits : (Spared : ℕ → Type 0) → (result ≡ Blocked_send → ⊥) → ((x : Publisher) → s.publishers l.publisher ≡ Some x → x.blocked ≡ None) → Waits Spared s s'
-  unblocked-waits Spared ends free =
-      free-waits Spared l.publisher s s' (send_to_connection_waits environment s n l channel place s' result h (λ (q : ℕ). q ≡ l.publisher) refl)
-      (send_to_connection_stays environment s n l channel place s' result h ends).remain free
-
   -- all but the loan stays, and its publisher where it is blocked
   keeps : (is_blocked : Bool) → BoxesStayBut (A_sent_loan n l.publisher is_blocked) old new → Waits (IsSpared (A_sent_loan n l.publisher is_blocked)) s s' → SparedPublishers (A_sent_loan n l.publisher is_blocked) old s s'
       → (m' : Messages T U) → Shows new m' s' → ((k : ℕ) (entry : Entry T U) → m k ≡ Some entry → m' k ≡ Some entry) → StaysBut (A_sent_loan n l.publisher is_blocked) old new
@@ -216,7 +210,10 @@ module _ {T U F G : Type 0} (old new : Kept T U F G) (m : Messages T U) (s : Sta
 
   pub keeps-unblocked : (result ≡ Blocked_send → ⊥) → ((x : Publisher) → s.publishers l.publisher ≡ Some x → x.blocked ≡ None) → BoxesStayBut (A_sent_loan n l.publisher false) old new
       → (m' : Messages T U) → Shows new m' s' → ((k : ℕ) (entry : Entry T U) → m k ≡ Some entry → m' k ≡ Some entry) → StaysBut (A_sent_loan n l.publisher false) old new
-  keeps-unblocked ends free boxes = keeps false boxes (unblocked-waits (IsSpared (A_sent_loan n l.publisher false)) ends free) (none-spared _ old s s' (λ _. tt))
+  keeps-unblocked ends free boxes =
+      let waits = free-waits (IsSpared (A_sent_loan n l.publisher false)) l.publisher s s' (send_to_connection_waits environment s n l channel place s' result h (λ (q : ℕ). q ≡ l.publisher) refl)
+      (send_to_connection_stays environment s n l channel place s' result h ends).remain free in
+      keeps false boxes waits (none-spared _ old s s' (λ _. tt))
 
   pub keeps-blocked : result ≡ Blocked_send → BoxesStayBut (A_sent_loan n l.publisher true) old new
       → (m' : Messages T U) → Shows new m' s' → ((k : ℕ) (entry : Entry T U) → m k ≡ Some entry → m' k ≡ Some entry) → StaysBut (A_sent_loan n l.publisher true) old new
