@@ -2,7 +2,7 @@
 ghost use Rattle.std.specs.Prelude.{◌≡◌, ◌<◌, ◌↔◌, IsTrue};
 ghost use Rattle.iox2_machine.specs.machine.Ports.{default_publisher_settings, default_subscriber_settings};
 ghost use Rattle.iox2_machine.specs.machine.Records.{Fixed};
-ghost use Rattle.iox2_ends.specs.Handlers.{marks_of};
+ghost use Rattle.iox2_connections.specs.Handlers.{marks_of};
 ghost use Rattle.iox2_pubsub.specs.Factories.{answer_of};
 ghost use Rattle.iox2_c.specs.Codes.{allocation_numbered, degradation_numbered, handler_numbered};
 ghost use Rattle.iox2_c.specs.Settings.{AreOptions, publisher_settings, settings_of, subscriber_settings};

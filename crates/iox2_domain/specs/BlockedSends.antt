@@ -8,10 +8,10 @@ use Rattle.iox2_slots.specs.SlotBook.{Book}
 use Rattle.iox2_machine.specs.machine.Numbers.{without}
 use Rattle.iox2_machine.specs.machine.Records.{Entry, Environment, BlockedSend}
 use Rattle.iox2_machine.specs.machine.Sends.{Retry, GiveUp, SendResult, DeliverAndConclude}
-use Rattle.iox2_ends.specs.Counters.{with_counters, one_holder_less}
-use Rattle.iox2_ends.specs.Mailboxes.{sender_ends}
-use Rattle.iox2_ends.specs.declared.sender.Progress.{Progress}
-use Rattle.iox2_ends.specs.declared.sender.DeliveryOutcome.{DeliveryOutcome}
+use Rattle.iox2_connections.specs.Counters.{with_counters, one_holder_less}
+use Rattle.iox2_connections.specs.Mailboxes.{sender_ends}
+use Rattle.iox2_connections.specs.declared.sender.Progress.{Progress}
+use Rattle.iox2_connections.specs.declared.sender.DeliveryOutcome.{DeliveryOutcome}
 use Rattle.iox2_domain.specs.declared.publisher_state.BlockedDelivery.{BlockedDelivery}
 use Rattle.iox2_domain.specs.Ports.{PublisherFields}
 use Rattle.iox2_domain.specs.Kept.{state_of, entries_of}

@@ -2,7 +2,7 @@
 use Rattle.std.specs.Prelude.{◌≡◌, ◌⊎◌, ℕ}
 use Rattle.std.specs.Option.{option_map}
 use Rattle.slab.specs.Slab.{Slab, get}
-use Rattle.iox2_slots.specs.Link.{Link}
+use Rattle.iox2_connections.specs.Link.{Link}
 
 -- The connections at these keys are changed so, and perhaps others of the same change; all others stay.
 pub record ChangesLinks (change : Link → Link) (keys : ℕ → Type 0) (old new : Slab Link) : Type 0 where

@@ -5,11 +5,11 @@ use Rattle.std.specs.declared.option.Option.TheVariants.{None, Some}
 use Rattle.std.specs.Option.{option_map, option_map_or, option_and_then}
 use Rattle.std.specs.List.{sum_by}
 use Rattle.slab.specs.Slab.{Slab, get, with_value}
-use Rattle.iox2_slots.specs.Link.{Link}
+use Rattle.iox2_connections.specs.Link.{Link}
 use Rattle.iox2_slots.specs.SlotBook.{Book}
 use Rattle.iox2_machine.specs.machine.Places.{is_port}
-use Rattle.iox2_ends.specs.Counters.{times, stands, with_counters}
-use Rattle.iox2_ends.specs.Leaves.{left_link, holds_slots}
+use Rattle.iox2_connections.specs.Counters.{times, stands, with_counters}
+use Rattle.iox2_connections.specs.Leaves.{left_link, holds_slots}
 use Rattle.iox2_domain.specs.Ports.{PublisherFields, SubscriberFields}
 use Rattle.iox2_domain.specs.Departures.{HasKey}
 use Rattle.iox2_domain.specs.Fields.{Fields}

@@ -8,8 +8,8 @@ use Rattle.iox2_machine.specs.machine.Records.{Entry, Environment, Loan}
 use Rattle.iox2_machine.specs.machine.Sends.{SendResult, Send_error, SendToConnection}
 use Rattle.iox2_machine.specs.declared.errors.SendError.{SendError}
 use Rattle.iox2_machine.specs.declared.errors.SendError.TheVariants.{UnableToDeliver}
-use Rattle.iox2_ends.specs.Deliveries.{begun}
-use Rattle.iox2_ends.specs.declared.sender.Progress.{Progress}
+use Rattle.iox2_connections.specs.Deliveries.{begun}
+use Rattle.iox2_connections.specs.declared.sender.Progress.{Progress}
 use Rattle.iox2_domain.specs.declared.publisher_state.BlockedDelivery.{BlockedDelivery}
 use Rattle.iox2_domain.specs.Deliveries.{with_sent}
 use Rattle.iox2_domain.specs.Fields.{Fields, kept_of}

@@ -6,7 +6,7 @@ use Rattle.std.specs.Option.{option_map}
 use Rattle.slab.specs.Slab.{Slab, get, with_value}
 use Rattle.circular_buffer.specs.Buffer.{Buffer, buffer, keep_last}
 use Rattle.iox2_machine.specs.machine.Delivery.{DeliverIn, no_time}
-use Rattle.iox2_slots.specs.Link.{Link}
+use Rattle.iox2_connections.specs.Link.{Link}
 use Rattle.iox2_machine.specs.machine.Loans.{entry_of}
 use Rattle.iox2_machine.specs.machine.Numbers.{put_at, without}
 use Rattle.iox2_machine.specs.machine.Records.{Entry, Loan, Environment}
@@ -14,14 +14,14 @@ use Rattle.iox2_machine.specs.machine.Sends.{SendResult, Delivered_to, Blocked_s
 use Rattle.iox2_machine.specs.declared.errors.SendError.TheVariants.{UnableToDeliver}
 use Rattle.iox2_slots.specs.SlotBook.{Book, holders_at}
 use Rattle.iox2_slots.specs.declared.slots.mark.SlotMark.TheVariants.{Sent}
-use Rattle.iox2_ends.specs.Counters.{HoldsItself, GrowsAlone, times, with_counters, one_holder_less, one_holder_more}
-use Rattle.iox2_ends.specs.Deliveries.{begun, end_of}
-use Rattle.iox2_ends.specs.declared.sender.Progress.{Progress}
-use Rattle.iox2_ends.specs.declared.sender.DeliveryOutcome.{DeliveryOutcome}
-use Rattle.iox2_ends.specs.Mailboxes.{mailboxes_of, sender_ends}
+use Rattle.iox2_connections.specs.Counters.{HoldsItself, GrowsAlone, times, with_counters, one_holder_less, one_holder_more}
+use Rattle.iox2_connections.specs.Deliveries.{begun, end_of}
+use Rattle.iox2_connections.specs.declared.sender.Progress.{Progress}
+use Rattle.iox2_connections.specs.declared.sender.DeliveryOutcome.{DeliveryOutcome}
+use Rattle.iox2_connections.specs.Mailboxes.{mailboxes_of, sender_ends}
 use Rattle.std.specs.declared.time.Duration.{Duration}
-use Rattle.iox2_ends.specs.Receivers.{taking_buffers}
-use Rattle.iox2_ends.specs.Recounts.{Recounts}
+use Rattle.iox2_connections.specs.Receivers.{taking_buffers}
+use Rattle.iox2_connections.specs.Recounts.{Recounts}
 use Rattle.iox2_domain.specs.Ports.{PublisherFields}
 use Rattle.iox2_domain.specs.Kept.{state_of, entries_of}
 use Rattle.iox2_domain.specs.Fields.{Fields, kept_of}

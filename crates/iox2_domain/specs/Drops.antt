@@ -3,14 +3,14 @@ use Rattle.std.specs.Prelude.{◌≡◌, ℕ, false, List, slice_index_or, slice
 use Rattle.std.specs.declared.option.Option.{Option}
 use Rattle.std.specs.declared.option.Option.TheVariants.{None, Some}
 use Rattle.slab.specs.Slab.{get}
-use Rattle.iox2_slots.specs.Link.{Link}
+use Rattle.iox2_connections.specs.Link.{Link}
 use Rattle.iox2_machine.specs.machine.Mailbox.{waiting_dropped}
 use Rattle.iox2_machine.specs.machine.Places.{occupant, set_place}
 use Rattle.iox2_machine.specs.machine.PublisherUpdate.{disconnected, sender_side, with_sender_side}
 use Rattle.iox2_machine.specs.machine.Records.{Entry}
 use Rattle.iox2_machine.specs.machine.State.{State}
-use Rattle.iox2_ends.specs.Homes.{SameHomes}
-use Rattle.iox2_ends.specs.Mailboxes.{with_box}
+use Rattle.iox2_connections.specs.Homes.{SameHomes}
+use Rattle.iox2_connections.specs.Mailboxes.{with_box}
 use Rattle.iox2_domain.specs.Ports.{PublisherFields, SubscriberFields}
 use Rattle.iox2_domain.specs.Kept.{state_of, entries_of}
 use Rattle.iox2_domain.specs.Fields.{Fields, kept_of, publisher_of}

@@ -2,14 +2,14 @@
 use Rattle.std.specs.Prelude.{◌≡◌, ℕ, slice_index_or}
 use Rattle.std.specs.declared.option.Option.TheVariants.{None, Some}
 use Rattle.slab.specs.Slab.{get}
-use Rattle.iox2_slots.specs.Link.{Link, load}
+use Rattle.iox2_connections.specs.Link.{Link, load}
 use Rattle.iox2_machine.specs.machine.Mailbox.{with_waiting}
 use Rattle.iox2_machine.specs.machine.Numbers.{last_n}
 use Rattle.iox2_machine.specs.machine.Records.{Entry}
 use Rattle.iox2_machine.specs.machine.State.{State}
 use Rattle.iox2_machine.specs.machine.WellFormed.{IsWellFormed}
-use Rattle.iox2_ends.specs.Homes.{SameHomes}
-use Rattle.iox2_ends.specs.Mailboxes.{with_box}
+use Rattle.iox2_connections.specs.Homes.{SameHomes}
+use Rattle.iox2_connections.specs.Mailboxes.{with_box}
 use Rattle.iox2_domain.specs.Ports.{PublisherFields}
 use Rattle.iox2_domain.specs.Kept.{state_of, entries_of}
 use Rattle.iox2_domain.specs.Fields.{Fields, kept_of, publisher_of}

@@ -6,7 +6,7 @@ use Rattle.std.specs.declared.option.Option.TheVariants.{None, Some}
 use Rattle.std.specs.Option.{option_map, option_map_or, option_and_then}
 use Rattle.slab.specs.Slab.{Slab, get}
 use Rattle.iox2_machine.specs.machine.Limits.{channel_count, warning_limit, segment_fits}
-use Rattle.iox2_slots.specs.Link.{Link}
+use Rattle.iox2_connections.specs.Link.{Link}
 use Rattle.iox2_machine.specs.SingleValues.{is_single_valued}
 use Rattle.iox2_slots.specs.SlotBook.{Book, IsAligned, holders_at}
 use Rattle.iox2_contents.specs.SlotContents.{ContentState, lists_for}
@@ -16,12 +16,12 @@ use Rattle.iox2_machine.specs.declared.service_config.ServiceConfig.{ServiceConf
 use Rattle.iox2_machine.specs.declared.service_config.TypeVariant.TheVariants.{FixedSize}
 use Rattle.iox2_slots.specs.declared.slots.mark.SlotMark.{SlotMark}
 use Rattle.iox2_slots.specs.declared.slots.mark.SlotMark.TheVariants.{Unwritten, Written, Sent}
-use Rattle.iox2_ends.specs.LookUp.{look_up, IsOnly}
-use Rattle.iox2_ends.specs.Homes.{IsApart, IsSenderLinked}
-use Rattle.iox2_ends.specs.Finds.{IsReceiverLinked}
-use Rattle.iox2_ends.specs.Receivers.{KnowsReceivers}
-use Rattle.iox2_ends.specs.Counters.{times, stands}
-use Rattle.iox2_ends.specs.declared.sender.ReceiverDetails.{ReceiverDetails}
+use Rattle.iox2_connections.specs.LookUp.{look_up, IsOnly}
+use Rattle.iox2_connections.specs.Homes.{IsApart, IsSenderLinked}
+use Rattle.iox2_connections.specs.Finds.{IsReceiverLinked}
+use Rattle.iox2_connections.specs.Receivers.{KnowsReceivers}
+use Rattle.iox2_connections.specs.Counters.{times, stands}
+use Rattle.iox2_connections.specs.declared.sender.ReceiverDetails.{ReceiverDetails}
 use Rattle.iox2_domain.specs.Ports.{PublisherFields, SubscriberFields, slot_length}
 use Rattle.iox2_domain.specs.declared.publisher_state.BlockedDelivery.{BlockedDelivery}
 use Rattle.iox2_domain.specs.Kept.{KeptMessage, state_of, header_of, length_of}

@@ -4,13 +4,13 @@ use Rattle.std.specs.declared.option.Option.{Option}
 use Rattle.std.specs.declared.option.Option.TheVariants.{None, Some}
 use Rattle.std.specs.Option.{option_map, option_and_then}
 use Rattle.iox2_machine.specs.machine.Channel.{Channel, new_channels}
-use Rattle.iox2_slots.specs.Link.{channel_at}
+use Rattle.iox2_connections.specs.Link.{channel_at}
 use Rattle.iox2_machine.specs.machine.Mailbox.{Mailbox, empty_mailbox}
 use Rattle.iox2_machine.specs.machine.Records.{Entry, Loan, Publisher, Subscriber}
 use Rattle.iox2_machine.specs.machine.State.{State, Warnings, Messages}
 use Rattle.iox2_machine.specs.declared.header.Header.{Header}
 use Rattle.iox2_machine.specs.declared.service_config.ServiceConfig.{ServiceConfig}
-use Rattle.iox2_ends.specs.LookUp.{look_up}
+use Rattle.iox2_connections.specs.LookUp.{look_up}
 use Rattle.iox2_domain.specs.Boxes.{DomainBoxes}
 
 -- A port and its id.

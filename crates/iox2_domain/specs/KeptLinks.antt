@@ -2,8 +2,8 @@
 use Rattle.std.specs.Prelude.{◌≡◌, ◌⊎◌, ℕ, List}
 use Rattle.std.specs.declared.option.Option.TheVariants.{Some}
 use Rattle.slab.specs.Slab.{Slab, get}
-use Rattle.iox2_slots.specs.Link.{Link, channel_at}
-use Rattle.iox2_slots.specs.declared.connection.Home.{Home}
+use Rattle.iox2_connections.specs.Link.{Link, channel_at}
+use Rattle.iox2_connections.specs.declared.connection.Home.{Home}
 use Rattle.std.specs.Option.{option_map}
 use Rattle.iox2_machine.specs.machine.Channel.{Channel, new_channels}
 

@@ -8,7 +8,7 @@ use Rattle.iox2_domain.specs.Fields.{Fields, kept_of}
 use Rattle.iox2_domain.specs.Invariant.{IsDomain, IsDomainBut}
 use Rattle.iox2_domain.specs.KeptLinks.{HasLink}
 use Rattle.slab.specs.Slab.{get}
-use Rattle.iox2_slots.specs.Link.{Link}
+use Rattle.iox2_connections.specs.Link.{Link}
 
 -- The fields agree and keep this state afterwards, and keep no entry that they didn't keep before.
 pub record Reaches {T U : Type 0} (old new : Fields T U) (s : State T U) : Type 0 where

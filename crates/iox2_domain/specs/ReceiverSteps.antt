@@ -4,7 +4,7 @@ use Rattle.std.specs.declared.option.Option.{Option}
 use Rattle.std.specs.declared.option.Option.TheVariants.{None, Some}
 use Rattle.std.specs.Option.{option_map}
 use Rattle.slab.specs.Slab.{get, with_value}
-use Rattle.iox2_slots.specs.Link.{Link}
+use Rattle.iox2_connections.specs.Link.{Link}
 use Rattle.iox2_slots.specs.SlotBook.{Book}
 use Rattle.iox2_machine.specs.machine.Limits.{warning_limit, expired_limit}
 use Rattle.iox2_machine.specs.machine.Numbers.{without}
@@ -14,8 +14,8 @@ use Rattle.iox2_machine.specs.machine.State.{State, warned, has_sender_end}
 use Rattle.iox2_machine.specs.machine.SubscriberUpdate.{ReceiverSide, Retirement, Refuse, retirement_of, after_retirement, is_refused, with_end, with_receiver_side, ConnectReceiver, ConnectAtPlace, DisconnectAtPlace, UpdateSubscriber}
 use Rattle.iox2_machine.specs.declared.errors.ConnectionFailure.{ConnectionFailure}
 use Rattle.iox2_machine.specs.declared.warning.Warning.TheVariants.{ExpiredDataDiscarded}
-use Rattle.iox2_ends.specs.Counters.{with_counters}
-use Rattle.iox2_ends.specs.Drops.{RemovesDropped}
+use Rattle.iox2_connections.specs.Counters.{with_counters}
+use Rattle.iox2_connections.specs.Drops.{RemovesDropped}
 use Rattle.iox2_domain.specs.WarningRing.{warning_ring}
 use Rattle.iox2_domain.specs.Ports.{PublisherFields, SubscriberFields}
 use Rattle.iox2_domain.specs.Kept.{state_of, entries_of}

@@ -2,7 +2,7 @@
 use Rattle.std.specs.Prelude.{◌≡◌, ◌≢◌, ℕ, true, map, slice_index, Contains}
 use Rattle.std.specs.declared.option.Option.TheVariants.{Some}
 use Rattle.slab.specs.Slab.{get}
-use Rattle.iox2_slots.specs.Link.{Link}
+use Rattle.iox2_connections.specs.Link.{Link}
 use Rattle.iox2_machine.specs.machine.Numbers.{contains}
 use Rattle.iox2_slots.specs.SlotBook.{Book}
 use Rattle.iox2_domain.specs.Fields.{Fields, numbers_of}

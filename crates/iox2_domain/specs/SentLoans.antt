@@ -8,7 +8,7 @@ use Rattle.iox2_machine.specs.machine.Sends.{SendResult, Send, Send_error}
 use Rattle.iox2_machine.specs.declared.errors.ConnectionFailure.{ConnectionFailure}
 use Rattle.iox2_machine.specs.declared.errors.SendError.{SendError}
 use Rattle.iox2_machine.specs.declared.errors.SendError.TheVariants.{UnableToDeliver}
-use Rattle.iox2_ends.specs.LookUp.{look_up}
+use Rattle.iox2_connections.specs.LookUp.{look_up}
 use Rattle.iox2_domain.specs.Handlers.{may_fail}
 use Rattle.iox2_domain.specs.Kept.{state_of, entries_of}
 use Rattle.iox2_domain.specs.Fields.{Fields, kept_of}

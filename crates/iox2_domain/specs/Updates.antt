@@ -4,11 +4,11 @@ use Rattle.std.specs.declared.option.Option.{Option}
 use Rattle.std.specs.declared.option.Option.TheVariants.{None, Some}
 use Rattle.std.specs.Option.{option_map, option_map_or, option_and_then}
 use Rattle.slab.specs.Slab.{Slab, Updates, get}
-use Rattle.iox2_slots.specs.Link.{Link, empty_link}
+use Rattle.iox2_connections.specs.Link.{Link, empty_link}
 use Rattle.iox2_machine.specs.machine.Places.{set_place, is_port}
-use Rattle.iox2_slots.specs.declared.connection.Home.{Home}
+use Rattle.iox2_connections.specs.declared.connection.Home.{Home}
 use Rattle.iox2_machine.specs.declared.degradation.DegradationInfo.{DegradationInfo}
-use Rattle.iox2_ends.specs.Mailboxes.{publisher_of_key}
+use Rattle.iox2_connections.specs.Mailboxes.{publisher_of_key}
 use Rattle.iox2_domain.specs.Ports.{PublisherFields, SubscriberFields}
 
 -- The list with the record at the place changed so, if there is one.

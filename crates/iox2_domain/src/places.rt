@@ -1,6 +1,6 @@
 //! The places of a domain's ports.
 ghost use Rattle.std.specs.Prelude.{◌≡◌, ◌==◌, ◌<◌, ◌≤◌, ◌↔◌, cond, nat_lt, slice_index_or, slice_set, vec_capacity, IsTrue, IsSomeAnd, MatchOption, OnOk};
-ghost use Rattle.iox2_ends.specs.LookUp.{look_up};
+ghost use Rattle.iox2_connections.specs.LookUp.{look_up};
 ghost use Rattle.iox2_domain.specs.Placed.{placed, lowest_empty};
 
 use crate::ports::Port;

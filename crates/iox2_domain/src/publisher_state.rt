@@ -7,8 +7,8 @@ use crate::options::PublisherOptions;
 use crate::places::{clear_in, put_at_place, reserve_place};
 use crate::ports::Port;
 use circular_buffer::HeapCircularBuffer;
-use iox2_ends::receiver::key_in;
-use iox2_ends::sender::Progress;
+use iox2_connections::receiver::key_in;
+use iox2_connections::sender::Progress;
 use iox2_machine::{
     AllocationStrategy, BackpressureAction, BackpressureHandler, BackpressureStrategy,
     DegradationAction, ServiceConfig, UniquePublisherId,
@@ -153,7 +153,7 @@ impl PublisherState {
 }
 
 impl PublisherState {
-    ghost use Rattle.iox2_ends.specs.Handlers.{marks_of};
+    ghost use Rattle.iox2_connections.specs.Handlers.{marks_of};
     ghost use Rattle.iox2_domain.specs.Handlers.{AsksFor};
 
     /// What answers for it at a full buffer. A box is among these boxes.

@@ -3,8 +3,9 @@ ghost use Rattle.std.specs.Prelude.{◌<◌, ◌↔◌, ℕ, length, Contains, I
 ghost use Rattle.iox2_domain.specs.SampleSlots.{HasNoneNumbered, IsNumberedSlot};
 
 use crate::state::DomainState;
+use iox2_connections::Connection;
 use iox2_machine::{UniquePublisherId, UniqueSubscriberId};
-use iox2_slots::{Connection, SlotBook};
+use iox2_slots::SlotBook;
 
 /// Names a message that a subscriber has borrowed, and says where it is looked for first.
 #[derive(Drop)]

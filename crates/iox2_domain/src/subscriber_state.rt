@@ -10,8 +10,8 @@ ghost use Rattle.iox2_domain.specs.Updates.{changed_at, is_open_subscriber, with
 use crate::handlers::HandlerMark;
 use crate::places::{clear_in, put_at_place, reserve_place};
 use crate::ports::Port;
-use iox2_ends::receiver::key_in;
-use iox2_ends::sender::{Receiver, ReceiverDetails};
+use iox2_connections::receiver::key_in;
+use iox2_connections::sender::{Receiver, ReceiverDetails};
 use iox2_machine::{DegradationAction, UniqueSubscriberId};
 use std::alloc::{AllocError, Global};
 use std::marker::Model;

@@ -6,16 +6,16 @@ use Rattle.std.specs.Prelude.{IsSomeAnd}
 use Rattle.std.proofs.lemmas.List.{drop_all, drop_more}
 use Rattle.std.proofs.lemmas.List.Folds.{list_all-append}
 use Rattle.slab.specs.Slab.{Slab, get}
-use Rattle.iox2_slots.specs.Link.{Link, channel_at}
+use Rattle.iox2_connections.specs.Link.{Link, channel_at}
 use Rattle.iox2_machine.specs.machine.Channel.{Channel, is_in_state}
 use Rattle.iox2_machine.specs.machine.ChannelCalls.{senders_of}
 use Rattle.iox2_machine.specs.machine.Places.{occupants}
 use Rattle.iox2_machine.specs.machine.Records.{Subscriber}
 use Rattle.iox2_machine.specs.machine.State.{State, connected_publishers}
-use Rattle.iox2_ends.specs.Finds.{IsReceivers, IsReceiverLinked}
-use Rattle.iox2_ends.specs.Homes.{IsApart}
-use Rattle.iox2_ends.specs.Mailboxes.{channels_in, receiver_ends}
-use Rattle.iox2_ends.proofs.MailboxChanges.{channels-there}
+use Rattle.iox2_connections.specs.Finds.{IsReceivers, IsReceiverLinked}
+use Rattle.iox2_connections.specs.Homes.{IsApart}
+use Rattle.iox2_connections.specs.Mailboxes.{channels_in, receiver_ends}
+use Rattle.iox2_connections.proofs.MailboxChanges.{channels-there}
 use Rattle.iox2_domain.specs.Fields.{Fields, kept_of}
 use Rattle.iox2_domain.specs.Invariant.{IsDomain}
 use Rattle.iox2_domain.specs.Kept.{state_of}

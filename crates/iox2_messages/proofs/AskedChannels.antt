@@ -6,16 +6,16 @@ use Rattle.std.specs.Prelude.{IsSomeAnd}
 use Rattle.std.proofs.lemmas.List.{drop_all, drop_more, get_or_read}
 use Rattle.std.proofs.lemmas.List.Folds.{list_any-append}
 use Rattle.slab.specs.Slab.{Slab, get}
-use Rattle.iox2_slots.specs.Link.{Link, channel_at}
+use Rattle.iox2_connections.specs.Link.{Link, channel_at}
 use Rattle.iox2_machine.specs.machine.Channel.{Channel, is_in_state}
 use Rattle.iox2_machine.specs.machine.ChannelCalls.{connection_place, place_from, some_channel_has_state}
 use Rattle.iox2_machine.specs.machine.Places.{is_port, occupant, occupants}
 use Rattle.iox2_machine.specs.machine.Records.{Publisher, Subscriber}
 use Rattle.iox2_machine.specs.machine.State.{connected_publishers}
-use Rattle.iox2_ends.specs.Finds.{IsReceivers, IsReceiverLinked}
-use Rattle.iox2_ends.specs.Homes.{IsApart, IsSenders}
-use Rattle.iox2_ends.specs.Mailboxes.{channels_in, receiver_ends, sender_ends, subscriber_of_key}
-use Rattle.iox2_ends.proofs.MailboxChanges.{channels-there, within_if_some}
+use Rattle.iox2_connections.specs.Finds.{IsReceivers, IsReceiverLinked}
+use Rattle.iox2_connections.specs.Homes.{IsApart, IsSenders}
+use Rattle.iox2_connections.specs.Mailboxes.{channels_in, receiver_ends, sender_ends, subscriber_of_key}
+use Rattle.iox2_connections.proofs.MailboxChanges.{channels-there, within_if_some}
 use Rattle.iox2_domain.specs.Fields.{Fields, kept_of}
 use Rattle.iox2_domain.specs.Invariant.{IsDomain}
 use Rattle.iox2_domain.specs.Kept.{state_of}

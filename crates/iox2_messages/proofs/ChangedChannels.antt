@@ -4,17 +4,17 @@ use Rattle.std.proofs.lemmas.Bool.{eqb-true}
 use Rattle.std.proofs.lemmas.Option.{same_Some}
 use Rattle.std.specs.Option.{option_map}
 use Rattle.slab.specs.Slab.{Slab, get}
-use Rattle.iox2_slots.specs.Link.{Link}
-use Rattle.iox2_slots.proofs.ChannelLists.{changed-reads}
-use Rattle.iox2_slots.specs.declared.connection.Home.{Home}
+use Rattle.iox2_connections.specs.Link.{Link}
+use Rattle.iox2_connections.proofs.ChannelLists.{changed-reads}
+use Rattle.iox2_connections.specs.declared.connection.Home.{Home}
 use Rattle.iox2_machine.specs.machine.Channel.{Channel, changed_if}
 use Rattle.iox2_machine.specs.machine.Limits.{channel_count}
 use Rattle.iox2_machine.specs.machine.State.{State}
-use Rattle.iox2_ends.specs.Homes.{IsApart}
-use Rattle.iox2_ends.specs.LookUp.{look_up}
-use Rattle.iox2_ends.specs.Mailboxes.{is_between, channels_if_any, channels_in}
-use Rattle.iox2_ends.proofs.LookUps.{look_up-there}
-use Rattle.iox2_ends.proofs.MailboxChanges.{both-true, channels-there}
+use Rattle.iox2_connections.specs.Homes.{IsApart}
+use Rattle.iox2_connections.specs.LookUp.{look_up}
+use Rattle.iox2_connections.specs.Mailboxes.{is_between, channels_if_any, channels_in}
+use Rattle.iox2_connections.proofs.LookUps.{look_up-there}
+use Rattle.iox2_connections.proofs.MailboxChanges.{both-true, channels-there}
 use Rattle.iox2_domain.specs.ChannelChanges.{ChangesLinks}
 use Rattle.iox2_domain.specs.Fields.{Fields, kept_of}
 use Rattle.iox2_domain.specs.Invariant.{IsDomain}

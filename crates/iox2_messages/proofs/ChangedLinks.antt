@@ -3,11 +3,11 @@ use Rattle.std.proofs.Common.{◌≡◌, ℕ, ◌+◌, ◌≤◌, Bool, true, fa
 use Rattle.std.proofs.lemmas.Bool.{cases_eq, eqb-true, eq-eqb}
 use Rattle.std.specs.Option.{option_map}
 use Rattle.slab.specs.Slab.{Slab, Updates, ContainsKey, get, with_value}
-use Rattle.iox2_slots.specs.Link.{Link, channel_at, channels_changed, having_channels}
-use Rattle.iox2_slots.proofs.ChannelLists.{changed-length, channels-twice}
+use Rattle.iox2_connections.specs.Link.{Link, channel_at, channels_changed, having_channels}
+use Rattle.iox2_connections.proofs.ChannelLists.{changed-length, channels-twice}
 use Rattle.iox2_machine.specs.machine.Channel.{Channel, is_closed, with_state}
-use Rattle.iox2_ends.specs.Finds.{HasConnections}
-use Rattle.iox2_ends.proofs.MailboxChanges.{Updates-with_value, both-true}
+use Rattle.iox2_connections.specs.Finds.{HasConnections}
+use Rattle.iox2_connections.proofs.MailboxChanges.{Updates-with_value, both-true}
 use Rattle.iox2_domain.specs.ChannelChanges.{ChangesLinks}
 use Rattle.iox2_domain.specs.Departures.{HasKey}
 use Rattle.iox2_domain.proofs.lemmas.containers.KeyWalks.{HasKeyBelow, next-key, all-keys}

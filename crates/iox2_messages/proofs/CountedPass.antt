@@ -6,12 +6,12 @@ use Rattle.std.specs.Option.{option_map}
 use Rattle.std.specs.Prelude.{IsSomeAnd}
 use Rattle.slab.specs.Slab.{Slab, ContainsKey, get, with_value}
 use Rattle.iox2_contents.specs.SlotContents.{ContentState}
-use Rattle.iox2_slots.specs.Link.{Link}
+use Rattle.iox2_connections.specs.Link.{Link}
 use Rattle.iox2_slots.specs.SlotBook.{Book, TakesFreeSlot, header_in, holders_at}
-use Rattle.iox2_ends.specs.Counters.{IsCovered, with_counters}
-use Rattle.iox2_ends.specs.Homes.{IsApart, IsSenderLinked}
-use Rattle.iox2_ends.specs.Reclaims.{Reclaims}
-use Rattle.iox2_ends.proofs.MailboxChanges.{within_if_some}
+use Rattle.iox2_connections.specs.Counters.{IsCovered, with_counters}
+use Rattle.iox2_connections.specs.Homes.{IsApart, IsSenderLinked}
+use Rattle.iox2_connections.specs.Reclaims.{Reclaims}
+use Rattle.iox2_connections.proofs.MailboxChanges.{within_if_some}
 use Rattle.iox2_domain.specs.Fields.{Fields, kept_of}
 use Rattle.iox2_domain.specs.Invariant.{IsDomain}
 use Rattle.iox2_domain.specs.Kept.{state_of}

@@ -12,7 +12,7 @@ use Rattle.iox2_machine.specs.machine.State.{State}
 use Rattle.iox2_slots.specs.SlotBook.{Book, with_more_slots}
 use Rattle.iox2_machine.specs.declared.service_config.ServiceConfig.{ServiceConfig}
 use Rattle.std.proofs.lemmas.List.{get_or-drop, get_or_past, length-drop}
-use Rattle.iox2_ends.specs.Receivers.{HasReclaimed}
+use Rattle.iox2_connections.specs.Receivers.{HasReclaimed}
 use Rattle.iox2_domain.specs.Fields.{Fields, kept_of, publisher_of}
 use Rattle.iox2_domain.specs.Growth.{Grows, HasFreeSlot, HasNoSlot, with_segment}
 use Rattle.iox2_domain.specs.Invariant.{IsDomain}

@@ -14,13 +14,13 @@ use Rattle.iox2_machine.specs.machine.Limits.{last_number}
 use Rattle.iox2_machine.specs.machine.Loans.{is_static}
 use Rattle.iox2_machine.specs.machine.State.{State}
 use Rattle.iox2_contents.specs.SlotContents.{ContentState}
-use Rattle.iox2_slots.specs.Link.{Link}
+use Rattle.iox2_connections.specs.Link.{Link}
 use Rattle.iox2_slots.specs.SlotBook.{Book, TakesFreeSlot, header_in, holders_at}
-use Rattle.iox2_ends.specs.Counters.{IsCovered, with_counters}
-use Rattle.iox2_ends.specs.Homes.{IsApart, IsSenderLinked}
-use Rattle.iox2_ends.specs.Receivers.{HasReclaimed}
-use Rattle.iox2_ends.specs.Reclaims.{Reclaims}
-use Rattle.iox2_ends.proofs.MailboxChanges.{within_if_some}
+use Rattle.iox2_connections.specs.Counters.{IsCovered, with_counters}
+use Rattle.iox2_connections.specs.Homes.{IsApart, IsSenderLinked}
+use Rattle.iox2_connections.specs.Receivers.{HasReclaimed}
+use Rattle.iox2_connections.specs.Reclaims.{Reclaims}
+use Rattle.iox2_connections.proofs.MailboxChanges.{within_if_some}
 use Rattle.iox2_domain.specs.Fields.{Fields}
 use Rattle.iox2_domain.specs.Invariant.{IsDomain}
 use Rattle.iox2_domain.specs.Lending.{IsNamed, Lends, LoanReaches, MayStart, Starts, lending}

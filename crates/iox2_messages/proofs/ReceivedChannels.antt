@@ -4,7 +4,7 @@ use Rattle.std.proofs.lemmas.Bool.{eqb-true, eq-eqb, true≢false}
 use Rattle.std.proofs.lemmas.Option.{same_Some}
 use Rattle.std.specs.Option.{option_map, option_map_or}
 use Rattle.slab.specs.Slab.{Slab, get}
-use Rattle.iox2_slots.specs.Link.{Link}
+use Rattle.iox2_connections.specs.Link.{Link}
 use Rattle.iox2_machine.specs.machine.Channel.{Channel, changed_if}
 use Rattle.iox2_machine.specs.machine.ChannelCalls.{senders_of, received_changed}
 use Rattle.iox2_machine.specs.machine.Limits.{channel_count}
@@ -12,9 +12,9 @@ use Rattle.iox2_machine.specs.machine.Numbers.{contains, put_at}
 use Rattle.iox2_machine.specs.machine.Places.{occupants}
 use Rattle.iox2_machine.specs.machine.Records.{Subscriber}
 use Rattle.iox2_machine.specs.machine.State.{State, connected_publishers}
-use Rattle.iox2_ends.specs.Finds.{IsReceivers, IsReceiverLinked}
-use Rattle.iox2_ends.specs.Mailboxes.{channels_in, publisher_of_key, receiver_ends}
-use Rattle.iox2_ends.proofs.MailboxChanges.{both-true}
+use Rattle.iox2_connections.specs.Finds.{IsReceivers, IsReceiverLinked}
+use Rattle.iox2_connections.specs.Mailboxes.{channels_in, publisher_of_key, receiver_ends}
+use Rattle.iox2_connections.proofs.MailboxChanges.{both-true}
 use Rattle.iox2_laws.proofs.NumberLemmas.{contains_left, contains_right, contains_in_append}
 use Rattle.iox2_laws.proofs.PlaceLemmas.{contains-occupants, leads_to}
 use Rattle.iox2_domain.specs.ChannelChanges.{ChangesLinks}

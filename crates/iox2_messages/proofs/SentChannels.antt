@@ -4,7 +4,7 @@ use Rattle.std.proofs.lemmas.Bool.{eqb-true, eq-eqb, true≢false}
 use Rattle.std.proofs.lemmas.Option.{same_Some}
 use Rattle.std.specs.Option.{option_map, option_map_or, option_and_then}
 use Rattle.slab.specs.Slab.{Slab, ContainsKey, get}
-use Rattle.iox2_slots.specs.Link.{Link}
+use Rattle.iox2_connections.specs.Link.{Link}
 use Rattle.iox2_machine.specs.machine.Channel.{Channel, closed_state, with_state, changed_if}
 use Rattle.iox2_machine.specs.machine.ChannelCalls.{receiver_at, sent_closed}
 use Rattle.iox2_machine.specs.machine.Limits.{channel_count}
@@ -12,9 +12,9 @@ use Rattle.iox2_machine.specs.machine.Numbers.{put_at}
 use Rattle.iox2_machine.specs.machine.Places.{occupant}
 use Rattle.iox2_machine.specs.machine.Records.{Publisher}
 use Rattle.iox2_machine.specs.machine.State.{State}
-use Rattle.iox2_ends.specs.Homes.{IsSenders}
-use Rattle.iox2_ends.specs.Mailboxes.{channels_in, subscriber_of_key}
-use Rattle.iox2_ends.proofs.MailboxChanges.{both-true}
+use Rattle.iox2_connections.specs.Homes.{IsSenders}
+use Rattle.iox2_connections.specs.Mailboxes.{channels_in, subscriber_of_key}
+use Rattle.iox2_connections.proofs.MailboxChanges.{both-true}
 use Rattle.iox2_domain.specs.ChannelChanges.{ChangesLinks}
 use Rattle.iox2_domain.specs.Fields.{Fields, kept_of}
 use Rattle.iox2_domain.specs.Invariant.{IsDomain}

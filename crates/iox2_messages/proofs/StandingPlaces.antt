@@ -1,7 +1,7 @@
 -- What stands at a place, as it is looked up.
 use Rattle.std.proofs.Common.{◌≡◌, ◌<◌, ◌∙◌, List, Option, None, Some, ℕ, length, get_or, refl, ap, sym}
 use Rattle.std.proofs.lemmas.Option.{none-some}
-use Rattle.iox2_ends.proofs.MailboxChanges.{within_if_some}
+use Rattle.iox2_connections.proofs.MailboxChanges.{within_if_some}
 use Rattle.iox2_domain.specs.Fields.{Fields}
 use Rattle.iox2_domain.specs.Ports.{PublisherFields}
 use Rattle.iox2_domain.proofs.lemmas.slots.PublisherBooks.{read-there}

@@ -11,12 +11,12 @@ use Rattle.iox2_machine.specs.declared.service_config.TypeVariant.TheVariants.{F
 use Rattle.iox2_machine.specs.machine.Limits.{last_number}
 use Rattle.iox2_machine.specs.machine.Loans.{is_static}
 use Rattle.iox2_contents.specs.SlotContents.{ContentState}
-use Rattle.iox2_slots.specs.Link.{Link}
+use Rattle.iox2_connections.specs.Link.{Link}
 use Rattle.iox2_slots.specs.SlotBook.{Book, TakesFreeSlot, header_in}
-use Rattle.iox2_ends.specs.Counters.{with_counters}
-use Rattle.iox2_ends.specs.Receivers.{HasReclaimed}
-use Rattle.iox2_ends.specs.Reclaims.{Reclaims}
-use Rattle.iox2_ends.proofs.Recounts.{Recounts-same}
+use Rattle.iox2_connections.specs.Counters.{with_counters}
+use Rattle.iox2_connections.specs.Receivers.{HasReclaimed}
+use Rattle.iox2_connections.specs.Reclaims.{Reclaims}
+use Rattle.iox2_connections.proofs.Recounts.{Recounts-same}
 use Rattle.iox2_domain.specs.Fields.{Fields, kept_of}
 use Rattle.iox2_domain.specs.Invariant.{IsDomain}
 use Rattle.iox2_domain.specs.Kept.{state_of}

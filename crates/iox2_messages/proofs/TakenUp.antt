@@ -1,8 +1,8 @@
 -- A publisher that has just reclaimed what was given back takes up its blocked delivery.
 use Rattle.std.proofs.Common.{◌≡◌, ℕ, get_or, ap, ◌∙◌}
 use Rattle.std.specs.declared.option.Option.TheVariants.{None, Some}
-use Rattle.iox2_ends.specs.declared.sender.Progress.{Progress}
-use Rattle.iox2_ends.specs.Receivers.{HasReclaimed}
+use Rattle.iox2_connections.specs.declared.sender.Progress.{Progress}
+use Rattle.iox2_connections.specs.Receivers.{HasReclaimed}
 use Rattle.iox2_domain.specs.BlockedSends.{CanGoOn}
 use Rattle.iox2_domain.specs.Fields.{Fields, kept_of}
 use Rattle.iox2_domain.specs.Kept.{state_of}

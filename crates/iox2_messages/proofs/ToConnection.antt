@@ -9,9 +9,9 @@ use Rattle.iox2_machine.specs.machine.Delivery.{no_time}
 use Rattle.iox2_machine.specs.machine.Limits.{channel_count}
 use Rattle.iox2_machine.specs.machine.Records.{Loan, Environment}
 use Rattle.iox2_machine.specs.machine.State.{is_blocked}
-use Rattle.iox2_ends.specs.declared.sender.Progress.{Progress}
-use Rattle.iox2_ends.specs.declared.sender.DeliveryOutcome.{DeliveryOutcome}
-use Rattle.iox2_ends.specs.Receivers.{HasReclaimed}
+use Rattle.iox2_connections.specs.declared.sender.Progress.{Progress}
+use Rattle.iox2_connections.specs.declared.sender.DeliveryOutcome.{DeliveryOutcome}
+use Rattle.iox2_connections.specs.Receivers.{HasReclaimed}
 use Rattle.iox2_domain.specs.BlockedSends.{GoesOn}
 use Rattle.iox2_domain.specs.ConnectionSends.{begun_at, begun_delivery, with_begun, SendsLoanTo}
 use Rattle.iox2_domain.specs.Deliveries.{result_of_send}

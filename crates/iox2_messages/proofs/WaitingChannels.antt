@@ -3,10 +3,10 @@ use Rattle.std.proofs.Common.{◌≡◌, ℕ, ◌<◌, get_or, ap, arith}
 use Rattle.std.specs.declared.option.Option.TheVariants.{None, Some}
 use Rattle.std.specs.Option.{option_map}
 use Rattle.slab.specs.Slab.{Slab}
-use Rattle.iox2_slots.specs.Link.{Link}
+use Rattle.iox2_connections.specs.Link.{Link}
 use Rattle.iox2_machine.specs.machine.Limits.{channel_count}
-use Rattle.iox2_ends.specs.Mailboxes.{sender_ends}
-use Rattle.iox2_ends.specs.Receivers.{HaveChannel}
+use Rattle.iox2_connections.specs.Mailboxes.{sender_ends}
+use Rattle.iox2_connections.specs.Receivers.{HaveChannel}
 use Rattle.iox2_domain.specs.BlockedSends.{waiting_send}
 use Rattle.iox2_domain.specs.Fields.{Fields, kept_of, numbers_of, publisher_of, blocked_send}
 use Rattle.iox2_domain.specs.Invariant.{IsDomain}

@@ -1,6 +1,6 @@
 -- What ports make of the channels of their connections.
 use Rattle.std.specs.Prelude.{ℕ}
-use Rattle.iox2_slots.specs.Link.{Link, channels_changed, having_channels}
+use Rattle.iox2_connections.specs.Link.{Link, channels_changed, having_channels}
 use Rattle.iox2_machine.specs.machine.Channel.{Channel, with_state, with_hint}
 use Rattle.iox2_messages.specs.declared.changed_channels.ChannelChange.{ChannelChange}
 use Rattle.iox2_messages.specs.declared.changed_channels.ChannelChange.TheVariants.{SetState, SetHint}

@@ -4,7 +4,7 @@ use Rattle.std.specs.List.{list_all, list_any}
 use Rattle.std.specs.Option.{option_and_then, option_map_or}
 use Rattle.std.specs.declared.option.Option.{Option}
 use Rattle.slab.specs.Slab.{Slab, get}
-use Rattle.iox2_slots.specs.Link.{Link, channel_at}
+use Rattle.iox2_connections.specs.Link.{Link, channel_at}
 use Rattle.iox2_machine.specs.machine.Channel.{is_in_state, is_hinted}
 
 -- The key leads to a connection, and the channel of that with this number is in this state.

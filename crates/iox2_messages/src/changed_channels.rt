@@ -4,8 +4,8 @@ ghost use Rattle.std.specs.Prelude.{◌≡◌, ◌<◌, ℕ, None, Some, map, sl
 ghost use Rattle.slab.specs.Slab.{ContainsKey};
 ghost use Rattle.iox2_machine.specs.machine.ChannelCalls.{received_changed, sent_closed};
 ghost use Rattle.iox2_machine.specs.machine.Limits.{channel_count};
-ghost use Rattle.iox2_slots.specs.Link.{IsBounded};
-ghost use Rattle.iox2_ends.specs.Finds.{HasConnections};
+ghost use Rattle.iox2_connections.specs.Link.{IsBounded};
+ghost use Rattle.iox2_connections.specs.Finds.{HasConnections};
 ghost use Rattle.iox2_domain.specs.ChannelChanges.{ChangesLinks};
 ghost use Rattle.iox2_domain.specs.Departures.{HasKey, KnowsKey};
 ghost use Rattle.iox2_domain.specs.Fields.{kept_of};
@@ -16,8 +16,8 @@ ghost use Rattle.iox2_domain.specs.Ports.{PublisherFields, SubscriberFields};
 ghost use Rattle.iox2_domain.specs.Reaches.{Reaches};
 ghost use Rattle.iox2_messages.specs.ChannelChanges.{changed_channel, changed_link};
 
+use iox2_connections::{CHANNEL_STATE_CLOSED, Connection};
 use iox2_domain::{DomainState, SubscriberState, key_at};
-use iox2_slots::{CHANNEL_STATE_CLOSED, Connection};
 use iox2_updates::mark_end;
 use slab::Slab;
 

@@ -4,15 +4,15 @@ ghost use Rattle.std.specs.List.{list_all};
 ghost use Rattle.iox2_machine.specs.machine.Channel.{is_in_state as is_channel_in};
 ghost use Rattle.iox2_machine.specs.machine.ChannelCalls.{connection_place, has_channel_state, has_disconnect_hint, place_from, senders_of, some_channel_has_state};
 ghost use Rattle.iox2_machine.specs.machine.Places.{is_port};
-ghost use Rattle.iox2_ends.specs.Mailboxes.{sender_ends, subscriber_of_key};
+ghost use Rattle.iox2_connections.specs.Mailboxes.{sender_ends, subscriber_of_key};
 ghost use Rattle.iox2_domain.specs.Fields.{kept_of};
 ghost use Rattle.iox2_domain.specs.Invariant.{IsDomain};
 ghost use Rattle.iox2_domain.specs.Kept.{state_of};
 ghost use Rattle.iox2_domain.specs.Ports.{PublisherFields, SubscriberFields};
 ghost use Rattle.iox2_messages.specs.KeyChannels.{all_in_state, key_hinted, key_in_no_other, key_in_state, some_in_state};
 
+use iox2_connections::Connection;
 use iox2_domain::{DomainState, key_at};
-use iox2_slots::Connection;
 use slab::Slab;
 
 // What is asked of a connection: whether its channel with this number is in this state.

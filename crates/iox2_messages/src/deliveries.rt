@@ -3,20 +3,20 @@ ghost use Rattle.std.specs.Prelude.{◌≡◌, ℕ, ◌+◌, ◌<◌, ◌≤◌,
 ghost use Rattle.std.specs.Option.{is_some};
 ghost use Rattle.iox2_slots.specs.SlotBook.{IsInUse, holders_at};
 ghost use Rattle.iox2_machine.specs.machine.Environments.{fixed_handlers};
-ghost use Rattle.iox2_ends.specs.Counters.{times};
-ghost use Rattle.iox2_ends.specs.Handlers.{asked, marks_of};
+ghost use Rattle.iox2_connections.specs.Counters.{times};
+ghost use Rattle.iox2_connections.specs.Handlers.{asked, marks_of};
 ghost use Rattle.iox2_domain.specs.Boxes.{answers_of};
 ghost use Rattle.iox2_domain.specs.Handlers.{AsksFor};
 ghost use Rattle.iox2_domain.specs.Ports.{PublisherFields};
 ghost use Rattle.iox2_domain.specs.Invariant.{IsDomain};
 ghost use Rattle.iox2_domain.specs.Deliveries.{CanSend, SendsSlot, sender_after, book_after, with_history_holder, pushed, leaving, result_of_send, with_left, with_sent};
-ghost use Rattle.iox2_ends.specs.declared.sender.DeliveryOutcome.{DeliveryOutcome};
+ghost use Rattle.iox2_connections.specs.declared.sender.DeliveryOutcome.{DeliveryOutcome};
 ghost use Rattle.iox2_messages.specs.SendEnds.{IsKept, end_result};
 
 use crate::loans::remove_loan;
 use crate::send_end::SendEnd;
+use iox2_connections::sender::{Delivery, DeliveryOutcome, Progress, deliver};
 use iox2_domain::{AskedBox, BlockedDelivery, Boxes, DomainState, PublisherState};
-use iox2_ends::sender::{Delivery, DeliveryOutcome, Progress, deliver};
 use iox2_machine::{BackpressureFn, BackpressureHandler, DegradationFn};
 use iox2_slots::{SlotBook, SlotMark};
 use std::time::Duration;

@@ -4,7 +4,7 @@ ghost use Rattle.slab.specs.Slab.{get};
 ghost use Rattle.iox2_slots.specs.SlotBook.{Book, IsInUse};
 ghost use Rattle.iox2_contents.specs.SlotContents.{ContentState, with_changed, ended_content};
 ghost use Rattle.iox2_machine.specs.machine.SingleCalls.{HoldsLoan};
-ghost use Rattle.iox2_ends.specs.Counters.{times};
+ghost use Rattle.iox2_connections.specs.Counters.{times};
 ghost use Rattle.iox2_domain.specs.Discards.{with_loan_returned, DiscardsLoan};
 ghost use Rattle.iox2_domain.specs.Fields.{kept_of};
 ghost use Rattle.iox2_domain.specs.Invariant.{IsDomain};

@@ -6,9 +6,10 @@ ghost use Rattle.iox2_domain.specs.Fields.{kept_of};
 ghost use Rattle.iox2_domain.specs.Invariant.{HasNumber, IsDomain};
 ghost use Rattle.iox2_domain.specs.SampleSlots.{IsReturnable, LiesAtHint, LiesBorrowed, LiesBorrowedInSlot};
 
+use iox2_connections::Connection;
+use iox2_connections::receiver::is_last_borrowed;
 use iox2_domain::{DomainState, MessageSlot, SampleAt, SampleSlot};
-use iox2_ends::receiver::is_last_borrowed;
-use iox2_slots::{Connection, SlotBook};
+use iox2_slots::SlotBook;
 
 /// The slot that the sample names is in use and has its number. No other slot in use has it.
 pub(crate) fn is_at_slot<T: Drop, U: Default + Drop>(

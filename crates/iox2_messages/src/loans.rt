@@ -2,7 +2,7 @@
 ghost use Rattle.std.specs.Prelude.{◌≡◌, ◌≤◌, ◌&&◌, nat_lt, false, slice_index_or, None, Some, IfOk, IsSomeAnd};
 ghost use Rattle.iox2_machine.specs.machine.Loans.{is_static};
 ghost use Rattle.iox2_machine.specs.declared.service_config.TypeVariant.TheVariants.{FixedSize};
-ghost use Rattle.iox2_ends.specs.Counters.{times};
+ghost use Rattle.iox2_connections.specs.Counters.{times};
 ghost use Rattle.iox2_domain.specs.Deliveries.{with_loan_out};
 ghost use Rattle.iox2_domain.specs.Lending.{MayStart, Starts, IsNamed, LoanReaches};
 ghost use Rattle.iox2_domain.specs.LoanSlots.{LiesInSlot};

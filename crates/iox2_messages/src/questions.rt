@@ -5,8 +5,8 @@ ghost use Rattle.iox2_domain.specs.Invariant.{IsDomain};
 ghost use Rattle.iox2_domain.specs.Ports.{SubscriberFields};
 ghost use Rattle.iox2_domain.specs.Questions.{IsWhetherWaiting, AnswersAs};
 
+use iox2_connections::receiver::has_samples;
 use iox2_domain::{Boxes, DomainState};
-use iox2_ends::receiver::has_samples;
 use iox2_machine::{BackpressureFn, ConnectionFailure, DegradationFn};
 use iox2_updates::update_subscriber;
 

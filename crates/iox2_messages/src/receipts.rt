@@ -15,12 +15,13 @@ ghost use Rattle.iox2_domain.specs.Receipts.{IsReceiptFor, TakesAs, ReceivesAs};
 ghost use Rattle.iox2_domain.specs.Updates.{is_subscriber_due};
 
 use crate::hinted_samples::{find_live_sample, is_last_at_hint};
+use iox2_connections::receiver::{Taken, let_go, receive, release};
+use iox2_connections::{Connection, Home};
 use iox2_domain::{Boxes, DomainState, Receipt, SampleAt, SampleSlot, stands_at};
-use iox2_ends::receiver::{Taken, let_go, receive, release};
 use iox2_machine::{
     BackpressureFn, DegradationFn, ReceiveError, UniquePublisherId, UniqueSubscriberId,
 };
-use iox2_slots::{Connection, Home, SlotBook};
+use iox2_slots::SlotBook;
 use iox2_updates::{forget_if_empty, free_book_if_unused, leave_if_unused, update_subscriber};
 use slab::Slab;
 

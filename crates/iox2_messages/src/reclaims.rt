@@ -1,19 +1,20 @@
 //! A publisher reclaims the slots that its subscribers gave back.
 ghost use Rattle.std.specs.Prelude.{◌≡◌, ◌<◌, ◌↔◌, None, Some, slice_index_or, IsTrue};
 ghost use Rattle.std.specs.List.{All};
-ghost use Rattle.iox2_ends.specs.Counters.{IsCovered, with_counters};
-ghost use Rattle.iox2_ends.specs.Homes.{IsApart, IsSenderLinked};
-ghost use Rattle.iox2_ends.specs.Reclaims.{Reclaims};
-ghost use Rattle.iox2_ends.specs.Receivers.{HasReclaimed};
+ghost use Rattle.iox2_connections.specs.Counters.{IsCovered, with_counters};
+ghost use Rattle.iox2_connections.specs.Homes.{IsApart, IsSenderLinked};
+ghost use Rattle.iox2_connections.specs.Reclaims.{Reclaims};
+ghost use Rattle.iox2_connections.specs.Receivers.{HasReclaimed};
 ghost use Rattle.iox2_domain.specs.Ports.{PublisherFields};
 ghost use Rattle.iox2_domain.specs.Kept.{state_of};
 ghost use Rattle.iox2_domain.specs.Fields.{kept_of};
 ghost use Rattle.iox2_domain.specs.Invariant.{IsDomain};
 ghost use Rattle.iox2_domain.specs.Reaches.{Reaches};
 
+use iox2_connections::Connection;
+use iox2_connections::sender::reclaim_all;
 use iox2_domain::{DomainState, PublisherState};
-use iox2_ends::sender::reclaim_all;
-use iox2_slots::{Connection, SlotBook};
+use iox2_slots::SlotBook;
 use slab::Slab;
 
 /// A publisher reclaims every slot of its book that was given back in its connections, if none of its

@@ -3,7 +3,7 @@ ghost use Rattle.std.specs.Prelude.{◌≡◌};
 ghost use Rattle.iox2_domain.specs.Deliveries.{result_of_send};
 ghost use Rattle.iox2_messages.specs.SendEnds.{IsKept, end_result};
 
-use iox2_ends::sender::DeliveryOutcome;
+use iox2_connections::sender::DeliveryOutcome;
 use iox2_machine::ConnectionFailure;
 
 /// How a send ended, or that it waits. It is small enough to be returned in registers, as the outcome

@@ -1,10 +1,10 @@
 -- A publisher that closes goes over keys.
 use Rattle.std.proofs.Common.{ℕ, List, Option, ◌⊎◌, ap, refl, ◌∙◌}
 use Rattle.slab.specs.Slab.{Slab}
-use Rattle.iox2_slots.specs.Link.{Link}
+use Rattle.iox2_connections.specs.Link.{Link}
 use Rattle.iox2_slots.specs.SlotBook.{Book}
-use Rattle.iox2_ends.specs.Counters.{IsCovered, with_counters}
-use Rattle.iox2_ends.proofs.Counts.{CountersFollow-trans, IsCovered-follows}
+use Rattle.iox2_connections.specs.Counters.{IsCovered, with_counters}
+use Rattle.iox2_connections.proofs.Counts.{CountersFollow-trans, IsCovered-follows}
 use Rattle.iox2_domain.specs.Ports.{SubscriberFields}
 use Rattle.iox2_steps.proofs.closes.LeaveSteps.{leaves-none, leaves-both, leaves-among}
 use Rattle.iox2_ports.specs.Leaves.{LeavesCounted}

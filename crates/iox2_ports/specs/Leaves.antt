@@ -2,9 +2,9 @@
 use Rattle.std.specs.Prelude.{◌≡◌, ℕ, List, length}
 use Rattle.std.specs.declared.option.Option.{Option}
 use Rattle.slab.specs.Slab.{Slab}
-use Rattle.iox2_slots.specs.Link.{Link}
+use Rattle.iox2_connections.specs.Link.{Link}
 use Rattle.iox2_slots.specs.SlotBook.{Book}
-use Rattle.iox2_ends.specs.Counters.{CountersFollow, with_counters}
+use Rattle.iox2_connections.specs.Counters.{CountersFollow, with_counters}
 use Rattle.iox2_domain.specs.Closes.{LeavesAt}
 use Rattle.iox2_domain.specs.Ports.{SubscriberFields}
 

@@ -2,7 +2,7 @@
 ghost use Rattle.std.specs.Prelude.{◌≡◌, ◌≢◌, ℕ, OnOk};
 ghost use Rattle.iox2_domain.specs.Boxes.{box_of, boxes_of, degradation_box_of};
 ghost use Rattle.iox2_domain.specs.Handlers.{handler_if_any};
-ghost use Rattle.iox2_ends.specs.Handlers.{marks_of};
+ghost use Rattle.iox2_connections.specs.Handlers.{marks_of};
 ghost use Rattle.iox2_ports.specs.Handlers.{HasRoomForBoxes, custom_box, has_box};
 
 use iox2_domain::{Boxes, HandlerMark, PortBoxes};

@@ -3,8 +3,8 @@ ghost use Rattle.std.specs.Prelude.{◌≡◌, ◌↔◌, ◌<◌, None, Some, l
 ghost use Rattle.std.specs.Option.{option_map, option_and_then};
 ghost use Rattle.slab.specs.Slab.{get, Updates};
 ghost use Rattle.iox2_machine.specs.machine.Ports.{publisher_closed};
-ghost use Rattle.iox2_ends.specs.Counters.{IsCovered, CountersFollow, with_counters};
-ghost use Rattle.iox2_ends.specs.Leaves.{holds_slots};
+ghost use Rattle.iox2_connections.specs.Counters.{IsCovered, CountersFollow, with_counters};
+ghost use Rattle.iox2_connections.specs.Leaves.{holds_slots};
 ghost use Rattle.iox2_domain.specs.Ports.{PublisherFields};
 ghost use Rattle.iox2_domain.specs.Kept.{state_of};
 ghost use Rattle.iox2_domain.specs.Fields.{kept_of, publisher_of};
@@ -16,9 +16,10 @@ ghost use Rattle.iox2_domain.specs.Departures.{HasKey};
 ghost use Rattle.iox2_ports.specs.Leaves.{LeavesCounted};
 ghost use Rattle.iox2_domain.specs.Closes.{is_awaited, after_close, left_subscriber, FindsAll, LeavesConnections, SomeHasKey};
 
+use iox2_connections::Connection;
+use iox2_connections::leaving::{give_up_history, leave};
 use iox2_domain::{DomainState, Port, PublisherState, SubscriberState, key_at};
-use iox2_ends::leaving::{give_up_history, leave};
-use iox2_slots::{Connection, SlotBook};
+use iox2_slots::SlotBook;
 use iox2_updates::free_book_if_unused;
 use slab::Slab;
 

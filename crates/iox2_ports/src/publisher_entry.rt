@@ -9,7 +9,7 @@ ghost use Rattle.iox2_domain.specs.Kept.{state_of};
 ghost use Rattle.iox2_domain.specs.Fields.{kept_of};
 ghost use Rattle.iox2_domain.specs.Boxes.{answers_of, box_of, boxes_of, degradation_box_of};
 ghost use Rattle.iox2_domain.specs.Handlers.{handler_if_any};
-ghost use Rattle.iox2_ends.specs.Handlers.{marks_of};
+ghost use Rattle.iox2_connections.specs.Handlers.{marks_of};
 ghost use Rattle.iox2_ports.specs.Handlers.{custom_box};
 ghost use Rattle.iox2_ports.specs.Settings.{settings_with};
 ghost use Rattle.iox2_machine.specs.declared.warning.Warning.TheVariants.{PublisherPartlyConnected};

@@ -1,7 +1,7 @@
 //! A subscriber closes.
 ghost use Rattle.std.specs.Prelude.{◌≡◌, ◌<◌, ◌↔◌, None, Some, length, map, slice_index_or, IsSome, IsSomeAnd, IsTrue};
 ghost use Rattle.slab.specs.Slab.{get};
-ghost use Rattle.iox2_slots.specs.Link.{Link};
+ghost use Rattle.iox2_connections.specs.Link.{Link};
 ghost use Rattle.iox2_machine.specs.machine.Ports.{subscriber_closed};
 ghost use Rattle.iox2_domain.specs.Departures.{KnowsKey};
 ghost use Rattle.iox2_domain.specs.Ports.{SubscriberFields};
@@ -14,8 +14,8 @@ ghost use Rattle.iox2_domain.specs.Updates.{changed_at};
 ghost use Rattle.iox2_steps.specs.Agreement.{HasOwnedParts};
 ghost use Rattle.iox2_steps.specs.Closes.{shut_subscriber, HasNoPublisher, IsBusy, IsStanding, LosesWaiting, LosesIfLeft};
 
+use iox2_connections::drops::drop_waiting_at;
 use iox2_domain::{DomainState, SubscriberState, key_at, make_all_due, stands_at};
-use iox2_ends::drops::drop_waiting_at;
 use iox2_updates::{forget_if_empty, leave_if_unused};
 
 // The subscriber at a place takes no messages any more.

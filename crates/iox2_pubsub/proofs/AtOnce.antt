@@ -6,7 +6,7 @@ use Rattle.iox2_machine.specs.machine.Limits.{last_number}
 use Rattle.iox2_machine.specs.machine.Records.{BlockedSend, Publisher}
 use Rattle.iox2_machine.specs.declared.allocation.AllocationStrategy.TheVariants.{Static}
 use Rattle.iox2_machine.specs.declared.key.Key.{Key}
-use Rattle.iox2_ends.specs.Mailboxes.{sender_ends}
+use Rattle.iox2_connections.specs.Mailboxes.{sender_ends}
 use Rattle.iox2_domain.specs.Boxes.{DomainBoxes}
 use Rattle.iox2_domain.specs.Fields.{Fields, blocked_send, keeping, kept_of, numbers_of, publisher_of, subscriber_of}
 use Rattle.iox2_domain.specs.Invariant.{IsDomain}

@@ -9,7 +9,7 @@ use Rattle.iox2_machine.specs.machine.Records.{Entry, Environment, Loan, Publish
 use Rattle.iox2_machine.specs.machine.Sends.{Retry, GiveUp, SendResult, Blocked_send, Delivered_to, Send_error}
 use Rattle.iox2_machine.specs.machine.SingleCalls.{HoldsBlocked}
 use Rattle.iox2_machine.specs.machine.State.{State, Messages}
-use Rattle.iox2_ends.specs.Mailboxes.{sender_ends}
+use Rattle.iox2_connections.specs.Mailboxes.{sender_ends}
 use Rattle.iox2_laws.specs.Laws.{Advances}
 use Rattle.iox2_laws.proofs.LoanKeeping.{retry_loans, give_up_loans}
 use Rattle.iox2_laws.proofs.SendLaws.{retry_advances, give_up_advances}

@@ -13,7 +13,7 @@ use Rattle.iox2_machine.specs.declared.degradation.DegradationCause.{Degradation
 use Rattle.iox2_machine.specs.declared.degradation.DegradationCause.TheVariants.{FailedToEstablishConnection as NotEstablished}
 use Rattle.iox2_machine.specs.declared.degradation.DegradationInfo.{DegradationInfo}
 use Rattle.iox2_machine.specs.declared.errors.SendError.{SendError}
-use Rattle.iox2_ends.proofs.AnyEnvironment.{AllowsAsMuch}
+use Rattle.iox2_connections.proofs.AnyEnvironment.{AllowsAsMuch}
 use Rattle.iox2_domain.specs.Boxes.{BoxAnswers, BoxDegrades, answers_of, box_of, degradation_box_of}
 use Rattle.iox2_domain.specs.Kept.{Kept}
 use Rattle.iox2_domain.specs.Shows.{Shows}

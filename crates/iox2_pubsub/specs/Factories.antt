@@ -10,7 +10,7 @@ use Rattle.iox2_machine.specs.declared.degradation_handler.DegradationHandler.{D
 use Rattle.iox2_machine.specs.declared.degradation_handler.DegradationHandler.TheVariants as degradation
 use Rattle.iox2_machine.specs.declared.backpressure_handler.BackpressureHandler.{BackpressureHandler}
 use Rattle.iox2_machine.specs.machine.Limits.{fits}
-use Rattle.iox2_ends.specs.Handlers.{mark_of}
+use Rattle.iox2_connections.specs.Handlers.{mark_of}
 use Rattle.iox2_ports.specs.Handlers.{custom_box}
 use Rattle.iox2_pubsub.specs.declared.port_factory.preallocation.PreallocatedSamplesOverride.{PreallocatedSamplesOverride}
 

@@ -10,7 +10,7 @@ use Rattle.iox2_machine.specs.machine.State.{State}
 use Rattle.iox2_machine.specs.declared.backpressure.BackpressureAction.{BackpressureAction}
 use Rattle.iox2_machine.specs.declared.degradation.DegradationAction.{DegradationAction}
 use Rattle.iox2_laws.proofs.Waits.{Waits, update_publisher_waits}
-use Rattle.iox2_ends.proofs.AnyEnvironment.{AllowsAsMuch}
+use Rattle.iox2_connections.proofs.AnyEnvironment.{AllowsAsMuch}
 use Rattle.iox2_steps.proofs.sends.AnySends.{MayAnswerAsMuch, sends-alike, retries-alike, gives_up-alike}
 use Rattle.iox2_steps.proofs.updates.AnyBoxes.{AllowsUpdates}
 use Rattle.iox2_runs.specs.Tables.{HasNoBox}

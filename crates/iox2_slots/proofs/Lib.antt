@@ -1,10 +1,7 @@
-pub mod ChannelLists
 pub mod EachOnce
-pub mod FurtherFields
-pub mod FurtherLists
 pub mod FreeSlots
 pub mod LaterSlots
-pub mod LinkLemmas
+pub mod ListedNumbers
 pub mod RecountedSlots
 pub mod SlotRecords
 pub mod SlotHeaders

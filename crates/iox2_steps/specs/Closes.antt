@@ -3,16 +3,16 @@ use Rattle.std.specs.Prelude.{◌≡◌, ◌≢◌, ◌⊎◌, ◌<◌, ◌&&◌
 use Rattle.std.specs.declared.option.Option.{Option}
 use Rattle.std.specs.declared.option.Option.TheVariants.{None, Some}
 use Rattle.slab.specs.Slab.{get, Updates}
-use Rattle.iox2_slots.specs.Link.{Link, other_slots}
+use Rattle.iox2_connections.specs.Link.{Link, other_slots}
 use Rattle.iox2_slots.specs.SlotBook.{Book}
 use Rattle.iox2_machine.specs.machine.Mailbox.{has_numbers, waiting_dropped}
 use Rattle.iox2_machine.specs.machine.Numbers.{without, is_nil}
 use Rattle.iox2_machine.specs.machine.Places.{vacated}
 use Rattle.iox2_machine.specs.machine.Records.{Subscriber}
 use Rattle.iox2_machine.specs.machine.State.{State, with_mailbox, subscriber_changed}
-use Rattle.iox2_slots.specs.declared.connection.Home.{Home}
-use Rattle.iox2_ends.specs.Counters.{stands_in}
-use Rattle.iox2_ends.specs.Drops.{without_waiting}
+use Rattle.iox2_connections.specs.declared.connection.Home.{Home}
+use Rattle.iox2_connections.specs.Counters.{stands_in}
+use Rattle.iox2_connections.specs.Drops.{without_waiting}
 use Rattle.iox2_domain.specs.Departures.{key_forgotten}
 use Rattle.iox2_domain.specs.Ports.{PublisherFields, SubscriberFields}
 use Rattle.iox2_domain.specs.Kept.{state_of}

@@ -3,7 +3,7 @@ use Rattle.std.specs.Prelude.{◌≡◌, ◌<◌, ℕ, true, false, length, slic
 use Rattle.std.specs.declared.option.Option.{Option}
 use Rattle.std.specs.declared.option.Option.TheVariants.{None, Some}
 use Rattle.iox2_machine.specs.machine.SubscriberUpdate.{Retirement}
-use Rattle.iox2_slots.specs.Link.{Link}
+use Rattle.iox2_connections.specs.Link.{Link}
 use Rattle.iox2_domain.specs.Ports.{PublisherFields, SubscriberFields}
 use Rattle.iox2_domain.specs.Fields.{Fields}
 use Rattle.iox2_domain.specs.Invariant.{IsDomain}

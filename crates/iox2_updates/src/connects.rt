@@ -2,7 +2,7 @@
 ghost use Rattle.std.specs.Prelude.{◌≡◌, ℕ, ◌<◌, cond, true, Some, None, length, slice_index_or, [], IsSomeAnd, IfOk, OnOk, OnErr, MatchResult};
 ghost use Rattle.slab.specs.Slab.{get};
 ghost use Rattle.iox2_machine.specs.machine.Limits.{channel_count};
-ghost use Rattle.iox2_slots.specs.Link.{Link};
+ghost use Rattle.iox2_connections.specs.Link.{Link};
 ghost use Rattle.iox2_domain.specs.Boxes.{answers_of};
 ghost use Rattle.iox2_domain.specs.Ports.{PublisherFields, SubscriberFields};
 ghost use Rattle.iox2_domain.specs.Updates.{MakesConnection, StandApart, home_of, is_open_subscriber, key_from, sender_key};
@@ -15,13 +15,13 @@ ghost use Rattle.iox2_updates.specs.Ends.{IsSettledAt};
 use crate::failures::{ask, degrade};
 use crate::marks::mark_end;
 use crate::places::Places;
+use iox2_connections::sender::{deliver_history, drop_all, reclaim_all, remove_connection};
+use iox2_connections::{Connection, Home};
 use iox2_domain::{
     Boxes, DomainState, PublisherState, SubscriberState, clear_key_at, degradation_at, is_open_at,
     key_at, reserve_connection_at, reserve_key_at, set_key_at, stands_at,
 };
-use iox2_ends::sender::{deliver_history, drop_all, reclaim_all, remove_connection};
 use iox2_machine::{BackpressureFn, ConnectionFailure, DegradationFn, ServiceConfig};
-use iox2_slots::{Connection, Home};
 use slab::Slab;
 use std::alloc::{AllocError, Global};
 

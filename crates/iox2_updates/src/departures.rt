@@ -1,7 +1,7 @@
 //! Ports that were closed leave, and with them what nobody else needs.
 ghost use Rattle.std.specs.Prelude.{◌≡◌, ◌<◌, ◌↔◌, ℕ, false, Some, None, length, map, slice_index_or, IsTrue, IsSomeAnd};
 ghost use Rattle.slab.specs.Slab.{get};
-ghost use Rattle.iox2_slots.specs.Link.{Link, has_borrowed_slots, load};
+ghost use Rattle.iox2_connections.specs.Link.{Link, has_borrowed_slots, load};
 ghost use Rattle.iox2_machine.specs.machine.Releases.{freed_if_unused};
 ghost use Rattle.iox2_machine.specs.machine.WellFormed.{IsWellFormed, MailboxIsWellFormed};
 ghost use Rattle.iox2_domain.specs.Departures.{BorrowsNothing, BorrowsSome, DropsUnshared, ForgetsConnection, HasKey, IsUnshared, KnowsKey};
@@ -12,10 +12,10 @@ ghost use Rattle.iox2_domain.specs.Reaches.{Reaches};
 ghost use Rattle.iox2_domain.specs.Midway.{ChangesBooks, IsMidway};
 ghost use Rattle.iox2_domain.specs.Ports.{SubscriberFields};
 
+use iox2_connections::{Connection, Home};
 use iox2_domain::{
     DomainState, PublisherState, SubscriberState, forget_at, key_at, make_all_due, stands_at,
 };
-use iox2_slots::{Connection, Home};
 use slab::Slab;
 
 // The publisher of the connection at a key has it.

@@ -7,12 +7,12 @@ ghost use Rattle.iox2_domain.specs.Handlers.{handler_of};
 ghost use Rattle.iox2_domain.specs.Updates.{refused_between};
 ghost use Rattle.iox2_domain.specs.WarningRing.{warning_ring};
 
+use iox2_connections::Home;
 use iox2_domain::{Boxes, HandlerMark, Warnings, degradation_answer};
 use iox2_machine::{
     BackpressureFn, ConnectionFailure, DegradationAction, DegradationFn, DegradationInfo,
     UniquePublisherId, UniqueSubscriberId, Warning, ZeroCopyCreationError,
 };
-use iox2_slots::Home;
 
 /// What the port with an id and this mark, of the service with a number, answers for the connection
 /// which was to stand there, for which memory was refused. A box is among these boxes.

@@ -2,7 +2,7 @@
 ghost use Rattle.std.specs.Prelude.{◌≡◌, ◌<◌, ◌==◌, true, None, Some, length, slice_index_or, MatchOption};
 ghost use Rattle.std.specs.Option.{option_map};
 ghost use Rattle.slab.specs.Slab.{get, ContainsKey};
-ghost use Rattle.iox2_slots.specs.Link.{Link};
+ghost use Rattle.iox2_connections.specs.Link.{Link};
 ghost use Rattle.iox2_machine.specs.machine.Connections.{expired_buffer_full};
 ghost use Rattle.iox2_machine.specs.machine.Environments.{fixed_handlers};
 ghost use Rattle.iox2_domain.specs.Boxes.{answers_of};

@@ -1,24 +1,24 @@
 //! A departed publisher's connection leaves its place at a subscriber.
 ghost use Rattle.std.specs.Prelude.{◌≡◌, ◌<◌, true, false, Some, length};
 ghost use Rattle.slab.specs.Slab.{get, ContainsKey};
-ghost use Rattle.iox2_slots.specs.Link.{Link};
+ghost use Rattle.iox2_connections.specs.Link.{Link};
 ghost use Rattle.iox2_slots.specs.SlotBook.{Book};
 ghost use Rattle.iox2_machine.specs.machine.Limits.{expired_limit};
 ghost use Rattle.iox2_machine.specs.machine.Numbers.{contains};
 ghost use Rattle.iox2_machine.specs.machine.SubscriberUpdate.{Keep_expired, Evict, Discard_data};
 ghost use Rattle.iox2_machine.specs.declared.warning.Warning.TheVariants.{ExpiredDataDiscarded};
-ghost use Rattle.iox2_ends.specs.Retires.{has_borrowed, chosen};
+ghost use Rattle.iox2_connections.specs.Retires.{has_borrowed, chosen};
 ghost use Rattle.iox2_domain.specs.Invariant.{IsDomain};
 ghost use Rattle.iox2_domain.specs.ReceiverSteps.{LosesConnection, RetiresReceiver};
 ghost use Rattle.iox2_updates.specs.Ends.{DepartedAt, RetiresAt};
 
 use crate::departures::free_book_if_unused;
 use crate::places::Places;
+use iox2_connections::Home;
+use iox2_connections::drops::drop_waiting_at;
+use iox2_connections::retirement::{Retirement, choose_retirement};
 use iox2_domain::{DomainState, clear_key_at, expire_at, make_due, replace_expired_at};
-use iox2_ends::drops::drop_waiting_at;
-use iox2_ends::retirement::{Retirement, choose_retirement};
 use iox2_machine::{ServiceConfig, UniquePublisherId, UniqueSubscriberId, Warning};
-use iox2_slots::Home;
 
 // That what waited in the connection was lost.
 fn data_discarded(home: Home) -> Warning

@@ -1,7 +1,7 @@
 ghost use Rattle.std.specs.Prelude.{◌≡◌, ◌<◌, ◌∷◌, [], length};
-ghost use Rattle.iox2_slots.specs.Link.{empty_link};
+ghost use Rattle.iox2_connections.specs.Link.{empty_link};
 
-use iox2_slots::{CHANNEL_STATE_CLOSED, CHANNEL_STATE_OPEN, Connection, Home, PutOutcome};
+use iox2_connections::{CHANNEL_STATE_CLOSED, CHANNEL_STATE_OPEN, Connection, Home, PutOutcome};
 use std::alloc::Global;
 use std::process::Abort;
 

@@ -11,7 +11,7 @@ ghost use Rattle.iox2_pubsub.specs.Live.{WaitingStays};
 ghost use Rattle.iox2_pubsub.specs.LoansLeft.{HasLoansLeft, LendsFirst};
 ghost use Rattle.iox2_pubsub.specs.MadePublishers.{IsMade};
 ghost use Rattle.iox2_domain.specs.NewPublisher.{plain_publisher};
-ghost use Rattle.iox2_ends.specs.Handlers.{marks_of};
+ghost use Rattle.iox2_connections.specs.Handlers.{marks_of};
 ghost use Rattle.iox2_ports.specs.Handlers.{custom_box};
 ghost use Rattle.iox2_ports.specs.Settings.{settings_with};
 ghost use Rattle.iox2_pubsub.specs.Factories.{with_callback, with_degradation, with_handler};
@@ -68,7 +68,7 @@ pub struct PortFactoryPublisher<
 
 impl<F, G, O, H> Model for PortFactoryPublisher<F, G, O, H> {
     ghost use Rattle.iox2_domain.specs.NewPublisher.{static_publisher};
-    ghost use Rattle.iox2_ends.specs.Handlers.{marks_of};
+    ghost use Rattle.iox2_connections.specs.Handlers.{marks_of};
     ghost use Rattle.iox2_ports.specs.Handlers.{custom_box};
     ghost use Rattle.iox2_pubsub.specs.Factories.{PublisherFactory};
 

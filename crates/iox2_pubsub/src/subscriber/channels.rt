@@ -3,9 +3,9 @@ ghost use Rattle.std.specs.Prelude.{◌≡◌, ◌≢◌, ◌⊎◌, ◌<◌};
 
 use crate::domain::Domain;
 use crate::subscriber::Subscriber;
+use iox2_connections::CHANNEL_STATE_CLOSED;
 use iox2_machine::{BackpressureFn, DegradationFn};
 use iox2_messages::{ChannelChange, all_received_in, change_received, some_received_in};
-use iox2_slots::CHANNEL_STATE_CLOSED;
 
 impl Subscriber {
     ghost use Rattle.iox2_machine.specs.machine.ChannelCalls.{SetChannelState, received_changed, received_closed, received_hinted, some_channel_has_state};

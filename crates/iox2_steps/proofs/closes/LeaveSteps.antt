@@ -5,9 +5,9 @@ use Rattle.std.specs.declared.option.Option.{Option}
 use Rattle.std.specs.declared.option.Option.TheVariants.{None, Some}
 use Rattle.std.specs.Option.{option_and_then}
 use Rattle.slab.specs.Slab.{Slab, get}
-use Rattle.iox2_slots.specs.Link.{Link}
-use Rattle.iox2_ends.specs.Leaves.{left_link, holds_slots}
-use Rattle.iox2_ends.proofs.MailboxChanges.{within_if_some}
+use Rattle.iox2_connections.specs.Link.{Link}
+use Rattle.iox2_connections.specs.Leaves.{left_link, holds_slots}
+use Rattle.iox2_connections.proofs.MailboxChanges.{within_if_some}
 use Rattle.iox2_domain.specs.Ports.{PublisherFields, SubscriberFields}
 use Rattle.iox2_domain.specs.Departures.{HasKey}
 use Rattle.iox2_domain.specs.Closes.{is_awaited, if_holding, after_close, FindsAll, LeavesAt, LeavesConnections, SomeHasKey}

@@ -6,18 +6,18 @@ use Rattle.std.specs.declared.option.Option.TheVariants.{None, Some}
 use Rattle.std.specs.Option.{option_and_then}
 use Rattle.std.specs.List.{sum_by}
 use Rattle.slab.specs.Slab.{Slab, get}
-use Rattle.iox2_slots.specs.Link.{Link}
+use Rattle.iox2_connections.specs.Link.{Link}
 use Rattle.iox2_machine.specs.machine.Channel.{Channel}
 use Rattle.iox2_machine.specs.machine.Mailbox.{empty_mailbox, has_numbers, ChannelNumber}
-use Rattle.iox2_slots.specs.declared.connection.Home.{Home}
-use Rattle.iox2_ends.specs.LookUp.{look_up, IsOnly}
-use Rattle.iox2_ends.specs.Homes.{IsApart, fixed_of}
-use Rattle.iox2_ends.specs.Counters.{stands, stands_in}
-use Rattle.iox2_ends.specs.Mailboxes.{is_between, mailbox_of, mailbox_if_any, mailboxes_of, numbered}
-use Rattle.iox2_ends.proofs.LookUps.{look_up-there, look_up-none, look_up-found, look_up-nothing}
-use Rattle.iox2_ends.proofs.MailboxChanges.{both-true, is_between-own}
-use Rattle.iox2_ends.proofs.Counts.{stands-own}
-use Rattle.iox2_ends.specs.Leaves.{left_link, holds_slots}
+use Rattle.iox2_connections.specs.declared.connection.Home.{Home}
+use Rattle.iox2_connections.specs.LookUp.{look_up, IsOnly}
+use Rattle.iox2_connections.specs.Homes.{IsApart, fixed_of}
+use Rattle.iox2_connections.specs.Counters.{stands, stands_in}
+use Rattle.iox2_connections.specs.Mailboxes.{is_between, mailbox_of, mailbox_if_any, mailboxes_of, numbered}
+use Rattle.iox2_connections.proofs.LookUps.{look_up-there, look_up-none, look_up-found, look_up-nothing}
+use Rattle.iox2_connections.proofs.MailboxChanges.{both-true, is_between-own}
+use Rattle.iox2_connections.proofs.Counts.{stands-own}
+use Rattle.iox2_connections.specs.Leaves.{left_link, holds_slots}
 use Rattle.iox2_domain.specs.KeptLinks.{HasLink, ChannelsFollow}
 use Rattle.iox2_domain.specs.Ports.{SubscriberFields}
 use Rattle.iox2_domain.specs.Invariant.{connection_count, one_if_receivers}

@@ -7,17 +7,17 @@ use Rattle.std.specs.declared.option.Option.{Option}
 use Rattle.std.specs.declared.option.Option.TheVariants.{None, Some}
 use Rattle.std.specs.Option.{option_map, option_map_or, option_and_then}
 use Rattle.slab.specs.Slab.{Slab, get}
-use Rattle.iox2_slots.specs.Link.{Link}
+use Rattle.iox2_connections.specs.Link.{Link}
 use Rattle.iox2_machine.specs.machine.Mailbox.{has_borrows}
 use Rattle.iox2_machine.specs.machine.Numbers.{contains, is_nil}
 use Rattle.iox2_machine.specs.machine.Places.{occupant, is_port}
 use Rattle.iox2_machine.specs.machine.Records.{Subscriber}
 use Rattle.iox2_machine.specs.machine.WellFormed.{LeadsTo}
-use Rattle.iox2_ends.specs.Finds.{IsReceivers}
-use Rattle.iox2_ends.specs.Mailboxes.{mailbox_of, publisher_of_key, receiver_ends}
-use Rattle.iox2_ends.proofs.MailboxChanges.{both-true, is_between-own, mailbox-there}
+use Rattle.iox2_connections.specs.Finds.{IsReceivers}
+use Rattle.iox2_connections.specs.Mailboxes.{mailbox_of, publisher_of_key, receiver_ends}
+use Rattle.iox2_connections.proofs.MailboxChanges.{both-true, is_between-own, mailbox-there}
 use Rattle.iox2_laws.proofs.PlaceLemmas.{contains-occupants, is_port-true}
-use Rattle.iox2_ends.specs.Leaves.{left_link, holds_slots}
+use Rattle.iox2_connections.specs.Leaves.{left_link, holds_slots}
 use Rattle.iox2_domain.specs.Ports.{PublisherFields, SubscriberFields}
 use Rattle.iox2_domain.specs.Kept.{state_of}
 use Rattle.iox2_domain.specs.Fields.{Fields, kept_of, publisher_of, subscriber_of, numbers_of}

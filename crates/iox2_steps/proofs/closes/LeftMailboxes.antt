@@ -5,18 +5,18 @@ use Rattle.std.specs.declared.option.Option.{Option}
 use Rattle.std.specs.declared.option.Option.TheVariants.{None, Some}
 use Rattle.std.specs.Option.{option_map, option_map_or}
 use Rattle.slab.specs.Slab.{Slab, get}
-use Rattle.iox2_slots.specs.Link.{Link}
+use Rattle.iox2_connections.specs.Link.{Link}
 use Rattle.iox2_machine.specs.machine.Mailbox.{Mailbox, empty_mailbox, waiting_dropped}
 use Rattle.iox2_machine.specs.machine.Places.{occupant, is_port}
 use Rattle.iox2_machine.specs.machine.Ports.{mailbox_after_publisher, publisher_gone}
 use Rattle.iox2_machine.specs.machine.Records.{Publisher, Subscriber}
 use Rattle.iox2_machine.specs.machine.State.{State}
-use Rattle.iox2_ends.specs.LookUp.{look_up}
-use Rattle.iox2_ends.specs.Finds.{IsReceivers}
-use Rattle.iox2_ends.specs.Mailboxes.{is_between, mailbox_of, mailbox_if_any, mailboxes_of, publisher_of_key}
-use Rattle.iox2_ends.proofs.LookUps.{look_up-there, look_up-none}
-use Rattle.iox2_ends.proofs.MailboxChanges.{both-true, is_between-own, mailbox-there}
-use Rattle.iox2_ends.specs.Leaves.{left_link}
+use Rattle.iox2_connections.specs.LookUp.{look_up}
+use Rattle.iox2_connections.specs.Finds.{IsReceivers}
+use Rattle.iox2_connections.specs.Mailboxes.{is_between, mailbox_of, mailbox_if_any, mailboxes_of, publisher_of_key}
+use Rattle.iox2_connections.proofs.LookUps.{look_up-there, look_up-none}
+use Rattle.iox2_connections.proofs.MailboxChanges.{both-true, is_between-own, mailbox-there}
+use Rattle.iox2_connections.specs.Leaves.{left_link}
 use Rattle.iox2_domain.specs.Ports.{PublisherFields, SubscriberFields}
 use Rattle.iox2_domain.specs.Kept.{Named, state_of, is_named}
 use Rattle.iox2_domain.specs.Fields.{Fields, kept_of, publisher_of, subscriber_of, numbers_of}

@@ -8,18 +8,18 @@ use Rattle.std.specs.declared.option.Option.TheVariants.{None, Some}
 use Rattle.std.specs.Option.{option_map, option_map_or}
 use Rattle.std.specs.List.{sum_by}
 use Rattle.slab.specs.Slab.{Slab, get}
-use Rattle.iox2_slots.specs.Link.{Link}
+use Rattle.iox2_connections.specs.Link.{Link}
 use Rattle.iox2_machine.specs.machine.Channel.{Channel}
 use Rattle.iox2_slots.specs.SlotBook.{Book, IsAligned, holders_at}
 use Rattle.iox2_machine.specs.machine.WellFormed.{IsWellFormed}
-use Rattle.iox2_slots.specs.declared.connection.Home.{Home}
-use Rattle.iox2_ends.specs.LookUp.{look_up, IsOnly}
-use Rattle.iox2_ends.specs.Homes.{IsSenders, fixed_of}
-use Rattle.iox2_ends.specs.Finds.{IsReceivers, IsReceiverLinked}
-use Rattle.iox2_ends.specs.Counters.{times, stands, with_counters}
-use Rattle.iox2_ends.specs.declared.sender.ReceiverDetails.{ReceiverDetails}
-use Rattle.iox2_ends.proofs.LookUps.{look_up-found, look_up-nothing}
-use Rattle.iox2_ends.specs.Leaves.{holds_slots, left_link}
+use Rattle.iox2_connections.specs.declared.connection.Home.{Home}
+use Rattle.iox2_connections.specs.LookUp.{look_up, IsOnly}
+use Rattle.iox2_connections.specs.Homes.{IsSenders, fixed_of}
+use Rattle.iox2_connections.specs.Finds.{IsReceivers, IsReceiverLinked}
+use Rattle.iox2_connections.specs.Counters.{times, stands, with_counters}
+use Rattle.iox2_connections.specs.declared.sender.ReceiverDetails.{ReceiverDetails}
+use Rattle.iox2_connections.proofs.LookUps.{look_up-found, look_up-nothing}
+use Rattle.iox2_connections.specs.Leaves.{holds_slots, left_link}
 use Rattle.iox2_domain.specs.Ports.{PublisherFields, SubscriberFields}
 use Rattle.iox2_domain.specs.Kept.{KeptMessage, state_of}
 use Rattle.iox2_domain.specs.Fields.{Fields, kept_of, message_in, contents_at, is_book_of}

@@ -4,7 +4,7 @@ use Rattle.std.proofs.lemmas.Bool.{cases_eq, eq-eqb, eqb-true}
 use Rattle.std.specs.declared.option.Option.{Option}
 use Rattle.std.specs.declared.option.Option.TheVariants.{None, Some}
 use Rattle.slab.specs.Slab.{Slab, get}
-use Rattle.iox2_slots.specs.Link.{Link}
+use Rattle.iox2_connections.specs.Link.{Link}
 use Rattle.iox2_slots.specs.SlotBook.{Book, holders_at}
 use Rattle.iox2_machine.specs.machine.Ports.{mailbox_after_publisher, publisher_gone, publisher_closed, subscribers_pruned}
 use Rattle.iox2_machine.specs.machine.Mailbox.{Mailbox, numbers_in, waiting_dropped}
@@ -13,7 +13,7 @@ use Rattle.iox2_machine.specs.machine.Records.{Entry, Loan}
 use Rattle.iox2_machine.specs.machine.State.{State, subscribers_due}
 use Rattle.iox2_machine.specs.machine.WellFormed.{IsWellFormed}
 use Rattle.iox2_machine.specs.Stored.{IsHeldMessage, In_history, In_mailbox, In_blocked_send}
-use Rattle.iox2_ends.specs.Counters.{with_counters}
+use Rattle.iox2_connections.specs.Counters.{with_counters}
 use Rattle.iox2_laws.proofs.MailboxLemmas.{contains_in_dropped}
 use Rattle.iox2_laws.proofs.Puts.{found_removed}
 use Rattle.iox2_laws.proofs.CloseLaws.{publisher_closed_keeps}

@@ -6,12 +6,12 @@ use Rattle.std.specs.declared.option.Option.TheVariants.{None, Some}
 use Rattle.std.specs.Option.{option_map_or}
 use Rattle.std.specs.List.{sum_by}
 use Rattle.slab.specs.Slab.{Slab, get}
-use Rattle.iox2_slots.specs.Link.{Link}
+use Rattle.iox2_connections.specs.Link.{Link}
 use Rattle.iox2_slots.specs.SlotBook.{Book, holders_at}
 use Rattle.iox2_machine.specs.machine.Numbers.{contains}
 use Rattle.iox2_machine.specs.machine.Records.{Loan, BlockedSend}
-use Rattle.iox2_ends.specs.Counters.{times, stands, with_counters}
-use Rattle.iox2_ends.proofs.MailboxChanges.{both-true}
+use Rattle.iox2_connections.specs.Counters.{times, stands, with_counters}
+use Rattle.iox2_connections.proofs.MailboxChanges.{both-true}
 use Rattle.iox2_domain.specs.Ports.{PublisherFields}
 use Rattle.iox2_domain.specs.Kept.{Lent_message, state_of}
 use Rattle.iox2_domain.specs.Fields.{Fields, kept_of, publisher_of, numbers_of, contents_at}

@@ -14,7 +14,7 @@ use Rattle.iox2_machine.specs.machine.Ports.{new_publisher, slots_for}
 use Rattle.iox2_slots.specs.SlotBook.{Book}
 use Rattle.iox2_contents.specs.SlotContents.{ContentState}
 use Rattle.iox2_machine.specs.machine.Mailbox.{Mailbox}
-use Rattle.iox2_ends.specs.LookUp.{look_up, IsOnly}
+use Rattle.iox2_connections.specs.LookUp.{look_up, IsOnly}
 use Rattle.iox2_laws.proofs.PortLaws.{no_publisher_yet}
 use Rattle.iox2_domain.specs.Ports.{PublisherFields, slot_length}
 use Rattle.iox2_domain.specs.Kept.{Named, Between, state_of, port_named, ids, is_named, loan_in, stands_between, box_if_any, channels_if_between}

@@ -8,7 +8,7 @@ use Rattle.iox2_machine.specs.machine.Numbers.{put_at}
 use Rattle.iox2_machine.specs.machine.Places.{set_place}
 use Rattle.iox2_machine.specs.machine.Records.{Subscriber, SubscriberSettings}
 use Rattle.iox2_machine.specs.machine.Ports.{new_subscriber, buffer_for}
-use Rattle.iox2_ends.specs.LookUp.{look_up, IsOnly}
+use Rattle.iox2_connections.specs.LookUp.{look_up, IsOnly}
 use Rattle.iox2_laws.proofs.PortLaws.{no_subscriber_yet}
 use Rattle.iox2_domain.specs.WarningRing.{WarningRing}
 use Rattle.iox2_domain.specs.Ports.{SubscriberFields, entering}

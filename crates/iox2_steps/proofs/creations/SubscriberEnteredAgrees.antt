@@ -6,10 +6,10 @@ use Rattle.std.specs.Option.{option_map}
 use Rattle.slab.specs.Slab.{get}
 use Rattle.iox2_machine.specs.machine.Records.{SubscriberSettings}
 use Rattle.iox2_machine.specs.machine.Limits.{warning_limit}
-use Rattle.iox2_slots.specs.Link.{Link}
+use Rattle.iox2_connections.specs.Link.{Link}
 use Rattle.iox2_machine.specs.machine.WellFormed.{IsWellFormed}
-use Rattle.iox2_ends.specs.Finds.{IsReceiverLinked}
-use Rattle.iox2_ends.specs.declared.sender.ReceiverDetails.{ReceiverDetails}
+use Rattle.iox2_connections.specs.Finds.{IsReceiverLinked}
+use Rattle.iox2_connections.specs.declared.sender.ReceiverDetails.{ReceiverDetails}
 use Rattle.iox2_domain.specs.WarningRing.{WarningRing}
 use Rattle.iox2_domain.specs.Ports.{SubscriberFields}
 use Rattle.iox2_domain.specs.Kept.{state_of}

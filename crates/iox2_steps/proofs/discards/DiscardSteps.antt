@@ -9,7 +9,7 @@ use Rattle.iox2_machine.specs.machine.Records.{Loan}
 use Rattle.iox2_machine.specs.machine.SingleCalls.{HoldsLoan}
 use Rattle.iox2_slots.specs.SlotBook.{Book, IsInUse, holders_at}
 use Rattle.iox2_contents.specs.SlotContents.{ContentState}
-use Rattle.iox2_ends.specs.Counters.{times}
+use Rattle.iox2_connections.specs.Counters.{times}
 use Rattle.iox2_domain.specs.Invariant.{IsDomain}
 use Rattle.iox2_domain.specs.Discards.{with_loan_returned, DiscardsLoan}
 use Rattle.iox2_domain.specs.Fields.{Fields, kept_of, message_in, contents_at}

@@ -16,10 +16,10 @@ use Rattle.iox2_machine.specs.machine.WellFormed.{IsWellFormed}
 use Rattle.iox2_slots.specs.SlotBook.{Book, holders_at}
 use Rattle.iox2_contents.specs.SlotContents.{ContentState}
 use Rattle.iox2_machine.specs.Stored.{IsHeldMessage}
-use Rattle.iox2_ends.specs.Counters.{times, stands}
-use Rattle.iox2_ends.specs.LookUp.{look_up}
-use Rattle.iox2_ends.proofs.LookUps.{look_up-found}
-use Rattle.iox2_ends.proofs.MailboxChanges.{put_at-own, within_if_some}
+use Rattle.iox2_connections.specs.Counters.{times, stands}
+use Rattle.iox2_connections.specs.LookUp.{look_up}
+use Rattle.iox2_connections.proofs.LookUps.{look_up-found}
+use Rattle.iox2_connections.proofs.MailboxChanges.{put_at-own, within_if_some}
 use Rattle.iox2_laws.proofs.LoanLaws.{loan_discarded_keeps}
 use Rattle.iox2_domain.specs.Discards.{DiscardsLoan}
 use Rattle.iox2_domain.specs.LeftBooks.{with_holder_left, CanLetGo, LetsGo, SettlesBook}

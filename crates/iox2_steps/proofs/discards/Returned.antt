@@ -14,8 +14,8 @@ use Rattle.iox2_machine.specs.machine.Records.{Loan, Publisher}
 use Rattle.iox2_machine.specs.machine.State.{State}
 use Rattle.iox2_machine.specs.machine.WellFormed.{IsWellFormed}
 use Rattle.iox2_machine.specs.Stored.{IsHeldMessage}
-use Rattle.iox2_ends.specs.Counters.{times}
-use Rattle.iox2_ends.proofs.Counts.{one_if, one_if_other}
+use Rattle.iox2_connections.specs.Counters.{times}
+use Rattle.iox2_connections.proofs.Counts.{one_if, one_if_other}
 use Rattle.iox2_laws.proofs.LoanLaws.{loan_discarded_keeps}
 use Rattle.iox2_laws.proofs.Puts.{found_put}
 use Rattle.iox2_domain.specs.Discards.{with_holder_gone, with_loan_returned}

@@ -4,18 +4,18 @@ use Rattle.std.specs.declared.option.Option.{Option}
 use Rattle.std.specs.declared.option.Option.TheVariants.{None, Some}
 use Rattle.std.specs.Option.{option_map, option_map_or}
 use Rattle.slab.specs.Slab.{Slab, get}
-use Rattle.iox2_slots.specs.Link.{Link}
+use Rattle.iox2_connections.specs.Link.{Link}
 use Rattle.iox2_machine.specs.machine.Limits.{expired_limit}
 use Rattle.iox2_machine.specs.machine.Mailbox.{Mailbox, has_borrows}
 use Rattle.iox2_machine.specs.machine.Numbers.{is_nil, contains}
 use Rattle.iox2_machine.specs.machine.Places.{occupants}
 use Rattle.iox2_machine.specs.machine.SubscriberUpdate.{Retirement, Keep_expired, Evict, Discard_data, Refuse, first_without_borrows, evict_or_refuse}
 use Rattle.iox2_laws.proofs.NumberLemmas.{contains_first, contains_later}
-use Rattle.iox2_ends.specs.Mailboxes.{mailbox_of, publisher_of_key, receiver_ends}
-use Rattle.iox2_ends.specs.Retires.{has_borrowed, first_unborrowed, chosen, evict_or_refuse as evict_key_or_refuse}
-use Rattle.iox2_ends.specs.declared.retirement.Retirement.{Retirement as Choice}
-use Rattle.iox2_ends.specs.declared.retirement.Retirement.TheVariants.{KeepExpired, Evict as EvictKey, DiscardData, Refuse as RefuseIt}
-use Rattle.iox2_ends.proofs.MailboxChanges.{mailbox-there}
+use Rattle.iox2_connections.specs.Mailboxes.{mailbox_of, publisher_of_key, receiver_ends}
+use Rattle.iox2_connections.specs.Retires.{has_borrowed, first_unborrowed, chosen, evict_or_refuse as evict_key_or_refuse}
+use Rattle.iox2_connections.specs.declared.retirement.Retirement.{Retirement as Choice}
+use Rattle.iox2_connections.specs.declared.retirement.Retirement.TheVariants.{KeepExpired, Evict as EvictKey, DiscardData, Refuse as RefuseIt}
+use Rattle.iox2_connections.proofs.MailboxChanges.{mailbox-there}
 use Rattle.iox2_domain.specs.Ports.{SubscriberFields}
 use Rattle.iox2_domain.specs.Kept.{state_of}
 use Rattle.iox2_domain.specs.Fields.{Fields, kept_of, numbers_of, subscriber_of}

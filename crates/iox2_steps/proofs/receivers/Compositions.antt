@@ -11,7 +11,7 @@ use Rattle.iox2_machine.specs.machine.Records.{Publisher, Subscriber}
 use Rattle.iox2_machine.specs.machine.State.{State, has_sender_end}
 use Rattle.iox2_machine.specs.machine.SubscriberUpdate.{ReceiverSide, with_receiver_side}
 use Rattle.iox2_laws.proofs.Puts.{put_at-same, put_at-twice}
-use Rattle.iox2_ends.proofs.MailboxChanges.{put_at-own}
+use Rattle.iox2_connections.proofs.MailboxChanges.{put_at-own}
 use Rattle.iox2_domain.specs.KeptLinks.{ChannelsFollow}
 use Rattle.iox2_domain.specs.Midway.{with_channels_of}
 use Rattle.iox2_domain.proofs.lemmas.fields.KeptChannels.{but-channels}

@@ -7,7 +7,7 @@ use Rattle.std.specs.declared.option.Option.{Option}
 use Rattle.std.specs.declared.option.Option.TheVariants.{None, Some}
 use Rattle.std.specs.Option.{option_map}
 use Rattle.slab.specs.Slab.{get}
-use Rattle.iox2_slots.specs.Link.{Link}
+use Rattle.iox2_connections.specs.Link.{Link}
 use Rattle.iox2_machine.specs.machine.Connections.{expired_buffer_full}
 use Rattle.iox2_machine.specs.machine.Limits.{expired_limit}
 use Rattle.iox2_machine.specs.machine.Places.{occupant, set_place}
@@ -17,7 +17,7 @@ use Rattle.iox2_machine.specs.machine.SubscriberUpdate.{ReceiverSide, Retirement
 use Rattle.iox2_machine.specs.declared.errors.ConnectionFailure.{ConnectionFailure}
 use Rattle.iox2_machine.specs.declared.service_config.ServiceConfig.{ServiceConfig}
 use Rattle.iox2_laws.proofs.PlaceLemmas.{occupant-set_place}
-use Rattle.iox2_ends.specs.Mailboxes.{publisher_of_key}
+use Rattle.iox2_connections.specs.Mailboxes.{publisher_of_key}
 use Rattle.iox2_domain.specs.Ports.{PublisherFields, SubscriberFields}
 use Rattle.iox2_domain.specs.Kept.{state_of}
 use Rattle.iox2_domain.specs.Fields.{Fields, kept_of, subscriber_of}

@@ -4,7 +4,7 @@ use Rattle.std.proofs.lemmas.Bool.{cases_eq, ne_eqb}
 use Rattle.std.specs.declared.option.Option.{Option}
 use Rattle.std.specs.declared.option.Option.TheVariants.{None, Some}
 use Rattle.slab.specs.Slab.{Slab, get, with_value}
-use Rattle.iox2_slots.specs.Link.{Link}
+use Rattle.iox2_connections.specs.Link.{Link}
 use Rattle.iox2_slots.specs.SlotBook.{Book}
 use Rattle.iox2_machine.specs.machine.Mailbox.{Mailbox, waiting_dropped, numbers_in}
 use Rattle.iox2_machine.specs.machine.Numbers.{put_at, contains, without}
@@ -13,14 +13,14 @@ use Rattle.iox2_machine.specs.machine.Records.{Entry, Subscriber}
 use Rattle.iox2_machine.specs.machine.State.{State}
 use Rattle.iox2_machine.specs.Stored.{IsHeldMessage, In_history, In_mailbox, In_blocked_send}
 use Rattle.iox2_laws.proofs.Puts.{at_each}
-use Rattle.iox2_ends.specs.Counters.{with_counters}
-use Rattle.iox2_ends.specs.Drops.{RemovesDropped, without_waiting}
-use Rattle.iox2_ends.specs.Mailboxes.{mailbox_of, mailboxes_of, with_box, publisher_of_key, receiver_ends}
-use Rattle.iox2_ends.specs.Recounts.{Recounts}
-use Rattle.iox2_ends.proofs.DropSteps.{drops-recount}
-use Rattle.iox2_ends.proofs.MailboxChanges.{Updates-with_value, mailbox-there, mailboxes-changed, put_at-own}
+use Rattle.iox2_connections.specs.Counters.{with_counters}
+use Rattle.iox2_connections.specs.Drops.{RemovesDropped, without_waiting}
+use Rattle.iox2_connections.specs.Mailboxes.{mailbox_of, mailboxes_of, with_box, publisher_of_key, receiver_ends}
+use Rattle.iox2_connections.specs.Recounts.{Recounts}
+use Rattle.iox2_connections.proofs.DropSteps.{drops-recount}
+use Rattle.iox2_connections.proofs.MailboxChanges.{Updates-with_value, mailbox-there, mailboxes-changed, put_at-own}
 use Rattle.iox2_domain.specs.KeptLinks.{ChannelsFollow}
-use Rattle.iox2_ends.proofs.LookUps.{look_up-nothing}
+use Rattle.iox2_connections.proofs.LookUps.{look_up-nothing}
 use Rattle.iox2_domain.specs.Midway.{with_channels_of}
 use Rattle.iox2_steps.proofs.updates.FollowedChannels.{follow-fewer}
 use Rattle.iox2_domain.specs.Ports.{SubscriberFields}

@@ -5,7 +5,7 @@ use Rattle.std.specs.declared.option.Option.{Option}
 use Rattle.std.specs.declared.option.Option.TheVariants.{None, Some}
 use Rattle.std.specs.Option.{option_map}
 use Rattle.slab.specs.Slab.{Slab, get}
-use Rattle.iox2_slots.specs.Link.{Link}
+use Rattle.iox2_connections.specs.Link.{Link}
 use Rattle.iox2_slots.specs.SlotBook.{Book}
 use Rattle.iox2_machine.specs.machine.Limits.{warning_limit}
 use Rattle.iox2_machine.specs.machine.Mailbox.{has_borrows, waiting_dropped}
@@ -16,10 +16,10 @@ use Rattle.iox2_machine.specs.machine.SubscriberUpdate.{ReceiverSide, Evict, wit
 use Rattle.iox2_machine.specs.declared.warning.Warning.TheVariants.{ExpiredDataDiscarded}
 use Rattle.iox2_laws.proofs.ReceiverSides.{evicted_keeps}
 use Rattle.iox2_laws.proofs.SubscriberUpdates.{with_receiver_side_keeps}
-use Rattle.iox2_ends.specs.Drops.{RemovesDropped, without_waiting}
-use Rattle.iox2_ends.specs.Finds.{IsReceivers}
-use Rattle.iox2_ends.specs.Mailboxes.{publisher_of_key, receiver_ends, with_box}
-use Rattle.iox2_ends.proofs.MailboxChanges.{Updates-with_value}
+use Rattle.iox2_connections.specs.Drops.{RemovesDropped, without_waiting}
+use Rattle.iox2_connections.specs.Finds.{IsReceivers}
+use Rattle.iox2_connections.specs.Mailboxes.{publisher_of_key, receiver_ends, with_box}
+use Rattle.iox2_connections.proofs.MailboxChanges.{Updates-with_value}
 use Rattle.iox2_domain.specs.Midway.{with_channels_of}
 use Rattle.iox2_laws.proofs.PortChanges.{with_all_channels_keeps}
 use Rattle.iox2_domain.specs.WarningRing.{WarningRing, warning_ring}

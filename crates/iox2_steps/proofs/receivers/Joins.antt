@@ -10,7 +10,7 @@ use Rattle.slab.specs.Slab.{Slab, get}
 use Rattle.iox2_machine.specs.machine.Connections.{DegradationAnswers, failure_of, warnings_after}
 use Rattle.iox2_machine.specs.machine.Channel.{new_channel}
 use Rattle.iox2_machine.specs.machine.Limits.{channel_count, warning_limit, expired_limit}
-use Rattle.iox2_slots.specs.Link.{Link, empty_link}
+use Rattle.iox2_connections.specs.Link.{Link, empty_link}
 use Rattle.iox2_machine.specs.machine.Numbers.{put_at}
 use Rattle.iox2_machine.specs.machine.Places.{occupant, set_place, is_port}
 use Rattle.iox2_machine.specs.machine.Records.{Publisher, Subscriber, Environment}
@@ -19,10 +19,10 @@ use Rattle.iox2_machine.specs.machine.SubscriberUpdate.{ReceiverSide, ConnectRec
 use Rattle.iox2_machine.specs.machine.WellFormed.{IsWellFormed}
 use Rattle.iox2_machine.specs.declared.degradation.DegradationAction.{DegradationAction}
 use Rattle.iox2_machine.specs.declared.errors.ConnectionFailure.{ConnectionFailure}
-use Rattle.iox2_ends.specs.LookUp.{look_up}
-use Rattle.iox2_ends.specs.Finds.{IsReceiverLinked, IsReceivers}
-use Rattle.iox2_ends.specs.Mailboxes.{is_between, receiver_ends, subscriber_of_key, publisher_of_key}
-use Rattle.iox2_ends.proofs.MailboxChanges.{put_at-own}
+use Rattle.iox2_connections.specs.LookUp.{look_up}
+use Rattle.iox2_connections.specs.Finds.{IsReceiverLinked, IsReceivers}
+use Rattle.iox2_connections.specs.Mailboxes.{is_between, receiver_ends, subscriber_of_key, publisher_of_key}
+use Rattle.iox2_connections.proofs.MailboxChanges.{put_at-own}
 use Rattle.iox2_laws.proofs.ReceiverSides.{connect_at_place_keeps}
 use Rattle.iox2_laws.proofs.SubscriberUpdates.{with_receiver_side_keeps}
 use Rattle.iox2_domain.proofs.lemmas.fields.KeptChannels.{but-channels}

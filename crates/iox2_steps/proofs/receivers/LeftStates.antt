@@ -4,13 +4,13 @@ use Rattle.std.proofs.lemmas.Bool.{cases_eq, eq-eqb, ne_eqb}
 use Rattle.std.specs.declared.option.Option.{Option}
 use Rattle.std.specs.declared.option.Option.TheVariants.{None, Some}
 use Rattle.slab.specs.Slab.{Slab, get}
-use Rattle.iox2_slots.specs.Link.{Link}
+use Rattle.iox2_connections.specs.Link.{Link}
 use Rattle.iox2_machine.specs.machine.Numbers.{put_at, contains, without}
 use Rattle.iox2_machine.specs.machine.Places.{occupants}
 use Rattle.iox2_machine.specs.machine.Records.{Subscriber}
 use Rattle.iox2_laws.proofs.NumberLemmas.{contains_first, contains_later}
-use Rattle.iox2_ends.specs.Mailboxes.{receiver_ends}
-use Rattle.iox2_ends.proofs.MailboxChanges.{is_between-own}
+use Rattle.iox2_connections.specs.Mailboxes.{receiver_ends}
+use Rattle.iox2_connections.proofs.MailboxChanges.{is_between-own}
 use Rattle.iox2_domain.specs.Midway.{with_channels_of}
 use Rattle.iox2_domain.proofs.lemmas.fields.KeptChannels.{channels-are, whole-state}
 use Rattle.iox2_domain.specs.Ports.{SubscriberFields}

@@ -4,10 +4,10 @@ use Rattle.std.specs.declared.option.Option.{Option}
 use Rattle.std.specs.declared.option.Option.TheVariants.{None, Some}
 use Rattle.std.specs.Option.{option_map}
 use Rattle.slab.specs.Slab.{Slab}
-use Rattle.iox2_slots.specs.Link.{Link}
+use Rattle.iox2_connections.specs.Link.{Link}
 use Rattle.iox2_machine.specs.machine.Places.{occupants}
 use Rattle.iox2_machine.specs.machine.Records.{Publisher}
-use Rattle.iox2_ends.specs.Mailboxes.{receiver_ends}
+use Rattle.iox2_connections.specs.Mailboxes.{receiver_ends}
 use Rattle.iox2_domain.specs.Ports.{PublisherFields, SubscriberFields}
 use Rattle.iox2_domain.specs.Kept.{Named, state_of}
 use Rattle.iox2_domain.specs.Invariant.{HasParts}

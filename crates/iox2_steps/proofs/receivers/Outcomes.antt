@@ -3,11 +3,11 @@ use Rattle.std.proofs.Common.{◌≡◌, ◌≢◌, ◌<◌, ℕ, get_or, ap, sy
 use Rattle.std.specs.declared.option.Option.TheVariants.{None, Some}
 use Rattle.std.specs.Option.{option_map}
 use Rattle.slab.specs.Slab.{get}
-use Rattle.iox2_slots.specs.Link.{Link}
+use Rattle.iox2_connections.specs.Link.{Link}
 use Rattle.iox2_machine.specs.machine.Connections.{DegradationAnswers, failure_of, warnings_after}
 use Rattle.iox2_machine.specs.machine.Limits.{channel_count, warning_limit}
 use Rattle.iox2_machine.specs.machine.Records.{Environment, Handler}
-use Rattle.iox2_slots.specs.declared.connection.Home.{Home}
+use Rattle.iox2_connections.specs.declared.connection.Home.{Home}
 use Rattle.iox2_machine.specs.declared.degradation.DegradationAction.{DegradationAction}
 use Rattle.iox2_domain.specs.WarningRing.{WarningRing, warning_ring}
 use Rattle.iox2_domain.specs.Ports.{PublisherFields, SubscriberFields}

@@ -5,17 +5,17 @@ use Rattle.std.specs.declared.option.Option.{Option}
 use Rattle.std.specs.declared.option.Option.TheVariants.{None, Some}
 use Rattle.std.specs.Option.{option_map, option_map_or}
 use Rattle.slab.specs.Slab.{Slab, get, with_value, ContainsKey}
-use Rattle.iox2_slots.specs.Link.{Link}
+use Rattle.iox2_connections.specs.Link.{Link}
 use Rattle.iox2_slots.specs.SlotBook.{Book}
 use Rattle.iox2_machine.specs.machine.Limits.{warning_limit, expired_limit}
 use Rattle.iox2_machine.specs.machine.Numbers.{contains}
 use Rattle.iox2_machine.specs.machine.State.{State, warned}
 use Rattle.iox2_machine.specs.machine.SubscriberUpdate.{ReceiverSide, Retirement, is_refused, Keep_expired, Evict, Discard_data, with_receiver_side}
 use Rattle.iox2_machine.specs.declared.warning.Warning.TheVariants.{ExpiredDataDiscarded}
-use Rattle.iox2_ends.specs.Counters.{with_counters}
-use Rattle.iox2_ends.specs.Retires.{has_borrowed, chosen}
-use Rattle.iox2_ends.specs.declared.retirement.Retirement.{Retirement as Choice}
-use Rattle.iox2_ends.specs.declared.retirement.Retirement.TheVariants.{Refuse as RefuseIt}
+use Rattle.iox2_connections.specs.Counters.{with_counters}
+use Rattle.iox2_connections.specs.Retires.{has_borrowed, chosen}
+use Rattle.iox2_connections.specs.declared.retirement.Retirement.{Retirement as Choice}
+use Rattle.iox2_connections.specs.declared.retirement.Retirement.TheVariants.{Refuse as RefuseIt}
 use Rattle.iox2_domain.specs.KeptLinks.{ChannelsFollow}
 use Rattle.iox2_domain.specs.WarningRing.{warning_ring}
 use Rattle.iox2_domain.specs.Ports.{SubscriberFields}

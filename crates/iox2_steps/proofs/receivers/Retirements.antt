@@ -4,7 +4,7 @@ use Rattle.std.proofs.lemmas.Bool.{ne_eqb}
 use Rattle.std.specs.declared.option.Option.TheVariants.{None, Some}
 use Rattle.std.specs.Option.{option_map}
 use Rattle.slab.specs.Slab.{Slab, get}
-use Rattle.iox2_slots.specs.Link.{Link}
+use Rattle.iox2_connections.specs.Link.{Link}
 use Rattle.iox2_slots.specs.SlotBook.{Book}
 use Rattle.iox2_machine.specs.machine.Limits.{warning_limit, expired_limit}
 use Rattle.iox2_machine.specs.machine.Mailbox.{has_borrows, waiting_dropped}
@@ -16,10 +16,10 @@ use Rattle.iox2_machine.specs.declared.warning.Warning.TheVariants.{ExpiredDataD
 use Rattle.iox2_laws.proofs.NumberLemmas.{false_from}
 use Rattle.iox2_laws.proofs.ReceiverSides.{receiver_side_marked, kept_expired_keeps, discarded_keeps}
 use Rattle.iox2_laws.proofs.SubscriberUpdates.{with_receiver_side_keeps}
-use Rattle.iox2_ends.specs.Drops.{RemovesDropped}
-use Rattle.iox2_ends.specs.Mailboxes.{publisher_of_key, with_box}
-use Rattle.iox2_ends.proofs.LookUps.{look_up-nothing}
-use Rattle.iox2_ends.proofs.MailboxChanges.{put_at-own}
+use Rattle.iox2_connections.specs.Drops.{RemovesDropped}
+use Rattle.iox2_connections.specs.Mailboxes.{publisher_of_key, with_box}
+use Rattle.iox2_connections.proofs.LookUps.{look_up-nothing}
+use Rattle.iox2_connections.proofs.MailboxChanges.{put_at-own}
 use Rattle.iox2_domain.specs.Midway.{with_channels_of}
 use Rattle.iox2_laws.proofs.PortChanges.{with_all_channels_keeps}
 use Rattle.iox2_domain.specs.WarningRing.{WarningRing, warning_ring}

@@ -9,9 +9,9 @@ use Rattle.iox2_slots.specs.SlotBook.{Book, holders_at}
 use Rattle.iox2_contents.specs.SlotContents.{ContentState}
 use Rattle.iox2_machine.specs.machine.State.{State}
 use Rattle.iox2_machine.specs.machine.WellFormed.{IsWellFormed}
-use Rattle.iox2_ends.specs.LookUp.{look_up}
-use Rattle.iox2_ends.proofs.LookUps.{look_up-none}
-use Rattle.iox2_ends.proofs.MailboxChanges.{within_if_some}
+use Rattle.iox2_connections.specs.LookUp.{look_up}
+use Rattle.iox2_connections.proofs.LookUps.{look_up-none}
+use Rattle.iox2_connections.proofs.MailboxChanges.{within_if_some}
 use Rattle.iox2_domain.specs.Ports.{PublisherFields}
 use Rattle.iox2_domain.specs.Fields.{Fields, kept_of}
 use Rattle.iox2_domain.specs.Kept.{state_of}

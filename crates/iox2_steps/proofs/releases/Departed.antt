@@ -3,18 +3,18 @@ use Rattle.std.proofs.Common.{◌≡◌, ◌≢◌, ℕ, ◌+◌, Bool, true, fa
 use Rattle.std.proofs.lemmas.Bool.{eq-eqb, or_right}
 use Rattle.std.specs.Option.{option_map}
 use Rattle.slab.specs.Slab.{Slab, Updates, get}
-use Rattle.iox2_slots.specs.Link.{Link, load}
+use Rattle.iox2_connections.specs.Link.{Link, load}
 use Rattle.iox2_machine.specs.machine.Mailbox.{has_numbers, ChannelNumber}
 use Rattle.iox2_machine.specs.machine.Numbers.{put_at, contains}
 use Rattle.iox2_machine.specs.machine.Records.{Publisher, Subscriber}
 use Rattle.iox2_machine.specs.machine.Releases.{is_connected, pruned, subscriber_pruned, unborrowed}
 use Rattle.iox2_machine.specs.machine.State.{State, is_present}
 use Rattle.iox2_machine.specs.machine.WellFormed.{IsWellFormed, LeadsTo}
-use Rattle.iox2_ends.specs.Finds.{IsReceivers}
-use Rattle.iox2_ends.specs.LookUp.{look_up}
-use Rattle.iox2_ends.specs.Mailboxes.{publisher_of_key, mailbox_of, numbered}
-use Rattle.iox2_ends.proofs.LookUps.{look_up-none}
-use Rattle.iox2_ends.proofs.MailboxChanges.{is_between-own, mailbox-there}
+use Rattle.iox2_connections.specs.Finds.{IsReceivers}
+use Rattle.iox2_connections.specs.LookUp.{look_up}
+use Rattle.iox2_connections.specs.Mailboxes.{publisher_of_key, mailbox_of, numbered}
+use Rattle.iox2_connections.proofs.LookUps.{look_up-none}
+use Rattle.iox2_connections.proofs.MailboxChanges.{is_between-own, mailbox-there}
 use Rattle.iox2_domain.specs.Departures.{key_forgotten}
 use Rattle.iox2_domain.specs.Fields.{Fields, kept_of, numbers_of, publisher_of, subscriber_of}
 use Rattle.iox2_domain.specs.Invariant.{SenderHas, is_publisher, HasParts}

@@ -1,7 +1,7 @@
 -- A subscriber's own connections are gone over: those that it alone has go, and borrowed messages are looked for.
 use Rattle.std.proofs.Common.{◌⊎◌, ℕ, List, Option, inl, inr}
 use Rattle.slab.specs.Slab.{Slab}
-use Rattle.iox2_slots.specs.Link.{Link}
+use Rattle.iox2_connections.specs.Link.{Link}
 use Rattle.iox2_domain.specs.Departures.{BorrowsNothing, DropsUnshared}
 use Rattle.iox2_domain.specs.Ports.{PublisherFields}
 

@@ -3,10 +3,10 @@ use Rattle.std.proofs.Common.{◌≡◌, ◌≢◌, ℕ, zero, suc, Bool, true, 
 use Rattle.std.proofs.lemmas.Bool.{eqb-true, eq-eqb, or_left, or_right}
 use Rattle.std.specs.List.{filter}
 use Rattle.slab.specs.Slab.{Slab}
-use Rattle.iox2_slots.specs.Link.{Link}
+use Rattle.iox2_connections.specs.Link.{Link}
 use Rattle.iox2_machine.specs.machine.Numbers.{contains, without}
 use Rattle.iox2_machine.specs.machine.Places.{vacated, occupants, places_kept}
-use Rattle.iox2_ends.specs.Mailboxes.{publisher_of_key, receiver_ends}
+use Rattle.iox2_connections.specs.Mailboxes.{publisher_of_key, receiver_ends}
 
 -- the publisher of a key among the expired ones is expired
 pub expired-contains : (connections : Slab Link) (xs : List ℕ) (i k r : ℕ) → get_or (map Some xs) i None ≡ Some k → publisher_of_key connections (Some k) ≡ Some r

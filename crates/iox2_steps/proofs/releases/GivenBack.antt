@@ -1,6 +1,6 @@
 -- Messages that are given back.
 use Rattle.std.proofs.Common.{◌≡◌, ◌≢◌, ℕ, true, sym, subst, ap, ◌∙◌}
-use Rattle.iox2_slots.specs.declared.connection.Home.{Home}
+use Rattle.iox2_connections.specs.declared.connection.Home.{Home}
 use Rattle.iox2_machine.specs.machine.Mailbox.{is_borrowed}
 use Rattle.iox2_machine.specs.machine.Releases.{freed_if_unused, released, subscriber_pruned, unborrowed}
 use Rattle.iox2_machine.specs.machine.State.{State, is_linked}

@@ -3,24 +3,24 @@ use Rattle.std.proofs.Common.{◌≡◌, ℕ, List, Bool, true, false, eqb, get_
 use Rattle.std.proofs.lemmas.Bool.{eqb-true}
 use Rattle.std.specs.Option.{option_map}
 use Rattle.slab.specs.Slab.{Slab, get, with_value, ContainsKey}
-use Rattle.iox2_slots.specs.Link.{Link, without_borrowed}
+use Rattle.iox2_connections.specs.Link.{Link, without_borrowed}
 use Rattle.iox2_slots.specs.SlotBook.{Book, IsInUse}
-use Rattle.iox2_slots.specs.declared.connection.Home.{Home}
+use Rattle.iox2_connections.specs.declared.connection.Home.{Home}
 use Rattle.iox2_machine.specs.machine.Mailbox.{Mailbox, is_borrowed}
 use Rattle.iox2_machine.specs.machine.Numbers.{contains, IsOnce}
 use Rattle.iox2_machine.specs.machine.Records.{Subscriber}
 use Rattle.iox2_machine.specs.machine.Releases.{subscriber_pruned, unborrowed}
 use Rattle.iox2_machine.specs.machine.WellFormed.{LeadsTo}
-use Rattle.iox2_ends.specs.Counters.{one_holder_less, with_counters}
-use Rattle.iox2_ends.specs.Homes.{SameHomes}
-use Rattle.iox2_ends.specs.LookUp.{look_up}
-use Rattle.iox2_ends.specs.Mailboxes.{mailbox_of}
-use Rattle.iox2_ends.specs.Recounts.{Recounts}
-use Rattle.iox2_ends.specs.Takes.{KeepsOtherKeys, SameStands, ReleasesSlot}
-use Rattle.iox2_ends.proofs.Counts.{in_range}
-use Rattle.iox2_ends.proofs.LookUps.{look_up-nothing}
-use Rattle.iox2_ends.proofs.MailboxChanges.{mailbox-there}
-use Rattle.iox2_ends.proofs.Releases.{IsOnce-map}
+use Rattle.iox2_connections.specs.Counters.{one_holder_less, with_counters}
+use Rattle.iox2_connections.specs.Homes.{SameHomes}
+use Rattle.iox2_connections.specs.LookUp.{look_up}
+use Rattle.iox2_connections.specs.Mailboxes.{mailbox_of}
+use Rattle.iox2_connections.specs.Recounts.{Recounts}
+use Rattle.iox2_connections.specs.Takes.{KeepsOtherKeys, SameStands, ReleasesSlot}
+use Rattle.iox2_connections.proofs.Counts.{in_range}
+use Rattle.iox2_connections.proofs.LookUps.{look_up-nothing}
+use Rattle.iox2_connections.proofs.MailboxChanges.{mailbox-there}
+use Rattle.iox2_connections.proofs.Releases.{IsOnce-map}
 use Rattle.iox2_laws.proofs.MailboxLemmas.{has_borrows-is_borrowed}
 use Rattle.iox2_domain.specs.Fields.{Fields, kept_of, numbers_of, subscriber_of}
 use Rattle.iox2_domain.specs.Invariant.{IsBookOf, IsDomain, KeepsBooks, details_of, is_publisher}

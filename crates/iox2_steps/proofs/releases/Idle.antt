@@ -4,7 +4,7 @@ use Rattle.std.proofs.lemmas.Bool.{eqb-true, false_from_ne_true, true≢false}
 use Rattle.std.specs.List.{list_all}
 use Rattle.std.specs.Option.{option_map_or}
 use Rattle.slab.specs.Slab.{Slab, get}
-use Rattle.iox2_slots.specs.Link.{Link, load}
+use Rattle.iox2_connections.specs.Link.{Link, load}
 use Rattle.iox2_machine.specs.machine.Mailbox.{has_borrows, ChannelNumber, has_waiting}
 use Rattle.iox2_machine.specs.machine.Numbers.{contains, is_nil}
 use Rattle.iox2_machine.specs.machine.Places.{occupants}
@@ -12,10 +12,10 @@ use Rattle.iox2_machine.specs.machine.Records.{Publisher, Subscriber}
 use Rattle.iox2_machine.specs.machine.Releases.{is_unused, place_freed, freed_if_unused}
 use Rattle.iox2_machine.specs.machine.State.{State, connected_publishers}
 use Rattle.iox2_machine.specs.machine.WellFormed.{MailboxIsWellFormed}
-use Rattle.iox2_ends.specs.LookUp.{look_up}
-use Rattle.iox2_ends.specs.Mailboxes.{is_between, mailbox_of, mailbox_if_any, receiver_ends, numbered}
-use Rattle.iox2_ends.proofs.LookUps.{look_up-there}
-use Rattle.iox2_ends.proofs.MailboxChanges.{both-true, mailbox-there}
+use Rattle.iox2_connections.specs.LookUp.{look_up}
+use Rattle.iox2_connections.specs.Mailboxes.{is_between, mailbox_of, mailbox_if_any, receiver_ends, numbered}
+use Rattle.iox2_connections.proofs.LookUps.{look_up-there}
+use Rattle.iox2_connections.proofs.MailboxChanges.{both-true, mailbox-there}
 use Rattle.iox2_laws.proofs.FilterLemmas.{passes_all}
 use Rattle.iox2_laws.proofs.MailboxLemmas.{has_numbers-waiting}
 use Rattle.iox2_laws.proofs.NumberLemmas.{contains_left, contains_right, all_pass}

@@ -1,17 +1,17 @@
 -- A subscriber's message is released, and its publisher is gone: the slot has one holder less at once.
 use Rattle.std.proofs.Common.{◌≡◌, ℕ, ◌+◌, ◌<◌, true, refl, sym, subst, ◌∙◌, Some, None, inl, inr, arith, Contains}
 use Rattle.slab.specs.Slab.{Slab, get}
-use Rattle.iox2_slots.specs.Link.{Link}
+use Rattle.iox2_connections.specs.Link.{Link}
 use Rattle.iox2_slots.specs.SlotBook.{Book, holders_at}
 use Rattle.iox2_machine.specs.Stored.{IsHeldMessage}
 use Rattle.iox2_machine.specs.machine.Mailbox.{is_borrowed}
 use Rattle.iox2_machine.specs.machine.State.{State}
-use Rattle.iox2_ends.specs.Counters.{one_holder_less, with_counters}
-use Rattle.iox2_ends.specs.LookUp.{look_up}
-use Rattle.iox2_ends.specs.Mailboxes.{mailboxes_of}
-use Rattle.iox2_ends.specs.Recounts.{Recounts}
-use Rattle.iox2_ends.specs.Takes.{ReleasesSlot}
-use Rattle.iox2_ends.proofs.Counts.{get_or-one_holder_less, one_if}
+use Rattle.iox2_connections.specs.Counters.{one_holder_less, with_counters}
+use Rattle.iox2_connections.specs.LookUp.{look_up}
+use Rattle.iox2_connections.specs.Mailboxes.{mailboxes_of}
+use Rattle.iox2_connections.specs.Recounts.{Recounts}
+use Rattle.iox2_connections.specs.Takes.{ReleasesSlot}
+use Rattle.iox2_connections.proofs.Counts.{get_or-one_holder_less, one_if}
 use Rattle.iox2_domain.specs.Kept.{state_of}
 use Rattle.iox2_domain.specs.Fields.{Fields, kept_of, numbers_of}
 use Rattle.iox2_domain.specs.Invariant.{IsDomain, KeepsBooks, KeepsBooksBut, IsOwned, IsGone, is_publisher, HasParts}

@@ -10,7 +10,7 @@ use Rattle.iox2_machine.specs.machine.Records.{Publisher, Subscriber}
 use Rattle.iox2_machine.specs.machine.State.{State, is_present}
 use Rattle.iox2_machine.specs.machine.Releases.{is_connected, pruned, unborrowed, subscriber_pruned}
 use Rattle.iox2_machine.specs.machine.WellFormed.{IsWellFormed, LeadsTo}
-use Rattle.iox2_ends.proofs.MailboxChanges.{put_at-own}
+use Rattle.iox2_connections.proofs.MailboxChanges.{put_at-own}
 use Rattle.iox2_laws.proofs.Puts.{put_at-other}
 
 -- a list of places keeps all of its ports where each passes the test

@@ -2,16 +2,16 @@
 use Rattle.std.proofs.Common.{◌≡◌, ℕ, [], ◌++◌, true, get_or, is_some, ap, sym, subst, ◌∙◌, Option, Some, None, ◌⊎◌}
 use Rattle.std.proofs.lemmas.Bool.{or_left}
 use Rattle.slab.specs.Slab.{Slab, get}
-use Rattle.iox2_slots.specs.Link.{Link}
+use Rattle.iox2_connections.specs.Link.{Link}
 use Rattle.iox2_machine.specs.machine.Numbers.{contains, IsOnce}
 use Rattle.iox2_machine.specs.machine.Mailbox.{Mailbox, other_numbers, numbers_in, is_borrowed, has_numbers, with_released}
 use Rattle.iox2_machine.specs.machine.Records.{Publisher, Subscriber}
 use Rattle.iox2_machine.specs.machine.State.{State, is_present}
 use Rattle.iox2_machine.specs.machine.Releases.{is_connected, unborrowed, subscriber_pruned}
 use Rattle.iox2_machine.specs.machine.WellFormed.{LeadsTo}
-use Rattle.iox2_ends.specs.Homes.{SameHomes}
-use Rattle.iox2_ends.specs.Mailboxes.{mailboxes_of, with_box}
-use Rattle.iox2_ends.specs.Takes.{KeepsOtherKeys, SameStands, ReleasesSlot}
+use Rattle.iox2_connections.specs.Homes.{SameHomes}
+use Rattle.iox2_connections.specs.Mailboxes.{mailboxes_of, with_box}
+use Rattle.iox2_connections.specs.Takes.{KeepsOtherKeys, SameStands, ReleasesSlot}
 use Rattle.iox2_laws.proofs.MailboxLemmas.{contains_in_released, has_borrows-is_borrowed, has_numbers-borrows}
 use Rattle.iox2_laws.proofs.NumberLemmas.{IsOnce-right}
 use Rattle.iox2_laws.proofs.ReleaseLaws.{at_each_mailbox}

@@ -1,13 +1,13 @@
 -- A message is given back where it lies, between ports that both stay.
 use Rattle.std.proofs.Common.{◌≡◌, ℕ, true, get_or, None, Some, Contains, IsSomeAnd, refl, ap, sym, subst, ◌∙◌}
 use Rattle.slab.specs.Slab.{Slab, ContainsKey, get}
-use Rattle.iox2_slots.specs.Link.{Link}
-use Rattle.iox2_slots.specs.declared.connection.Home.{Home}
+use Rattle.iox2_connections.specs.Link.{Link}
+use Rattle.iox2_connections.specs.declared.connection.Home.{Home}
 use Rattle.iox2_machine.specs.machine.Mailbox.{is_borrowed}
 use Rattle.iox2_machine.specs.machine.Numbers.{IsOnce}
 use Rattle.iox2_machine.specs.machine.Releases.{released}
-use Rattle.iox2_ends.specs.Homes.{SameHomes}
-use Rattle.iox2_ends.specs.Takes.{KeepsOtherKeys, SameStands, ReleasesSlot}
+use Rattle.iox2_connections.specs.Homes.{SameHomes}
+use Rattle.iox2_connections.specs.Takes.{KeepsOtherKeys, SameStands, ReleasesSlot}
 use Rattle.iox2_domain.specs.Fields.{Fields, kept_of}
 use Rattle.iox2_domain.specs.Invariant.{IsBetweenOpen, IsDomain}
 use Rattle.iox2_domain.specs.Kept.{state_of}

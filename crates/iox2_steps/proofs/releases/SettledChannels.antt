@@ -5,8 +5,8 @@ use Rattle.std.specs.declared.option.Option.{Option}
 use Rattle.std.specs.declared.option.Option.TheVariants.{None, Some}
 use Rattle.std.specs.Option.{option_map, option_map_or}
 use Rattle.slab.specs.Slab.{Slab, get}
-use Rattle.iox2_slots.specs.Link.{Link}
-use Rattle.iox2_slots.specs.declared.connection.Home.{Home}
+use Rattle.iox2_connections.specs.Link.{Link}
+use Rattle.iox2_connections.specs.declared.connection.Home.{Home}
 use Rattle.iox2_machine.specs.machine.Channel.{Channel}
 use Rattle.iox2_machine.specs.machine.Numbers.{contains, put_at}
 use Rattle.iox2_machine.specs.machine.Places.{occupants}
@@ -15,10 +15,10 @@ use Rattle.iox2_machine.specs.machine.Records.{Publisher, Subscriber}
 use Rattle.iox2_machine.specs.machine.Releases.{freed_if_unused, is_unused, place_freed, pruned, subscriber_pruned}
 use Rattle.iox2_machine.specs.machine.State.{State, connected_publishers, is_linked, receiver_channels_reset}
 use Rattle.iox2_machine.specs.machine.WellFormed.{MailboxIsWellFormed}
-use Rattle.iox2_ends.specs.LookUp.{look_up}
-use Rattle.iox2_ends.specs.Mailboxes.{is_between}
-use Rattle.iox2_ends.proofs.LookUps.{look_up-none, look_up-there}
-use Rattle.iox2_ends.proofs.MailboxChanges.{both-true, is_between-own}
+use Rattle.iox2_connections.specs.LookUp.{look_up}
+use Rattle.iox2_connections.specs.Mailboxes.{is_between}
+use Rattle.iox2_connections.proofs.LookUps.{look_up-none, look_up-there}
+use Rattle.iox2_connections.proofs.MailboxChanges.{both-true, is_between-own}
 use Rattle.iox2_laws.proofs.Puts.{put_at-other}
 use Rattle.iox2_domain.specs.Fields.{Fields, kept_of}
 use Rattle.iox2_domain.specs.Invariant.{HasParts}

@@ -16,7 +16,7 @@ use Rattle.iox2_machine.specs.machine.State.{State, channel_buffer, with_loan}
 use Rattle.iox2_machine.specs.declared.errors.ConnectionFailure.{ConnectionFailure}
 use Rattle.iox2_machine.specs.declared.errors.SendError.TheVariants.{ConnectionBrokenSinceSenderNoLongerExists, ConnectionError}
 use Rattle.iox2_laws.proofs.Puts.{put_at-same}
-use Rattle.iox2_ends.proofs.AnyEnvironment.{AllowsAsMuch, Deliver-any}
+use Rattle.iox2_connections.proofs.AnyEnvironment.{AllowsAsMuch, Deliver-any}
 use Rattle.iox2_steps.proofs.updates.AnyBoxes.{AllowsUpdates, update-alike}
 
 module _ {T U : Type 0} (e e' : Environment) where

@@ -10,7 +10,7 @@ use Rattle.iox2_machine.specs.declared.backpressure.BackpressureInfo.{Backpressu
 use Rattle.iox2_machine.specs.declared.degradation.DegradationAction.{DegradationAction}
 use Rattle.iox2_machine.specs.declared.degradation.DegradationCause.{DegradationCause}
 use Rattle.iox2_machine.specs.declared.degradation.DegradationInfo.{DegradationInfo}
-use Rattle.iox2_ends.proofs.AnyEnvironment.{AllowsAsMuch}
+use Rattle.iox2_connections.proofs.AnyEnvironment.{AllowsAsMuch}
 use Rattle.iox2_domain.specs.Boxes.{answers_of}
 use Rattle.iox2_domain.specs.Fields.{Fields}
 use Rattle.iox2_domain.specs.SentLoans.{IsReadyToSend}

@@ -7,7 +7,7 @@ use Rattle.std.specs.declared.option.Option.{Option}
 use Rattle.std.specs.declared.option.Option.TheVariants.{None, Some}
 use Rattle.std.specs.Option.{option_map, option_map_or}
 use Rattle.slab.specs.Slab.{get, Slab}
-use Rattle.iox2_slots.specs.Link.{Link}
+use Rattle.iox2_connections.specs.Link.{Link}
 use Rattle.iox2_slots.specs.SlotBook.{Book, IsAligned, IsInUse, holders_at}
 use Rattle.iox2_machine.specs.machine.Delivery.{no_time}
 use Rattle.iox2_machine.specs.machine.Limits.{channel_count}
@@ -21,11 +21,11 @@ use Rattle.iox2_machine.specs.machine.WellFormed.{IsWellFormed}
 use Rattle.iox2_machine.specs.Stored.{IsHeldMessage, In_history, In_mailbox, In_blocked_send}
 use Rattle.iox2_machine.specs.declared.errors.SendError.{SendError}
 use Rattle.iox2_machine.specs.declared.errors.SendError.TheVariants.{UnableToDeliver}
-use Rattle.iox2_ends.specs.Counters.{times}
-use Rattle.iox2_ends.specs.Homes.{IsSenders}
-use Rattle.iox2_ends.specs.Mailboxes.{sender_ends, subscriber_of_key}
-use Rattle.iox2_ends.specs.declared.sender.DeliveryOutcome.{DeliveryOutcome}
-use Rattle.iox2_ends.proofs.DeliverySteps.{there}
+use Rattle.iox2_connections.specs.Counters.{times}
+use Rattle.iox2_connections.specs.Homes.{IsSenders}
+use Rattle.iox2_connections.specs.Mailboxes.{sender_ends, subscriber_of_key}
+use Rattle.iox2_connections.specs.declared.sender.DeliveryOutcome.{DeliveryOutcome}
+use Rattle.iox2_connections.proofs.DeliverySteps.{there}
 use Rattle.iox2_laws.proofs.BegunSends.{begun, begun_send, begun_keeps, begun_goes_on}
 use Rattle.iox2_laws.proofs.Puts.{found_put, put_at-same}
 use Rattle.iox2_domain.specs.BlockedSends.{CanGoOn, GoesOn, ConcludesAs, HasBlocked}

@@ -7,21 +7,21 @@ use Rattle.std.specs.declared.option.Option.TheVariants.{None, Some}
 use Rattle.std.specs.declared.time.Duration.{Duration}
 use Rattle.std.specs.Option.{option_map}
 use Rattle.slab.specs.Slab.{get, Slab}
-use Rattle.iox2_slots.specs.Link.{Link}
+use Rattle.iox2_connections.specs.Link.{Link}
 use Rattle.iox2_slots.specs.SlotBook.{Book, holders_at}
 use Rattle.iox2_machine.specs.machine.Delivery.{no_time}
 use Rattle.iox2_machine.specs.machine.Records.{Publisher, BlockedSend, Environment}
 use Rattle.iox2_machine.specs.machine.Sends.{DeliverAndConclude, Retry, GiveUp, more_retries}
 use Rattle.iox2_machine.specs.machine.State.{State}
 use Rattle.iox2_machine.specs.machine.WellFormed.{BlockedIsWellFormed}
-use Rattle.iox2_ends.specs.Counters.{times, HoldsItself}
-use Rattle.iox2_ends.specs.Mailboxes.{sender_ends, subscriber_of_key}
-use Rattle.iox2_ends.specs.Receivers.{HasReclaimed}
-use Rattle.iox2_ends.specs.Recounts.{Recounts}
-use Rattle.iox2_ends.specs.declared.sender.Progress.{Progress}
-use Rattle.iox2_ends.specs.declared.sender.DeliveryOutcome.{DeliveryOutcome}
-use Rattle.iox2_ends.proofs.Counts.{in_range}
-use Rattle.iox2_ends.proofs.ReclaimedPuts.{own-in_use, own-still}
+use Rattle.iox2_connections.specs.Counters.{times, HoldsItself}
+use Rattle.iox2_connections.specs.Mailboxes.{sender_ends, subscriber_of_key}
+use Rattle.iox2_connections.specs.Receivers.{HasReclaimed}
+use Rattle.iox2_connections.specs.Recounts.{Recounts}
+use Rattle.iox2_connections.specs.declared.sender.Progress.{Progress}
+use Rattle.iox2_connections.specs.declared.sender.DeliveryOutcome.{DeliveryOutcome}
+use Rattle.iox2_connections.proofs.Counts.{in_range}
+use Rattle.iox2_connections.proofs.ReclaimedPuts.{own-in_use, own-still}
 use Rattle.iox2_laws.proofs.PlaceLemmas.{occupied_within}
 use Rattle.iox2_domain.specs.declared.publisher_state.BlockedDelivery.{BlockedDelivery}
 use Rattle.iox2_domain.specs.Ports.{PublisherFields}

@@ -7,7 +7,7 @@ use Rattle.std.specs.Option.{option_map}
 use Rattle.std.specs.Prelude.{slice_get, nat_lt}
 use Rattle.slab.specs.Slab.{Slab, get, with_value}
 use Rattle.iox2_machine.specs.machine.Delivery.{PutResult, Complete, Suspended, Decides, PutIn, PutAtEndIn, DeliverIn, by_strategy, by_action, is_blocking, is_failed, accepted_count, no_time}
-use Rattle.iox2_slots.specs.Link.{Link}
+use Rattle.iox2_connections.specs.Link.{Link}
 use Rattle.iox2_machine.specs.machine.Mailbox.{Mailbox, has_room_in}
 use Rattle.iox2_machine.specs.machine.Records.{Environment, Handler, Fixed, Custom}
 use Rattle.iox2_slots.specs.SlotBook.{Book, holders_at, IsInUse}
@@ -20,10 +20,10 @@ use Rattle.iox2_machine.specs.declared.degradation.DegradationAction.{Degradatio
 use Rattle.iox2_machine.specs.declared.degradation.DegradationCause.{DegradationCause}
 use Rattle.iox2_machine.specs.declared.degradation.DegradationInfo.{DegradationInfo}
 use Rattle.iox2_machine.specs.declared.service_config.ServiceConfig.{ServiceConfig}
-use Rattle.iox2_ends.specs.Counters.{GrowsAlone, with_counters, HoldsItself, times}
-use Rattle.iox2_ends.specs.Mailboxes.{mailboxes_of, sender_ends}
-use Rattle.iox2_ends.specs.Receivers.{IsReadyToDeliver, taking_buffers, has_id}
-use Rattle.iox2_ends.specs.Recounts.{Recounts}
+use Rattle.iox2_connections.specs.Counters.{GrowsAlone, with_counters, HoldsItself, times}
+use Rattle.iox2_connections.specs.Mailboxes.{mailboxes_of, sender_ends}
+use Rattle.iox2_connections.specs.Receivers.{IsReadyToDeliver, taking_buffers, has_id}
+use Rattle.iox2_connections.specs.Recounts.{Recounts}
 use Rattle.iox2_laws.proofs.Cases.{by_bool}
 use Rattle.iox2_domain.specs.Boxes.{BoxAnswers, box_of, answers_of}
 use Rattle.iox2_domain.specs.Handlers.{AsksFor, is_failing, may_fail}
@@ -39,17 +39,17 @@ use Rattle.iox2_domain.proofs.lemmas.slots.BookChanges.{holders-here}
 use Rattle.iox2_domain.proofs.lemmas.slots.HeldMessages.{own-in_use as held-itself}
 use Rattle.iox2_domain.proofs.lemmas.slots.RecountedLoans.{recounted_fields, parts-recounted}
 use Rattle.std.proofs.lemmas.List.{get_or-set_same, length-set}
-use Rattle.iox2_ends.proofs.MailboxChanges.{within_if_some}
-use Rattle.iox2_ends.specs.Handlers.{asked, marks_of}
+use Rattle.iox2_connections.proofs.MailboxChanges.{within_if_some}
+use Rattle.iox2_connections.specs.Handlers.{asked, marks_of}
 use Rattle.iox2_machine.specs.declared.backpressure_handler.BackpressureHandler.{BackpressureHandler}
 use Rattle.iox2_machine.specs.declared.backpressure_handler.BackpressureHandler.TheVariants as handlers
-use Rattle.iox2_ends.proofs.AnyEnvironment.{AllowsAsMuch, Deliver-any}
-use Rattle.iox2_ends.proofs.Counts.{in_range, times-cons, one_if_same, get_or-one_holder_more}
-use Rattle.iox2_ends.proofs.ReclaimedPuts.{own-in_use, own-still}
+use Rattle.iox2_connections.proofs.AnyEnvironment.{AllowsAsMuch, Deliver-any}
+use Rattle.iox2_connections.proofs.Counts.{in_range, times-cons, one_if_same, get_or-one_holder_more}
+use Rattle.iox2_connections.proofs.ReclaimedPuts.{own-in_use, own-still}
 use Rattle.iox2_domain.proofs.lemmas.fields.OpenReceivers.{open-seen}
-use Rattle.iox2_ends.specs.Deliveries.{begun, end_of}
-use Rattle.iox2_ends.specs.declared.sender.Progress.{Progress}
-use Rattle.iox2_ends.specs.declared.sender.DeliveryOutcome.{DeliveryOutcome}
+use Rattle.iox2_connections.specs.Deliveries.{begun, end_of}
+use Rattle.iox2_connections.specs.declared.sender.Progress.{Progress}
+use Rattle.iox2_connections.specs.declared.sender.DeliveryOutcome.{DeliveryOutcome}
 use Rattle.iox2_domain.specs.declared.publisher_state.BlockedDelivery.{BlockedDelivery}
 use Rattle.iox2_domain.specs.BlockedSends.{with_outcome, counters_after, GoesOn}
 use Rattle.iox2_steps.proofs.sends.Reach.{reach-key}

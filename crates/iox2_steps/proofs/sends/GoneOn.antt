@@ -20,13 +20,13 @@ use Rattle.iox2_machine.specs.machine.Sends.{ConcludeSend, DeliverAndConclude, w
 use Rattle.iox2_machine.specs.Stored.{IsHeldMessage, In_history, In_mailbox, In_blocked_send}
 use Rattle.iox2_machine.specs.machine.State.{State, channel_buffer}
 use Rattle.iox2_machine.specs.machine.WellFormed.{IsWellFormed, IsInjective, LeadsTo}
-use Rattle.iox2_ends.specs.Counters.{times, with_counters, one_holder_less}
-use Rattle.iox2_ends.specs.Deliveries.{end_of}
-use Rattle.iox2_ends.specs.declared.sender.Progress.{Progress}
-use Rattle.iox2_ends.specs.declared.sender.DeliveryOutcome.{DeliveryOutcome}
-use Rattle.iox2_ends.proofs.Counts.{one_if, one_if_other, get_or-one_holder_less}
-use Rattle.iox2_ends.specs.Mailboxes.{mailboxes_of, sender_ends, subscriber_of_key}
-use Rattle.iox2_ends.proofs.MailboxChanges.{others-stay, one-put, both-true}
+use Rattle.iox2_connections.specs.Counters.{times, with_counters, one_holder_less}
+use Rattle.iox2_connections.specs.Deliveries.{end_of}
+use Rattle.iox2_connections.specs.declared.sender.Progress.{Progress}
+use Rattle.iox2_connections.specs.declared.sender.DeliveryOutcome.{DeliveryOutcome}
+use Rattle.iox2_connections.proofs.Counts.{one_if, one_if_other, get_or-one_holder_less}
+use Rattle.iox2_connections.specs.Mailboxes.{mailboxes_of, sender_ends, subscriber_of_key}
+use Rattle.iox2_connections.proofs.MailboxChanges.{others-stay, one-put, both-true}
 use Rattle.iox2_laws.proofs.DeliveryLaws.{Delivered, AreFrom, deliver_is}
 use Rattle.iox2_laws.proofs.MailboxLemmas.{contains_in_appended}
 use Rattle.iox2_laws.proofs.PlaceLemmas.{occupant-drop}

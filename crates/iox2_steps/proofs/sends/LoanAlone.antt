@@ -8,9 +8,9 @@ use Rattle.iox2_slots.specs.SlotBook.{Book, holders_at}
 use Rattle.iox2_machine.specs.machine.Numbers.{contains, IsOnce}
 use Rattle.iox2_machine.specs.machine.Records.{Loan}
 use Rattle.iox2_machine.specs.machine.WellFormed.{LoanIsWellFormed}
-use Rattle.iox2_ends.specs.Counters.{times, HoldsItself}
-use Rattle.iox2_ends.specs.Mailboxes.{sender_ends}
-use Rattle.iox2_ends.proofs.Counts.{one_if, times-cons, one_if_other}
+use Rattle.iox2_connections.specs.Counters.{times, HoldsItself}
+use Rattle.iox2_connections.specs.Mailboxes.{sender_ends}
+use Rattle.iox2_connections.proofs.Counts.{one_if, times-cons, one_if_other}
 use Rattle.iox2_domain.specs.Ports.{PublisherFields}
 use Rattle.iox2_domain.specs.declared.publisher_state.BlockedDelivery.{BlockedDelivery}
 use Rattle.iox2_domain.specs.Kept.{Lent_message, state_of}

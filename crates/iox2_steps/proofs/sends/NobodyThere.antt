@@ -16,9 +16,9 @@ use Rattle.iox2_machine.specs.declared.backpressure.BackpressureAction.{Backpres
 use Rattle.iox2_machine.specs.declared.backpressure.BackpressureStrategy.{BackpressureStrategy}
 use Rattle.iox2_machine.specs.declared.errors.SendError.TheVariants.{ConnectionBrokenSinceSenderNoLongerExists}
 use Rattle.iox2_machine.specs.declared.service_config.ServiceConfig.{ServiceConfig}
-use Rattle.iox2_ends.specs.LookUp.{look_up}
-use Rattle.iox2_ends.specs.Mailboxes.{sender_ends, subscriber_of_key}
-use Rattle.iox2_ends.proofs.MailboxChanges.{put_at-own}
+use Rattle.iox2_connections.specs.LookUp.{look_up}
+use Rattle.iox2_connections.specs.Mailboxes.{sender_ends, subscriber_of_key}
+use Rattle.iox2_connections.proofs.MailboxChanges.{put_at-own}
 use Rattle.iox2_laws.proofs.Cases.{match_some}
 use Rattle.iox2_domain.specs.ConnectionSends.{SendsLoanTo}
 use Rattle.iox2_domain.specs.Discards.{DiscardsLoan}

@@ -18,11 +18,11 @@ use Rattle.iox2_machine.specs.machine.Sends.{Publish, published, send_ended, wit
 use Rattle.iox2_machine.specs.Stored.{IsHeldMessage, In_history, In_mailbox, In_blocked_send}
 use Rattle.iox2_machine.specs.machine.State.{State, receiving_buffer, channel_buffer, publisher_changed}
 use Rattle.iox2_machine.specs.machine.WellFormed.{IsWellFormed}
-use Rattle.iox2_ends.specs.Counters.{times, with_counters, one_holder_more}
-use Rattle.iox2_ends.specs.LookUp.{look_up, IsOnly}
-use Rattle.iox2_ends.specs.Mailboxes.{mailboxes_of}
-use Rattle.iox2_ends.specs.Receivers.{buffers_of, taking_buffers, buffer_if_open, has_id}
-use Rattle.iox2_ends.proofs.MailboxChanges.{others-stay, one-put, both-true}
+use Rattle.iox2_connections.specs.Counters.{times, with_counters, one_holder_more}
+use Rattle.iox2_connections.specs.LookUp.{look_up, IsOnly}
+use Rattle.iox2_connections.specs.Mailboxes.{mailboxes_of}
+use Rattle.iox2_connections.specs.Receivers.{buffers_of, taking_buffers, buffer_if_open, has_id}
+use Rattle.iox2_connections.proofs.MailboxChanges.{others-stay, one-put, both-true}
 use Rattle.iox2_laws.proofs.Altered.{same_state}
 use Rattle.iox2_machine.specs.machine.Channel.{Channel, is_closed}
 use Rattle.iox2_domain.proofs.lemmas.fields.KeptChannels.{channels-are}
@@ -54,10 +54,10 @@ use Rattle.iox2_steps.proofs.sends.Trimmed.{Trims, trims}
 use Rattle.iox2_domain.proofs.lemmas.slots.NumbersInUse.{contains-map}
 use Rattle.iox2_domain.proofs.lemmas.loans.PublisherChanges.{changed-kept_books, changed-here, other_slots}
 use Rattle.iox2_domain.proofs.lemmas.slots.LoneLoans.{lone-sent, IsLoneIn, lone-fewer}
-use Rattle.iox2_ends.specs.Deliveries.{begun, end_of}
-use Rattle.iox2_ends.specs.declared.sender.Progress.{Progress}
-use Rattle.iox2_ends.specs.declared.sender.DeliveryOutcome.{DeliveryOutcome}
-use Rattle.iox2_ends.proofs.Counts.{one_if, one_if_other, get_or-one_holder_more}
+use Rattle.iox2_connections.specs.Deliveries.{begun, end_of}
+use Rattle.iox2_connections.specs.declared.sender.Progress.{Progress}
+use Rattle.iox2_connections.specs.declared.sender.DeliveryOutcome.{DeliveryOutcome}
+use Rattle.iox2_connections.proofs.Counts.{one_if, one_if_other, get_or-one_holder_more}
 use Rattle.circular_buffer.proofs.Places.{slice_get-set_same}
 use Rattle.iox2_slots.specs.declared.slots.mark.SlotMark.TheVariants.{Sent}
 use Rattle.iox2_domain.specs.declared.publisher_state.BlockedDelivery.{BlockedDelivery}

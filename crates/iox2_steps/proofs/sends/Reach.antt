@@ -3,15 +3,15 @@ use Rattle.std.proofs.Common.{◌≡◌, ℕ, zero, suc, le_refl, get_or, ◌+�
 use Rattle.std.proofs.lemmas.List.{drop-take, take-map, length-drop, length-take}
 use Rattle.std.specs.declared.time.Duration.{Duration}
 use Rattle.slab.specs.Slab.{Slab}
-use Rattle.iox2_slots.specs.Link.{Link}
+use Rattle.iox2_connections.specs.Link.{Link}
 use Rattle.iox2_machine.specs.machine.Delivery.{DeliverIn, DeliveryEnd, Complete, Suspended, is_blocking, is_failed, accepted_count, no_time}
 use Rattle.iox2_machine.specs.machine.Mailbox.{Mailbox}
 use Rattle.iox2_machine.specs.machine.Records.{BlockedSend, Environment, Handler}
 use Rattle.iox2_machine.specs.declared.backpressure.BackpressureAction.{BackpressureAction}
 use Rattle.iox2_machine.specs.declared.backpressure.BackpressureStrategy.{BackpressureStrategy}
 use Rattle.iox2_machine.specs.declared.service_config.ServiceConfig.{ServiceConfig}
-use Rattle.iox2_ends.specs.Mailboxes.{sender_ends, subscriber_of_key}
-use Rattle.iox2_ends.specs.declared.sender.Progress.{Progress}
+use Rattle.iox2_connections.specs.Mailboxes.{sender_ends, subscriber_of_key}
+use Rattle.iox2_connections.specs.declared.sender.Progress.{Progress}
 use Rattle.iox2_laws.proofs.Cases.{by_bool}
 use Rattle.iox2_laws.proofs.DeliveryLaws.{AreFrom, all_from}
 use Rattle.iox2_domain.specs.declared.publisher_state.BlockedDelivery.{BlockedDelivery}

@@ -12,8 +12,8 @@ use Rattle.iox2_slots.specs.SlotBook.{Book, IsAligned, IsInUse, holders_at}
 use Rattle.iox2_slots.specs.declared.slots.mark.SlotMark.TheVariants.{Unwritten, Written, Sent}
 use Rattle.iox2_machine.specs.machine.Numbers.{put_at, without}
 use Rattle.iox2_machine.specs.machine.Records.{Entry, Loan}
-use Rattle.iox2_ends.specs.Counters.{times}
-use Rattle.iox2_ends.proofs.Counts.{times_push, one_if_other}
+use Rattle.iox2_connections.specs.Counters.{times}
+use Rattle.iox2_connections.proofs.Counts.{times_push, one_if_other}
 use Rattle.iox2_domain.specs.Ports.{PublisherFields}
 use Rattle.iox2_domain.specs.Kept.{KeptMessage, Lent_message, Sent_message, state_of, entries_of, is_numbered, message_numbered, loan_in, entry_in}
 use Rattle.iox2_domain.specs.Fields.{Fields, kept_of, publisher_of, numbers_of, message_in, contents_at}

@@ -14,8 +14,8 @@ use Rattle.iox2_machine.specs.machine.Records.{Loan}
 use Rattle.iox2_machine.specs.declared.header.Header.{Header}
 use Rattle.iox2_slots.specs.declared.slots.mark.SlotMark.{SlotMark}
 use Rattle.iox2_slots.specs.declared.slots.mark.SlotMark.TheVariants.{Unwritten, Written, Sent}
-use Rattle.iox2_ends.specs.Counters.{times}
-use Rattle.iox2_ends.proofs.Counts.{one_if, times-cons, one_if_same, one_if_other}
+use Rattle.iox2_connections.specs.Counters.{times}
+use Rattle.iox2_connections.proofs.Counts.{one_if, times-cons, one_if_same, one_if_other}
 use Rattle.iox2_domain.specs.Kept.{KeptMessage, Lent_message, Sent_message}
 use Rattle.iox2_domain.specs.Fields.{message_of, message_in}
 use Rattle.iox2_domain.specs.Deliveries.{with_sent}

@@ -11,9 +11,9 @@ use Rattle.iox2_slots.specs.SlotBook.{Book, holders_at}
 use Rattle.iox2_machine.specs.machine.Numbers.{put_at, last_n}
 use Rattle.iox2_machine.specs.machine.Records.{Entry, Loan, Publisher}
 use Rattle.iox2_machine.specs.Stored.{IsHeldMessage}
-use Rattle.iox2_ends.specs.Counters.{times, one_holder_less}
-use Rattle.iox2_ends.proofs.Counts.{one_if, one_if_same, one_if_other, times-cons, get_or-one_holder_less}
-use Rattle.iox2_ends.proofs.MailboxChanges.{put_at-own}
+use Rattle.iox2_connections.specs.Counters.{times, one_holder_less}
+use Rattle.iox2_connections.proofs.Counts.{one_if, one_if_same, one_if_other, times-cons, get_or-one_holder_less}
+use Rattle.iox2_connections.proofs.MailboxChanges.{put_at-own}
 use Rattle.iox2_domain.specs.Ports.{PublisherFields}
 use Rattle.iox2_domain.specs.Kept.{Lent_message, state_of, entries_of}
 use Rattle.iox2_domain.specs.Fields.{Fields, kept_of, publisher_of, numbers_of, contents_at}

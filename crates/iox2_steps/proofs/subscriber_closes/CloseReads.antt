@@ -6,12 +6,12 @@ use Rattle.std.specs.declared.option.Option.{Option}
 use Rattle.std.specs.declared.option.Option.TheVariants.{None, Some}
 use Rattle.std.specs.Option.{option_map}
 use Rattle.slab.specs.Slab.{Updates, get}
-use Rattle.iox2_slots.specs.Link.{Link, load}
+use Rattle.iox2_connections.specs.Link.{Link, load}
 use Rattle.iox2_machine.specs.machine.Numbers.{is_nil}
-use Rattle.iox2_slots.specs.declared.connection.Home.{Home}
-use Rattle.iox2_ends.specs.Drops.{without_waiting}
-use Rattle.iox2_ends.specs.Finds.{IsReceivers}
-use Rattle.iox2_ends.proofs.MailboxChanges.{within_if_some}
+use Rattle.iox2_connections.specs.declared.connection.Home.{Home}
+use Rattle.iox2_connections.specs.Drops.{without_waiting}
+use Rattle.iox2_connections.specs.Finds.{IsReceivers}
+use Rattle.iox2_connections.proofs.MailboxChanges.{within_if_some}
 use Rattle.iox2_domain.specs.Departures.{ForgetsConnection, key_forgotten, HasKey, KnowsKey}
 use Rattle.iox2_domain.specs.Ports.{PublisherFields, SubscriberFields, due}
 use Rattle.iox2_domain.specs.Fields.{Fields}

@@ -6,21 +6,21 @@ use Rattle.std.specs.declared.option.Option.{Option}
 use Rattle.std.specs.declared.option.Option.TheVariants.{None, Some}
 use Rattle.std.specs.Option.{option_map}
 use Rattle.slab.specs.Slab.{Slab, Updates, ContainsKey, get, with_value}
-use Rattle.iox2_slots.specs.Link.{Link, other_slots}
+use Rattle.iox2_connections.specs.Link.{Link, other_slots}
 use Rattle.iox2_slots.specs.SlotBook.{Book}
 use Rattle.iox2_machine.specs.machine.Mailbox.{Mailbox, has_numbers, ChannelNumber}
 use Rattle.iox2_machine.specs.machine.Numbers.{is_nil, put_at}
 use Rattle.iox2_machine.specs.machine.State.{subscriber_changed}
-use Rattle.iox2_ends.specs.LookUp.{look_up}
-use Rattle.iox2_ends.specs.Counters.{times, with_counters}
-use Rattle.iox2_ends.specs.Drops.{DropsWaiting, without_waiting}
-use Rattle.iox2_ends.specs.Mailboxes.{mailboxes_of, mailbox_of}
-use Rattle.iox2_ends.specs.Recounts.{Recounts}
-use Rattle.iox2_ends.specs.Reclaims.{IsHeld}
-use Rattle.iox2_ends.proofs.Counts.{times-cons, one_if_same}
-use Rattle.iox2_ends.proofs.DropSteps.{drops-recounts, drops-boxes}
-use Rattle.iox2_ends.proofs.LookUps.{look_up-nothing}
-use Rattle.iox2_ends.proofs.MailboxChanges.{mailbox-there, Updates-with_value}
+use Rattle.iox2_connections.specs.LookUp.{look_up}
+use Rattle.iox2_connections.specs.Counters.{times, with_counters}
+use Rattle.iox2_connections.specs.Drops.{DropsWaiting, without_waiting}
+use Rattle.iox2_connections.specs.Mailboxes.{mailboxes_of, mailbox_of}
+use Rattle.iox2_connections.specs.Recounts.{Recounts}
+use Rattle.iox2_connections.specs.Reclaims.{IsHeld}
+use Rattle.iox2_connections.proofs.Counts.{times-cons, one_if_same}
+use Rattle.iox2_connections.proofs.DropSteps.{drops-recounts, drops-boxes}
+use Rattle.iox2_connections.proofs.LookUps.{look_up-nothing}
+use Rattle.iox2_connections.proofs.MailboxChanges.{mailbox-there, Updates-with_value}
 use Rattle.iox2_domain.specs.Departures.{key_forgotten}
 use Rattle.iox2_domain.specs.Ports.{PublisherFields, SubscriberFields}
 use Rattle.iox2_domain.specs.Kept.{state_of}

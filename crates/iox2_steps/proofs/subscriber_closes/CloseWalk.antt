@@ -6,7 +6,7 @@ use Rattle.std.specs.declared.option.Option.{Option}
 use Rattle.std.specs.declared.option.Option.TheVariants.{None, Some}
 use Rattle.std.specs.Option.{option_map}
 use Rattle.slab.specs.Slab.{get}
-use Rattle.iox2_slots.specs.Link.{Link}
+use Rattle.iox2_connections.specs.Link.{Link}
 use Rattle.iox2_slots.specs.SlotBook.{Book}
 use Rattle.iox2_machine.specs.machine.Mailbox.{has_numbers}
 use Rattle.iox2_machine.specs.machine.Numbers.{put_at}
@@ -14,8 +14,8 @@ use Rattle.iox2_machine.specs.machine.Records.{Publisher, Subscriber}
 use Rattle.iox2_machine.specs.machine.State.{State, subscriber_changed}
 use Rattle.iox2_laws.proofs.PlaceLemmas.{contains-occupants}
 use Rattle.iox2_laws.proofs.Puts.{put_at-same}
-use Rattle.iox2_ends.specs.Drops.{without_waiting}
-use Rattle.iox2_ends.specs.Mailboxes.{publisher_of_key, receiver_ends}
+use Rattle.iox2_connections.specs.Drops.{without_waiting}
+use Rattle.iox2_connections.specs.Mailboxes.{publisher_of_key, receiver_ends}
 use Rattle.iox2_domain.specs.Departures.{key_forgotten, KnowsKey}
 use Rattle.iox2_domain.specs.Ports.{PublisherFields, SubscriberFields}
 use Rattle.iox2_domain.specs.Kept.{state_of}

@@ -5,12 +5,12 @@ use Rattle.std.specs.declared.option.Option.{Option}
 use Rattle.std.specs.declared.option.Option.TheVariants.{None, Some}
 use Rattle.std.specs.Option.{option_map}
 use Rattle.slab.specs.Slab.{Slab, Updates, get}
-use Rattle.iox2_slots.specs.Link.{Link}
+use Rattle.iox2_connections.specs.Link.{Link}
 use Rattle.iox2_machine.specs.machine.Numbers.{put_at, without}
 use Rattle.iox2_machine.specs.machine.Places.{occupants, vacated, is_port}
 use Rattle.iox2_machine.specs.machine.Records.{Subscriber}
-use Rattle.iox2_ends.specs.Finds.{IsReceivers}
-use Rattle.iox2_ends.specs.Mailboxes.{publisher_of_key, receiver_ends}
+use Rattle.iox2_connections.specs.Finds.{IsReceivers}
+use Rattle.iox2_connections.specs.Mailboxes.{publisher_of_key, receiver_ends}
 use Rattle.iox2_domain.specs.Departures.{key_forgotten}
 use Rattle.iox2_domain.specs.OpenMarks.{IsUnmarkedReceiver}
 use Rattle.iox2_domain.specs.Ports.{SubscriberFields}

@@ -20,7 +20,7 @@ use Rattle.iox2_laws.proofs.MailboxLemmas.{has_numbers_dropped, nothing_borrowed
 use Rattle.iox2_laws.proofs.FilterLemmas.{contains-filter}
 use Rattle.iox2_laws.proofs.PlaceLemmas.{places_kept_keeps}
 use Rattle.iox2_laws.proofs.ReleaseLaws.{at_each_mailbox}
-use Rattle.iox2_ends.proofs.MailboxChanges.{put_at-own}
+use Rattle.iox2_connections.proofs.MailboxChanges.{put_at-own}
 use Rattle.iox2_steps.specs.Closes.{without_publisher}
 
 -- ---- lists of which some are kept

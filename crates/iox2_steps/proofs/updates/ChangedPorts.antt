@@ -5,7 +5,7 @@ use Rattle.std.specs.declared.option.Option.{Option}
 use Rattle.std.specs.declared.option.Option.TheVariants.{None, Some}
 use Rattle.std.specs.Option.{IsSomeAnd}
 use Rattle.slab.specs.Slab.{Slab, get}
-use Rattle.iox2_slots.specs.Link.{Link}
+use Rattle.iox2_connections.specs.Link.{Link}
 use Rattle.iox2_domain.proofs.lemmas.containers.ChangedRecords.{changed-here, changed-stood, changed-still}
 use Rattle.iox2_domain.proofs.lemmas.containers.Extensions.{Extends}
 

@@ -3,14 +3,14 @@ use Rattle.std.proofs.Common.{◌≡◌, ℕ, List, Bool, true, false, refl, ap,
 use Rattle.std.proofs.lemmas.Bool.{eqb-true}
 use Rattle.std.specs.Option.{option_map}
 use Rattle.slab.specs.Slab.{Slab, get}
-use Rattle.iox2_slots.specs.Link.{Link, channel_at}
-use Rattle.iox2_slots.specs.declared.connection.Home.{Home}
+use Rattle.iox2_connections.specs.Link.{Link, channel_at}
+use Rattle.iox2_connections.specs.declared.connection.Home.{Home}
 use Rattle.iox2_machine.specs.machine.Channel.{Channel, new_channels}
-use Rattle.iox2_ends.specs.Homes.{IsApart, SameHomes, fixed_of}
-use Rattle.iox2_ends.specs.LookUp.{look_up}
-use Rattle.iox2_ends.specs.Mailboxes.{is_between, channels_if_any, channels_in}
-use Rattle.iox2_ends.proofs.LookUps.{look_up-nothing, look_up-there, look_up-none}
-use Rattle.iox2_ends.proofs.MailboxChanges.{is_between-own, both-true, channels-there}
+use Rattle.iox2_connections.specs.Homes.{IsApart, SameHomes, fixed_of}
+use Rattle.iox2_connections.specs.LookUp.{look_up}
+use Rattle.iox2_connections.specs.Mailboxes.{is_between, channels_if_any, channels_in}
+use Rattle.iox2_connections.proofs.LookUps.{look_up-nothing, look_up-there, look_up-none}
+use Rattle.iox2_connections.proofs.MailboxChanges.{is_between-own, both-true, channels-there}
 use Rattle.iox2_domain.specs.KeptLinks.{HasLink, SameChannels, NoLink, IsMade, ChannelsFollow}
 use Rattle.iox2_domain.proofs.lemmas.containers.Extensions.{Extends}
 

@@ -6,17 +6,17 @@ use Rattle.std.specs.declared.option.Option.TheVariants.{None, Some}
 use Rattle.std.specs.Option.{option_map}
 use Rattle.std.specs.List.{sum_by}
 use Rattle.slab.specs.Slab.{get}
-use Rattle.iox2_slots.specs.Link.{Link}
+use Rattle.iox2_connections.specs.Link.{Link}
 use Rattle.iox2_slots.specs.SlotBook.{Book, holders_at}
 use Rattle.iox2_machine.specs.machine.Mailbox.{numbers_in, has_numbers}
 use Rattle.iox2_machine.specs.machine.Numbers.{IsOnce}
 use Rattle.iox2_machine.specs.machine.WellFormed.{LeadsTo}
-use Rattle.iox2_ends.specs.Counters.{times, stands, stands_in}
-use Rattle.iox2_ends.specs.Homes.{IsSenders}
-use Rattle.iox2_ends.specs.Mailboxes.{mailbox_of, subscriber_of_key}
-use Rattle.iox2_ends.specs.Receivers.{HasReclaimed}
-use Rattle.iox2_ends.proofs.Empties.{sum-keys}
-use Rattle.iox2_ends.proofs.MailboxChanges.{mailbox-there, is_between-own}
+use Rattle.iox2_connections.specs.Counters.{times, stands, stands_in}
+use Rattle.iox2_connections.specs.Homes.{IsSenders}
+use Rattle.iox2_connections.specs.Mailboxes.{mailbox_of, subscriber_of_key}
+use Rattle.iox2_connections.specs.Receivers.{HasReclaimed}
+use Rattle.iox2_connections.proofs.Empties.{sum-keys}
+use Rattle.iox2_connections.proofs.MailboxChanges.{mailbox-there, is_between-own}
 use Rattle.iox2_domain.specs.Ports.{PublisherFields}
 use Rattle.iox2_domain.specs.Fields.{Fields, numbers_of}
 use Rattle.iox2_domain.specs.Invariant.{IsDomain}

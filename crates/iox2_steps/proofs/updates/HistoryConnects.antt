@@ -5,12 +5,12 @@ use Rattle.std.specs.declared.option.Option.{Option}
 use Rattle.std.specs.declared.option.Option.TheVariants.{None, Some}
 use Rattle.std.specs.Option.{option_map}
 use Rattle.iox2_machine.specs.machine.Channel.{Channel, is_closed}
-use Rattle.iox2_ends.proofs.MailboxChanges.{channels-there, SameHomes-trans}
+use Rattle.iox2_connections.proofs.MailboxChanges.{channels-there, SameHomes-trans}
 use Rattle.iox2_domain.proofs.lemmas.fields.KeptChannels.{but-channels, channels-are}
 use Rattle.iox2_steps.proofs.updates.FollowedChannels.{follow-both, follow-same}
 use Rattle.iox2_domain.specs.Updates.{subscriber_but_room}
 use Rattle.slab.specs.Slab.{Slab, get, with_value, ContainsKey}
-use Rattle.iox2_slots.specs.Link.{channel_at, is_shut, Link, load}
+use Rattle.iox2_connections.specs.Link.{channel_at, is_shut, Link, load}
 use Rattle.iox2_slots.specs.SlotBook.{Book, holders_at}
 use Rattle.iox2_machine.specs.machine.Mailbox.{Mailbox, with_waiting}
 use Rattle.iox2_machine.specs.machine.Numbers.{put_at, last_n}
@@ -19,12 +19,12 @@ use Rattle.iox2_machine.specs.machine.PublisherUpdate.{SenderSide, UpdateSenderP
 use Rattle.iox2_machine.specs.machine.Records.{Publisher, Environment}
 use Rattle.iox2_machine.specs.machine.State.{State, receiving_buffer, has_receiver_end}
 use Rattle.iox2_machine.specs.machine.WellFormed.{IsWellFormed}
-use Rattle.iox2_ends.specs.Counters.{times, with_counters}
-use Rattle.iox2_ends.specs.Mailboxes.{with_box}
-use Rattle.iox2_ends.specs.Receivers.{HasReclaimed}
-use Rattle.iox2_ends.specs.Reclaims.{Reclaims}
-use Rattle.iox2_ends.proofs.Empties.{still-empty}
-use Rattle.iox2_ends.proofs.MailboxChanges.{within_if_some}
+use Rattle.iox2_connections.specs.Counters.{times, with_counters}
+use Rattle.iox2_connections.specs.Mailboxes.{with_box}
+use Rattle.iox2_connections.specs.Receivers.{HasReclaimed}
+use Rattle.iox2_connections.specs.Reclaims.{Reclaims}
+use Rattle.iox2_connections.proofs.Empties.{still-empty}
+use Rattle.iox2_connections.proofs.MailboxChanges.{within_if_some}
 use Rattle.iox2_laws.proofs.PublisherUpdates.{with_sender_side_keeps}
 use Rattle.iox2_laws.proofs.Puts.{put_at-same, put_at-twice}
 use Rattle.iox2_laws.proofs.SenderSides.{sender_side_begins, performed_keeps}

@@ -6,7 +6,7 @@ use Rattle.std.specs.Prelude.{slice_get, nat_lt}
 use Rattle.std.specs.declared.option.Option.TheVariants.{None, Some}
 use Rattle.std.specs.Option.{option_map_or}
 use Rattle.slab.specs.Slab.{Slab, get, with_value}
-use Rattle.iox2_slots.specs.Link.{Link, load}
+use Rattle.iox2_connections.specs.Link.{Link, load}
 use Rattle.iox2_slots.specs.SlotBook.{Book, holders_at}
 use Rattle.iox2_machine.specs.machine.Mailbox.{Mailbox, numbers_in, with_waiting, ChannelNumber}
 use Rattle.iox2_machine.specs.machine.Numbers.{put_at, contains, last_n}
@@ -16,11 +16,11 @@ use Rattle.iox2_machine.specs.machine.WellFormed.{IsWellFormed}
 use Rattle.iox2_machine.specs.Stored.{IsHeldMessage, In_history, In_mailbox, In_blocked_send}
 use Rattle.iox2_slots.specs.declared.slots.mark.SlotMark.{SlotMark}
 use Rattle.iox2_slots.specs.declared.slots.mark.SlotMark.TheVariants.{Unwritten, Written, Sent}
-use Rattle.iox2_ends.specs.Counters.{times, stands_in, with_counters}
-use Rattle.iox2_ends.specs.Mailboxes.{mailbox_of, mailboxes_of, with_box, numbered}
-use Rattle.iox2_ends.specs.Recounts.{Recounts}
-use Rattle.iox2_ends.proofs.Histories.{times-last}
-use Rattle.iox2_ends.proofs.MailboxChanges.{Updates-with_value, mailboxes-changed, mailbox-there, both-true}
+use Rattle.iox2_connections.specs.Counters.{times, stands_in, with_counters}
+use Rattle.iox2_connections.specs.Mailboxes.{mailbox_of, mailboxes_of, with_box, numbered}
+use Rattle.iox2_connections.specs.Recounts.{Recounts}
+use Rattle.iox2_connections.proofs.Histories.{times-last}
+use Rattle.iox2_connections.proofs.MailboxChanges.{Updates-with_value, mailboxes-changed, mailbox-there, both-true}
 use Rattle.iox2_laws.proofs.NumberLemmas.{contains_in_append, contains_in_last_n}
 use Rattle.iox2_laws.proofs.Puts.{at_each}
 use Rattle.iox2_domain.specs.Ports.{PublisherFields}
@@ -38,7 +38,7 @@ use Rattle.iox2_domain.proofs.lemmas.slots.NumbersInUse.{contains-map, times-sta
 use Rattle.iox2_domain.proofs.lemmas.slots.PublisherBooks.{book-own, book-owned}
 use Rattle.iox2_domain.proofs.lemmas.slots.RecountedLoans.{recounted_fields, recounted-kept, parts-recounted, recounted-is, recounted-entries, recounted-keeps}
 use Rattle.iox2_steps.proofs.updates.HistoryBounds.{remembered-in_use}
-use Rattle.iox2_ends.proofs.Recounts.{Recounts-one}
+use Rattle.iox2_connections.proofs.Recounts.{Recounts-one}
 use mathlib.Core.Path.{fun_ext}
 use Rattle.iox2_domain.proofs.lemmas.fields.LostConnections.{no-length}
 use Rattle.iox2_domain.proofs.lemmas.fields.NamedPorts.{seen, seen_publisher}

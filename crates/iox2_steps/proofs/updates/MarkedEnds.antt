@@ -5,13 +5,13 @@ use Rattle.std.proofs.lemmas.Option.{same_Some}
 use Rattle.std.specs.Prelude.{IsSomeAnd}
 use Rattle.std.specs.Option.{option_map, option_and_then, option_map_or}
 use Rattle.slab.specs.Slab.{ContainsKey, get, with_value}
-use Rattle.iox2_slots.specs.Link.{Link, is_shut, with_mark}
+use Rattle.iox2_connections.specs.Link.{Link, is_shut, with_mark}
 use Rattle.iox2_machine.specs.declared.errors.ConnectionFailure.{ConnectionFailure}
 use Rattle.iox2_machine.specs.machine.Ports.{publisher_closed, subscriber_closed}
 use Rattle.iox2_machine.specs.machine.Records.{Environment}
 use Rattle.iox2_machine.specs.machine.State.{State}
-use Rattle.iox2_ends.specs.Homes.{IsSenders}
-use Rattle.iox2_ends.proofs.MailboxChanges.{Updates-with_value, within_if_some}
+use Rattle.iox2_connections.specs.Homes.{IsSenders}
+use Rattle.iox2_connections.proofs.MailboxChanges.{Updates-with_value, within_if_some}
 use Rattle.iox2_domain.specs.Connects.{ConnectsSender}
 use Rattle.iox2_domain.specs.Fields.{Fields, kept_of, publisher_of, subscriber_of}
 use Rattle.iox2_domain.specs.Invariant.{IsBetweenOpen, IsDomain}

@@ -4,11 +4,11 @@ use Rattle.std.specs.declared.option.Option.{Option}
 use Rattle.std.specs.declared.option.Option.TheVariants.{None, Some}
 use Rattle.std.specs.Option.{option_and_then, option_map_or, IsSomeAnd}
 use Rattle.slab.specs.Slab.{ContainsKey, get}
-use Rattle.iox2_slots.specs.Link.{Link}
+use Rattle.iox2_connections.specs.Link.{Link}
 use Rattle.iox2_machine.specs.machine.Places.{set_place}
 use Rattle.iox2_machine.specs.machine.Records.{Environment}
 use Rattle.iox2_machine.specs.declared.errors.ConnectionFailure.{ConnectionFailure}
-use Rattle.iox2_ends.specs.Homes.{IsSenders}
+use Rattle.iox2_connections.specs.Homes.{IsSenders}
 use Rattle.iox2_domain.specs.Ports.{PublisherFields, SubscriberFields}
 use Rattle.iox2_domain.specs.Fields.{Fields}
 use Rattle.iox2_domain.specs.Invariant.{IsDomain, ReceiverHas}

@@ -3,20 +3,20 @@ use Rattle.std.proofs.Common.{◌≡◌, ℕ, Bool, true, false, cond, List, map
 use Rattle.std.proofs.lemmas.Bool.{cases_eq, eqb-true, eq-eqb, ne_eqb, or_cases, or_left, or_right}
 use Rattle.std.specs.Option.{option_map, option_map_or}
 use Rattle.slab.specs.Slab.{Slab, get}
-use Rattle.iox2_slots.specs.Link.{Link}
-use Rattle.iox2_slots.specs.declared.connection.Home.{Home}
+use Rattle.iox2_connections.specs.Link.{Link}
+use Rattle.iox2_connections.specs.declared.connection.Home.{Home}
 use Rattle.iox2_machine.specs.machine.Channel.{Channel, new_channels}
 use Rattle.iox2_machine.specs.machine.Numbers.{contains, put_at}
 use Rattle.iox2_machine.specs.machine.Places.{occupant, occupants}
 use Rattle.iox2_machine.specs.machine.Records.{Publisher, Subscriber}
 use Rattle.iox2_machine.specs.machine.State.{State, connected_publishers, is_linked, channels_if_linked, sender_channels_reset, receiver_channels_reset}
 use Rattle.iox2_machine.specs.machine.WellFormed.{LeadsTo}
-use Rattle.iox2_ends.specs.Finds.{IsReceivers}
-use Rattle.iox2_ends.specs.Homes.{IsSenders}
-use Rattle.iox2_ends.specs.LookUp.{look_up}
-use Rattle.iox2_ends.specs.Mailboxes.{is_between, channels_in, subscriber_of_key, publisher_of_key, sender_ends, receiver_ends}
-use Rattle.iox2_ends.proofs.LookUps.{look_up-none, look_up-there}
-use Rattle.iox2_ends.proofs.MailboxChanges.{is_between-own, both-true}
+use Rattle.iox2_connections.specs.Finds.{IsReceivers}
+use Rattle.iox2_connections.specs.Homes.{IsSenders}
+use Rattle.iox2_connections.specs.LookUp.{look_up}
+use Rattle.iox2_connections.specs.Mailboxes.{is_between, channels_in, subscriber_of_key, publisher_of_key, sender_ends, receiver_ends}
+use Rattle.iox2_connections.proofs.LookUps.{look_up-none, look_up-there}
+use Rattle.iox2_connections.proofs.MailboxChanges.{is_between-own, both-true}
 use Rattle.iox2_laws.proofs.NumberLemmas.{contains_left, contains_right, contains_in_append}
 use Rattle.iox2_laws.proofs.PlaceLemmas.{contains-occupants, leads_to}
 use Rattle.iox2_domain.specs.Fields.{Fields, kept_of, publisher_of, subscriber_of}

@@ -12,16 +12,16 @@ use Rattle.slab.specs.Slab.{Slab, get}
 use Rattle.iox2_machine.specs.machine.Connections.{DegradationAnswers, failure_of, warnings_after}
 use Rattle.iox2_machine.specs.machine.Channel.{new_channel}
 use Rattle.iox2_machine.specs.machine.Limits.{channel_count, warning_limit}
-use Rattle.iox2_slots.specs.Link.{Link, empty_link, load}
+use Rattle.iox2_connections.specs.Link.{Link, empty_link, load}
 use Rattle.iox2_machine.specs.machine.Mailbox.{Mailbox, ChannelNumber, other_numbers}
 use Rattle.iox2_machine.specs.machine.Places.{occupant, set_place, is_port}
 use Rattle.iox2_machine.specs.machine.Records.{Publisher, Subscriber, Environment}
 use Rattle.iox2_machine.specs.machine.State.{has_receiver_end}
 use Rattle.iox2_machine.specs.declared.degradation.DegradationAction.{DegradationAction}
-use Rattle.iox2_ends.specs.LookUp.{look_up}
-use Rattle.iox2_ends.specs.Homes.{IsSenderLinked}
-use Rattle.iox2_ends.proofs.LookUps.{look_up-found}
-use Rattle.iox2_ends.specs.Mailboxes.{mailbox_of, mailbox_if_any, is_between, sender_ends, subscriber_of_key, publisher_of_key, numbered}
+use Rattle.iox2_connections.specs.LookUp.{look_up}
+use Rattle.iox2_connections.specs.Homes.{IsSenderLinked}
+use Rattle.iox2_connections.proofs.LookUps.{look_up-found}
+use Rattle.iox2_connections.specs.Mailboxes.{mailbox_of, mailbox_if_any, is_between, sender_ends, subscriber_of_key, publisher_of_key, numbered}
 use Rattle.iox2_domain.specs.WarningRing.{warning_ring}
 use Rattle.iox2_domain.specs.Ports.{PublisherFields, SubscriberFields}
 use Rattle.iox2_domain.specs.Fields.{Fields, subscriber_of, numbers_of}

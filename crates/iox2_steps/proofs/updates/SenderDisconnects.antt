@@ -5,7 +5,7 @@ use Rattle.std.specs.declared.option.Option.{Option}
 use Rattle.std.specs.declared.option.Option.TheVariants.{None, Some}
 use Rattle.std.specs.Option.{option_map}
 use Rattle.slab.specs.Slab.{Slab, get}
-use Rattle.iox2_slots.specs.Link.{Link, borrowed_alone}
+use Rattle.iox2_connections.specs.Link.{Link, borrowed_alone}
 use Rattle.iox2_slots.specs.SlotBook.{Book}
 use Rattle.iox2_machine.specs.machine.Mailbox.{has_borrows}
 use Rattle.iox2_machine.specs.machine.Numbers.{put_at, is_nil}
@@ -14,9 +14,9 @@ use Rattle.iox2_machine.specs.machine.Records.{Publisher, Subscriber}
 use Rattle.iox2_machine.specs.machine.State.{State}
 use Rattle.iox2_machine.specs.machine.PublisherUpdate.{SenderSide, dropped, disconnected, sender_side, with_sender_side}
 use Rattle.iox2_machine.specs.machine.WellFormed.{IsWellFormed}
-use Rattle.iox2_ends.specs.Drops.{RemovesConnection}
-use Rattle.iox2_ends.specs.Mailboxes.{mailbox_of}
-use Rattle.iox2_ends.proofs.MailboxChanges.{mailbox-there}
+use Rattle.iox2_connections.specs.Drops.{RemovesConnection}
+use Rattle.iox2_connections.specs.Mailboxes.{mailbox_of}
+use Rattle.iox2_connections.proofs.MailboxChanges.{mailbox-there}
 use Rattle.iox2_laws.proofs.PublisherUpdates.{with_sender_side_keeps}
 use Rattle.iox2_laws.proofs.Puts.{put_at-same, put_at-twice}
 use Rattle.iox2_laws.proofs.SenderSides.{SenderSideIsWellFormed, sender_side_begins, unused_keeps}

@@ -6,12 +6,12 @@ use Rattle.std.specs.Option.{option_map, option_map_or, option_and_then}
 use Rattle.slab.specs.Slab.{Slab, get}
 use Rattle.std.proofs.lemmas.Bool.{eqb-true}
 use Rattle.std.proofs.lemmas.Option.{same_Some}
-use Rattle.iox2_slots.specs.Link.{Link}
+use Rattle.iox2_connections.specs.Link.{Link}
 use Rattle.iox2_machine.specs.machine.Places.{is_port}
 use Rattle.iox2_machine.specs.machine.Connections.{DegradationAnswers, failure_of, warnings_after}
 use Rattle.iox2_machine.specs.machine.Limits.{channel_count, warning_limit}
 use Rattle.iox2_machine.specs.machine.Records.{Environment, Handler}
-use Rattle.iox2_slots.specs.declared.connection.Home.{Home}
+use Rattle.iox2_connections.specs.declared.connection.Home.{Home}
 use Rattle.iox2_machine.specs.declared.degradation.DegradationAction.{DegradationAction}
 use Rattle.iox2_domain.specs.WarningRing.{WarningRing, warning_ring}
 use Rattle.iox2_domain.specs.Ports.{PublisherFields, SubscriberFields}

@@ -7,14 +7,14 @@ use Rattle.std.specs.declared.option.Option.{Option}
 use Rattle.std.specs.declared.option.Option.TheVariants.{None, Some}
 use Rattle.std.specs.Option.{option_map, option_map_or, option_and_then}
 use Rattle.slab.specs.Slab.{get}
-use Rattle.iox2_slots.specs.Link.{Link}
+use Rattle.iox2_connections.specs.Link.{Link}
 use Rattle.iox2_machine.specs.machine.Numbers.{put_at}
 use Rattle.iox2_machine.specs.machine.Places.{occupant, set_place, is_port}
 use Rattle.iox2_machine.specs.machine.Records.{Publisher, Subscriber, Environment}
 use Rattle.iox2_machine.specs.machine.State.{State, receiving_buffer, has_receiver_end}
 use Rattle.iox2_machine.specs.machine.PublisherUpdate.{SenderSide, UpdateSenderPlace, dropped, disconnected, sender_side, with_sender_side}
 use Rattle.iox2_machine.specs.declared.errors.ConnectionFailure.{ConnectionFailure}
-use Rattle.iox2_ends.proofs.MailboxChanges.{put_at-own}
+use Rattle.iox2_connections.proofs.MailboxChanges.{put_at-own}
 use Rattle.iox2_laws.proofs.SenderSides.{end_set}
 use Rattle.iox2_laws.proofs.Puts.{put_at-same}
 use Rattle.iox2_machine.specs.machine.Channel.{Channel, is_closed}

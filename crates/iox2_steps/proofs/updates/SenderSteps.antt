@@ -6,7 +6,7 @@ use Rattle.std.specs.declared.option.Option.TheVariants.{None, Some}
 use Rattle.std.specs.Option.{option_and_then}
 use Rattle.slab.specs.Slab.{Slab, get}
 use Rattle.iox2_machine.specs.machine.Limits.{warning_limit}
-use Rattle.iox2_slots.specs.Link.{Link, load}
+use Rattle.iox2_connections.specs.Link.{Link, load}
 use Rattle.iox2_machine.specs.machine.Mailbox.{has_numbers, with_waiting, other_numbers}
 use Rattle.iox2_machine.specs.machine.Numbers.{put_at, last_n}
 use Rattle.iox2_machine.specs.machine.Places.{occupant, set_place}
@@ -15,8 +15,8 @@ use Rattle.iox2_machine.specs.machine.State.{State, receiving_buffer, has_receiv
 use Rattle.iox2_machine.specs.machine.PublisherUpdate.{SenderSide, UpdateSenderPlace, ConnectSender, connected, sender_side, with_sender_side}
 use Rattle.iox2_machine.specs.machine.WellFormed.{LeadsTo, IsWellFormed}
 use Rattle.iox2_machine.specs.declared.errors.ConnectionFailure.{ConnectionFailure}
-use Rattle.iox2_ends.specs.Mailboxes.{sender_ends, subscriber_of_key}
-use Rattle.iox2_ends.proofs.MailboxChanges.{put_at-own}
+use Rattle.iox2_connections.specs.Mailboxes.{sender_ends, subscriber_of_key}
+use Rattle.iox2_connections.proofs.MailboxChanges.{put_at-own}
 use Rattle.iox2_laws.proofs.PlaceLemmas.{occupied_within}
 use Rattle.iox2_laws.proofs.SenderSides.{sender_side_begins, performed_keeps, connected_with_keeps}
 use Rattle.iox2_laws.proofs.PublisherUpdates.{with_sender_side_keeps}

@@ -4,7 +4,7 @@ use Rattle.std.specs.declared.option.Option.{Option}
 use Rattle.std.specs.declared.option.Option.TheVariants.{None, Some}
 use Rattle.std.specs.Option.{option_map}
 use Rattle.slab.specs.Slab.{Slab, get}
-use Rattle.iox2_slots.specs.Link.{Link}
+use Rattle.iox2_connections.specs.Link.{Link}
 use Rattle.iox2_slots.specs.SlotBook.{Book}
 use Rattle.iox2_machine.specs.machine.Mailbox.{Mailbox, numbers_in, waiting_dropped}
 use Rattle.iox2_machine.specs.machine.Numbers.{put_at, contains}
@@ -14,10 +14,10 @@ use Rattle.iox2_machine.specs.machine.State.{State}
 use Rattle.iox2_machine.specs.machine.PublisherUpdate.{dropped, sender_side, with_sender_side}
 use Rattle.iox2_machine.specs.machine.WellFormed.{IsWellFormed}
 use Rattle.iox2_machine.specs.Stored.{IsHeldMessage, In_history, In_mailbox, In_blocked_send}
-use Rattle.iox2_ends.specs.Drops.{DropsAll}
-use Rattle.iox2_ends.specs.Homes.{IsSenders}
-use Rattle.iox2_ends.specs.Mailboxes.{mailboxes_of, with_box, subscriber_of_key}
-use Rattle.iox2_ends.proofs.MailboxChanges.{put_at-own}
+use Rattle.iox2_connections.specs.Drops.{DropsAll}
+use Rattle.iox2_connections.specs.Homes.{IsSenders}
+use Rattle.iox2_connections.specs.Mailboxes.{mailboxes_of, with_box, subscriber_of_key}
+use Rattle.iox2_connections.proofs.MailboxChanges.{put_at-own}
 use Rattle.iox2_laws.proofs.MailboxLemmas.{contains_in_dropped}
 use Rattle.iox2_laws.proofs.PublisherUpdates.{with_sender_side_keeps}
 use Rattle.iox2_laws.proofs.Puts.{at_each}

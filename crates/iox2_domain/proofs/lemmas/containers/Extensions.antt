@@ -5,11 +5,11 @@ use Rattle.std.specs.declared.option.Option.{Option}
 use Rattle.std.specs.declared.option.Option.TheVariants.{None, Some}
 use Rattle.std.specs.Option.{option_map, IsSomeAnd}
 use Rattle.slab.specs.Slab.{Slab, get}
-use Rattle.iox2_slots.specs.Link.{Link}
-use Rattle.iox2_ends.specs.Homes.{IsApart, IsSenderLinked, IsSenders}
-use Rattle.iox2_ends.specs.Finds.{IsReceiverLinked, IsReceivers}
-use Rattle.iox2_ends.specs.Counters.{stands}
-use Rattle.iox2_ends.specs.Mailboxes.{mailboxes_of, channels_in, subscriber_of_key, publisher_of_key, sender_ends, receiver_ends}
+use Rattle.iox2_connections.specs.Link.{Link}
+use Rattle.iox2_connections.specs.Homes.{IsApart, IsSenderLinked, IsSenders}
+use Rattle.iox2_connections.specs.Finds.{IsReceiverLinked, IsReceivers}
+use Rattle.iox2_connections.specs.Counters.{stands}
+use Rattle.iox2_connections.specs.Mailboxes.{mailboxes_of, channels_in, subscriber_of_key, publisher_of_key, sender_ends, receiver_ends}
 use Rattle.iox2_domain.proofs.lemmas.containers.ChangedRecords.{ends-agree}
 
 -- Each connection is there as it was. Slots stand where they stood, and no mailbox and no channel changes.

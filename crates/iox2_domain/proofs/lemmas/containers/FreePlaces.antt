@@ -7,9 +7,9 @@ use Rattle.std.specs.declared.option.Option.{Option}
 use Rattle.std.specs.declared.option.Option.TheVariants.{None, Some}
 use Rattle.std.specs.Option.{option_map}
 use Rattle.iox2_machine.specs.machine.Places.{lowest_free}
-use Rattle.iox2_ends.specs.LookUp.{look_up}
-use Rattle.iox2_ends.proofs.LookUps.{look_up-nothing}
-use Rattle.iox2_ends.proofs.MailboxChanges.{within_if_some}
+use Rattle.iox2_connections.specs.LookUp.{look_up}
+use Rattle.iox2_connections.proofs.LookUps.{look_up-nothing}
+use Rattle.iox2_connections.proofs.MailboxChanges.{within_if_some}
 use Rattle.iox2_domain.specs.Placed.{placed, lowest_empty}
 
 module _ {A : Type 0} where

@@ -2,8 +2,8 @@
 use Rattle.std.proofs.Common.{◌≡◌, ◌≢◌, ℕ, zero, suc, List, [], ◌∷◌, map, Bool, true, false, cond, Option, None, Some, get_or, refl, ap, sym, ◌∙◌, inl, inr}
 use Rattle.std.proofs.lemmas.Bool.{cases_eq}
 use Rattle.std.specs.Option.{option_map}
-use Rattle.iox2_ends.specs.LookUp.{look_up, IsOnly}
-use Rattle.iox2_ends.proofs.LookUps.{look_up-there, look_up-none, look_up-found, look_up-nothing}
+use Rattle.iox2_connections.specs.LookUp.{look_up, IsOnly}
+use Rattle.iox2_connections.proofs.LookUps.{look_up-there, look_up-none, look_up-found, look_up-nothing}
 
 -- a look-up among views is the view of a look-up
 pub look_up-map : {A B : Type 0} (test : B → Bool) (f : A → B) (xs : List (Option A)) → look_up test (map (option_map f) xs) ≡ option_map f (look_up (λ x. test (f x)) xs)

@@ -6,15 +6,15 @@ use Rattle.std.specs.List.{sum_by}
 use Rattle.std.specs.declared.option.Option.{Option}
 use Rattle.std.specs.declared.option.Option.TheVariants.{None, Some}
 use Rattle.slab.specs.Slab.{Slab, get}
-use Rattle.iox2_slots.specs.Link.{Link, channel_at, empty_link}
-use Rattle.iox2_slots.specs.declared.connection.Home.{Home}
-use Rattle.iox2_ends.specs.LookUp.{look_up}
-use Rattle.iox2_ends.specs.Homes.{IsApart}
-use Rattle.iox2_ends.specs.Counters.{stands}
-use Rattle.iox2_ends.specs.Mailboxes.{is_between, mailboxes_of, mailbox_if_any, channels_if_any, channels_in}
+use Rattle.iox2_connections.specs.Link.{Link, channel_at, empty_link}
+use Rattle.iox2_connections.specs.declared.connection.Home.{Home}
+use Rattle.iox2_connections.specs.LookUp.{look_up}
+use Rattle.iox2_connections.specs.Homes.{IsApart}
+use Rattle.iox2_connections.specs.Counters.{stands}
+use Rattle.iox2_connections.specs.Mailboxes.{is_between, mailboxes_of, mailbox_if_any, channels_if_any, channels_in}
 use Rattle.iox2_machine.specs.machine.Channel.{new_channel}
 use mathlib.Core.Path.{fun_ext}
-use Rattle.iox2_slots.proofs.ChannelLists.{all-new}
+use Rattle.iox2_connections.proofs.ChannelLists.{all-new}
 use Rattle.iox2_domain.specs.Updates.{MakesConnection}
 use Rattle.iox2_domain.proofs.lemmas.containers.LookUps.{look_up-written, IsOnly-inserted}
 use Rattle.iox2_domain.proofs.lemmas.containers.Extensions.{Extends}

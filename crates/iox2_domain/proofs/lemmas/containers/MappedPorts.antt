@@ -1,7 +1,7 @@
 -- Every port of a list changes, and keeps its id.
 use Rattle.std.proofs.Common.{◌≡◌, ℕ, List, [], ◌∷◌, map, Bool, true, false, cond, eqb, Option, None, Some, refl, ap, ◌∙◌}
 use Rattle.std.specs.Option.{option_map}
-use Rattle.iox2_ends.specs.LookUp.{look_up}
+use Rattle.iox2_connections.specs.LookUp.{look_up}
 use Rattle.iox2_domain.specs.Kept.{Named, port_named, ids, is_named}
 
 module _ {A B : Type 0} (view : B → Named A) (change : B → B) (changed : A → A)

@@ -6,7 +6,7 @@ use Rattle.std.specs.declared.option.Option.TheVariants.{None, Some}
 use Rattle.std.specs.Option.{option_map}
 use Rattle.iox2_machine.specs.machine.Numbers.{put_at}
 use Rattle.iox2_machine.specs.machine.Places.{vacated, is_port}
-use Rattle.iox2_ends.specs.LookUp.{look_up, IsOnly}
+use Rattle.iox2_connections.specs.LookUp.{look_up, IsOnly}
 use Rattle.iox2_domain.specs.Kept.{Named, port_named, ids, is_named}
 use Rattle.iox2_domain.proofs.lemmas.containers.LookUps.{IsOnly-removed, look_up-removed}
 

@@ -5,14 +5,14 @@ use Rattle.std.proofs.lemmas.List.{map-set, set-get_or}
 use Rattle.std.specs.Prelude.{[]}
 use Rattle.std.specs.Option.{option_map}
 use Rattle.slab.specs.Slab.{Slab, Updates, get, with_value}
-use Rattle.iox2_slots.specs.Link.{Link}
-use Rattle.iox2_slots.specs.declared.connection.Home.{Home}
+use Rattle.iox2_connections.specs.Link.{Link}
+use Rattle.iox2_connections.specs.declared.connection.Home.{Home}
 use Rattle.iox2_machine.specs.machine.WellFormed.{IsWellFormed}
 use Rattle.iox2_machine.specs.machine.Limits.{channel_count}
-use Rattle.iox2_ends.specs.Counters.{stands}
-use Rattle.iox2_ends.specs.Homes.{IsApart}
-use Rattle.iox2_ends.specs.Mailboxes.{is_between}
-use Rattle.iox2_ends.proofs.MailboxChanges.{Updates-with_value}
+use Rattle.iox2_connections.specs.Counters.{stands}
+use Rattle.iox2_connections.specs.Homes.{IsApart}
+use Rattle.iox2_connections.specs.Mailboxes.{is_between}
+use Rattle.iox2_connections.proofs.MailboxChanges.{Updates-with_value}
 use Rattle.iox2_domain.specs.Fields.{Fields, kept_of, between_of}
 use Rattle.iox2_domain.specs.Invariant.{IsDomain, HasParts, HasExpiredRoom, IsBetweenOpen, IsBookOf, IsCounted, NamesBooks, SenderHas, one_if_receivers, own_holders}
 use Rattle.iox2_domain.specs.Kept.{Kept, state_of}

@@ -5,10 +5,10 @@ use Rattle.std.proofs.lemmas.List.Sums.{sum_by-cons}
 use Rattle.std.specs.List.{sum_by}
 use Rattle.std.specs.Option.{option_map}
 use Rattle.slab.specs.Slab.{Slab, Updates, get}
-use Rattle.iox2_slots.specs.Link.{Link}
+use Rattle.iox2_connections.specs.Link.{Link}
 use Rattle.iox2_machine.specs.machine.Channel.{Channel}
-use Rattle.iox2_slots.specs.declared.connection.Home.{Home}
-use Rattle.iox2_ends.specs.Homes.{SameHomes, fixed_of}
+use Rattle.iox2_connections.specs.declared.connection.Home.{Home}
+use Rattle.iox2_connections.specs.Homes.{SameHomes, fixed_of}
 use Rattle.iox2_domain.specs.Ports.{SubscriberFields}
 use Rattle.iox2_domain.specs.Fields.{Fields}
 use Rattle.iox2_domain.specs.Invariant.{IsDomain, HasExpiredRoom, connection_count, one_if_receivers}

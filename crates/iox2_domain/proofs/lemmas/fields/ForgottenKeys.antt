@@ -5,13 +5,13 @@ use Rattle.std.specs.declared.option.Option.{Option}
 use Rattle.std.specs.declared.option.Option.TheVariants.{None, Some}
 use Rattle.std.specs.Option.{option_map, option_map_or}
 use Rattle.slab.specs.Slab.{Slab, get}
-use Rattle.iox2_slots.specs.Link.{Link}
-use Rattle.iox2_ends.specs.LookUp.{look_up, IsOnly}
-use Rattle.iox2_ends.specs.Homes.{IsSenders}
-use Rattle.iox2_ends.specs.Finds.{IsReceivers}
-use Rattle.iox2_ends.specs.Counters.{times}
-use Rattle.iox2_ends.specs.declared.sender.ReceiverDetails.{ReceiverDetails}
-use Rattle.iox2_ends.proofs.LookUps.{look_up-there, look_up-none, look_up-found, look_up-nothing}
+use Rattle.iox2_connections.specs.Link.{Link}
+use Rattle.iox2_connections.specs.LookUp.{look_up, IsOnly}
+use Rattle.iox2_connections.specs.Homes.{IsSenders}
+use Rattle.iox2_connections.specs.Finds.{IsReceivers}
+use Rattle.iox2_connections.specs.Counters.{times}
+use Rattle.iox2_connections.specs.declared.sender.ReceiverDetails.{ReceiverDetails}
+use Rattle.iox2_connections.proofs.LookUps.{look_up-there, look_up-none, look_up-found, look_up-nothing}
 use Rattle.iox2_domain.specs.Ports.{PublisherFields, SubscriberFields}
 use Rattle.iox2_domain.specs.Fields.{Fields, is_book_of}
 use Rattle.iox2_domain.specs.Invariant.{HasParts, IsLinked, IsOwned, IsGone, HasBook, HasBooks, IsCounted, HasPublisherRoom, IsPlain, HasExpiredRoom, SenderHas, ReceiverHas, is_publisher, is_subscriber, own_holders, is_loan_in, details_of, connection_count, IsBetweenOpen}

@@ -6,9 +6,9 @@ use Rattle.std.specs.declared.option.Option.{Option}
 use Rattle.std.specs.declared.option.Option.TheVariants.{None, Some}
 use Rattle.slab.specs.Slab.{Slab, get, with_value}
 use Rattle.iox2_slots.specs.SlotBook.{Book}
-use Rattle.iox2_ends.specs.LookUp.{look_up}
-use Rattle.iox2_ends.proofs.LookUps.{look_up-nothing}
-use Rattle.iox2_ends.proofs.MailboxChanges.{within_if_some}
+use Rattle.iox2_connections.specs.LookUp.{look_up}
+use Rattle.iox2_connections.proofs.LookUps.{look_up-nothing}
+use Rattle.iox2_connections.proofs.MailboxChanges.{within_if_some}
 use Rattle.iox2_domain.specs.Ports.{PublisherFields}
 use Rattle.iox2_domain.specs.Invariant.{IsOwned, IsGone, IsLeft, KeepsBooks, KeepsBooksBut, is_publisher}
 

@@ -2,12 +2,12 @@
 use Rattle.std.proofs.Common.{◌≡◌, ℕ, zero, suc, Bool, true, false, cond, List, [], ◌∷◌, Option, None, Some, get_or, refl, ap, sym, ◌∙◌}
 use Rattle.std.specs.Option.{option_map}
 use Rattle.slab.specs.Slab.{Slab}
-use Rattle.iox2_slots.specs.Link.{Link, channel_at}
-use Rattle.iox2_slots.specs.declared.connection.Home.{Home}
+use Rattle.iox2_connections.specs.Link.{Link, channel_at}
+use Rattle.iox2_connections.specs.declared.connection.Home.{Home}
 use Rattle.iox2_machine.specs.machine.Channel.{Channel, new_channels}
-use Rattle.iox2_ends.specs.LookUp.{look_up}
-use Rattle.iox2_ends.specs.Homes.{SameHomes, fixed_of}
-use Rattle.iox2_ends.specs.Mailboxes.{is_between, channels_if_any, channels_in}
+use Rattle.iox2_connections.specs.LookUp.{look_up}
+use Rattle.iox2_connections.specs.Homes.{SameHomes, fixed_of}
+use Rattle.iox2_connections.specs.Mailboxes.{is_between, channels_if_any, channels_in}
 use Rattle.iox2_domain.specs.Kept.{state_of, stands_between, channels_if_between}
 use Rattle.iox2_domain.specs.Fields.{Fields, kept_of, between_of}
 use Rattle.iox2_domain.specs.Midway.{with_channels_of}

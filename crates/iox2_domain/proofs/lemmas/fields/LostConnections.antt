@@ -3,12 +3,12 @@ use Rattle.std.proofs.Common.{◌≡◌, ◌≤◌, ℕ, Bool, true, false, [], 
 use Rattle.std.proofs.lemmas.Bool.{cases_eq}
 use Rattle.std.specs.List.{sum_by}
 use Rattle.slab.specs.Slab.{Slab, Updates, get}
-use Rattle.iox2_slots.specs.Link.{Link, load}
-use Rattle.iox2_ends.specs.Counters.{stands}
-use Rattle.iox2_ends.specs.Homes.{IsApart}
-use Rattle.iox2_ends.specs.LookUp.{look_up}
-use Rattle.iox2_ends.specs.Mailboxes.{is_between, mailboxes_of, mailbox_if_any}
-use Rattle.iox2_ends.proofs.LookUps.{look_up-found, look_up-none, look_up-nothing, look_up-there}
+use Rattle.iox2_connections.specs.Link.{Link, load}
+use Rattle.iox2_connections.specs.Counters.{stands}
+use Rattle.iox2_connections.specs.Homes.{IsApart}
+use Rattle.iox2_connections.specs.LookUp.{look_up}
+use Rattle.iox2_connections.specs.Mailboxes.{is_between, mailboxes_of, mailbox_if_any}
+use Rattle.iox2_connections.proofs.LookUps.{look_up-found, look_up-none, look_up-nothing, look_up-there}
 use Rattle.iox2_domain.specs.Invariant.{connection_count, one_if_receivers}
 use Rattle.iox2_domain.proofs.lemmas.containers.FewerSums.{sum-fewer}
 use Rattle.iox2_domain.proofs.lemmas.slots.Recounts.{sum-alike}

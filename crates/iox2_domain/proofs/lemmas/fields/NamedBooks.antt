@@ -1,12 +1,12 @@
 -- Connections name the keys of books, which stay.
 use Rattle.std.proofs.Common.{◌≡◌, ℕ, List, Bool, ap, subst, ◌∙◌, Some}
 use Rattle.slab.specs.Slab.{Slab, get}
-use Rattle.iox2_slots.specs.Link.{Link}
+use Rattle.iox2_connections.specs.Link.{Link}
 use Rattle.iox2_machine.specs.machine.Channel.{Channel}
 use Rattle.iox2_slots.specs.SlotBook.{Book}
-use Rattle.iox2_slots.specs.declared.connection.Home.{Home}
-use Rattle.iox2_ends.specs.Homes.{SameHomes}
-use Rattle.iox2_ends.proofs.MailboxChanges.{was}
+use Rattle.iox2_connections.specs.declared.connection.Home.{Home}
+use Rattle.iox2_connections.specs.Homes.{SameHomes}
+use Rattle.iox2_connections.proofs.MailboxChanges.{was}
 use Rattle.iox2_domain.specs.Invariant.{IsBookOf, NamesBooks}
 
 -- the book of a publisher is found where it was, if each book is there still, with its publisher

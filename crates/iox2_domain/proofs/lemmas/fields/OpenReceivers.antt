@@ -3,8 +3,8 @@ use Rattle.std.proofs.Common.{◌≡◌, ℕ, true, List, map, get_or, slice_set
 use Rattle.std.proofs.lemmas.Bool.{eq-eqb}
 use Rattle.std.specs.Prelude.{◌&&◌}
 use Rattle.std.specs.Option.{option_map}
-use Rattle.iox2_slots.specs.Link.{Link}
-use Rattle.iox2_ends.specs.Receivers.{is_open_at, is_open_one}
+use Rattle.iox2_connections.specs.Link.{Link}
+use Rattle.iox2_connections.specs.Receivers.{is_open_at, is_open_one}
 use Rattle.iox2_domain.specs.Invariant.{HasOpenReceiver, details_of}
 use Rattle.iox2_domain.specs.Ports.{SubscriberFields}
 use Rattle.iox2_domain.proofs.lemmas.containers.ChangedRecords.{changed-here, changed-still}

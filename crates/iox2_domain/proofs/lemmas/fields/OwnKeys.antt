@@ -3,13 +3,13 @@ use Rattle.std.proofs.Common.{◌≡◌, ℕ, zero, suc, ◌<◌, List, [], ◌�
 use Rattle.std.specs.declared.option.Option.{Option}
 use Rattle.std.specs.declared.option.Option.TheVariants.{None, Some}
 use Rattle.slab.specs.Slab.{Slab, get}
-use Rattle.iox2_slots.specs.Link.{Link}
+use Rattle.iox2_connections.specs.Link.{Link}
 use Rattle.iox2_machine.specs.machine.Places.{occupant}
 use Rattle.iox2_machine.specs.machine.WellFormed.{LeadsTo}
-use Rattle.iox2_ends.specs.Finds.{IsReceiverLinked, IsReceivers}
-use Rattle.iox2_ends.specs.Homes.{IsApart}
-use Rattle.iox2_ends.specs.Mailboxes.{receiver_ends}
-use Rattle.iox2_ends.proofs.MailboxChanges.{is_between-own}
+use Rattle.iox2_connections.specs.Finds.{IsReceiverLinked, IsReceivers}
+use Rattle.iox2_connections.specs.Homes.{IsApart}
+use Rattle.iox2_connections.specs.Mailboxes.{receiver_ends}
+use Rattle.iox2_connections.proofs.MailboxChanges.{is_between-own}
 use Rattle.iox2_domain.specs.Departures.{HasKey, KnowsKey}
 use Rattle.iox2_domain.specs.Ports.{SubscriberFields}
 use Rattle.iox2_domain.proofs.lemmas.fields.Standing.{some_is}

@@ -2,8 +2,8 @@
 use Rattle.std.proofs.Common.{◌≡◌, ◌≢◌, ◌⊎◌, ℕ, inr, refl, get_or}
 use Rattle.std.specs.declared.option.Option.TheVariants.{None, Some}
 use Rattle.slab.specs.Slab.{Slab, get}
-use Rattle.iox2_slots.specs.Link.{Link}
-use Rattle.iox2_ends.specs.Homes.{IsApart}
+use Rattle.iox2_connections.specs.Link.{Link}
+use Rattle.iox2_connections.specs.Homes.{IsApart}
 use Rattle.iox2_slots.specs.SlotBook.{Book}
 use Rattle.iox2_machine.specs.machine.WellFormed.{IsWellFormed}
 use Rattle.iox2_domain.specs.Kept.{state_of}
@@ -12,7 +12,7 @@ use Rattle.iox2_domain.specs.Shows.{KeepsEntries}
 use Rattle.iox2_domain.specs.Invariant.{IsDomain, IsDomainBut, HasParts, HasBooks, HasExpiredRoom, IsCounted, IsLinked, NamesBooks, HasLoneLoans, KeepsBooks, IsOwned, IsLeft, IsGone, HasBook, HasShapes, is_subscriber}
 use Rattle.iox2_domain.specs.Midway.{IsMidway}
 use Rattle.iox2_domain.specs.Ports.{PublisherFields}
-use Rattle.iox2_ends.specs.LookUp.{IsOnly}
+use Rattle.iox2_connections.specs.LookUp.{IsOnly}
 use Rattle.iox2_machine.specs.machine.Limits.{warning_limit}
 
 module _ {T U : Type 0} (f : Fields T U) where

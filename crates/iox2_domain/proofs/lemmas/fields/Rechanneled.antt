@@ -2,14 +2,14 @@
 use Rattle.std.proofs.Common.{◌≡◌, ℕ, ◌+◌, ◌≤◌, true, false, length, map, refl, ap, sym, subst, ◌∙◌, inl, inr, ◌⊎◌, Option, None, Some, []}
 use Rattle.std.specs.Option.{option_map}
 use Rattle.slab.specs.Slab.{Slab, get}
-use Rattle.iox2_slots.specs.Link.{Link}
+use Rattle.iox2_connections.specs.Link.{Link}
 use Rattle.iox2_machine.specs.machine.Limits.{channel_count}
 use Rattle.iox2_machine.specs.machine.State.{State}
 use Rattle.iox2_machine.specs.machine.WellFormed.{IsWellFormed}
-use Rattle.iox2_ends.specs.Counters.{stands}
-use Rattle.iox2_ends.specs.Homes.{IsApart}
-use Rattle.iox2_ends.specs.LookUp.{look_up}
-use Rattle.iox2_ends.specs.Mailboxes.{is_between, mailbox_if_any, mailboxes_of, channels_in}
+use Rattle.iox2_connections.specs.Counters.{stands}
+use Rattle.iox2_connections.specs.Homes.{IsApart}
+use Rattle.iox2_connections.specs.LookUp.{look_up}
+use Rattle.iox2_connections.specs.Mailboxes.{is_between, mailbox_if_any, mailboxes_of, channels_in}
 use Rattle.iox2_domain.specs.Fields.{Fields, kept_of, numbers_of}
 use Rattle.iox2_domain.specs.Invariant.{IsDomain, HasParts, HasExpiredRoom, IsBetweenOpen, IsBookOf, IsCounted, NamesBooks, SenderHas, one_if_receivers, own_holders}
 use Rattle.iox2_domain.specs.Kept.{state_of, port_named, ids}

@@ -3,13 +3,13 @@ use Rattle.std.proofs.Common.{◌≡◌, ℕ, List, Bool, length, map, refl, ap,
 use Rattle.std.specs.Prelude.{[]}
 use Rattle.std.specs.Option.{option_map}
 use Rattle.slab.specs.Slab.{Slab, get}
-use Rattle.iox2_slots.specs.Link.{Link}
+use Rattle.iox2_connections.specs.Link.{Link}
 use Rattle.iox2_machine.specs.machine.Channel.{Channel}
 use Rattle.iox2_machine.specs.machine.Limits.{channel_count}
-use Rattle.iox2_slots.specs.declared.connection.Home.{Home}
-use Rattle.iox2_ends.specs.Homes.{SameHomes, fixed_of}
-use Rattle.iox2_ends.specs.Mailboxes.{mailboxes_of, subscriber_of_key, publisher_of_key}
-use Rattle.iox2_ends.proofs.MailboxChanges.{was}
+use Rattle.iox2_connections.specs.declared.connection.Home.{Home}
+use Rattle.iox2_connections.specs.Homes.{SameHomes, fixed_of}
+use Rattle.iox2_connections.specs.Mailboxes.{mailboxes_of, subscriber_of_key, publisher_of_key}
+use Rattle.iox2_connections.proofs.MailboxChanges.{was}
 use Rattle.iox2_domain.specs.Kept.{state_of, port_named, ids}
 use Rattle.iox2_domain.specs.Fields.{Fields, kept_of, numbers_of}
 use Rattle.iox2_domain.specs.Invariant.{IsLinked, IsBetweenOpen, SenderHas}

@@ -3,13 +3,13 @@ use Rattle.std.proofs.Common.{◌<◌, ◌≡◌, ℕ, length, map, get_or, refl
 use Rattle.std.specs.Prelude.{IsSomeAnd, Contains, []}
 use Rattle.std.specs.Option.{option_map}
 use Rattle.slab.specs.Slab.{Slab, get}
-use Rattle.iox2_slots.specs.Link.{Link}
+use Rattle.iox2_connections.specs.Link.{Link}
 use Rattle.iox2_machine.specs.machine.Limits.{channel_count}
 use Rattle.iox2_machine.specs.machine.Places.{occupants}
-use Rattle.iox2_slots.specs.declared.connection.Home.{Home}
-use Rattle.iox2_ends.specs.Homes.{IsSenders}
-use Rattle.iox2_ends.specs.Finds.{IsReceivers}
-use Rattle.iox2_ends.specs.Mailboxes.{subscriber_of_key, publisher_of_key}
+use Rattle.iox2_connections.specs.declared.connection.Home.{Home}
+use Rattle.iox2_connections.specs.Homes.{IsSenders}
+use Rattle.iox2_connections.specs.Finds.{IsReceivers}
+use Rattle.iox2_connections.specs.Mailboxes.{subscriber_of_key, publisher_of_key}
 use Rattle.iox2_domain.specs.Fields.{Fields, publisher_of, subscriber_of, numbers_of, blocked_send}
 use Rattle.iox2_domain.specs.Invariant.{IsLinked, IsBetweenOpen, SenderHas, ReceiverHas, HasOpenReceiver}
 use mathlib.Core.Path.{fun_ext}

@@ -5,7 +5,7 @@ use Rattle.iox2_machine.specs.SingleValues.{is_fixed_size, is_single_valued}
 use Rattle.iox2_machine.specs.declared.service_config.ServiceConfig.{ServiceConfig}
 use Rattle.iox2_machine.specs.declared.service_config.TypeVariant.{TypeVariant}
 use Rattle.iox2_machine.specs.declared.service_config.TypeVariant.TheVariants.{FixedSize, Dynamic}
-use Rattle.iox2_ends.proofs.MailboxChanges.{both-true}
+use Rattle.iox2_connections.proofs.MailboxChanges.{both-true}
 
 module _ (c : ServiceConfig) where
   -- it has both of these

@@ -8,19 +8,19 @@ use Rattle.std.specs.declared.option.Option.{Option}
 use Rattle.std.specs.declared.option.Option.TheVariants.{None, Some}
 use Rattle.std.specs.Option.{option_map, IsSomeAnd}
 use Rattle.slab.specs.Slab.{Slab, get}
-use Rattle.iox2_slots.specs.Link.{Link}
+use Rattle.iox2_connections.specs.Link.{Link}
 use Rattle.iox2_machine.specs.machine.Numbers.{contains}
 use Rattle.iox2_machine.specs.machine.Places.{occupant, occupants, is_port}
 use Rattle.iox2_machine.specs.machine.Records.{Publisher, Subscriber}
 use Rattle.iox2_machine.specs.machine.WellFormed.{IsWellFormed, publisher_place, subscriber_place}
-use Rattle.iox2_slots.proofs.LinkLemmas.{contains-from}
+use Rattle.iox2_slots.proofs.ListedNumbers.{contains-from}
 use Rattle.iox2_laws.proofs.NumberLemmas.{contains_in_cons, contains_first, contains_later}
-use Rattle.iox2_ends.specs.LookUp.{look_up}
-use Rattle.iox2_ends.specs.Homes.{IsSenders}
-use Rattle.iox2_ends.specs.Finds.{IsReceivers}
-use Rattle.iox2_ends.specs.Mailboxes.{is_between, publisher_of_key, receiver_ends}
-use Rattle.iox2_ends.proofs.LookUps.{look_up-nothing}
-use Rattle.iox2_ends.proofs.MailboxChanges.{both-true}
+use Rattle.iox2_connections.specs.LookUp.{look_up}
+use Rattle.iox2_connections.specs.Homes.{IsSenders}
+use Rattle.iox2_connections.specs.Finds.{IsReceivers}
+use Rattle.iox2_connections.specs.Mailboxes.{is_between, publisher_of_key, receiver_ends}
+use Rattle.iox2_connections.proofs.LookUps.{look_up-nothing}
+use Rattle.iox2_connections.proofs.MailboxChanges.{both-true}
 use Rattle.iox2_domain.specs.Ports.{PublisherFields, SubscriberFields}
 use Rattle.iox2_domain.specs.Kept.{Named, state_of}
 use Rattle.iox2_domain.specs.Fields.{Fields, kept_of, publisher_of, subscriber_of}

@@ -7,8 +7,8 @@ use Rattle.std.specs.Option.{option_map}
 use Rattle.iox2_machine.specs.machine.Numbers.{put_at}
 use Rattle.iox2_machine.specs.machine.Places.{vacated}
 use Rattle.iox2_machine.specs.machine.Records.{Subscriber}
-use Rattle.iox2_ends.specs.LookUp.{IsOnly}
-use Rattle.iox2_ends.proofs.MailboxChanges.{within_if_some}
+use Rattle.iox2_connections.specs.LookUp.{IsOnly}
+use Rattle.iox2_connections.proofs.MailboxChanges.{within_if_some}
 use Rattle.iox2_domain.specs.Ports.{SubscriberFields}
 use Rattle.iox2_domain.specs.Kept.{Named, state_of, port_named, ids, is_named}
 use Rattle.iox2_domain.specs.Fields.{Fields, kept_of, subscriber_of}

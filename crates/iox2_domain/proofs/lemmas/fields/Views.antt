@@ -5,16 +5,16 @@ use Rattle.std.specs.declared.option.Option.{Option}
 use Rattle.std.specs.declared.option.Option.TheVariants.{None, Some}
 use Rattle.std.specs.Option.{option_map}
 use Rattle.slab.specs.Slab.{Slab}
-use Rattle.iox2_slots.specs.Link.{Link}
+use Rattle.iox2_connections.specs.Link.{Link}
 use Rattle.iox2_slots.specs.SlotBook.{Book}
 use Rattle.iox2_machine.specs.machine.Numbers.{contains}
 use Rattle.iox2_machine.specs.machine.Mailbox.{numbers_in}
 use Rattle.iox2_machine.specs.machine.Records.{Entry, Loan, Publisher, BlockedSend}
 use Rattle.iox2_machine.specs.machine.State.{State, Messages}
 use Rattle.iox2_machine.specs.machine.WellFormed.{IsWellFormed}
-use Rattle.iox2_ends.specs.LookUp.{look_up}
-use Rattle.iox2_ends.specs.Mailboxes.{is_between, mailboxes_of, mailbox_if_any, sender_ends}
-use Rattle.iox2_ends.proofs.LookUps.{look_up-there}
+use Rattle.iox2_connections.specs.LookUp.{look_up}
+use Rattle.iox2_connections.specs.Mailboxes.{is_between, mailboxes_of, mailbox_if_any, sender_ends}
+use Rattle.iox2_connections.proofs.LookUps.{look_up-there}
 use Rattle.iox2_domain.specs.Ports.{PublisherFields}
 use Rattle.iox2_domain.specs.declared.publisher_state.BlockedDelivery.{BlockedDelivery}
 use Rattle.iox2_domain.specs.Kept.{Kept, state_of, entries_of, stands_between, box_if_any}

@@ -8,7 +8,7 @@ use Rattle.std.specs.Option.{MatchOption, option_map_or}
 use Rattle.std.specs.Bool.{MatchBool}
 use Rattle.std.specs.Prelude.{slice_index}
 use Rattle.slab.specs.Slab.{Slab}
-use Rattle.iox2_ends.specs.LookUp.{look_up}
+use Rattle.iox2_connections.specs.LookUp.{look_up}
 use Rattle.iox2_machine.specs.machine.Limits.{last_number}
 use Rattle.iox2_machine.specs.machine.Numbers.{put_at, size}
 use Rattle.iox2_machine.specs.machine.Records.{Loan, Publisher, Environment}

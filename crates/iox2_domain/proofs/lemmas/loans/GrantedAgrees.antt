@@ -19,9 +19,9 @@ use Rattle.iox2_contents.specs.SlotContents.{ContentState, unwritten_content}
 use Rattle.iox2_machine.specs.machine.Loans.{is_static, loan_granted, GrantLoan}
 use Rattle.iox2_machine.specs.machine.WellFormed.{IsWellFormed}
 use Rattle.iox2_machine.specs.Stored.{IsHeldMessage}
-use Rattle.iox2_ends.specs.LookUp.{look_up}
-use Rattle.iox2_ends.specs.Counters.{times, stands}
-use Rattle.iox2_ends.proofs.Counts.{times_push, one_if, one_if_same, one_if_other}
+use Rattle.iox2_connections.specs.LookUp.{look_up}
+use Rattle.iox2_connections.specs.Counters.{times, stands}
+use Rattle.iox2_connections.proofs.Counts.{times_push, one_if, one_if_same, one_if_other}
 use Rattle.iox2_laws.proofs.LoanLaws.{grant_loan_keeps}
 use Rattle.iox2_machine.specs.declared.service_config.TypeVariant.TheVariants.{FixedSize}
 use Rattle.iox2_domain.specs.Ports.{PublisherFields, slot_length}

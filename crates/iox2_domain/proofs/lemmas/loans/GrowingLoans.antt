@@ -13,7 +13,7 @@ use Rattle.iox2_machine.specs.machine.Limits.{last_number, segment_limit, segmen
 use Rattle.iox2_machine.specs.machine.Loans.{is_static, GrantLoan, IsGuaranteed, loan_granted}
 use Rattle.iox2_machine.specs.machine.Records.{Environment}
 use Rattle.iox2_slots.specs.SlotBook.{Book}
-use Rattle.iox2_ends.specs.Receivers.{HasReclaimed}
+use Rattle.iox2_connections.specs.Receivers.{HasReclaimed}
 use Rattle.iox2_domain.specs.Fields.{Fields, numbers_of}
 use Rattle.iox2_domain.specs.Growth.{HasNoSlot}
 use Rattle.iox2_domain.specs.Invariant.{IsDomain}

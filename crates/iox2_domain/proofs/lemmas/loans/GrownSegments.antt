@@ -18,9 +18,9 @@ use Rattle.iox2_machine.specs.machine.Records.{Loan}
 use Rattle.iox2_machine.specs.machine.WellFormed.{IsWellFormed}
 use Rattle.iox2_machine.specs.Stored.{IsHeldMessage}
 use Rattle.iox2_machine.specs.machine.State.{State}
-use Rattle.iox2_ends.specs.LookUp.{look_up}
-use Rattle.iox2_ends.proofs.LookUps.{look_up-found}
-use Rattle.iox2_ends.specs.Counters.{times, stands}
+use Rattle.iox2_connections.specs.LookUp.{look_up}
+use Rattle.iox2_connections.proofs.LookUps.{look_up-found}
+use Rattle.iox2_connections.specs.Counters.{times, stands}
 use Rattle.iox2_domain.specs.Fields.{Fields, kept_of, publisher_of, is_book_of}
 use Rattle.iox2_domain.specs.Growth.{Grows, with_segment}
 use Rattle.iox2_domain.specs.Invariant.{IsDomain, IsOwned, IsBook, HasBook, HasBooks, HasForms, HasPublisherRoom, HasRoomFrom, HasShapes, HasParts, IsCounted, IsPlain, is_publisher, is_loan_in, own_holders, cell_count, cell_lists}

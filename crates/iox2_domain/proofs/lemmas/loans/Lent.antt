@@ -17,8 +17,8 @@ use Rattle.iox2_machine.specs.machine.State.{held}
 use Rattle.iox2_machine.specs.declared.service_config.TypeVariant.TheVariants.{FixedSize}
 use Rattle.iox2_machine.specs.declared.errors.LoanError.{LoanError}
 use Rattle.iox2_machine.specs.declared.errors.LoanError.TheVariants.{OutOfMemory, ExceedsMaxLoans, ExceedsMaxLoanSize, InternalFailure}
-use Rattle.iox2_ends.specs.Receivers.{HasReclaimed}
-use Rattle.iox2_ends.proofs.MailboxChanges.{within_if_some}
+use Rattle.iox2_connections.specs.Receivers.{HasReclaimed}
+use Rattle.iox2_connections.proofs.MailboxChanges.{within_if_some}
 use Rattle.iox2_domain.specs.Ports.{PublisherFields}
 use Rattle.iox2_domain.specs.Kept.{Lent_message}
 use Rattle.iox2_domain.specs.Fields.{Fields, numbers_of, contents_at}

@@ -18,7 +18,7 @@ use Rattle.iox2_contents.specs.SlotContents.{ContentState, SomeAt, WritesValues,
 use Rattle.iox2_machine.specs.declared.header.Header.{Header}
 use Rattle.iox2_slots.specs.declared.slots.mark.SlotMark.TheVariants.{Written}
 use Rattle.iox2_domain.specs.Reaches.{Reaches}
-use Rattle.iox2_ends.proofs.MailboxChanges.{within_if_some}
+use Rattle.iox2_connections.proofs.MailboxChanges.{within_if_some}
 use Rattle.iox2_domain.specs.Kept.{Lent_message, state_of}
 use Rattle.iox2_domain.specs.Fields.{Fields, kept_of, contents_at}
 use Rattle.iox2_domain.specs.Invariant.{IsDomain}

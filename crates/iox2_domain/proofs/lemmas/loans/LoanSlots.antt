@@ -14,10 +14,10 @@ use Rattle.iox2_contents.specs.SlotContents.{ContentState}
 use Rattle.iox2_machine.specs.machine.Records.{Loan}
 use Rattle.iox2_slots.specs.declared.slots.mark.SlotMark.{SlotMark}
 use Rattle.iox2_slots.specs.declared.slots.mark.SlotMark.TheVariants.{Unwritten, Written, Sent}
-use Rattle.iox2_ends.specs.Counters.{times, stands}
-use Rattle.iox2_ends.proofs.Counts.{one_if, one_if_same, times-cons}
+use Rattle.iox2_connections.specs.Counters.{times, stands}
+use Rattle.iox2_connections.proofs.Counts.{one_if, one_if_same, times-cons}
 use Rattle.iox2_laws.proofs.NumberLemmas.{contains_in_cons}
-use Rattle.iox2_ends.proofs.MailboxChanges.{within_if_some}
+use Rattle.iox2_connections.proofs.MailboxChanges.{within_if_some}
 use Rattle.iox2_domain.specs.declared.message_slots.MessageSlot.{MessageSlot}
 use Rattle.iox2_domain.specs.Ports.{PublisherFields}
 use Rattle.iox2_domain.specs.Kept.{KeptMessage, Lent_message, Sent_message, state_of}

@@ -15,8 +15,8 @@ use Rattle.iox2_slots.specs.SlotBook.{Book, IsAligned, holders_at}
 use Rattle.iox2_contents.specs.SlotContents.{ContentState, with_changed, unwritten_content}
 use Rattle.iox2_machine.specs.declared.header.Header.{Header}
 use Rattle.iox2_slots.specs.declared.slots.mark.SlotMark.TheVariants.{Unwritten}
-use Rattle.iox2_ends.specs.LookUp.{look_up, IsOnly}
-use Rattle.iox2_ends.proofs.LookUps.{look_up-found}
+use Rattle.iox2_connections.specs.LookUp.{look_up, IsOnly}
+use Rattle.iox2_connections.proofs.LookUps.{look_up-found}
 use Rattle.iox2_domain.specs.Ports.{PublisherFields}
 use Rattle.iox2_domain.specs.Kept.{KeptMessage, Lent_message, state_of, entries_of, entry_in, loan_in, is_numbered, message_numbered}
 use Rattle.iox2_domain.specs.Fields.{Fields, kept_of, is_book_of, numbers_of, message_in, message_of, contents_at}

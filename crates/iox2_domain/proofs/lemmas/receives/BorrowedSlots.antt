@@ -3,15 +3,15 @@ use Rattle.std.proofs.Common.{◌≡◌, ℕ, Bool, List, [], ◌∷◌, ◌++�
 use Rattle.std.proofs.lemmas.List.Elements.{Contains-append_right}
 use Rattle.std.specs.Option.{option_map}
 use Rattle.slab.specs.Slab.{Slab, get}
-use Rattle.iox2_slots.specs.Link.{Link}
+use Rattle.iox2_connections.specs.Link.{Link}
 use Rattle.iox2_machine.specs.machine.Channel.{Channel}
 use Rattle.iox2_machine.specs.machine.Mailbox.{Mailbox}
-use Rattle.iox2_slots.specs.declared.connection.Home.{Home}
+use Rattle.iox2_connections.specs.declared.connection.Home.{Home}
 use Rattle.iox2_laws.proofs.Puts.{put_at-same}
-use Rattle.iox2_ends.specs.Homes.{IsApart, SameHomes, fixed_of}
-use Rattle.iox2_ends.specs.Mailboxes.{mailbox_of, mailboxes_of}
-use Rattle.iox2_ends.specs.Takes.{BorrowsSlot}
-use Rattle.iox2_ends.proofs.MailboxChanges.{mailbox-there}
+use Rattle.iox2_connections.specs.Homes.{IsApart, SameHomes, fixed_of}
+use Rattle.iox2_connections.specs.Mailboxes.{mailbox_of, mailboxes_of}
+use Rattle.iox2_connections.specs.Takes.{BorrowsSlot}
+use Rattle.iox2_connections.proofs.MailboxChanges.{mailbox-there}
 use Rattle.iox2_domain.specs.Fields.{Fields}
 use Rattle.iox2_domain.specs.Receipts.{LiesAt}
 use Rattle.iox2_domain.specs.declared.sample_slots.Receipt.{Receipt}

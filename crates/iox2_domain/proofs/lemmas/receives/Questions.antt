@@ -3,7 +3,7 @@ use Rattle.std.proofs.Common.{◌∙◌, ◌≡◌, ℕ, List, Bool, true, false
 use Rattle.std.specs.Prelude.{IsSomeAnd}
 use Rattle.std.specs.Bool.{MatchBool}
 use Rattle.slab.specs.Slab.{get}
-use Rattle.iox2_slots.specs.Link.{Link}
+use Rattle.iox2_connections.specs.Link.{Link}
 use Rattle.iox2_machine.specs.machine.Mailbox.{Mailbox, has_data}
 use Rattle.iox2_machine.specs.machine.Numbers.{contains}
 use Rattle.iox2_machine.specs.machine.Places.{occupants}
@@ -11,10 +11,10 @@ use Rattle.iox2_machine.specs.machine.Receives.{has_any_data, can_receive_of, Ma
 use Rattle.iox2_machine.specs.machine.Records.{Environment, Subscriber}
 use Rattle.iox2_machine.specs.machine.State.{State, connected_publishers}
 use Rattle.iox2_machine.specs.machine.SubscriberUpdate.{UpdateSubscriber}
-use Rattle.iox2_ends.proofs.MailboxChanges.{both-true}
-use Rattle.iox2_ends.proofs.Searches.{any-contains}
-use Rattle.iox2_ends.specs.Finds.{is_something, Finds, FindsFor}
-use Rattle.iox2_ends.specs.declared.receiver.Found.{Found}
+use Rattle.iox2_connections.proofs.MailboxChanges.{both-true}
+use Rattle.iox2_connections.proofs.Searches.{any-contains}
+use Rattle.iox2_connections.specs.Finds.{is_something, Finds, FindsFor}
+use Rattle.iox2_connections.specs.declared.receiver.Found.{Found}
 use Rattle.iox2_laws.proofs.NumberLemmas.{contains_left, contains_right}
 use Rattle.iox2_domain.specs.ReceiverSteps.{UpdatesReceiver}
 use Rattle.iox2_machine.specs.declared.errors.ConnectionFailure.{ConnectionFailure}

@@ -4,21 +4,21 @@ use Rattle.std.proofs.lemmas.List.{get_or_read}
 use Rattle.std.proofs.Math.Seq.{set-get_or}
 use Rattle.std.specs.Prelude.{is_some}
 use Rattle.slab.specs.Slab.{Slab, get, ContainsKey}
-use Rattle.iox2_slots.specs.Link.{Link}
+use Rattle.iox2_connections.specs.Link.{Link}
 use Rattle.iox2_machine.specs.machine.Receives.{ReceiveResult, Got_sample, TakeSample}
 use Rattle.iox2_slots.specs.SlotBook.{Book}
 use Rattle.iox2_machine.specs.machine.State.{State}
-use Rattle.iox2_slots.specs.declared.connection.Home.{Home}
+use Rattle.iox2_connections.specs.declared.connection.Home.{Home}
 use Rattle.iox2_machine.specs.declared.errors.ReceiveError.{ReceiveError}
 use Rattle.iox2_machine.specs.declared.errors.ReceiveError.TheVariants.{ExceedsMaxBorrows}
-use Rattle.iox2_ends.specs.Finds.{Finds, IsReceivers, IsReceiverLinked, HasConnections}
-use Rattle.iox2_ends.specs.Homes.{SameHomes}
-use Rattle.iox2_ends.specs.Mailboxes.{mailboxes_of}
-use Rattle.iox2_ends.specs.Takes.{KeepsOtherKeys, KeepsReturned, SameStands, BorrowsSlot, TakesSlot}
-use Rattle.iox2_ends.specs.declared.receiver.Found.{Found}
-use Rattle.iox2_ends.specs.declared.receiver.Taken.{Taken}
-use Rattle.iox2_ends.proofs.Counts.{in_range}
-use Rattle.iox2_ends.proofs.MailboxChanges.{within_if_some}
+use Rattle.iox2_connections.specs.Finds.{Finds, IsReceivers, IsReceiverLinked, HasConnections}
+use Rattle.iox2_connections.specs.Homes.{SameHomes}
+use Rattle.iox2_connections.specs.Mailboxes.{mailboxes_of}
+use Rattle.iox2_connections.specs.Takes.{KeepsOtherKeys, KeepsReturned, SameStands, BorrowsSlot, TakesSlot}
+use Rattle.iox2_connections.specs.declared.receiver.Found.{Found}
+use Rattle.iox2_connections.specs.declared.receiver.Taken.{Taken}
+use Rattle.iox2_connections.proofs.Counts.{in_range}
+use Rattle.iox2_connections.proofs.MailboxChanges.{within_if_some}
 use Rattle.iox2_domain.specs.Ports.{SubscriberFields}
 use Rattle.iox2_domain.specs.Kept.{state_of}
 use Rattle.iox2_domain.specs.Fields.{Fields, kept_of, numbers_of}

@@ -2,18 +2,18 @@
 use Rattle.std.proofs.Common.{◌≡◌, ℕ, true, get_or, refl, ap, sym, subst, Some, None}
 use Rattle.std.specs.Prelude.{IsSomeAnd}
 use Rattle.slab.specs.Slab.{Slab, get}
-use Rattle.iox2_slots.specs.Link.{Link}
+use Rattle.iox2_connections.specs.Link.{Link}
 use Rattle.iox2_machine.specs.machine.Numbers.{contains}
 use Rattle.iox2_machine.specs.machine.Mailbox.{Mailbox, BorrowsFirst, numbers_in}
 use Rattle.iox2_machine.specs.machine.Records.{Subscriber}
 use Rattle.iox2_machine.specs.machine.State.{State, with_mailbox}
 use Rattle.iox2_machine.specs.machine.Receives.{Got_sample, No_sample, Receive_error, TakeSample, MayReceiveFrom}
 use Rattle.iox2_machine.specs.declared.errors.ReceiveError.TheVariants.{ExceedsMaxBorrows}
-use Rattle.iox2_ends.specs.Homes.{SameHomes}
-use Rattle.iox2_ends.specs.Mailboxes.{mailboxes_of, with_box}
-use Rattle.iox2_ends.specs.Takes.{KeepsOtherKeys, KeepsReturned, SameStands, BorrowsSlot}
-use Rattle.iox2_ends.specs.Finds.{Finds, FindsFor}
-use Rattle.iox2_ends.specs.declared.receiver.Found.{Found}
+use Rattle.iox2_connections.specs.Homes.{SameHomes}
+use Rattle.iox2_connections.specs.Mailboxes.{mailboxes_of, with_box}
+use Rattle.iox2_connections.specs.Takes.{KeepsOtherKeys, KeepsReturned, SameStands, BorrowsSlot}
+use Rattle.iox2_connections.specs.Finds.{Finds, FindsFor}
+use Rattle.iox2_connections.specs.declared.receiver.Found.{Found}
 use Rattle.iox2_laws.proofs.MailboxLemmas.{contains_in_borrowed}
 use Rattle.iox2_laws.proofs.ReceiveLaws.{take_sample_keeps}
 use Rattle.iox2_laws.proofs.ReleaseLaws.{at_each_mailbox}

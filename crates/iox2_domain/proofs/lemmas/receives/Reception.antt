@@ -12,7 +12,7 @@ use Rattle.iox2_machine.specs.declared.errors.ConnectionFailure.{ConnectionFailu
 use Rattle.iox2_machine.specs.declared.errors.ReceiveError.{ReceiveError}
 use Rattle.iox2_machine.specs.declared.errors.ReceiveError.TheVariants.{ConnectionFailure as CouldNotConnect}
 use Rattle.iox2_laws.proofs.NumberLemmas.{contains_right}
-use Rattle.iox2_ends.proofs.MailboxChanges.{within_if_some}
+use Rattle.iox2_connections.proofs.MailboxChanges.{within_if_some}
 use Rattle.iox2_domain.specs.ReceiverSteps.{UpdatesReceiver}
 use Rattle.iox2_domain.specs.Ports.{SubscriberFields}
 use Rattle.iox2_domain.specs.Kept.{state_of}

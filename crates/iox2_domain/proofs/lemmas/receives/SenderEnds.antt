@@ -3,12 +3,12 @@ use Rattle.std.proofs.Common.{◌≡◌, ℕ, true, get_or, refl, ap, sym, ◌�
 use Rattle.std.specs.Prelude.{IsSomeAnd}
 use Rattle.std.specs.Option.{option_map}
 use Rattle.slab.specs.Slab.{get}
-use Rattle.iox2_slots.specs.Link.{Link}
+use Rattle.iox2_connections.specs.Link.{Link}
 use Rattle.iox2_machine.specs.machine.Mailbox.{has_numbers}
 use Rattle.iox2_machine.specs.machine.WellFormed.{LeadsTo}
-use Rattle.iox2_ends.specs.Homes.{IsApart, IsSenders}
-use Rattle.iox2_ends.specs.Mailboxes.{sender_ends, subscriber_of_key}
-use Rattle.iox2_ends.proofs.MailboxChanges.{is_between-own}
+use Rattle.iox2_connections.specs.Homes.{IsApart, IsSenders}
+use Rattle.iox2_connections.specs.Mailboxes.{sender_ends, subscriber_of_key}
+use Rattle.iox2_connections.proofs.MailboxChanges.{is_between-own}
 use Rattle.iox2_domain.specs.Ports.{PublisherFields}
 use Rattle.iox2_domain.specs.Kept.{state_of}
 use Rattle.iox2_domain.specs.Fields.{Fields, kept_of}

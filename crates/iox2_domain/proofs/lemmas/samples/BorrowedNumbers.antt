@@ -1,16 +1,16 @@
 -- Whether a subscriber has borrowed a number.
 use Rattle.std.proofs.Common.{◌≡◌, ◌↔◌, ℕ, ◌<◌, Bool, true, false, map, length, refl, ap, sym, subst, ◌∙◌, Option, Some, None, is_some, IsTrue, MatchOption, Contains}
 use Rattle.std.proofs.lemmas.Bool.{true≢false, eqb-true}
-use Rattle.iox2_slots.specs.Link.{Link}
+use Rattle.iox2_connections.specs.Link.{Link}
 use Rattle.iox2_machine.specs.machine.Numbers.{contains}
 use Rattle.iox2_machine.specs.machine.Mailbox.{is_borrowed}
 use Rattle.iox2_machine.specs.machine.SingleCalls.{HoldsSample}
 use Rattle.iox2_slots.specs.SlotBook.{Book}
-use Rattle.iox2_ends.specs.LookUp.{look_up}
-use Rattle.iox2_ends.specs.Mailboxes.{is_between, mailbox_if_any}
-use Rattle.iox2_ends.proofs.Counts.{in_range}
-use Rattle.iox2_ends.proofs.LookUps.{look_up-there}
-use Rattle.iox2_ends.proofs.MailboxChanges.{both-true, mailbox-there, within_if_some}
+use Rattle.iox2_connections.specs.LookUp.{look_up}
+use Rattle.iox2_connections.specs.Mailboxes.{is_between, mailbox_if_any}
+use Rattle.iox2_connections.proofs.Counts.{in_range}
+use Rattle.iox2_connections.proofs.LookUps.{look_up-there}
+use Rattle.iox2_connections.proofs.MailboxChanges.{both-true, mailbox-there, within_if_some}
 use Rattle.iox2_domain.specs.Kept.{state_of}
 use Rattle.iox2_domain.specs.Fields.{Fields, kept_of, numbers_of}
 use Rattle.iox2_domain.specs.Invariant.{IsDomain}

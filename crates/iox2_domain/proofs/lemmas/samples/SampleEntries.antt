@@ -11,7 +11,7 @@ use Rattle.iox2_machine.specs.declared.header.Header.{Header}
 use Rattle.iox2_machine.specs.declared.service_config.TypeVariant.TheVariants.{FixedSize}
 use Rattle.iox2_slots.specs.declared.slots.mark.SlotMark.{SlotMark}
 use Rattle.iox2_slots.specs.declared.slots.mark.SlotMark.TheVariants.{Unwritten, Written, Sent}
-use Rattle.iox2_ends.proofs.Counts.{in_range}
+use Rattle.iox2_connections.proofs.Counts.{in_range}
 use Rattle.iox2_domain.specs.Kept.{Sent_message, state_of, entries_of}
 use Rattle.iox2_domain.specs.Fields.{Fields, kept_of, contents_at, message_of}
 use Rattle.iox2_domain.specs.Invariant.{IsDomain, HasNumber}

@@ -11,7 +11,7 @@ use Rattle.iox2_slots.specs.SlotBook.{Book}
 use Rattle.iox2_contents.specs.SlotContents.{ContentState, SomeAt, first_value_at, values_at, user_header_at}
 use Rattle.iox2_machine.specs.declared.header.Header.{Header}
 use Rattle.iox2_machine.specs.declared.service_config.TypeVariant.TheVariants.{FixedSize}
-use Rattle.iox2_ends.proofs.MailboxChanges.{within_if_some}
+use Rattle.iox2_connections.proofs.MailboxChanges.{within_if_some}
 use Rattle.iox2_domain.specs.Kept.{entries_of}
 use Rattle.iox2_domain.specs.Fields.{Fields, kept_of}
 use Rattle.iox2_domain.specs.Invariant.{IsDomain}

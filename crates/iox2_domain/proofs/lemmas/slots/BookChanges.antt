@@ -9,10 +9,10 @@ use Rattle.std.specs.Option.{option_map, option_map_or}
 use Rattle.slab.specs.Slab.{Slab, get, with_value}
 use Rattle.iox2_slots.specs.SlotBook.{Book, IsAligned, holders_at}
 use Rattle.iox2_contents.specs.SlotContents.{ContentState}
-use Rattle.iox2_ends.specs.LookUp.{look_up, IsOnly}
-use Rattle.iox2_ends.specs.Mailboxes.{mailbox_of, sender_ends}
-use Rattle.iox2_ends.proofs.LookUps.{look_up-changed, look_up-found}
-use Rattle.iox2_ends.proofs.MailboxChanges.{within_if_some}
+use Rattle.iox2_connections.specs.LookUp.{look_up, IsOnly}
+use Rattle.iox2_connections.specs.Mailboxes.{mailbox_of, sender_ends}
+use Rattle.iox2_connections.proofs.LookUps.{look_up-changed, look_up-found}
+use Rattle.iox2_connections.proofs.MailboxChanges.{within_if_some}
 use Rattle.iox2_domain.specs.Ports.{PublisherFields}
 use Rattle.iox2_domain.specs.Kept.{state_of, port_named, ids, stands_between, box_if_any, channels_if_between}
 use Rattle.iox2_domain.specs.Fields.{Fields, kept_of, publisher_of, between_of, is_book_of, numbers_of, blocked_send}

@@ -9,14 +9,14 @@ use Rattle.std.specs.declared.option.Option.TheVariants.{None, Some}
 use Rattle.std.specs.Option.{option_map, option_map_or, option_and_then}
 use Rattle.std.specs.List.{sum_by}
 use Rattle.slab.specs.Slab.{get}
-use Rattle.iox2_slots.specs.Link.{Link}
+use Rattle.iox2_connections.specs.Link.{Link}
 use Rattle.iox2_slots.specs.SlotBook.{Book, holders_at}
 use Rattle.iox2_contents.specs.SlotContents.{ContentState}
-use Rattle.iox2_ends.specs.LookUp.{look_up}
-use Rattle.iox2_ends.specs.Counters.{times, stands}
-use Rattle.iox2_ends.specs.Mailboxes.{sender_ends, mailbox_of}
-use Rattle.iox2_ends.proofs.LookUps.{look_up-found, look_up-nothing}
-use Rattle.iox2_ends.proofs.MailboxChanges.{within_if_some}
+use Rattle.iox2_connections.specs.LookUp.{look_up}
+use Rattle.iox2_connections.specs.Counters.{times, stands}
+use Rattle.iox2_connections.specs.Mailboxes.{sender_ends, mailbox_of}
+use Rattle.iox2_connections.proofs.LookUps.{look_up-found, look_up-nothing}
+use Rattle.iox2_connections.proofs.MailboxChanges.{within_if_some}
 use Rattle.iox2_domain.specs.Ports.{PublisherFields}
 use Rattle.iox2_domain.specs.Kept.{state_of, entries_of, entry_in, loan_in, message_numbered, port_named, ids, stands_between, box_if_any, channels_if_between}
 use Rattle.iox2_domain.specs.Fields.{Fields, kept_of, kept_book, map_from, is_book_of, numbers_of, message_in, messages_in, contents_at, publisher_of, between_of, blocked_send}

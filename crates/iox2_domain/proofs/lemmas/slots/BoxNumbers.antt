@@ -1,13 +1,13 @@
 -- The numbers in the mailbox that a connection is, and the slots that have them.
 use Rattle.std.proofs.Common.{◌≡◌, ℕ, ◌+◌, ◌<◌, true, List, [], ◌++◌, map, ap, sym, ◌∙◌, arith}
 use Rattle.std.proofs.lemmas.List.{map-append}
-use Rattle.iox2_slots.specs.Link.{Link, other_slots}
+use Rattle.iox2_connections.specs.Link.{Link, other_slots}
 use Rattle.iox2_machine.specs.machine.Numbers.{contains}
 use Rattle.iox2_machine.specs.machine.Mailbox.{numbers_in}
-use Rattle.iox2_ends.specs.Counters.{times, stands_in}
-use Rattle.iox2_ends.specs.Mailboxes.{mailbox_of}
-use Rattle.iox2_ends.proofs.Histories.{times-append}
-use Rattle.iox2_ends.proofs.OtherNumbers.{slots-numbered}
+use Rattle.iox2_connections.specs.Counters.{times, stands_in}
+use Rattle.iox2_connections.specs.Mailboxes.{mailbox_of}
+use Rattle.iox2_connections.proofs.Histories.{times-append}
+use Rattle.iox2_connections.proofs.OtherNumbers.{slots-numbered}
 use Rattle.iox2_domain.proofs.lemmas.slots.NumbersInUse.{times-there, times-stands, contains-map, contains-map_there}
 
 -- The slots that stand in a connection and weren't given back.

@@ -4,13 +4,13 @@ use Rattle.std.proofs.lemmas.Bool.{eqb-true, eq-eqb, ne_eqb, or_cases, or_left, 
 use Rattle.std.specs.Prelude.{slice_get, slice_index}
 use Rattle.std.specs.Option.{option_map_or}
 use Rattle.slab.specs.Slab.{get}
-use Rattle.iox2_slots.specs.Link.{Link}
+use Rattle.iox2_connections.specs.Link.{Link}
 use Rattle.iox2_machine.specs.machine.Numbers.{contains}
 use Rattle.iox2_slots.specs.SlotBook.{Book, holders_at}
-use Rattle.iox2_ends.specs.Counters.{times, IsCovered}
-use Rattle.iox2_ends.specs.LookUp.{look_up}
-use Rattle.iox2_ends.proofs.Counts.{one_if, one_if_same, times-cons, counter_if_stands}
-use Rattle.iox2_slots.proofs.LinkLemmas.{contains-from}
+use Rattle.iox2_connections.specs.Counters.{times, IsCovered}
+use Rattle.iox2_connections.specs.LookUp.{look_up}
+use Rattle.iox2_connections.proofs.Counts.{one_if, one_if_same, times-cons, counter_if_stands}
+use Rattle.iox2_slots.proofs.ListedNumbers.{contains-from}
 use Rattle.iox2_domain.specs.Fields.{Fields, is_book_of, numbers_of}
 use Rattle.iox2_domain.specs.Invariant.{IsDomain}
 use Rattle.iox2_domain.proofs.lemmas.slots.Holders.{book-by_id, book-holders}

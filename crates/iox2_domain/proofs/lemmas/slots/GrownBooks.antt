@@ -10,8 +10,8 @@ use Rattle.circular_buffer.proofs.Places.{slice_get-append_left}
 use Rattle.slab.specs.Slab.{Slab, get, with_value}
 use Rattle.iox2_slots.specs.SlotBook.{Book, IsAligned, holders_at, with_more_slots}
 use Rattle.iox2_contents.specs.SlotContents.{ContentState}
-use Rattle.iox2_ends.specs.LookUp.{look_up, IsOnly}
-use Rattle.iox2_ends.proofs.LookUps.{look_up-found}
+use Rattle.iox2_connections.specs.LookUp.{look_up, IsOnly}
+use Rattle.iox2_connections.proofs.LookUps.{look_up-found}
 use Rattle.iox2_domain.specs.Kept.{state_of, entries_of, entry_in, loan_in, message_numbered}
 use Rattle.iox2_domain.specs.Fields.{Fields, kept_of, is_book_of, numbers_of, message_in, message_of}
 use Rattle.iox2_domain.specs.Invariant.{IsDomain, HasNumber, IsNumbered, HasLoneLoans, holders_of, is_lent, is_loan_in}

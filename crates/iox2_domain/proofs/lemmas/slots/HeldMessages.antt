@@ -8,18 +8,18 @@ use Rattle.std.specs.declared.option.Option.TheVariants.{None, Some}
 use Rattle.std.specs.Option.{option_map, option_map_or}
 use Rattle.std.specs.List.{sum_by}
 use Rattle.slab.specs.Slab.{get}
-use Rattle.iox2_slots.specs.Link.{Link}
+use Rattle.iox2_connections.specs.Link.{Link}
 use Rattle.iox2_slots.specs.SlotBook.{Book, holders_at}
 use Rattle.iox2_machine.specs.machine.Numbers.{contains}
 use Rattle.iox2_machine.specs.machine.Mailbox.{numbers_in}
 use Rattle.iox2_machine.specs.machine.Records.{Publisher, BlockedSend}
 use Rattle.iox2_machine.specs.Stored.{IsHeldMessage, In_history, In_mailbox, In_blocked_send}
-use Rattle.iox2_ends.specs.LookUp.{look_up, IsOnly}
-use Rattle.iox2_ends.specs.Counters.{times, stands_in, stands}
-use Rattle.iox2_ends.specs.Mailboxes.{is_between, mailbox_if_any, sender_ends}
-use Rattle.iox2_ends.proofs.LookUps.{look_up-there}
-use Rattle.iox2_ends.proofs.MailboxChanges.{within_if_some, both-true}
-use Rattle.iox2_ends.proofs.Counts.{times-cons, one_if_same, stands-own}
+use Rattle.iox2_connections.specs.LookUp.{look_up, IsOnly}
+use Rattle.iox2_connections.specs.Counters.{times, stands_in, stands}
+use Rattle.iox2_connections.specs.Mailboxes.{is_between, mailbox_if_any, sender_ends}
+use Rattle.iox2_connections.proofs.LookUps.{look_up-there}
+use Rattle.iox2_connections.proofs.MailboxChanges.{within_if_some, both-true}
+use Rattle.iox2_connections.proofs.Counts.{times-cons, one_if_same, stands-own}
 use Rattle.iox2_laws.proofs.NumberLemmas.{contains_in_cons}
 use Rattle.iox2_domain.specs.Ports.{PublisherFields}
 use Rattle.iox2_domain.specs.declared.publisher_state.BlockedDelivery.{BlockedDelivery}

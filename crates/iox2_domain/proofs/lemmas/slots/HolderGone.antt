@@ -10,7 +10,7 @@ use Rattle.slab.specs.Slab.{get}
 use Rattle.iox2_slots.specs.SlotBook.{Book, IsAligned, holders_at}
 use Rattle.iox2_machine.specs.machine.Numbers.{put_at}
 use Rattle.iox2_machine.specs.machine.Records.{Entry, Loan}
-use Rattle.iox2_ends.proofs.Counts.{one_if, one_if_same, get_or-one_holder_less}
+use Rattle.iox2_connections.proofs.Counts.{one_if, one_if_same, get_or-one_holder_less}
 use Rattle.iox2_domain.specs.Discards.{with_holder_gone}
 use Rattle.iox2_domain.specs.LeftBooks.{with_holder_left}
 use Rattle.iox2_domain.specs.Kept.{KeptMessage, Lent_message, Sent_message, state_of, entries_of, is_numbered, message_numbered, loan_in, entry_in}

@@ -5,9 +5,9 @@ use Rattle.std.specs.declared.option.Option.TheVariants.{None, Some}
 use Rattle.std.specs.Option.{option_map_or}
 use Rattle.slab.specs.Slab.{Slab, get}
 use Rattle.iox2_slots.specs.SlotBook.{Book, holders_at}
-use Rattle.iox2_ends.specs.LookUp.{look_up, IsOnly}
-use Rattle.iox2_ends.specs.Counters.{times}
-use Rattle.iox2_ends.proofs.LookUps.{look_up-found}
+use Rattle.iox2_connections.specs.LookUp.{look_up, IsOnly}
+use Rattle.iox2_connections.specs.Counters.{times}
+use Rattle.iox2_connections.proofs.LookUps.{look_up-found}
 use Rattle.iox2_domain.specs.Ports.{PublisherFields}
 use Rattle.iox2_domain.specs.Fields.{Fields, is_book_of}
 use Rattle.iox2_domain.specs.Invariant.{holders_of, own_holders, is_publisher, is_loan_in}

@@ -6,15 +6,15 @@ use Rattle.std.specs.declared.option.Option.{Option}
 use Rattle.std.specs.declared.option.Option.TheVariants.{None, Some}
 use Rattle.std.specs.Option.{option_map}
 use Rattle.slab.specs.Slab.{get}
-use Rattle.iox2_slots.specs.Link.{Link}
+use Rattle.iox2_connections.specs.Link.{Link}
 use Rattle.iox2_machine.specs.machine.Mailbox.{Mailbox, has_numbers, numbers_in, ChannelNumber}
 use Rattle.iox2_machine.specs.machine.Numbers.{contains}
 use Rattle.iox2_machine.specs.machine.Places.{occupant}
 use Rattle.iox2_machine.specs.machine.Records.{Publisher, Subscriber}
 use Rattle.iox2_machine.specs.machine.WellFormed.{IsWellFormed, SubscriberIsWellFormed}
-use Rattle.iox2_ends.specs.LookUp.{look_up}
-use Rattle.iox2_ends.specs.Mailboxes.{receiver_ends, publisher_of_key}
-use Rattle.iox2_ends.proofs.LookUps.{look_up-found, look_up-none, look_up-nothing}
+use Rattle.iox2_connections.specs.LookUp.{look_up}
+use Rattle.iox2_connections.specs.Mailboxes.{receiver_ends, publisher_of_key}
+use Rattle.iox2_connections.proofs.LookUps.{look_up-found, look_up-none, look_up-nothing}
 use Rattle.iox2_laws.proofs.NumberLemmas.{contains_first}
 use Rattle.iox2_laws.proofs.PlaceLemmas.{contains-occupants}
 use Rattle.iox2_domain.specs.Ports.{PublisherFields, SubscriberFields}

@@ -10,8 +10,8 @@ use Rattle.slab.specs.Slab.{Slab, get, with_value}
 use Rattle.iox2_slots.specs.SlotBook.{Book, holders_at}
 use Rattle.iox2_slots.specs.declared.slots.mark.SlotMark.{SlotMark}
 use Rattle.iox2_slots.specs.declared.slots.mark.SlotMark.TheVariants.{Sent}
-use Rattle.iox2_ends.specs.Counters.{with_counters}
-use Rattle.iox2_ends.proofs.MailboxChanges.{both-true, within_if_some}
+use Rattle.iox2_connections.specs.Counters.{with_counters}
+use Rattle.iox2_connections.proofs.MailboxChanges.{both-true, within_if_some}
 use Rattle.iox2_domain.specs.Deliveries.{with_sent}
 use Rattle.iox2_domain.specs.Invariant.{HasLoneLoans, is_lent, is_loan_in}
 use Rattle.iox2_domain.specs.LoanSlots.{IsLoanSlot}

@@ -2,7 +2,7 @@
 use Rattle.std.proofs.Common.{◌≡◌, ℕ, zero, suc, ◌+◌, List, [], ◌∷◌, Bool, get_or, refl, ap, sym, ◌∙◌}
 use Rattle.std.specs.declared.option.Option.{Option}
 use Rattle.std.specs.declared.option.Option.TheVariants.{None, Some}
-use Rattle.iox2_ends.specs.LookUp.{look_up}
+use Rattle.iox2_connections.specs.LookUp.{look_up}
 use Rattle.iox2_domain.specs.Kept.{KeptMessage, KeptBook, is_numbered, message_numbered}
 use Rattle.iox2_domain.specs.Fields.{map_from}
 

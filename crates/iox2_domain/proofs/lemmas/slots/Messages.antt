@@ -14,12 +14,12 @@ use Rattle.iox2_machine.specs.machine.Records.{Entry, Loan}
 use Rattle.iox2_machine.specs.declared.header.Header.{Header}
 use Rattle.iox2_slots.specs.declared.slots.mark.SlotMark.{SlotMark}
 use Rattle.iox2_slots.specs.declared.slots.mark.SlotMark.TheVariants.{Unwritten, Written, Sent}
-use Rattle.iox2_ends.specs.LookUp.{look_up}
-use Rattle.iox2_ends.proofs.LookUps.{look_up-there, look_up-none}
+use Rattle.iox2_connections.specs.LookUp.{look_up}
+use Rattle.iox2_connections.proofs.LookUps.{look_up-there, look_up-none}
 use Rattle.iox2_domain.specs.Kept.{KeptMessage, Lent_message, Sent_message, KeptBook, state_of, entries_of, is_numbered, loan_in, entry_in, message_numbered, first_of_two}
 use Rattle.iox2_domain.specs.Fields.{Fields, kept_of, map_from, message_of, message_in, messages_in, contents_at, kept_book}
 use Rattle.iox2_domain.specs.Invariant.{IsBook, HasNumber, IsNumbered}
-use Rattle.iox2_ends.specs.Counters.{with_counters}
+use Rattle.iox2_connections.specs.Counters.{with_counters}
 use mathlib.Core.Path.{fun_ext}
 
 -- ---- one slot

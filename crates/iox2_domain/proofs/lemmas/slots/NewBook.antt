@@ -5,12 +5,12 @@ use Rattle.std.specs.declared.option.Option.{Option}
 use Rattle.std.specs.declared.option.Option.TheVariants.{None, Some}
 use Rattle.std.specs.Option.{option_map, option_map_or}
 use Rattle.slab.specs.Slab.{Slab, get}
-use Rattle.iox2_slots.specs.Link.{Link}
+use Rattle.iox2_connections.specs.Link.{Link}
 use Rattle.iox2_slots.specs.SlotBook.{Book, holders_at}
 use Rattle.iox2_contents.specs.SlotContents.{ContentState}
-use Rattle.iox2_ends.specs.LookUp.{look_up, IsOnly}
-use Rattle.iox2_ends.proofs.LookUps.{look_up-nothing}
-use Rattle.iox2_ends.specs.Mailboxes.{sender_ends, mailbox_of}
+use Rattle.iox2_connections.specs.LookUp.{look_up, IsOnly}
+use Rattle.iox2_connections.proofs.LookUps.{look_up-nothing}
+use Rattle.iox2_connections.specs.Mailboxes.{sender_ends, mailbox_of}
 use Rattle.iox2_domain.specs.Ports.{PublisherFields}
 use Rattle.iox2_domain.specs.Kept.{message_numbered}
 use Rattle.iox2_domain.specs.Fields.{Fields, kept_book, map_from, is_book_of, numbers_of, message_in, messages_in, contents_at, publisher_of, between_of, blocked_send}
@@ -21,7 +21,7 @@ use Rattle.iox2_domain.proofs.lemmas.fields.ConnectionEnds.{publisher-stands}
 use Rattle.iox2_domain.proofs.lemmas.slots.MessageLists.{look_up-nothing_there, found_in, numbered-same}
 use Rattle.iox2_domain.proofs.lemmas.slots.Messages.{map_from_zero-at}
 use Rattle.iox2_domain.proofs.lemmas.slots.Renumbered.{map-alike}
-use Rattle.iox2_ends.proofs.MailboxChanges.{both-true}
+use Rattle.iox2_connections.proofs.MailboxChanges.{both-true}
 
 none_of : (n i : ℕ) → get_or {A = ℕ} (replicate n 0) i 0 ≡ 0
 none_of zero zero = refl

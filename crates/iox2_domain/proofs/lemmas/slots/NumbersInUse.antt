@@ -4,8 +4,8 @@ use Rattle.std.proofs.lemmas.Bool.{ltb-true, lt-ltb, eqb-true}
 use Rattle.std.proofs.lemmas.List.Sums.{sum_by-cons}
 use Rattle.std.specs.List.{All, sum_by}
 use Rattle.iox2_machine.specs.machine.Numbers.{contains, IsOnce}
-use Rattle.iox2_ends.specs.Counters.{times}
-use Rattle.iox2_ends.proofs.Counts.{times-cons, one_if, one_if_same}
+use Rattle.iox2_connections.specs.Counters.{times}
+use Rattle.iox2_connections.proofs.Counts.{times-cons, one_if, one_if_same}
 use Rattle.iox2_laws.proofs.NumberLemmas.{contains_in_cons, contains_first, contains_later, absent_from}
 
 -- the numbers of the slots with a holder, by rising slot

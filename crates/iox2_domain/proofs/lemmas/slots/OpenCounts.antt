@@ -9,9 +9,9 @@ use Rattle.std.specs.declared.option.Option.TheVariants.{None, Some}
 use Rattle.slab.specs.Slab.{get}
 use Rattle.iox2_slots.specs.SlotBook.{Book, holders_at}
 use Rattle.iox2_contents.specs.SlotContents.{ContentState, is_open, open_count}
-use Rattle.iox2_ends.specs.Counters.{times}
-use Rattle.iox2_ends.proofs.Counts.{times-cons, one_if}
-use Rattle.iox2_ends.proofs.MailboxChanges.{both-true}
+use Rattle.iox2_connections.specs.Counters.{times}
+use Rattle.iox2_connections.proofs.Counts.{times-cons, one_if}
+use Rattle.iox2_connections.proofs.MailboxChanges.{both-true}
 use Rattle.iox2_domain.specs.Ports.{PublisherFields}
 use Rattle.iox2_domain.specs.Fields.{Fields}
 use Rattle.iox2_domain.specs.Invariant.{HasParts}

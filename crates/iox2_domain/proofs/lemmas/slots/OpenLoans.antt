@@ -12,7 +12,7 @@ use Rattle.iox2_machine.specs.declared.service_config.ServiceConfig.{ServiceConf
 use Rattle.iox2_slots.specs.SlotBook.{Book}
 use Rattle.iox2_slots.specs.declared.slots.mark.SlotMark.TheVariants.{Unwritten}
 use Rattle.iox2_contents.specs.SlotContents.{ContentState, lists_for}
-use Rattle.iox2_ends.specs.Counters.{times}
+use Rattle.iox2_connections.specs.Counters.{times}
 use Rattle.iox2_domain.specs.Ports.{PublisherFields}
 use Rattle.iox2_domain.specs.Fields.{Fields, contents_in}
 use Rattle.iox2_domain.specs.Invariant.{HasParts, HasOpenLoans, IsUnwrittenLoan, cell_count, cell_lists, mark_at}

@@ -13,9 +13,9 @@ use Rattle.iox2_contents.specs.SlotContents.{ContentState}
 use Rattle.iox2_machine.specs.machine.Numbers.{put_at}
 use Rattle.iox2_machine.specs.machine.Records.{Loan}
 use Rattle.iox2_machine.specs.machine.State.{State}
-use Rattle.iox2_ends.specs.LookUp.{look_up}
-use Rattle.iox2_ends.specs.Counters.{times, stands}
-use Rattle.iox2_ends.specs.Mailboxes.{sender_ends}
+use Rattle.iox2_connections.specs.LookUp.{look_up}
+use Rattle.iox2_connections.specs.Counters.{times, stands}
+use Rattle.iox2_connections.specs.Mailboxes.{sender_ends}
 use Rattle.iox2_domain.specs.Ports.{PublisherFields}
 use Rattle.iox2_domain.specs.Kept.{state_of}
 use Rattle.iox2_domain.specs.Fields.{Fields, kept_of, publisher_of, is_book_of, blocked_send}

@@ -4,13 +4,13 @@ use Rattle.std.specs.declared.option.Option.{Option}
 use Rattle.std.specs.declared.option.Option.TheVariants.{None, Some}
 use Rattle.std.specs.List.{sum_by}
 use Rattle.slab.specs.Slab.{get, ContainsKey}
-use Rattle.iox2_slots.specs.Link.{Link}
+use Rattle.iox2_connections.specs.Link.{Link}
 use Rattle.iox2_slots.specs.SlotBook.{Book, holders_at}
-use Rattle.iox2_ends.specs.Counters.{IsCovered, times, stands}
-use Rattle.iox2_ends.specs.Reclaims.{IsHeld}
-use Rattle.iox2_ends.specs.Homes.{IsSenderLinked}
-use Rattle.iox2_ends.proofs.MailboxChanges.{within_if_some}
-use Rattle.iox2_ends.proofs.ReclaimedPuts.{held-at}
+use Rattle.iox2_connections.specs.Counters.{IsCovered, times, stands}
+use Rattle.iox2_connections.specs.Reclaims.{IsHeld}
+use Rattle.iox2_connections.specs.Homes.{IsSenderLinked}
+use Rattle.iox2_connections.proofs.MailboxChanges.{within_if_some}
+use Rattle.iox2_connections.proofs.ReclaimedPuts.{held-at}
 use Rattle.iox2_domain.specs.Ports.{PublisherFields}
 use Rattle.iox2_domain.specs.Fields.{Fields}
 use Rattle.iox2_domain.specs.Invariant.{IsBookOf, IsOwned, HasBook, HasParts}

@@ -9,7 +9,7 @@ use Rattle.iox2_slots.specs.declared.slots.mark.SlotMark.TheVariants.{Unwritten}
 use Rattle.iox2_machine.specs.machine.Numbers.{put_at}
 use Rattle.iox2_machine.specs.machine.Records.{Entry, Loan}
 use Rattle.iox2_machine.specs.Stored.{IsHeldMessage}
-use Rattle.iox2_ends.specs.Counters.{times, with_counters}
+use Rattle.iox2_connections.specs.Counters.{times, with_counters}
 use Rattle.iox2_domain.specs.Ports.{PublisherFields}
 use Rattle.iox2_domain.specs.Kept.{KeptMessage, Lent_message, Sent_message, state_of, entries_of}
 use Rattle.iox2_domain.specs.Fields.{Fields, kept_of, publisher_of, message_in, contents_at}

@@ -2,13 +2,13 @@
 use Rattle.std.proofs.Common.{◌≡◌, ℕ, List, get_or, ap, sym, subst, ◌∙◌}
 use Rattle.std.specs.declared.option.Option.TheVariants.{None, Some}
 use Rattle.slab.specs.Slab.{Slab, get, with_value}
-use Rattle.iox2_slots.specs.Link.{Link}
+use Rattle.iox2_connections.specs.Link.{Link}
 use Rattle.iox2_slots.specs.SlotBook.{Book}
 use Rattle.iox2_machine.specs.Stored.{IsHeldMessage}
 use Rattle.iox2_machine.specs.machine.Mailbox.{Mailbox}
 use Rattle.iox2_machine.specs.machine.WellFormed.{IsWellFormed}
-use Rattle.iox2_ends.specs.Counters.{with_counters}
-use Rattle.iox2_ends.specs.Reclaims.{Reclaims}
+use Rattle.iox2_connections.specs.Counters.{with_counters}
+use Rattle.iox2_connections.specs.Reclaims.{Reclaims}
 use Rattle.iox2_domain.specs.Ports.{PublisherFields}
 use Rattle.iox2_domain.specs.Kept.{state_of}
 use Rattle.iox2_domain.specs.Fields.{Fields, kept_of, numbers_of}

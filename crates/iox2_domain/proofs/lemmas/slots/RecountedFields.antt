@@ -4,14 +4,14 @@ use Rattle.std.proofs.lemmas.Bool.{eq-eqb}
 use Rattle.std.specs.declared.option.Option.{Option}
 use Rattle.std.specs.declared.option.Option.TheVariants.{Some}
 use Rattle.slab.specs.Slab.{Slab, get}
-use Rattle.iox2_slots.specs.Link.{Link}
+use Rattle.iox2_connections.specs.Link.{Link}
 use Rattle.iox2_slots.specs.SlotBook.{Book}
 use Rattle.iox2_machine.specs.machine.Records.{Entry, Loan}
 use Rattle.iox2_machine.specs.Stored.{IsHeldMessage}
 use Rattle.iox2_machine.specs.machine.State.{State}
-use Rattle.iox2_ends.specs.Counters.{with_counters}
-use Rattle.iox2_ends.specs.Mailboxes.{mailboxes_of}
-use Rattle.iox2_ends.specs.Recounts.{Recounts}
+use Rattle.iox2_connections.specs.Counters.{with_counters}
+use Rattle.iox2_connections.specs.Mailboxes.{mailboxes_of}
+use Rattle.iox2_connections.specs.Recounts.{Recounts}
 use Rattle.iox2_domain.specs.Kept.{KeptMessage, Lent_message, Sent_message, state_of, entries_of}
 use Rattle.iox2_domain.specs.Fields.{Fields, kept_of, numbers_of}
 use Rattle.iox2_domain.specs.Invariant.{HasNumber, HasParts}

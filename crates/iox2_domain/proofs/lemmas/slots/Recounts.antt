@@ -7,16 +7,16 @@ use Rattle.std.specs.declared.option.Option.TheVariants.{None, Some}
 use Rattle.std.specs.Option.{option_map, option_map_or}
 use Rattle.std.specs.List.{sum_by}
 use Rattle.slab.specs.Slab.{Slab, get, with_value}
-use Rattle.iox2_slots.specs.Link.{Link}
+use Rattle.iox2_connections.specs.Link.{Link}
 use Rattle.iox2_machine.specs.machine.Channel.{Channel}
 use Rattle.iox2_slots.specs.SlotBook.{Book, IsAligned, holders_at}
-use Rattle.iox2_slots.specs.declared.connection.Home.{Home}
-use Rattle.iox2_ends.specs.LookUp.{look_up}
-use Rattle.iox2_ends.specs.Homes.{fixed_of}
-use Rattle.iox2_ends.specs.Counters.{times, stands, stands_in, with_counters}
-use Rattle.iox2_ends.specs.Recounts.{Recounts, returned_count}
-use Rattle.iox2_ends.proofs.LookUps.{look_up-found}
-use Rattle.iox2_ends.proofs.MailboxChanges.{was, IsApart-same}
+use Rattle.iox2_connections.specs.declared.connection.Home.{Home}
+use Rattle.iox2_connections.specs.LookUp.{look_up}
+use Rattle.iox2_connections.specs.Homes.{fixed_of}
+use Rattle.iox2_connections.specs.Counters.{times, stands, stands_in, with_counters}
+use Rattle.iox2_connections.specs.Recounts.{Recounts, returned_count}
+use Rattle.iox2_connections.proofs.LookUps.{look_up-found}
+use Rattle.iox2_connections.proofs.MailboxChanges.{was, IsApart-same}
 use Rattle.iox2_domain.specs.Ports.{PublisherFields}
 use Rattle.iox2_domain.specs.Kept.{KeptMessage}
 use Rattle.iox2_domain.specs.Fields.{Fields, message_in, contents_at, is_book_of}

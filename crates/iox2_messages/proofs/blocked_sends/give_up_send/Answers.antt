@@ -1,5 +1,5 @@
 use Rattle.std.proofs.Common.{◌≡◌, None, Some, get_or, ap}
-use Rattle.iox2_ends.specs.declared.sender.Progress.{Progress}
+use Rattle.iox2_connections.specs.declared.sender.Progress.{Progress}
 use Rattle.iox2_domain.specs.Boxes.{answers_of}
 use Rattle.iox2_domain.specs.Ports.{PublisherFields}
 use Rattle.iox2_domain.specs.declared.publisher_state.BlockedDelivery.{BlockedDelivery}

@@ -3,15 +3,15 @@ use Rattle.std.proofs.lemmas.Option.{same_Some}
 use Rattle.std.specs.declared.time.Duration.{Duration}
 use Rattle.iox2_slots.specs.SlotBook.{holders_at}
 use Rattle.iox2_machine.specs.machine.Records.{Environment}
-use Rattle.iox2_ends.specs.declared.sender.Progress.{Progress}
-use Rattle.iox2_ends.specs.declared.sender.DeliveryOutcome.{DeliveryOutcome}
-use Rattle.iox2_ends.specs.Receivers.{HasReclaimed}
+use Rattle.iox2_connections.specs.declared.sender.Progress.{Progress}
+use Rattle.iox2_connections.specs.declared.sender.DeliveryOutcome.{DeliveryOutcome}
+use Rattle.iox2_connections.specs.Receivers.{HasReclaimed}
 use Rattle.iox2_domain.specs.declared.publisher_state.BlockedDelivery.{BlockedDelivery}
 use Rattle.iox2_domain.specs.BlockedSends.{with_outcome, CanGoOn, GoesOn}
-use Rattle.iox2_ends.specs.Handlers.{asked, marks_of}
+use Rattle.iox2_connections.specs.Handlers.{asked, marks_of}
 use Rattle.iox2_domain.specs.Boxes.{answers_of}
 use Rattle.iox2_domain.specs.Ports.{PublisherFields}
-use Rattle.iox2_ends.proofs.AnyEnvironment.{AllowsAsMuch}
+use Rattle.iox2_connections.proofs.AnyEnvironment.{AllowsAsMuch}
 use Rattle.iox2_domain.specs.Fields.{Fields, within_reach}
 use Rattle.iox2_domain.specs.Invariant.{IsDomain}
 use Rattle.iox2_domain.proofs.lemmas.slots.PublisherBooks.{read-there, book-there, book-covers}

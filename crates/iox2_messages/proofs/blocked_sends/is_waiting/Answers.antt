@@ -3,7 +3,7 @@ use Rattle.std.specs.declared.option.Option.{Option}
 use Rattle.std.specs.declared.option.Option.TheVariants.{None, Some}
 use Rattle.std.specs.Option.{option_map, option_map_or}
 use Rattle.iox2_machine.specs.machine.Records.{Publisher, BlockedSend}
-use Rattle.iox2_ends.specs.Mailboxes.{sender_ends}
+use Rattle.iox2_connections.specs.Mailboxes.{sender_ends}
 use Rattle.iox2_domain.specs.declared.publisher_state.BlockedDelivery.{BlockedDelivery}
 use Rattle.iox2_domain.specs.Fields.{kept_of, numbers_of, blocked_send}
 use Rattle.iox2_domain.specs.Kept.{state_of}

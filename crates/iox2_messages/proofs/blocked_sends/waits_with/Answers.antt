@@ -6,9 +6,9 @@ use Rattle.std.specs.Option.{option_map}
 use Rattle.slab.specs.Slab.{get}
 use Rattle.iox2_machine.specs.machine.Records.{Publisher, BlockedSend}
 use Rattle.iox2_machine.specs.machine.SingleCalls.{HoldsBlocked}
-use Rattle.iox2_ends.specs.Mailboxes.{sender_ends}
-use Rattle.iox2_ends.proofs.Counts.{in_range}
-use Rattle.iox2_ends.proofs.ReclaimedPuts.{own-in_use}
+use Rattle.iox2_connections.specs.Mailboxes.{sender_ends}
+use Rattle.iox2_connections.proofs.Counts.{in_range}
+use Rattle.iox2_connections.proofs.ReclaimedPuts.{own-in_use}
 use Rattle.iox2_domain.specs.declared.publisher_state.BlockedDelivery.{BlockedDelivery}
 use Rattle.iox2_domain.specs.Ports.{PublisherFields}
 use Rattle.iox2_domain.specs.BlockedSends.{waiting_send}

@@ -1,6 +1,6 @@
 use Rattle.std.proofs.Common.{◌≡◌, Option, Some, ℕ, sym, subst}
 use Rattle.slab.specs.Slab.{with_value}
-use Rattle.iox2_slots.specs.Link.{Link}
+use Rattle.iox2_connections.specs.Link.{Link}
 use Rattle.iox2_domain.specs.ChannelChanges.{ChangesLinks}
 use Rattle.iox2_messages.specs.ChannelChanges.{changed_link}
 use Rattle.iox2_messages.proofs.ChangedLinks.{none-changed, one-changed}

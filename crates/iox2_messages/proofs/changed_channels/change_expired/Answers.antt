@@ -2,7 +2,7 @@ use Rattle.std.proofs.Common.{◌≡◌, ◌∙◌, ℕ, Option, map, Some, arit
 use Rattle.std.proofs.lemmas.List.{length-map}
 use Rattle.iox2_domain.specs.ChannelChanges.{ChangesLinks}
 use Rattle.iox2_domain.proofs.lemmas.containers.KeyWalks.{HasKeyBelow}
-use Rattle.iox2_ends.proofs.Searches.{key-at}
+use Rattle.iox2_connections.proofs.Searches.{key-at}
 use Rattle.iox2_messages.specs.ChannelChanges.{changed_link}
 use Rattle.iox2_messages.proofs.ChangedLinks.{still-connected, walk-begins, walk-goes, walk-ends}
 use Rattle.iox2_messages.proofs.changed_channels.change_expired.Goals as goal

@@ -2,7 +2,7 @@ use Rattle.std.proofs.Common.{◌≡◌, ◌∙◌, List, Option, ℕ, map, Some
 use Rattle.iox2_domain.specs.ChannelChanges.{ChangesLinks}
 use Rattle.iox2_domain.specs.Departures.{HasKey, KnowsKey}
 use Rattle.iox2_domain.specs.Ports.{SubscriberFields}
-use Rattle.iox2_ends.specs.Finds.{HasConnections}
+use Rattle.iox2_connections.specs.Finds.{HasConnections}
 use Rattle.iox2_messages.specs.ChannelChanges.{changed_link}
 use Rattle.iox2_messages.proofs.ChangedLinks.{both-changed, still-connected}
 use Rattle.iox2_messages.proofs.changed_channels.change_known.Goals as goal

@@ -1,6 +1,6 @@
 use Rattle.std.proofs.Common.{◌<◌, length, map, Some, sym, ap, ◌∙◌, arith}
 use Rattle.std.proofs.lemmas.List.{length-map}
-use Rattle.iox2_ends.proofs.Searches.{key-at}
+use Rattle.iox2_connections.proofs.Searches.{key-at}
 use Rattle.iox2_messages.specs.KeyChannels.{key_in_no_other}
 use Rattle.iox2_messages.proofs.AllChannels.{all-behind, not-here}
 use Rattle.iox2_messages.proofs.channels.all_expired.Goals as goal

@@ -1,6 +1,6 @@
 use Rattle.std.proofs.Common.{◌≡◌, drop}
 use Rattle.iox2_machine.specs.machine.ChannelCalls.{place_from}
-use Rattle.iox2_ends.specs.Mailboxes.{sender_ends}
+use Rattle.iox2_connections.specs.Mailboxes.{sender_ends}
 use Rattle.iox2_messages.proofs.channels.place_in.Given as goal
 
 -- none of the keys so far leads there

@@ -3,7 +3,7 @@ use Rattle.std.specs.Prelude.{slice_index_or, true}
 use Rattle.std.specs.declared.option.Option.TheVariants.{None}
 use Rattle.slab.specs.Slab.{ContainsKey, get, with_value}
 use Rattle.iox2_slots.specs.SlotBook.{Book}
-use Rattle.iox2_ends.specs.declared.sender.Progress.{Progress}
+use Rattle.iox2_connections.specs.declared.sender.Progress.{Progress}
 use Rattle.iox2_domain.specs.ConnectionSends.{begun_delivery, with_begun}
 use Rattle.iox2_domain.specs.Deliveries.{with_sent}
 use Rattle.iox2_domain.specs.Fields.{Fields}

@@ -1,6 +1,6 @@
 use Rattle.std.proofs.Common.{sym, subst, ap, ◌∙◌}
 use Rattle.iox2_slots.specs.SlotBook.{Book, IsInUse}
-use Rattle.iox2_ends.specs.declared.sender.DeliveryOutcome.{DeliveryOutcome}
+use Rattle.iox2_connections.specs.declared.sender.DeliveryOutcome.{DeliveryOutcome}
 use Rattle.iox2_domain.specs.Deliveries.{leaving, with_history_holder}
 use Rattle.iox2_domain.specs.Ports.{PublisherFields}
 use Rattle.iox2_messages.proofs.deliveries.conclude.Goals as goal

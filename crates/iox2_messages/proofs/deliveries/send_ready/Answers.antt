@@ -1,6 +1,6 @@
 use Rattle.std.proofs.Common.{subst}
-use Rattle.iox2_ends.specs.Handlers.{asked}
-use Rattle.iox2_ends.proofs.AnyEnvironment.{AllowsAsMuch}
+use Rattle.iox2_connections.specs.Handlers.{asked}
+use Rattle.iox2_connections.proofs.AnyEnvironment.{AllowsAsMuch}
 use Rattle.iox2_domain.specs.Boxes.{answers_of}
 use Rattle.iox2_steps.proofs.sends.DeliverySteps.{Asked, asks-boxes, sends-alike}
 use Rattle.iox2_messages.proofs.deliveries.send_ready.Goals as goal

@@ -1,8 +1,8 @@
 use Rattle.std.proofs.Common.{◌<◌, ◌^◌, None, Some, slice_index_or, sym, ◌∙◌, ap, subst, arith, length}
 use Rattle.iox2_machine.specs.machine.Delivery.{no_time}
-use Rattle.iox2_ends.specs.Deliveries.{begun}
+use Rattle.iox2_connections.specs.Deliveries.{begun}
 use Rattle.iox2_domain.specs.Deliveries.{leaving, sender_after, book_after}
-use Rattle.iox2_ends.specs.Handlers.{asked, marks_of}
+use Rattle.iox2_connections.specs.Handlers.{asked, marks_of}
 use Rattle.iox2_domain.specs.Ports.{PublisherFields}
 use Rattle.iox2_domain.specs.Fields.{Fields}
 use Rattle.iox2_domain.specs.Invariant.{IsDomain}

@@ -5,8 +5,8 @@ use Rattle.std.specs.declared.option.Option.TheVariants.{None}
 use Rattle.slab.specs.Slab.{ContainsKey, get, with_value}
 use Rattle.iox2_slots.specs.SlotBook.{Book, IsInUse}
 use Rattle.iox2_contents.specs.SlotContents.{ContentState, with_changed, ended_content}
-use Rattle.iox2_ends.specs.Counters.{times}
-use Rattle.iox2_ends.proofs.MailboxChanges.{within_if_some}
+use Rattle.iox2_connections.specs.Counters.{times}
+use Rattle.iox2_connections.proofs.MailboxChanges.{within_if_some}
 use denote.Param.{param}
 use Rattle.iox2_domain.specs.contracts.state.DomainState.{the_view}
 use Rattle.iox2_domain.specs.Deliveries.{with_loan_out}

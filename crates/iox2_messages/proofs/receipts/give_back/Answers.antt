@@ -1,6 +1,6 @@
 use Rattle.std.proofs.Common.{ℕ, sym, subst, Contains, IsSomeAnd, IsTrue, ◌∙◌}
 use Rattle.slab.specs.Slab.{get}
-use Rattle.iox2_slots.specs.Link.{Link}
+use Rattle.iox2_connections.specs.Link.{Link}
 use Rattle.iox2_machine.specs.machine.Numbers.{IsOnce}
 use Rattle.iox2_machine.specs.machine.Mailbox.{is_borrowed}
 use Rattle.iox2_machine.specs.machine.Releases.{released}

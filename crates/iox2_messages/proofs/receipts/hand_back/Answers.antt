@@ -2,9 +2,9 @@ use Rattle.std.proofs.Common.{◌∙◌, ap, sym, subst, Contains, IsSomeAnd}
 use Rattle.std.proofs.lemmas.Bool.{true≢false}
 use denote.Param.{param}
 use Rattle.slab.specs.Slab.{ContainsKey, get, with_value}
-use Rattle.iox2_slots.specs.Link.{Link}
+use Rattle.iox2_connections.specs.Link.{Link}
 use Rattle.iox2_machine.specs.machine.Numbers.{IsOnce}
-use Rattle.iox2_ends.proofs.MailboxChanges.{within_if_some}
+use Rattle.iox2_connections.proofs.MailboxChanges.{within_if_some}
 use Rattle.iox2_domain.specs.Fields.{Fields}
 use Rattle.iox2_domain.specs.contracts.state.DomainState.{the_view}
 use Rattle.iox2_steps.proofs.releases.Forgets.{ItsSubscriber, its-place, prunes}

@@ -1,6 +1,6 @@
 use Rattle.iox2_machine.specs.declared.errors.ReceiveError.{ReceiveError}
-use Rattle.iox2_ends.specs.Takes.{ReceivesSlot}
-use Rattle.iox2_ends.specs.declared.receiver.Taken.{Taken}
+use Rattle.iox2_connections.specs.Takes.{ReceivesSlot}
+use Rattle.iox2_connections.specs.declared.receiver.Taken.{Taken}
 use denote.Param.{param}
 use Rattle.iox2_domain.specs.Fields.{Fields}
 use Rattle.iox2_domain.specs.contracts.state.DomainState.{the_view}

@@ -2,7 +2,7 @@ use Rattle.std.proofs.Common.{◌≡◌, None, Some, ap, sym, subst, ◌∙◌}
 use Rattle.iox2_machine.specs.machine.Sends.{Send_error}
 use Rattle.iox2_machine.specs.machine.SingleCalls.{HoldsLoan}
 use Rattle.iox2_machine.specs.declared.errors.SendError.TheVariants.{ConnectionBrokenSinceSenderNoLongerExists}
-use Rattle.iox2_ends.specs.LookUp.{look_up}
+use Rattle.iox2_connections.specs.LookUp.{look_up}
 use Rattle.iox2_domain.specs.Fields.{Fields, kept_of}
 use Rattle.iox2_domain.specs.Invariant.{IsDomain, is_publisher}
 use Rattle.iox2_domain.specs.Kept.{state_of}

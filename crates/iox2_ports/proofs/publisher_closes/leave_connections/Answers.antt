@@ -1,6 +1,6 @@
 use Rattle.std.proofs.Common.{◌≡◌, ℕ, List, Option, ap, sym, subst, ◌∙◌}
-use Rattle.iox2_ends.specs.Counters.{IsCovered}
-use Rattle.iox2_ends.proofs.Counts.{IsCovered-follows}
+use Rattle.iox2_connections.specs.Counters.{IsCovered}
+use Rattle.iox2_connections.proofs.Counts.{IsCovered-follows}
 use Rattle.iox2_domain.specs.Closes.{LeavesAt, SomeHasKey}
 use Rattle.iox2_domain.specs.Departures.{HasKey}
 use Rattle.iox2_domain.specs.Ports.{PublisherFields}

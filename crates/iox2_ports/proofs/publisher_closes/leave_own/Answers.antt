@@ -6,12 +6,12 @@ use Rattle.std.proofs.lemmas.Bool.{eq-eqb}
 use Rattle.std.proofs.lemmas.List.Sums.{sum_by-set}
 use Rattle.slab.specs.Slab.{Slab, get, Updates, with_value}
 use Rattle.iox2_machine.specs.machine.Numbers.{is_nil}
-use Rattle.iox2_slots.specs.Link.{Link, other_slots}
-use Rattle.iox2_ends.specs.Counters.{times, stands_in, stands, CountersFollow}
-use Rattle.iox2_ends.specs.Leaves.{left_link, holds_slots, ReleasesFrom}
-use Rattle.iox2_ends.proofs.MailboxChanges.{Updates-with_value, within_if_some}
-use Rattle.iox2_ends.proofs.Counts.{CountersFollow-changed, stands-own}
-use Rattle.iox2_ends.proofs.ReclaimSteps.{own-at}
+use Rattle.iox2_connections.specs.Link.{Link, other_slots}
+use Rattle.iox2_connections.specs.Counters.{times, stands_in, stands, CountersFollow}
+use Rattle.iox2_connections.specs.Leaves.{left_link, holds_slots, ReleasesFrom}
+use Rattle.iox2_connections.proofs.MailboxChanges.{Updates-with_value, within_if_some}
+use Rattle.iox2_connections.proofs.Counts.{CountersFollow-changed, stands-own}
+use Rattle.iox2_connections.proofs.ReclaimSteps.{own-at}
 use Rattle.iox2_domain.specs.Ports.{SubscriberFields}
 use Rattle.iox2_domain.specs.Closes.{is_awaited, after_close, if_holding}
 use Rattle.iox2_ports.proofs.publisher_closes.leave_own.Goals.{After-holds_slots, After-leave}

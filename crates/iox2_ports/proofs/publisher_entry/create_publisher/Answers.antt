@@ -8,13 +8,13 @@ use Rattle.iox2_machine.specs.machine.Ports.{first_segment_fits, slots_for, with
 use Rattle.iox2_machine.specs.machine.Records.{Handler}
 use Rattle.iox2_machine.specs.declared.backpressure.BackpressureAction.{BackpressureAction}
 use Rattle.iox2_machine.specs.declared.errors.PublisherCreateError.TheVariants.{FailedToDeployThreadsafetyPolicy}
-use Rattle.iox2_ends.proofs.MailboxChanges.{both-true}
+use Rattle.iox2_connections.proofs.MailboxChanges.{both-true}
 use Rattle.iox2_domain.specs.Boxes.{answers_of, boxes_of}
 use Rattle.iox2_domain.specs.Kept.{state_of}
 use Rattle.iox2_domain.specs.Reaches.{Reaches}
 use Rattle.iox2_domain.specs.declared.boxes.PortBox.{PortBox}
 use Rattle.iox2_domain.specs.Fields.{Fields, kept_of}
-use Rattle.iox2_ends.specs.Handlers.{marks_of}
+use Rattle.iox2_connections.specs.Handlers.{marks_of}
 use Rattle.iox2_ports.specs.Settings.{settings_with}
 use Rattle.iox2_steps.proofs.creations.PublisherCreations.{created-refused, created-unfit, created-made, created-updated}
 use Rattle.iox2_domain.proofs.lemmas.fields.ReachesShows.{reaches-same}

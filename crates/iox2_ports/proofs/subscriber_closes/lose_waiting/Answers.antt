@@ -1,5 +1,5 @@
 use Rattle.std.proofs.Common.{ap}
-use Rattle.iox2_slots.specs.declared.connection.Home.{Home}
+use Rattle.iox2_connections.specs.declared.connection.Home.{Home}
 use Rattle.iox2_steps.proofs.subscriber_closes.CloseSteps.{book-stands, book-holds, loses-in}
 use Rattle.iox2_ports.proofs.subscriber_closes.lose_waiting.Goals as goal
 

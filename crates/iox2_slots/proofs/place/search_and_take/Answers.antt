@@ -1,6 +1,6 @@
 use Rattle.std.proofs.Common.{◌==◌, List, ℕ, ap, sym, ◌∙◌}
 use Rattle.std.specs.Prelude.{count_by, slice_get}
-use Rattle.iox2_slots.proofs.LinkLemmas.{contains-from, counted-there}
+use Rattle.iox2_slots.proofs.ListedNumbers.{contains-from, counted-there}
 use Rattle.iox2_slots.proofs.TakenSlots.{absent-without, removed-without}
 use Rattle.iox2_slots.proofs.place.search_and_take.Goals as goal
 

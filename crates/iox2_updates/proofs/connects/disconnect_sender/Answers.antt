@@ -2,7 +2,7 @@ use Rattle.std.proofs.Common.{◌≡◌, [], None, slice_index_or, sym, ◌∙�
 use Rattle.std.proofs.lemmas.List.{with_items_is}
 use Rattle.slab.specs.Slab.{get, with_value}
 use Rattle.std.specs.Prelude.{IsSomeAnd}
-use Rattle.iox2_slots.specs.Link.{Link}
+use Rattle.iox2_connections.specs.Link.{Link}
 use Rattle.iox2_domain.specs.Fields.{Fields}
 use Rattle.iox2_domain.specs.Drops.{LosesSenderEnd}
 use Rattle.iox2_domain.specs.Updates.{changed_at, without_sender_key}

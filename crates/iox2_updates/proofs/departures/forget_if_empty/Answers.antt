@@ -2,7 +2,7 @@ use Rattle.std.proofs.Common.{◌≡◌, ◌∙◌, List, Option, None, Some, ap
 use Rattle.std.proofs.lemmas.Bool.{true≢false}
 use Rattle.std.proofs.lemmas.List.{with_items_is}
 use Rattle.slab.specs.Slab.{Updates, get}
-use Rattle.iox2_slots.specs.Link.{load}
+use Rattle.iox2_connections.specs.Link.{load}
 use denote.Param.{param}
 use Rattle.iox2_domain.specs.contracts.state.DomainState.{the_view}
 use Rattle.iox2_domain.specs.Departures.{key_forgotten}

@@ -3,8 +3,8 @@ use Rattle.std.proofs.lemmas.Option.{same_Some}
 use Rattle.std.specs.Prelude.{IsSomeAnd}
 use Rattle.std.specs.declared.option.Option.{Option}
 use Rattle.slab.specs.Slab.{get, with_value}
-use Rattle.iox2_slots.specs.Link.{with_mark}
-use Rattle.iox2_slots.specs.declared.connection.Home.{Home}
+use Rattle.iox2_connections.specs.Link.{with_mark}
+use Rattle.iox2_connections.specs.declared.connection.Home.{Home}
 use Rattle.iox2_domain.specs.Fields.{Fields}
 use Rattle.iox2_domain.specs.OpenMarks.{ChangesMarks}
 use Rattle.iox2_domain.specs.Ports.{SubscriberFields}

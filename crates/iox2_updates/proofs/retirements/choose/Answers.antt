@@ -3,7 +3,7 @@ use Rattle.std.specs.declared.option.Option.TheVariants.{None, Some}
 use Rattle.slab.specs.Slab.{ContainsKey}
 use Rattle.iox2_machine.specs.machine.Limits.{expired_limit}
 use Rattle.iox2_machine.specs.machine.Numbers.{contains}
-use Rattle.iox2_ends.specs.Retires.{chosen}
+use Rattle.iox2_connections.specs.Retires.{chosen}
 use Rattle.iox2_domain.specs.Ports.{SubscriberFields}
 use Rattle.iox2_domain.specs.Fields.{Fields}
 use Rattle.iox2_domain.proofs.lemmas.slots.PublisherBooks.{read-there}

@@ -1,6 +1,6 @@
 use Rattle.std.proofs.Common.{◌∙◌, ap, sym, subst}
 use Rattle.slab.specs.Slab.{get, ContainsKey}
-use Rattle.iox2_slots.specs.declared.connection.Home.{Home}
+use Rattle.iox2_connections.specs.declared.connection.Home.{Home}
 use Rattle.iox2_domain.specs.Fields.{Fields}
 use Rattle.iox2_domain.proofs.lemmas.slots.PublisherBooks.{book-stands, link-held}
 use Rattle.iox2_updates.proofs.retirements.lose_connection.Goals as goal

@@ -2,7 +2,7 @@ use Rattle.std.proofs.Common.{◌≡◌, ◌∙◌, true, false, ap, sym, refl}
 use Rattle.std.proofs.lemmas.List.{with_items_is}
 use Rattle.iox2_machine.specs.machine.Limits.{expired_limit}
 use Rattle.iox2_machine.specs.machine.SubscriberUpdate.{Keep_expired, Evict, Discard_data}
-use Rattle.iox2_ends.specs.declared.retirement.Retirement.TheVariants.{KeepExpired, Evict as EvictKey, DiscardData}
+use Rattle.iox2_connections.specs.declared.retirement.Retirement.TheVariants.{KeepExpired, Evict as EvictKey, DiscardData}
 use Rattle.iox2_domain.specs.Ports.{SubscriberFields}
 use Rattle.iox2_domain.specs.Fields.{Fields}
 use Rattle.iox2_domain.specs.Updates.{changed_at}
@@ -10,7 +10,7 @@ use Rattle.iox2_steps.proofs.receivers.Choices.{chosen-evicts, chosen-discards}
 use Rattle.iox2_steps.proofs.receivers.RetiredFields.{refused-changes, retires-as, refuses-as, first-link}
 use Rattle.slab.specs.Slab.{get}
 use Rattle.iox2_machine.specs.machine.Numbers.{contains}
-use Rattle.iox2_ends.specs.Retires.{has_borrowed}
+use Rattle.iox2_connections.specs.Retires.{has_borrowed}
 use Rattle.iox2_updates.specs.Ends.{DepartedAt}
 use Rattle.iox2_updates.proofs.retirements.retire.Goals.{In-Evict}
 use Rattle.iox2_updates.proofs.retirements.retire.Goals as goal

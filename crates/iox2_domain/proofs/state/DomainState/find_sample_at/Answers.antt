@@ -1,5 +1,5 @@
 use Rattle.std.proofs.Common.{ap, sym, ◌∙◌}
-use Rattle.iox2_slots.specs.declared.connection.Home.{Home}
+use Rattle.iox2_connections.specs.declared.connection.Home.{Home}
 use Rattle.iox2_domain.proofs.lemmas.samples.BorrowedNumbers.{its-slots-within, none-borrows, lies-there}
 use Rattle.iox2_domain.proofs.lemmas.receives.ReceiptSteps.{names-book, has-its-book}
 use Rattle.iox2_domain.proofs.state.DomainState.find_sample_at.Goals as goal

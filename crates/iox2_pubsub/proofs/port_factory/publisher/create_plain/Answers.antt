@@ -8,7 +8,7 @@ use Rattle.iox2_domain.specs.Kept.{state_of}
 use Rattle.iox2_domain.specs.Fields.{kept_of}
 use Rattle.iox2_ports.specs.Settings.{settings_with}
 use Rattle.iox2_domain.specs.Handlers.{may_fail}
-use Rattle.iox2_ends.specs.Handlers.{marks_of}
+use Rattle.iox2_connections.specs.Handlers.{marks_of}
 use Rattle.iox2_pubsub.specs.Handlers.{may_wait}
 use Rattle.iox2_pubsub.proofs.PublishersMade.{creation-leaves, creation-refused, was-made}
 use Rattle.iox2_pubsub.proofs.PublishersShown.{created-shows}

@@ -2,7 +2,7 @@ use Rattle.std.proofs.Common.{◌∙◌, ap, subst, sym}
 use Rattle.std.specs.declared.option.Option.TheVariants.{None, Some}
 use Rattle.iox2_domain.specs.Boxes.{answers_of}
 use Rattle.iox2_machine.specs.machine.Ports.{CreatePublisher}
-use Rattle.iox2_ends.specs.Handlers.{marks_of}
+use Rattle.iox2_connections.specs.Handlers.{marks_of}
 use Rattle.iox2_ports.specs.Handlers.{custom_box}
 use Rattle.iox2_ports.specs.Settings.{settings_with}
 use Rattle.iox2_pubsub.specs.Factories.{PublisherFactory}

@@ -9,7 +9,7 @@ use Rattle.iox2_machine.specs.declared.allocation.AllocationStrategy.{Allocation
 use Rattle.iox2_machine.specs.declared.service_config.ServiceConfig.{ServiceConfig}
 use Rattle.iox2_domain.specs.Kept.{Kept}
 use Rattle.iox2_domain.specs.Shows.{Shows}
-use Rattle.iox2_ends.specs.Handlers.{marks_of}
+use Rattle.iox2_connections.specs.Handlers.{marks_of}
 use Rattle.iox2_ports.specs.Handlers.{custom_box}
 use Rattle.iox2_ports.specs.Settings.{settings_with}
 use Rattle.iox2_pubsub.specs.Factories.{AsksFor, PublisherFactory, callback_of, with_slots}

@@ -1,0 +1,17 @@
+pub mod Link
+pub mod FurtherChannels
+pub mod LinkFields
+pub mod LookUp
+pub mod Mailboxes
+pub mod Homes
+pub mod Receivers
+pub mod Counters
+pub mod Handlers
+pub mod Deliveries
+pub mod Takes
+pub mod Finds
+pub mod Recounts
+pub mod Reclaims
+pub mod Drops
+pub mod Leaves
+pub mod Retires

@@ -1,5 +1,0 @@
-use Rattle.std.proofs.Common.{refl}
-use Rattle.iox2_ends.proofs.sender.ReceiverDetailsReceiver.details.Goals as goal
-
-pub returns : goal.returns
-returns c = refl

@@ -1,4 +1,0 @@
-use Rattle.iox2_slots.proofs.connection.Connection.borrowed.Goals as goal
-
-pub returns : goal.returns
-returns c = rw (← c.self.view_is) c.deref.ensures.value

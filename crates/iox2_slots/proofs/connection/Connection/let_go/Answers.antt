@@ -1,5 +1,0 @@
-use Rattle.iox2_slots.proofs.TakenSlots.{counted-once}
-use Rattle.iox2_slots.proofs.connection.Connection.let_go.Goals as goal
-
-pub take_slot-requires : goal.take_slot-requires
-take_slot-requires c = counted-once c.args.slot _ (rw (← c.self.view_is) at c.requires.once)

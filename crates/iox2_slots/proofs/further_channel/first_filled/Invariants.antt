@@ -1,7 +1,0 @@
-use Rattle.std.specs.List.{AllWithin}
-use Rattle.iox2_slots.specs.FurtherChannels.{rings, IsUnfilled}
-use Rattle.iox2_slots.proofs.further_channel.first_filled.Given as goal
-
--- nothing waits in the channels before this one
-abbrev pub invariant-loop-index : goal.invariant-loop-index
-invariant-loop-index l = AllWithin IsUnfilled (rings l.channels) 0 l.index
