@@ -17,9 +17,7 @@ use Rattle.iox2_domain.specs.Invariant.{IsDomain}
 use Rattle.iox2_domain.specs.LoanCalls.{AssumesLoan}
 use Rattle.iox2_domain.specs.Reaches.{Reaches}
 use Rattle.iox2_domain.specs.Shows.{Shows}
-use Rattle.iox2_machine.specs.declared.header.Header.{Header}
-use Rattle.iox2_machine.specs.declared.key.Key.{Key}
-use Rattle.iox2_pubsub.specs.Live.{IsUnwritten, IsWritten, LoanReads, LoanHasHeader, LoanHasUserHeader, UnwrittenReads, A_loan, StaysBut, UpToDateStay, WaitingStays, lender_key, unwritten_key, written_key}
+use Rattle.iox2_pubsub.specs.Live.{IsUnwritten, IsWritten, LoanReads, UnwrittenReads, A_loan, StaysBut, UpToDateStay, WaitingStays, lender_key, unwritten_key, written_key}
 use Rattle.iox2_pubsub.specs.Leaves.{LeavesBut}
 use Rattle.iox2_pubsub.specs.LoanCalls.{BecomesWritten}
 use Rattle.iox2_pubsub.specs.Slices.{HasUnwrittenCells, HasValues}

@@ -9,7 +9,7 @@ use Rattle.iox2_machine.specs.machine.Ports.{CreatePublisher, CreateSubscriber}
 use Rattle.iox2_machine.specs.machine.Receives.{ReceiveResult, Got_sample, No_sample, Receive_error, Receive}
 use Rattle.iox2_machine.specs.machine.Records.{Entry, Loan, Publisher, PublisherSettings, SubscriberSettings, Environment}
 use Rattle.iox2_machine.specs.machine.Releases.{released}
-use Rattle.iox2_machine.specs.machine.SingleCalls.{HoldsBlocked, HoldsLoan, HoldsPublisher, HoldsSample, HoldsSubscriber}
+use Rattle.iox2_machine.specs.machine.SingleCalls.{HoldsLoan, HoldsPublisher, HoldsSample, HoldsSubscriber}
 use Rattle.iox2_machine.specs.machine.Sends.{SendResult, Delivered_to, Blocked_send, Send_error, Send}
 use Rattle.iox2_machine.specs.declared.errors.SendError.{SendError}
 use Rattle.iox2_pubsub.specs.SendCalls.{Sends, messages_after, spent_by_send}
