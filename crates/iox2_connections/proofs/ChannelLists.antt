@@ -34,12 +34,6 @@ further-changed c first rest (suc number) expected change is marked some =
     less : number ≡ suc number - 1
     less = omega arith
 
--- a number behind the last channel changes nothing
-pub none-further : (number expected : ℕ) (change : Channel → Channel) (channels : List Channel) → (number < length channels → ⊥) → channels_changed number expected change channels ≡ channels
-none-further number expected change [] past = refl
-none-further zero expected change (x ∷ channels) past = absurd (past (omega arith))
-none-further (suc number) expected change (x ∷ channels) past = ap (λ (rest : List Channel). x ∷ rest) (none-further number expected change channels (λ below. past (omega (arith, below))))
-
 module _ (expected : ℕ) (change : Channel → Channel) where
   -- the channels are as many as before
   pub changed-length : (number : ℕ) (channels : List Channel) → length (channels_changed number expected change channels) ≡ length channels

@@ -2,11 +2,13 @@ pub mod ChannelLists
 pub mod FurtherFields
 pub mod FurtherLists
 pub mod LinkLemmas
+pub mod ListedNumbers
 pub mod LookUps
 pub mod MailboxChanges
 pub mod OtherNumbers
 pub mod Counts
 pub mod SplitLists
+pub mod TakenSlots
 pub mod DeliverySteps
 pub mod Releases
 pub mod TakeSteps

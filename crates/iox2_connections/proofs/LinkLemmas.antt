@@ -1,5 +1,5 @@
 -- What a connection's calls are to the lists of its slots.
-use Rattle.std.proofs.Common.{◌≡◌, ℕ, ◌+◌, ◌<◌, List, [], ◌∷◌, ◌++◌, true, false, not, length, map, drop, refl, Option, Some, None, arith, ap, sym, ◌∙◌}
+use Rattle.std.proofs.Common.{◌≡◌, ℕ, ◌<◌, List, [], ◌∷◌, ◌++◌, true, false, not, length, map, drop, refl, Option, Some, None, arith, ap, sym, ◌∙◌}
 use Rattle.std.proofs.lemmas.Bool.{false≢true}
 use Rattle.std.specs.Prelude.{slice_get}
 use Rattle.iox2_connections.specs.Link.{Link, has_other_slots, IsTaken, IsDropped, IsReclaimed}

@@ -4,10 +4,10 @@ use Rattle.std.proofs.lemmas.Bool.{eqb-true, eq-eqb, true≢false, false_from_ne
 use Rattle.iox2_machine.specs.machine.Numbers.{contains, without, IsOnce}
 use Rattle.iox2_connections.specs.Link.{Link, with_returned}
 use Rattle.iox2_machine.specs.machine.Mailbox.{Mailbox, with_released}
-use Rattle.iox2_slots.proofs.ListedNumbers.{without-absent}
 use Rattle.iox2_connections.specs.Mailboxes.{numbered, mailbox_of}
 use Rattle.iox2_connections.specs.Counters.{times, stands_in}
 use Rattle.iox2_connections.proofs.Counts.{one_if, times-cons, times_push}
+use Rattle.iox2_connections.proofs.TakenSlots.{absent-without, uncounted}
 
 -- a slot of a list has its number in the list of numbers
 pub contains-map : (number : ℕ → ℕ) (slot : ℕ) (xs : List ℕ) → contains xs slot ≡ true → contains (map number xs) (number slot) ≡ true
@@ -40,7 +40,7 @@ map-without number slot (x ∷ xs) h once = by (eqb x slot) refl (λ r. map-with
       let same : number x ≡ number slot = ap number (eqb-true x slot e) in
       let absent : contains (map number xs) (number slot) ≡ false = ap (contains (map number xs)) (sym same) ∙ once.0 in
       rw (e, eq-eqb (number x) (number slot) same)
-      (ap (map number) (without-absent slot xs (absent-map number slot xs absent)) ∙ sym (without-absent (number slot) (map number xs) absent))
+      (ap (map number) (absent-without slot xs (uncounted slot xs (absent-map number slot xs absent))) ∙ sym (absent-without (number slot) (map number xs) (uncounted (number slot) (map number xs) absent)))
   by false e later =
       let rest : contains xs slot ≡ true = contains-rest slot x xs h e in
       let apart : eqb (number x) (number slot) ≡ false = ne_eqb (number x) (number slot) (λ same. true≢false (sym (contains-map number slot xs rest) ∙ ap (contains (map number xs)) (sym same) ∙ once.0)) in
@@ -53,7 +53,7 @@ times-without n slot (x ∷ xs) h once = by (eqb x slot) refl (λ r. times-witho
   by : (b : Bool) → eqb x slot ≡ b → (contains xs slot ≡ true → times n (without slot xs) + one_if n slot ≡ times n xs) → times n (without slot (x ∷ xs)) + one_if n slot ≡ times n (x ∷ xs)
   by true e later =
       let same : x ≡ slot = eqb-true x slot e in
-      let gone : without slot xs ≡ xs = without-absent slot xs (ap (contains xs) (sym same) ∙ once.0) in
+      let gone : without slot xs ≡ xs = absent-without slot xs (uncounted slot xs (ap (contains xs) (sym same) ∙ once.0)) in
       rw e (omega (arith, ap (times n) gone, times-cons n x xs, ap (one_if n) same))
   by false e later = rw e (omega (arith, times-cons n x (without slot xs), times-cons n x xs, later (contains-rest slot x xs h e)))
 

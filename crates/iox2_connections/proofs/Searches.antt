@@ -52,7 +52,6 @@ first_found-nothing (Found.Ready k) = refl
 first_found-nothing Found.AtLimit = refl
 first_found-nothing Found.Nothing = refl
 
--- the search goes on behind the place i
 -- what is found first is found
 pub something-first : (a b : Found) → is_something a ≡ true → true ≡ is_something (first_found a b)
 something-first (Found.Ready key) b e = refl
@@ -67,6 +66,7 @@ something-later (Found.Ready key) b e = absurd cc
 something-later Found.AtLimit b e = absurd cc
 something-later Found.Nothing b e = refl
 
+-- the search goes on behind the place i
 pub search-more : (connections : Slab Link) (keys : List (Option ℕ)) (i : ℕ) (found all : Found) → i < length keys → all ≡ first_found found (search connections (drop i keys))
     → all ≡ first_found (first_found found (offer_at connections (get_or keys i None))) (search connections (drop (i + 1) keys))
 search-more connections keys i found all below e =

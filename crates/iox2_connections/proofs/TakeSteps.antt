@@ -13,7 +13,7 @@ use Rattle.iox2_connections.specs.declared.receiver.Taken.{Taken}
 use Rattle.iox2_connections.proofs.MailboxChanges.{Updates-with_value, mailbox-there, mailboxes-changed}
 use Rattle.iox2_connections.proofs.Counts.{CountersFollow-kept}
 use Rattle.iox2_connections.proofs.DeliverySteps.{same_link}
-use Rattle.iox2_slots.proofs.ListedNumbers.{contains-from}
+use Rattle.iox2_connections.proofs.ListedNumbers.{contains-from}
 use Rattle.iox2_connections.proofs.Releases.{stands_in-with_returned, mailbox-with_returned}
 
 -- the first slot is borrowed, at numbers

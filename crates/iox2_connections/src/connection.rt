@@ -5,8 +5,8 @@ ghost use Rattle.iox2_machine.specs.machine.Numbers.{IsOnce};
 
 use crate::channel_status::ChannelStatus;
 use crate::further_channel::{FurtherChannel, first_filled, new_channels, put_into};
+use crate::slot_list::take_slot;
 use circular_buffer::HeapCircularBuffer;
-use iox2_slots::take_slot;
 use std::alloc::{AllocError, Global};
 use std::marker::Model;
 

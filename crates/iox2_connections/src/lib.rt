@@ -10,6 +10,8 @@ pub mod leaving;
 pub mod receiver;
 pub mod retirement;
 pub mod sender;
+mod slot_list;
 
 pub use channel_status::{CHANNEL_STATE_CLOSED, CHANNEL_STATE_OPEN};
 pub use connection::{Connection, Home, PutOutcome};
+pub use slot_list::take_slot;

@@ -100,7 +100,8 @@ fn search_expired(connections: &Slab<Connection>, expired: &[usize]) -> Found
     found
 }
 
-// Borrows the message that has waited longest in the connection at a key.
+// Borrows the message that has waited longest in the connection at a key, and reads then where that stands
+// (docs/decisions/cost.md, "A receive reads its connection after it took the message").
 //
 // iceoryx2's `Receiver::receive_from_connection` (`src/port/details/receiver.rs`).
 fn take(connections: &mut Slab<Connection>, key: usize) -> Taken
@@ -116,10 +117,11 @@ fn take(connections: &mut Slab<Connection>, key: usize) -> Taken
     ensures stands { SameStands connections.old connections.new }
 {
     let connection = &mut connections[key];
+    let slot = connection.take().unwrap();
     Taken {
         connection: key,
         home: connection.home(),
-        slot: connection.take().unwrap(),
+        slot,
     }
 }
 

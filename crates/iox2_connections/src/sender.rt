@@ -61,8 +61,8 @@ impl Receiver for ReceiverDetails {
     }
 }
 
-/// How far a delivery has come.
-#[derive(Clone, Copy)]
+/// How far a delivery has come. By default every place remains.
+#[derive(Clone, Copy, Default)]
 pub struct Progress {
     /// The first place that remains. Those at lower places are done with.
     pub place: usize,
@@ -72,22 +72,6 @@ pub struct Progress {
     pub count: usize,
     /// Whether the handler failed the delivery at a receiver so far.
     pub has_failed: bool,
-}
-
-impl Progress {
-    ghost use Rattle.iox2_connections.specs.Deliveries.{begun};
-
-    /// Every place remains.
-    pub fn begun() -> Progress
-        ensures { result ≡ begun }
-    {
-        Progress {
-            place: 0,
-            retries: 0,
-            count: 0,
-            has_failed: false,
-        }
-    }
 }
 
 /// A message that a publisher delivers to the places that remain.

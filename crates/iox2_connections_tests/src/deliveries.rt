@@ -50,7 +50,7 @@ fn deliver_slot(alloc: Global, config: &ServiceConfig, channel: usize) -> Result
             slot,
             channel,
             strategy: config.backpressure_strategy,
-            start: Progress::begun(),
+            start: Progress::default(),
             elapsed: Duration::ZERO,
         },
         &handler,

@@ -39,7 +39,7 @@ fn delivery_of(slot: usize, retries: u64) -> Delivery
         strategy: BackpressureStrategy::DiscardData,
         start: Progress {
             retries,
-            ..Progress::begun()
+            ..Progress::default()
         },
         elapsed: Duration::ZERO,
     }

@@ -46,7 +46,7 @@ fn begun_at(connection: usize) -> Progress
 {
     Progress {
         place: connection,
-        ..Progress::begun()
+        ..Progress::default()
     }
 }
 

@@ -142,7 +142,7 @@ fn send_slot<T: Drop, U: Default + Drop, X: BackpressureFn>(
         slot,
         channel: 0,
         strategy: publisher.strategy,
-        start: Progress::begun(),
+        start: Progress::default(),
         elapsed: Duration::ZERO,
     };
     let outcome = deliver(

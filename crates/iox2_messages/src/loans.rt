@@ -12,10 +12,10 @@ ghost use Rattle.iox2_messages.specs.ReadySlots.{MayPrepare};
 
 use crate::growing_loans::prepare;
 use crate::reclaims::reclaim_if_full;
+use iox2_connections::take_slot;
 use iox2_contents::Contents;
 use iox2_domain::{DomainState, LoanAt, PublisherState, units_of};
 use iox2_machine::{AllocationStrategy, LoanError};
-use iox2_slots::take_slot;
 
 // In the slot, which nobody holds, starts a loan of that length.
 pub(crate) fn start<T: Drop, U: Default + Drop>(

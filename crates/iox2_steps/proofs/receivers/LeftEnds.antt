@@ -9,7 +9,7 @@ use Rattle.slab.specs.Slab.{Slab, Updates, get}
 use Rattle.iox2_connections.specs.Link.{Link}
 use Rattle.iox2_machine.specs.machine.Numbers.{contains, without}
 use Rattle.iox2_machine.specs.machine.Places.{set_place}
-use Rattle.iox2_slots.proofs.ListedNumbers.{contains-from}
+use Rattle.iox2_connections.proofs.ListedNumbers.{contains-from}
 use Rattle.iox2_laws.proofs.NumberLemmas.{contains_in_append, contains_one, contains_in_without, contains-without_same, contains-without_other}
 use Rattle.iox2_domain.specs.Ports.{SubscriberFields}
 use Rattle.iox2_domain.specs.Invariant.{HasParts, SenderHas, StandsNowhere}

@@ -4,7 +4,7 @@ use Rattle.std.proofs.lemmas.Bool.{eqb-true, eq-eqb, ne_eqb}
 use Rattle.std.proofs.lemmas.Map.Views.{Contains-from_any}
 use Rattle.iox2_machine.specs.machine.Numbers.{without}
 use Rattle.iox2_machine.specs.machine.Places.{is_port, vacated}
-use Rattle.iox2_slots.proofs.ListedNumbers.{contains-from}
+use Rattle.iox2_connections.proofs.ListedNumbers.{contains-from}
 use Rattle.iox2_laws.proofs.FilterLemmas.{contains-filter}
 
 module _ (key : ℕ) where

@@ -13,7 +13,7 @@ use Rattle.iox2_machine.specs.machine.Numbers.{contains}
 use Rattle.iox2_machine.specs.machine.Places.{occupant, occupants, is_port}
 use Rattle.iox2_machine.specs.machine.Records.{Publisher, Subscriber}
 use Rattle.iox2_machine.specs.machine.WellFormed.{IsWellFormed, publisher_place, subscriber_place}
-use Rattle.iox2_slots.proofs.ListedNumbers.{contains-from}
+use Rattle.iox2_connections.proofs.ListedNumbers.{contains-from}
 use Rattle.iox2_laws.proofs.NumberLemmas.{contains_in_cons, contains_first, contains_later}
 use Rattle.iox2_connections.specs.LookUp.{look_up}
 use Rattle.iox2_connections.specs.Homes.{IsSenders}

@@ -10,7 +10,7 @@ use Rattle.iox2_slots.specs.SlotBook.{Book, holders_at}
 use Rattle.iox2_connections.specs.Counters.{times, IsCovered}
 use Rattle.iox2_connections.specs.LookUp.{look_up}
 use Rattle.iox2_connections.proofs.Counts.{one_if, one_if_same, times-cons, counter_if_stands}
-use Rattle.iox2_slots.proofs.ListedNumbers.{contains-from}
+use Rattle.iox2_connections.proofs.ListedNumbers.{contains-from}
 use Rattle.iox2_domain.specs.Fields.{Fields, is_book_of, numbers_of}
 use Rattle.iox2_domain.specs.Invariant.{IsDomain}
 use Rattle.iox2_domain.proofs.lemmas.slots.Holders.{book-by_id, book-holders}

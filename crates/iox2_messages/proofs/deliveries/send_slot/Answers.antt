@@ -1,4 +1,4 @@
-use Rattle.std.proofs.Common.{◌<◌, ◌^◌, None, Some, slice_index_or, sym, ◌∙◌, ap, subst, arith, length}
+use Rattle.std.proofs.Common.{◌≡◌, ◌<◌, ◌^◌, None, Some, slice_index_or, sym, ◌∙◌, ap, subst, arith, length, rules}
 use Rattle.iox2_machine.specs.machine.Delivery.{no_time}
 use Rattle.iox2_connections.specs.Deliveries.{begun}
 use Rattle.iox2_domain.specs.Deliveries.{leaving, sender_after, book_after}
@@ -78,7 +78,7 @@ returns-clause-sends g c = (
       (delivers-own (asked g.X.BackpressureFn.allows c.args.handler.now) _ _ c.state.view_is c.args.place _ (read-there _ c.args.place _ _ (ap (λ (f : Fields g.row.T.Denot g.row.U.Denot). slice_index_or f.publishers c.args.place None) c.state.view_is ∙ c.requires.can.1) c.index_mut.ensures.value ∙ c.in-Some.is ∙ ap Some (sym c.publisher.view_is))
       0 c.publisher.inside.keys.items c.args.slot begun no_time c.deliver-outcome.result c.deliver-outcome.new.connections (marks_of c.args.handler.now)
       (c.requires.handler _ (sym (ap (λ (f : Fields g.row.T.Denot g.row.U.Denot). slice_index_or f.publishers c.args.place None) c.state.view_is) ∙ (read-there _ c.args.place _ _ (ap (λ (f : Fields g.row.T.Denot g.row.U.Denot). slice_index_or f.publishers c.args.place None) c.state.view_is ∙ c.requires.can.1) c.index_mut.ensures.value ∙ c.in-Some.is ∙ ap Some (sym c.publisher.view_is))))
-      (rw (c.value.ensures, c.deref.ensures.value, c.begun.ensures) at c.deliver-outcome.ensures.delivers))
+      (let start : c.default.result ≡ begun = search rules in rw (c.value.ensures, c.deref.ensures.value, start) at c.deliver-outcome.ensures.delivers))
       _ (c.conclude.ensures.publisher ∙ ap (sender_after c.deliver-outcome.result c.args.slot) (sym c.publisher.view_is))
       _ (c.conclude.ensures.book ∙ ap (λ (y : PublisherFields). book_after c.deliver-outcome.result c.args.slot y c.deliver-outcome.new.book) (sym c.publisher.view_is))
       x at,

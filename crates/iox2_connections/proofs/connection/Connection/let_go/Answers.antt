@@ -1,4 +1,4 @@
-use Rattle.iox2_slots.proofs.TakenSlots.{counted-once}
+use Rattle.iox2_connections.proofs.TakenSlots.{counted-once}
 use Rattle.iox2_connections.proofs.connection.Connection.let_go.Goals as goal
 
 pub take_slot-requires : goal.take_slot-requires

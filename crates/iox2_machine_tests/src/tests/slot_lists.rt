@@ -1,4 +1,4 @@
-use iox2_slots::take_slot;
+use iox2_connections::take_slot;
 use std::alloc::Global;
 use std::process::Abort;
 

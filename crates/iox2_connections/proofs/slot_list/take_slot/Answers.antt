@@ -1,7 +1,7 @@
 use Rattle.std.proofs.Common.{◌≡◌, ◌-◌, Some, List, ℕ, length, take, vec_len, ap, sym, ◌∙◌, rules}
 use Rattle.std.specs.Prelude.{slice_get}
-use Rattle.iox2_slots.proofs.TakenSlots.{popped-without}
-use Rattle.iox2_slots.proofs.place.take_slot.Goals as goal
+use Rattle.iox2_connections.proofs.TakenSlots.{popped-without}
+use Rattle.iox2_connections.proofs.slot_list.take_slot.Goals as goal
 
 pub returns-then-is_last-clause-items : goal.returns-then-is_last-clause-items
 returns-then-is_last-clause-items c =

@@ -1,13 +1,14 @@
 //! A slot in a list: among what is borrowed of a connection, or among a publisher's loans.
-ghost use Rattle.std.specs.Prelude.{◌≡◌, ◌==◌, ◌+◌, ◌-◌, ◌≤◌, ◌↔◌, count_by, length, slice_get, Some, MatchOption, Contains, IsTrue};
+ghost use Rattle.std.specs.Prelude.{◌≡◌, ◌+◌, ◌-◌, ◌≤◌, ◌↔◌, length, slice_get, Some, MatchOption, Contains, IsTrue};
 ghost use Rattle.std.specs.Vec.{vec_capacity};
 ghost use Rattle.iox2_machine.specs.machine.Numbers.{without};
+ghost use Rattle.iox2_connections.specs.Counters.{times};
 
 /// A place at which a slot stands. It is looked for from both ends, since either the oldest or the
 /// newest slots go first.
 #[inline(never)]
 fn place_of(slots: &[usize], slot: usize) -> Option<usize>
-    ensures { MatchOption result (count_by (λ other. other == slot) slots.now ≡ 0) (λ place. slice_get slots.now place ≡ Some slot) }
+    ensures { MatchOption result (times slot slots.now ≡ 0) (λ place. slice_get slots.now place ≡ Some slot) }
 {
     for place in 0..slots.len() {
         if slots[place] == slot {
@@ -31,7 +32,7 @@ fn is_last(slots: &[usize], slot: usize) -> bool
 /// Takes a slot out of a list in which it stands once at most; the others keep their order. Where it
 /// stands last, there is no search and no shift.
 pub fn take_slot(slots: &mut Vec<usize>, slot: usize)
-    requires { count_by (λ other. other == slot) slots.old.items ≤ 1 }
+    requires { times slot slots.old.items ≤ 1 }
     ensures items { slots.new.items ≡ without slot slots.old.items }
     ensures len { Contains slots.old.items slot → length slots.new.items + 1 ≡ length slots.old.items }
     ensures capacity { vec_capacity slots.new ≡ vec_capacity slots.old }
@@ -46,7 +47,7 @@ pub fn take_slot(slots: &mut Vec<usize>, slot: usize)
 // The same, wherever the slot stands.
 #[inline(never)]
 fn search_and_take(slots: &mut Vec<usize>, slot: usize)
-    requires { count_by (λ other. other == slot) slots.old.items ≤ 1 }
+    requires { times slot slots.old.items ≤ 1 }
     ensures items { slots.new.items ≡ without slot slots.old.items }
     ensures len { Contains slots.old.items slot → length slots.new.items + 1 ≡ length slots.old.items }
     ensures capacity { vec_capacity slots.new ≡ vec_capacity slots.old }
