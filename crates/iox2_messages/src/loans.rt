@@ -1,10 +1,10 @@
 //! A publisher lends the slots of its book.
-ghost use Rattle.std.specs.Prelude.{◌≡◌, ◌≤◌, ◌&&◌, nat_lt, false, slice_index_or, None, Some, IfOk, IsSomeAnd};
+ghost use Rattle.std.specs.Prelude.{◌≡◌, ◌<◌, ◌≤◌, ◌&&◌, nat_lt, false, length, slice_index_or, None, Some, IfOk, IsSomeAnd};
 ghost use Rattle.iox2_machine.specs.machine.Loans.{is_static};
 ghost use Rattle.iox2_machine.specs.declared.service_config.TypeVariant.TheVariants.{FixedSize};
 ghost use Rattle.iox2_connections.specs.Counters.{times};
 ghost use Rattle.iox2_domain.specs.Deliveries.{with_loan_out};
-ghost use Rattle.iox2_domain.specs.Lending.{MayStart, Starts, IsNamed, LoanReaches};
+ghost use Rattle.iox2_domain.specs.Lending.{MayStart, Starts, IsNamed, LoanReaches, lending};
 ghost use Rattle.iox2_domain.specs.LoanSlots.{LiesInSlot};
 ghost use Rattle.iox2_domain.specs.Ports.{PublisherFields};
 ghost use Rattle.iox2_domain.specs.Invariant.{IsDomain};
@@ -91,7 +91,7 @@ pub fn loan<T: Drop, U: Default + Drop>(
         slot,
         units_of(len, state.config.units_per_element),
     );
-    publisher.lend(slot, len);
+    lend(publisher, slot, len);
     Ok(LoanAt {
         publisher: publisher_id,
         number,
@@ -128,6 +128,17 @@ fn is_static_at<T, U>(state: &DomainState<T, U>, place: usize) -> bool
         unreachable!();
     };
     publisher.allocation == AllocationStrategy::Static
+}
+
+// The slot is a loan that is out, of so many elements.
+fn lend(publisher: &mut PublisherState, slot: usize, len: usize)
+    requires { length publisher.old.loans < publisher.old.loan_room }
+    ensures { publisher.new ≡ lending len slot publisher.old.segments publisher.old }
+{
+    publisher.loans.push_reserved(slot);
+    if publisher.longest_granted < len {
+        publisher.longest_granted = len;
+    }
 }
 
 /// The loan in a slot is out no more.
