@@ -1,5 +1,5 @@
 //! A publisher lends the slots of its book.
-ghost use Rattle.std.specs.Prelude.{◌≡◌, ◌<◌, ◌≤◌, ◌&&◌, nat_lt, false, length, slice_index_or, None, Some, IfOk, IsSomeAnd};
+ghost use Rattle.std.specs.Prelude.{◌≡◌, ◌*◌, ◌^◌, ◌<◌, ◌≤◌, ◌&&◌, nat_lt, false, length, slice_index_or, None, Some, IfOk, IsSomeAnd};
 ghost use Rattle.iox2_machine.specs.machine.Loans.{is_static};
 ghost use Rattle.iox2_machine.specs.declared.service_config.TypeVariant.TheVariants.{FixedSize};
 ghost use Rattle.iox2_connections.specs.Counters.{times};
@@ -13,23 +13,25 @@ ghost use Rattle.iox2_messages.specs.ReadySlots.{MayPrepare};
 use crate::growing_loans::prepare;
 use crate::reclaims::reclaim_if_full;
 use iox2_contents::Contents;
-use iox2_domain::{DomainState, LoanAt, PublisherState, units_of};
+use iox2_domain::{DomainState, LoanAt, PublisherState};
 use iox2_machine::{AllocationStrategy, LoanError};
 use iox2_slots::take_slot;
 
-// In the slot, which nobody holds, starts a loan of that length.
-pub(crate) fn start<T: Drop, U: Default + Drop>(
+// In the slot, which nobody holds, starts a loan of so many elements of so many units.
+fn start<T: Drop, U: Default + Drop>(
     contents: &mut Option<Contents<T, U>>,
     slot: usize,
     len: usize,
+    units_per_element: usize,
 )
-    requires { IsSomeAnd contents.old (λ cs. MayStart cs slot len) }
-    ensures { Starts U.is_default contents.old contents.new slot len }
+    requires fits { 1 < len → len * units_per_element < 2 ^ 64 }
+    requires ready { IsSomeAnd contents.old (λ cs. MayStart cs slot (len * units_per_element)) }
+    ensures { Starts U.is_default contents.old contents.new slot (len * units_per_element) }
 {
     let Some(contents) = contents else {
         unreachable!();
     };
-    contents.start(slot, len);
+    contents.start(slot, len * units_per_element);
 }
 
 /// The publisher at a place lends a slot for a message of so many elements, with a default user
@@ -89,7 +91,8 @@ pub fn loan<T: Drop, U: Default + Drop>(
     start(
         &mut state.contents[key],
         slot,
-        units_of(len, state.config.units_per_element),
+        len,
+        state.config.units_per_element,
     );
     lend(publisher, slot, len);
     Ok(LoanAt {
