@@ -1,5 +1,5 @@
 //! What a domain has of a publisher.
-ghost use Rattle.std.specs.Prelude.{◌≡◌, ◌<◌, [], length, IfOk};
+ghost use Rattle.std.specs.Prelude.{◌≡◌, [], IfOk};
 
 use crate::boxes::Boxes;
 use crate::handlers::{AskedBox, HandlerMark};
@@ -50,7 +50,8 @@ pub struct PublisherState {
     // How its memory grows.
     pub allocation: AllocationStrategy,
     pub initial_max_slice_len: usize,
-    longest_granted: usize,
+    // The length of the longest loan that it granted.
+    pub longest_granted: usize,
     // How many segments it has made.
     pub segments: usize,
     // The first slot of the current segment.
@@ -171,21 +172,6 @@ impl PublisherState {
                 id: self.id.value(),
             })),
             None => None,
-        }
-    }
-}
-
-impl PublisherState {
-    ghost use Rattle.iox2_domain.specs.Lending.{lending};
-
-    /// The slot is a loan that is out, of so many elements.
-    pub fn lend(&mut self, slot: usize, len: usize)
-        requires { length self.old.loans < self.old.loan_room }
-        ensures { self.new ≡ lending len slot self.old.segments self.old }
-    {
-        self.loans.push_reserved(slot);
-        if self.longest_granted < len {
-            self.longest_granted = len;
         }
     }
 }

@@ -1,9 +1,9 @@
 -- Whether a channel is in one state at all connections of a subscriber is what the machine says.
-use Rattle.std.proofs.Common.{◌≡◌, ℕ, zero, suc, ◌+◌, ◌<◌, ◌≤◌, Bool, true, false, ◌&&◌, List, [], ◌∷◌, ◌++◌, length, map, drop, Option, None, Some, get_or, refl, sym, ap, ◌∙◌}
+use Rattle.std.proofs.Common.{◌≡◌, ℕ, zero, suc, ◌+◌, ◌<◌, Bool, true, false, ◌&&◌, List, [], ◌∷◌, ◌++◌, length, map, drop, Option, None, Some, get_or, refl, sym, ap, ◌∙◌}
 use Rattle.std.specs.List.{list_all}
 use Rattle.std.specs.Option.{option_map, option_map_or}
 use Rattle.std.specs.Prelude.{IsSomeAnd}
-use Rattle.std.proofs.lemmas.List.{drop_all, drop_more}
+use Rattle.std.proofs.lemmas.List.{drop_more}
 use Rattle.std.proofs.lemmas.List.Folds.{list_all-append}
 use Rattle.slab.specs.Slab.{Slab, get}
 use Rattle.iox2_connections.specs.Link.{Link, channel_at}
@@ -39,10 +39,6 @@ module _ (connections : Slab Link) (number state : ℕ) where
       → all_in_state connections number state (drop i keys) ≡ false
   not-here keys i b below is fails =
       ap (all_in_state connections number state) (drop_more keys i None below) ∙ ap (λ (c : Bool). c && all_in_state connections number state (drop (i + 1) keys)) (sym is ∙ fails)
-
-  -- behind the last all are
-  pub all-ended : (keys : List (Option ℕ)) (i : ℕ) → length keys ≤ i → all_in_state connections number state (drop i keys) ≡ true
-  all-ended keys i past = ap (all_in_state connections number state) (drop_all i keys past)
 
 -- ---- one answer after another
 

@@ -1,15 +1,15 @@
 -- What ports are told of their channels is what the machine says.
-use Rattle.std.proofs.Common.{◌≡◌, ℕ, zero, suc, ◌+◌, ◌<◌, ◌≤◌, Bool, true, false, cond, ◌||◌, List, [], ◌∷◌, ◌++◌, length, map, drop, Option, None, Some, get_or, refl, sym, ap, ◌∙◌, arith}
+use Rattle.std.proofs.Common.{◌≡◌, ℕ, zero, suc, ◌+◌, ◌<◌, Bool, true, false, ◌||◌, List, [], ◌∷◌, ◌++◌, length, map, drop, Option, None, Some, get_or, refl, sym, ap, ◌∙◌}
 use Rattle.std.specs.List.{list_any}
 use Rattle.std.specs.Option.{option_and_then, option_map, option_map_or}
 use Rattle.std.specs.Prelude.{IsSomeAnd}
-use Rattle.std.proofs.lemmas.List.{drop_all, drop_more, get_or_read}
+use Rattle.std.proofs.lemmas.List.{drop_more, get_or_read}
 use Rattle.std.proofs.lemmas.List.Folds.{list_any-append}
 use Rattle.slab.specs.Slab.{Slab, get}
 use Rattle.iox2_connections.specs.Link.{Link, channel_at}
 use Rattle.iox2_machine.specs.machine.Channel.{Channel, is_in_state}
 use Rattle.iox2_machine.specs.machine.ChannelCalls.{connection_place, place_from, some_channel_has_state}
-use Rattle.iox2_machine.specs.machine.Places.{is_port, occupant, occupants}
+use Rattle.iox2_machine.specs.machine.Places.{occupant, occupants}
 use Rattle.iox2_machine.specs.machine.Records.{Publisher, Subscriber}
 use Rattle.iox2_machine.specs.machine.State.{connected_publishers}
 use Rattle.iox2_connections.specs.Finds.{IsReceivers, IsReceiverLinked}
@@ -40,30 +40,6 @@ module _ (connections : Slab Link) (number state : ℕ) where
       → some_in_state connections number state (drop i keys) ≡ true
   some-here keys i b below is holds =
       ap (some_in_state connections number state) (drop_more keys i None below) ∙ ap (λ (c : Bool). c || some_in_state connections number state (drop (i + 1) keys)) (sym is ∙ holds)
-
-  -- behind the last there is none
-  pub some-ended : (keys : List (Option ℕ)) (i : ℕ) → length keys ≤ i → some_in_state connections number state (drop i keys) ≡ false
-  some-ended keys i past = ap (some_in_state connections number state) (drop_all i keys past)
-
-module _ (connections : Slab Link) (q : ℕ) where
-  -- the place is further on
-  pub place-behind : (keys : List (Option ℕ)) (i : ℕ) (b : Bool) → i < length keys → b ≡ is_port (subscriber_of_key connections (get_or keys i None)) q → b ≡ false
-      → place_from i (sender_ends connections (drop i keys)) q ≡ place_from (i + 1) (sender_ends connections (drop (i + 1) keys)) q
-  place-behind keys i b below is fails =
-      ap (λ (rest : List (Option ℕ)). place_from i (sender_ends connections rest) q) (drop_more keys i None below)
-      ∙ ap (λ (c : Bool). cond c (Some i) (place_from (suc i) (sender_ends connections (drop (i + 1) keys)) q)) (sym is ∙ fails)
-      ∙ ap (λ (k : ℕ). place_from k (sender_ends connections (drop (i + 1) keys)) q) (let next : suc i ≡ i + 1 = omega arith in next)
-
-  -- it is this one
-  pub place-here : (keys : List (Option ℕ)) (i : ℕ) (b : Bool) → i < length keys → b ≡ is_port (subscriber_of_key connections (get_or keys i None)) q → b ≡ true
-      → place_from i (sender_ends connections (drop i keys)) q ≡ Some i
-  place-here keys i b below is holds =
-      ap (λ (rest : List (Option ℕ)). place_from i (sender_ends connections rest) q) (drop_more keys i None below)
-      ∙ ap (λ (c : Bool). cond c (Some i) (place_from (suc i) (sender_ends connections (drop (i + 1) keys)) q)) (sym is ∙ holds)
-
-  -- there is none
-  pub place-ended : (keys : List (Option ℕ)) (i : ℕ) → length keys ≤ i → place_from i (sender_ends connections (drop i keys)) q ≡ None
-  place-ended keys i past = ap (λ (rest : List (Option ℕ)). place_from i (sender_ends connections rest) q) (drop_all i keys past)
 
 -- ---- one answer after another
 

@@ -9,10 +9,9 @@ ghost use Rattle.iox2_domain.specs.Kept.{state_of};
 ghost use Rattle.iox2_domain.specs.Fields.{kept_of};
 ghost use Rattle.iox2_domain.specs.Invariant.{IsDomain};
 ghost use Rattle.iox2_domain.specs.LoanCalls.{HoldsUnwritten, HoldsWritten, HasCells, HasCell, HasLoanHeader, HasLoanUserHeader, WritesLoan, AssumesLoan};
-ghost use Rattle.iox2_domain.specs.LoanSlots.{LiesInSlot};
 
 use crate::contents::{contents_mut, mark_written};
-use crate::hinted_loans::{find_live_loan, is_loan_at_hint};
+use crate::hinted_loans::{find_live_loan, mark_at_hint, mark_loan};
 use iox2_domain::{DomainState, LoanAt, MessageSlot};
 use iox2_machine::{Header, UniquePublisherId};
 
@@ -30,15 +29,8 @@ pub fn write_loan<T: Drop, U: Default + Drop>(
     ensures writes { WritesLoan state.old state.new loan.number (value ∷ []) }
     ensures same { result ≡ loan }
 {
-    if is_loan_at_hint(state, &loan) {
-        write_slot(
-            state,
-            loan.publisher,
-            loan.number,
-            loan.book,
-            loan.slot,
-            value,
-        );
+    if mark_at_hint(state, &loan) {
+        contents_mut(state, loan.book).write_payload(loan.slot, value);
     } else {
         search_and_write(state, loan.publisher, loan.number, value);
     }
@@ -61,28 +53,8 @@ fn search_and_write<T: Drop, U: Default + Drop>(
     ensures { WritesLoan state.old state.new number (value ∷ []) }
 {
     let at = state.search_loan(publisher, number);
-    write_slot(state, publisher, number, at.book, at.slot, value);
-}
-
-// The same of a loan that lies in this slot of this book.
-#[inline(always)]
-fn write_slot<T: Drop, U: Default + Drop>(
-    state: &mut DomainState<T, U>,
-    publisher: UniquePublisherId,
-    number: u128,
-    book: usize,
-    slot: usize,
-    value: T,
-)
-    requires agrees { IsDomain state.old }
-    requires fixed_size { (state.old.config).variant ≡ FixedSize }
-    requires single { (state.old.config).units_per_element ≡ 1 }
-    requires live { HoldsUnwritten (state_of (kept_of state.old)) publisher number }
-    requires lies { LiesInSlot state.old publisher number book slot }
-    ensures { WritesLoan state.old state.new number (value ∷ []) }
-{
-    mark_written(state, book, slot);
-    contents_mut(state, book).write_payload(slot, value);
+    mark_written(state, at.book, at.slot);
+    contents_mut(state, at.book).write_payload(at.slot, value);
 }
 
 /// Writes into each cell of a publisher's unwritten loan what the function returns for its index. It
@@ -99,8 +71,8 @@ pub fn write_loan_from_fn<T: Drop, U: Default + Drop, F: FnMut(usize) -> T + Dro
     ensures writes { (answers : List T) × AnswersInOrder F.step f answers × WritesLoan state.old state.new loan.number answers }
     ensures same { result ≡ record loan { book = result.book; slot = result.slot } }
 {
-    if is_loan_at_hint(state, &loan) {
-        write_slot_from_fn(state, loan.publisher, loan.number, loan.book, loan.slot, f);
+    if mark_at_hint(state, &loan) {
+        contents_mut(state, loan.book).write_from_fn(loan.slot, f);
     } else {
         search_and_write_from_fn(state, loan.publisher, loan.number, f);
     }
@@ -123,28 +95,8 @@ fn search_and_write_from_fn<T: Drop, U: Default + Drop, F: FnMut(usize) -> T + D
     ensures { (answers : List T) × AnswersInOrder F.step f answers × WritesLoan state.old state.new number answers }
 {
     let at = state.search_loan(publisher, number);
-    write_slot_from_fn(state, publisher, number, at.book, at.slot, f);
-}
-
-// The same of a loan that lies in this slot of this book.
-#[inline(always)]
-fn write_slot_from_fn<T: Drop, U: Default + Drop, F: FnMut(usize) -> T + Drop>(
-    state: &mut DomainState<T, U>,
-    publisher: UniquePublisherId,
-    number: u128,
-    book: usize,
-    slot: usize,
-    f: F,
-)
-    requires agrees { IsDomain state.old }
-    requires several { is_single_valued state.old.config ≡ false }
-    requires live { HoldsUnwritten (state_of (kept_of state.old)) publisher number }
-    requires lies { LiesInSlot state.old publisher number book slot }
-    requires callable { F.IsAlwaysCallable f }
-    ensures { (answers : List T) × AnswersInOrder F.step f answers × WritesLoan state.old state.new number answers }
-{
-    mark_written(state, book, slot);
-    contents_mut(state, book).write_from_fn(slot, f);
+    mark_written(state, at.book, at.slot);
+    contents_mut(state, at.book).write_from_fn(at.slot, f);
 }
 
 /// Writes copies of the values, one into each cell of a publisher's unwritten loan, which has as
@@ -161,8 +113,7 @@ pub fn write_loan_from_slice<T: Copy + Drop, U: Default + Drop>(
     ensures writes { WritesLoan state.old state.new loan.number values.now }
     ensures same { result ≡ record loan { book = result.book; slot = result.slot } }
 {
-    let at = find_live_loan(state, &loan);
-    mark_written(state, at.book, at.slot);
+    let at = mark_loan(state, &loan);
     contents_mut(state, at.book).write_from_slice(at.slot, values);
     found(loan, at)
 }
@@ -180,8 +131,7 @@ pub fn write_loan_unspecified<T: Copy + Default + Drop, U: Default + Drop>(
     ensures writes { (values : List T) × WritesLoan state.old state.new loan.number values }
     ensures same { result ≡ record loan { book = result.book; slot = result.slot } }
 {
-    let at = find_live_loan(state, &loan);
-    mark_written(state, at.book, at.slot);
+    let at = mark_loan(state, &loan);
     contents_mut(state, at.book).write_unspecified(at.slot);
     found(loan, at)
 }

@@ -1,10 +1,10 @@
 //! A publisher lends the slots of its book.
-ghost use Rattle.std.specs.Prelude.{◌≡◌, ◌≤◌, ◌&&◌, nat_lt, false, slice_index_or, None, Some, IfOk, IsSomeAnd};
+ghost use Rattle.std.specs.Prelude.{◌≡◌, ◌*◌, ◌^◌, ◌<◌, ◌≤◌, ◌&&◌, nat_lt, false, length, slice_index_or, None, Some, IfOk, IsSomeAnd};
 ghost use Rattle.iox2_machine.specs.machine.Loans.{is_static};
 ghost use Rattle.iox2_machine.specs.declared.service_config.TypeVariant.TheVariants.{FixedSize};
 ghost use Rattle.iox2_connections.specs.Counters.{times};
 ghost use Rattle.iox2_domain.specs.Deliveries.{with_loan_out};
-ghost use Rattle.iox2_domain.specs.Lending.{MayStart, Starts, IsNamed, LoanReaches};
+ghost use Rattle.iox2_domain.specs.Lending.{MayStart, Starts, IsNamed, LoanReaches, lending};
 ghost use Rattle.iox2_domain.specs.LoanSlots.{LiesInSlot};
 ghost use Rattle.iox2_domain.specs.Ports.{PublisherFields};
 ghost use Rattle.iox2_domain.specs.Invariant.{IsDomain};
@@ -14,22 +14,24 @@ use crate::growing_loans::prepare;
 use crate::reclaims::reclaim_if_full;
 use iox2_connections::take_slot;
 use iox2_contents::Contents;
-use iox2_domain::{DomainState, LoanAt, PublisherState, units_of};
+use iox2_domain::{DomainState, LoanAt, PublisherState};
 use iox2_machine::{AllocationStrategy, LoanError};
 
-// In the slot, which nobody holds, starts a loan of that length.
-pub(crate) fn start<T: Drop, U: Default + Drop>(
+// In the slot, which nobody holds, starts a loan of so many elements of so many units.
+fn start<T: Drop, U: Default + Drop>(
     contents: &mut Option<Contents<T, U>>,
     slot: usize,
     len: usize,
+    units_per_element: usize,
 )
-    requires { IsSomeAnd contents.old (λ cs. MayStart cs slot len) }
-    ensures { Starts U.is_default contents.old contents.new slot len }
+    requires fits { 1 < len → len * units_per_element < 2 ^ 64 }
+    requires ready { IsSomeAnd contents.old (λ cs. MayStart cs slot (len * units_per_element)) }
+    ensures { Starts U.is_default contents.old contents.new slot (len * units_per_element) }
 {
     let Some(contents) = contents else {
         unreachable!();
     };
-    contents.start(slot, len);
+    contents.start(slot, len * units_per_element);
 }
 
 /// The publisher at a place lends a slot for a message of so many elements, with a default user
@@ -89,9 +91,10 @@ pub fn loan<T: Drop, U: Default + Drop>(
     start(
         &mut state.contents[key],
         slot,
-        units_of(len, state.config.units_per_element),
+        len,
+        state.config.units_per_element,
     );
-    publisher.lend(slot, len);
+    lend(publisher, slot, len);
     Ok(LoanAt {
         publisher: publisher_id,
         number,
@@ -128,6 +131,17 @@ fn is_static_at<T, U>(state: &DomainState<T, U>, place: usize) -> bool
         unreachable!();
     };
     publisher.allocation == AllocationStrategy::Static
+}
+
+// The slot is a loan that is out, of so many elements.
+fn lend(publisher: &mut PublisherState, slot: usize, len: usize)
+    requires { length publisher.old.loans < publisher.old.loan_room }
+    ensures { publisher.new ≡ lending len slot publisher.old.segments publisher.old }
+{
+    publisher.loans.push_reserved(slot);
+    if publisher.longest_granted < len {
+        publisher.longest_granted = len;
+    }
 }
 
 /// The loan in a slot is out no more.

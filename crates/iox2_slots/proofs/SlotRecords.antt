@@ -1,5 +1,5 @@
 -- What is read and written in a list of records, seen as a list of what each of them has.
-use Rattle.std.proofs.Common.{◌≡◌, ℕ, ◌<◌, List, length, map, slice_index, slice_set, replicate, zero, suc, ◌∷◌, Some, get_or, refl, sym, ap, ◌∙◌}
+use Rattle.std.proofs.Common.{◌≡◌, ℕ, ◌<◌, List, [], length, map, slice_index, slice_set, replicate, zero, suc, ◌∷◌, Some, get_or, refl, sym, ap, ◌∙◌, arith}
 use Rattle.std.proofs.Math.Seq.{map-set_same}
 use Rattle.std.proofs.lemmas.List.{get_or-map, length-map}
 use Rattle.std.proofs.lemmas.Option.{slice_get-map, slice_get_read}
@@ -28,3 +28,9 @@ module _ {A : Type 0} where
   pub map-replicate : {B : Type 0} (f : A → B) (n : ℕ) (x : A) → map f (replicate n x) ≡ replicate n (f x)
   map-replicate f zero x = refl
   map-replicate f (suc n) x = ap (λ ys. f x ∷ ys) (map-replicate f n x)
+
+-- A slot that has a holder is within the list of holders.
+pub held-within : (holders : List ℕ) (slot : ℕ) → 0 < slice_index holders slot → slot < length holders
+held-within [] slot held = absurd (omega arith)
+held-within (n ∷ holders) zero held = omega arith
+held-within (n ∷ holders) (suc slot) held = let rest = held-within holders slot held in omega (arith, rest)

@@ -1,5 +1,5 @@
 //! The book of a publisher's slots.
-ghost use Rattle.std.specs.Prelude.{ℕ, [], ◌∷◌, ◌≡◌, ◌+◌, ◌-◌, ◌<◌, ◌≤◌, ◌^◌, ◌↔◌, ◌++◌, length, map, drop, slice_get, slice_index, slice_set, replicate, vec_capacity, Some, IsTrue, IsNone, IfSome, IfNone, IfOk};
+ghost use Rattle.std.specs.Prelude.{ℕ, [], ◌∷◌, ◌≡◌, ◌+◌, ◌-◌, ◌<◌, ◌≤◌, ◌^◌, ◌↔◌, ◌++◌, length, map, drop, slice_get, slice_index, slice_set, replicate, vec_capacity, Some, false, IsTrue, IsNone, IfSome, IfNone, IfOk};
 ghost use Rattle.std.specs.List.{All};
 ghost use Rattle.iox2_slots.specs.SlotFree.{HasFree, IsTakenOut};
 
@@ -187,6 +187,20 @@ impl SlotBook {
         ensures { self.new ≡ record self.old { marks = slice_set self.old.marks slot mark } }
     {
         self.slots[slot].mark = mark;
+    }
+
+    /// Says how far the message with this number has come, where the slot is in use for it, and returns
+    /// whether it is. Else the book stays as it is.
+    pub fn mark_message(&mut self, slot: usize, number: u128, mark: SlotMark) -> bool
+        ensures used { IsTrue result ↔ IsUsedFor self.old number slot }
+        ensures marked { IsTrue result → self.new ≡ record self.old { marks = slice_set self.old.marks slot mark } }
+        ensures same { result ≡ false → self.new ≡ self.old }
+    {
+        if self.has(slot, number) {
+            self.set_mark(slot, mark);
+            return true;
+        }
+        false
     }
 
     /// The publisher whose slots these are.

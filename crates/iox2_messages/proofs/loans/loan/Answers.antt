@@ -80,19 +80,19 @@ index_mut-requires-2 g c =
     rw places (loan-within {T = g.row.T.Denot} {U = g.row.U.Denot} _ c.requires.agrees c.args.place c.requires.stands c.args.len _ (c.in_ok-prepare_if_growing.ensures c.requires.stands.0 c.requires.stands.1) _ c.state.view_is _ c.index_mut.ensures.value
     _ (c.in-Some.is ∙ ap Some (sym c.publisher.view_is)))
 
-pub units_of-requires : goal.units_of-requires
-units_of-requires g c =
+pub start-requires-clause-fits : goal.start-requires-clause-fits
+start-requires-clause-fits g c =
     let long : vec_len c.publisher.inside.loans ≡ length c.publisher.inside.loans.items = search rules in
     loan-units {T = g.row.T.Denot} {U = g.row.U.Denot} _ c.requires.agrees c.args.place c.requires.stands c.args.len _ (c.in_ok-prepare_if_growing.ensures c.requires.stands.0 c.requires.stands.1) _ c.state.view_is _ c.index_mut.ensures.value
     _ (c.in-Some.is ∙ ap Some (sym c.publisher.view_is)) _ _ c.index_mut-book.ensures.value _ c.if-reclaim_if_full.ensures.book _ c.publisher.view_is c.if-reclaim_if_full.ensures.reclaims c.args.checks_length g.U.Default.is_default
     (sym c.if-is_too_long.ensures) (omega (arith, c.if-len-publisher.false, c.len.ensures, long)) c.if-reclaim_if_full.ensures.kept (λ all. let no : false ≡ true = c.if-reclaim_if_full.ensures.full.1 all in absurd cc) (let bound = c.state.invariant in omega arith) c.requires.unchecked c.requires.single
 
-pub start-requires : goal.start-requires
-start-requires g c =
+pub start-requires-clause-ready : goal.start-requires-clause-ready
+start-requires-clause-ready g c =
     let long : vec_len c.publisher.inside.loans ≡ length c.publisher.inside.loans.items = search rules in
-    rw c.units_of.ensures (loan-start {T = g.row.T.Denot} {U = g.row.U.Denot} _ c.requires.agrees c.args.place c.requires.stands c.args.len _ (c.in_ok-prepare_if_growing.ensures c.requires.stands.0 c.requires.stands.1) _ c.state.view_is _ c.index_mut.ensures.value
+    loan-start {T = g.row.T.Denot} {U = g.row.U.Denot} _ c.requires.agrees c.args.place c.requires.stands c.args.len _ (c.in_ok-prepare_if_growing.ensures c.requires.stands.0 c.requires.stands.1) _ c.state.view_is _ c.index_mut.ensures.value
     _ (c.in-Some.is ∙ ap Some (sym c.publisher.view_is)) _ _ c.index_mut-book.ensures.value _ c.if-reclaim_if_full.ensures.book _ c.publisher.view_is c.if-reclaim_if_full.ensures.reclaims c.args.checks_length g.U.Default.is_default
-    (sym c.if-is_too_long.ensures) (omega (arith, c.if-len-publisher.false, c.len.ensures, long)) c.if-reclaim_if_full.ensures.kept (λ all. let no : false ≡ true = c.if-reclaim_if_full.ensures.full.1 all in absurd cc) (let bound = c.state.invariant in omega arith) c.requires.unchecked c.requires.single c.in-Some-take_from.slot c.in-Some-take_from.ensures.taken.in_bounds c.in-Some-take_from.ensures.from c.in-Some-take_from.ensures.taken.was_unused _ c.index_mut-2.ensures.value)
+    (sym c.if-is_too_long.ensures) (omega (arith, c.if-len-publisher.false, c.len.ensures, long)) c.if-reclaim_if_full.ensures.kept (λ all. let no : false ≡ true = c.if-reclaim_if_full.ensures.full.1 all in absurd cc) (let bound = c.state.invariant in omega arith) c.requires.unchecked c.requires.single c.in-Some-take_from.slot c.in-Some-take_from.ensures.taken.in_bounds c.in-Some-take_from.ensures.from c.in-Some-take_from.ensures.taken.was_unused _ c.index_mut-2.ensures.value
 
 pub lend-requires : goal.lend-requires
 lend-requires g c =
@@ -107,7 +107,7 @@ returns-clause-reaches g c =
     loan-granted {T = g.row.T.Denot} {U = g.row.U.Denot} _ c.requires.agrees c.args.place c.requires.stands c.args.len _ (c.in_ok-prepare_if_growing.ensures c.requires.stands.0 c.requires.stands.1) _ c.state.view_is _ c.index_mut.ensures.value
     _ (c.in-Some.is ∙ ap Some (sym c.publisher.view_is)) _ _ c.index_mut-book.ensures.value _ c.if-reclaim_if_full.ensures.book _ c.publisher.view_is c.if-reclaim_if_full.ensures.reclaims c.args.checks_length g.U.Default.is_default
     (sym c.if-is_too_long.ensures) (omega (arith, c.if-len-publisher.false, c.len.ensures, long)) c.if-reclaim_if_full.ensures.kept (λ all. let no : false ≡ true = c.if-reclaim_if_full.ensures.full.1 all in absurd cc) (let bound = c.state.invariant in omega arith) c.requires.unchecked c.requires.single _ c.in-Some-take_from.slot c.in-Some-take_from.ensures.taken
-    _ _ c.index_mut-2.ensures.value (rw c.units_of.ensures at c.start.ensures) _ _ c.index_mut.ensures.value
+    _ _ c.index_mut-2.ensures.value c.start.ensures _ _ c.index_mut.ensures.value
     (ap Some c.lend.ensures ∙ ap (option_map (λ (p : PublisherFields). lending c.args.len c.in-Some-take_from.slot p.segments p)) (sym c.in-Some.is))
 
 pub returns-clause-named : goal.returns-clause-named
@@ -121,5 +121,5 @@ returns-clause-lies g c =
     loan-lies {T = g.row.T.Denot} {U = g.row.U.Denot} _ c.requires.agrees c.args.place c.requires.stands c.args.len _ (c.in_ok-prepare_if_growing.ensures c.requires.stands.0 c.requires.stands.1) _ c.state.view_is _ c.index_mut.ensures.value
     _ (c.in-Some.is ∙ ap Some (sym c.publisher.view_is)) _ _ c.index_mut-book.ensures.value _ c.if-reclaim_if_full.ensures.book _ c.publisher.view_is c.if-reclaim_if_full.ensures.reclaims c.args.checks_length g.U.Default.is_default
     (sym c.if-is_too_long.ensures) (omega (arith, c.if-len-publisher.false, c.len.ensures, long)) c.if-reclaim_if_full.ensures.kept (λ all. let no : false ≡ true = c.if-reclaim_if_full.ensures.full.1 all in absurd cc) (let bound = c.state.invariant in omega arith) c.requires.unchecked c.requires.single _ c.in-Some-take_from.slot c.in-Some-take_from.ensures.taken
-    _ _ c.index_mut-2.ensures.value (rw c.units_of.ensures at c.start.ensures) _ _ c.index_mut.ensures.value
+    _ _ c.index_mut-2.ensures.value c.start.ensures _ _ c.index_mut.ensures.value
     (ap Some c.lend.ensures ∙ ap (option_map (λ (p : PublisherFields). lending c.args.len c.in-Some-take_from.slot p.segments p)) (sym c.in-Some.is))
