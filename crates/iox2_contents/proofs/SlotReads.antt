@@ -1,9 +1,8 @@
 -- What is read at a slot of the contents.
-use Rattle.std.proofs.Common.{◌≡◌, ℕ, zero, suc, ◌<◌, List, [], ◌∷◌, length, Some, arith, get_or, slice_set, Bool, true, false, refl, ap, subst, sym, ◌∙◌}
+use Rattle.std.proofs.Common.{◌≡◌, ℕ, zero, suc, ◌<◌, List, [], ◌∷◌, length, Some, arith, get_or, slice_set, refl, ap, subst, sym, ◌∙◌}
 use Rattle.std.proofs.lemmas.List.{length-map}
 use Rattle.std.proofs.lemmas.Option.{slice_get_read}
 use Rattle.std.specs.Prelude.{slice_get}
-use Rattle.std.specs.Bool.{MatchBool}
 use Rattle.std.specs.List.{All}
 use Rattle.std.proofs.lemmas.List.Elements.{All-get_or}
 use Rattle.iox2_contents.specs.SlotContents.{ContentState, SomeAt}
@@ -36,11 +35,6 @@ pub set_same : {A : Type 0} (contents : List A) (slot : ℕ) (x : A) → slice_g
 set_same [] slot x at = refl
 set_same (y ∷ ys) zero x at = let same : Some y ≡ Some x = at in let is : y ≡ x = cc in ap (λ z. z ∷ ys) (sym is)
 set_same (y ∷ ys) (suc slot) x at = ap (λ zs. y ∷ zs) (set_same ys slot x at)
-
--- What a test's answer decides.
-pub by_result : {A B : Type 0} (b : Bool) → (b ≡ true → A) → (b ≡ false → B) → MatchBool b A B
-by_result true whole partial = whole refl
-by_result false whole partial = partial refl
 
 -- It holds of the content in the slot that indexing gives there.
 pub content_read : {T U : Type 0} (n : ℕ) (slots : List (SlotState T U)) (contents : List (ContentState T U)) (slot : ℕ) (P : ContentState T U → Type 0) (x : SlotState T U) → contents_of n slots ≡ contents → SomeAt contents slot P

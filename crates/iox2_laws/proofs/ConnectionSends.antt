@@ -1,23 +1,20 @@
--- A send to one connection keeps a state well-formed, and advances it.
-use Rattle.std.proofs.Common.{◌≡◌, ◌<◌, ℕ, le_refl, ◌+◌, List, false, drop, take, refl, sym, ap, subst, ◌∙◌, arith, ⊎_elim, inl, Option, None, Some}
-use Rattle.std.specs.Option.{option_map}
+-- A send to one connection: a loan may be delivered there, and the state advances.
+use Rattle.std.proofs.Common.{◌≡◌, ◌<◌, ℕ, le_refl, ◌+◌, List, false, drop, take, refl, sym, ap, subst, ◌∙◌, ⊎_elim, inl, Option, None, Some}
 use Rattle.std.proofs.lemmas.Option.{none-some, same_Some}
 use Rattle.iox2_machine.specs.machine.Limits.{channel_count}
-use Rattle.iox2_machine.specs.machine.Numbers.{put_at, contains, without}
-use Rattle.iox2_machine.specs.machine.Mailbox.{Mailbox, numbers_in}
+use Rattle.iox2_machine.specs.machine.Numbers.{put_at, contains}
+use Rattle.iox2_machine.specs.machine.Mailbox.{numbers_in}
 use Rattle.iox2_machine.specs.machine.Records.{Loan, Publisher, BlockedSend, Environment}
-use Rattle.iox2_machine.specs.machine.State.{State, is_blocked, channel_buffer, with_loan}
-use Rattle.iox2_machine.specs.machine.Delivery.{DeliveryEnd, Complete, Suspended, no_time}
-use Rattle.iox2_machine.specs.machine.Sends.{SendResult, ConcludeSend, with_mailboxes, DeliverAndConclude, SendToConnection}
+use Rattle.iox2_machine.specs.machine.State.{State, with_loan}
+use Rattle.iox2_machine.specs.machine.Delivery.{no_time}
+use Rattle.iox2_machine.specs.machine.Sends.{SendResult, SendToConnection}
 use Rattle.iox2_machine.specs.machine.WellFormed.{PublisherIsWellFormed, IsWellFormed}
 use Rattle.iox2_laws.specs.Laws.{Advances}
 use Rattle.iox2_laws.proofs.Cases.{by_option}
 use Rattle.iox2_laws.proofs.Puts.{put_at-same, put_at-other}
 use Rattle.iox2_laws.proofs.PlaceLemmas.{occupant-drop}
-use Rattle.iox2_laws.proofs.LoanLaws.{loan_lost_keeps}
-use Rattle.iox2_laws.proofs.DeliveryLaws.{Delivered, deliver_is, IsUnderway, ended_keeps, blocked_keeps}
-use Rattle.iox2_laws.proofs.PublisherUpdates.{no_blocked_send}
-use Rattle.iox2_laws.proofs.SendLaws.{occupant-take, injective_drop, injective_take, deliver_and_conclude_advances}
+use Rattle.iox2_laws.proofs.DeliveryLaws.{IsUnderway}
+use Rattle.iox2_laws.proofs.SendLaws.{occupant-take, deliver_and_conclude_advances}
 
 module _ {T U : Type 0} where
   module _ (s : State T U) (w : IsWellFormed s) (p n channel place : ℕ) (l : Loan T U) (found : s.loans n ≡ Some l) (own : l.publisher ≡ p) (x : Publisher)
@@ -43,44 +40,6 @@ module _ {T U : Type 0} where
           leads = λ q h. (place + h.0, sym (occupant-drop place x.ends h.0) ∙ occupant-take 1 (drop place x.ends) h.0 q h.1);
           unserved = λ q _. ap (λ i. contains (numbers_in (s.mailboxes i q)) n) (sym own) ∙ (w.loans n l found).unsent q;
         }
-
-    conclude_there : (how : DeliveryEnd) (boxes : ℕ → Mailbox) (s' : State T U) (result : SendResult)
-        → Delivered (channel_buffer s p channel) n channel x.ends there (s.mailboxes p) how boxes
-        → ConcludeSend (with_mailboxes (with_loan s n None) p boxes) p n how s' result → IsWellFormed s'
-    conclude_there (Complete count has_failed) boxes s' result d h = subst IsWellFormed
-        (ap (λ o. record s {
-          publishers = put_at s.publishers p (option_map (λ (v : Publisher). record v { loans = without n v.loans; blocked = None }) o);
-          mailboxes = put_at s.mailboxes p boxes;
-          loans = put_at s.loans n None;
-        }) (sym here) ∙ sym h.0)
-        (ended_keeps s w p x here n channel known (put_at s.loans n None) x.history there (Complete count has_failed) boxes underway_there d)
-    conclude_there (Suspended b) boxes s' result d h = subst IsWellFormed
-        (ap (λ o. record s {
-          publishers = put_at s.publishers p (option_map (λ (v : Publisher). record v { blocked = Some b }) o);
-          mailboxes = put_at s.mailboxes p boxes;
-          loans = put_at s.loans n None;
-        }) (sym here) ∙ sym h.0)
-        (blocked_keeps s w p x here n channel known (put_at s.loans n None) x.history there (Suspended b) boxes underway_there d b refl)
-
-    sent_there_keeps : (environment : Environment) (s' : State T U) (result : SendResult)
-        → DeliverAndConclude environment (with_loan s n None) p n channel 0 no_time place there 0 false s' result → IsWellFormed s'
-    sent_there_keeps environment s' result h =
-        by_option (IsWellFormed s') (s.publishers p) _ _ h (λ _ v. absurd v) (λ x1 _ h.
-        let d : Delivered (channel_buffer s p channel) n channel x.ends there (s.mailboxes p) h.0 h.1 =
-        deliver_is environment s.config p x1.backpressure_strategy x1.backpressure_handler (channel_buffer s p channel) n channel 0 no_time place there 0 false x.ends
-        (s.mailboxes p) h.0 h.1 (injective_take 1 (drop place x.ends) (injective_drop place x.ends ((w.publishers p x here).ends_apart))) (1, refl)
-        (omega arith) h.2 in
-        conclude_there h.0 h.1 s' result d h.3)
-
-  -- A send to one connection keeps a state well-formed.
-  pub send_to_connection_keeps : (environment : Environment) (s : State T U) (n : ℕ) (l : Loan T U) (channel place : ℕ) (s' : State T U) (result : SendResult)
-      → IsWellFormed s → s.loans n ≡ Some l → is_blocked s l.publisher ≡ false → channel < channel_count s.config
-      → SendToConnection environment s n l channel place s' result → IsWellFormed s'
-  send_to_connection_keeps environment s n l channel place s' result w found free known h =
-      by_option (IsWellFormed s') (s.publishers l.publisher) _ _ h
-      (λ gone h. subst IsWellFormed (sym h.0) (loan_lost_keeps s w n l found gone))
-      (λ x here h.
-      sent_there_keeps s w l.publisher n channel place l found refl x here (no_blocked_send s l.publisher x here free) known environment s' result h)
 
   -- A send to one connection advances the state.
   pub send_to_connection_advances : (environment : Environment) (s : State T U) (n : ℕ) (l : Loan T U) (channel place : ℕ) (s' : State T U) (result : SendResult)

@@ -8,7 +8,7 @@ use Rattle.slab.specs.Slab.{Slab, ContainsKey, get, with_value}
 use Rattle.iox2_contents.specs.SlotContents.{ContentState}
 use Rattle.iox2_connections.specs.Link.{Link}
 use Rattle.iox2_slots.specs.SlotBook.{Book, TakesFreeSlot, header_in, holders_at}
-use Rattle.iox2_connections.specs.Counters.{IsCovered, with_counters}
+use Rattle.iox2_connections.specs.Counters.{with_counters}
 use Rattle.iox2_connections.specs.Homes.{IsApart, IsSenderLinked}
 use Rattle.iox2_connections.specs.Reclaims.{Reclaims}
 use Rattle.iox2_connections.proofs.MailboxChanges.{within_if_some}
@@ -20,7 +20,7 @@ use Rattle.iox2_domain.specs.Ports.{PublisherFields, slot_length}
 use Rattle.iox2_domain.specs.Reaches.{Reaches}
 use Rattle.iox2_domain.proofs.lemmas.fields.ReachesShows.{reaches-then}
 use Rattle.iox2_domain.proofs.lemmas.loans.LendingSteps.{contents-within, lends-from, lent-fits, may-start}
-use Rattle.iox2_domain.proofs.lemmas.slots.PublisherBooks.{read-there, book-there, sender-linked, book-covers}
+use Rattle.iox2_domain.proofs.lemmas.slots.PublisherBooks.{BookCovers, read-there, book-there, sender-linked, book-covers}
 use Rattle.iox2_domain.proofs.lemmas.slots.ReclaimSteps.{publisher-reclaims}
 use Rattle.iox2_messages.specs.ReadySlots.{with_segments}
 
@@ -74,8 +74,8 @@ module _ {T U : Type 0} (before f : Fields T U) (i : ℕ) (y : PublisherFields) 
     pub counted-apart : IsApart f.connections
     counted-apart = seen (λ h z. IsApart h.connections) sound.parts.apart
 
-    pub counted-covers : (b : Book) → get f.books x.book ≡ Some b → IsCovered x.id b.holders f.connections.slots
-    counted-covers = seen (λ h z. (b : Book) → get h.books z.book ≡ Some b → IsCovered z.id b.holders h.connections.slots) (book-covers g sound.parts i y c.stands)
+    pub counted-covers : BookCovers f x
+    counted-covers = seen BookCovers (book-covers g sound.parts i y c.stands)
 
     pub counted-within : x.book < length f.contents
     counted-within = seen (λ h z. z.book < length h.contents) (contents-within g sound i y c.stands)

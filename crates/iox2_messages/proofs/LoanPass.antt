@@ -16,7 +16,7 @@ use Rattle.iox2_machine.specs.machine.State.{State}
 use Rattle.iox2_contents.specs.SlotContents.{ContentState}
 use Rattle.iox2_connections.specs.Link.{Link}
 use Rattle.iox2_slots.specs.SlotBook.{Book, TakesFreeSlot, header_in, holders_at}
-use Rattle.iox2_connections.specs.Counters.{IsCovered, with_counters}
+use Rattle.iox2_connections.specs.Counters.{with_counters}
 use Rattle.iox2_connections.specs.Homes.{IsApart, IsSenderLinked}
 use Rattle.iox2_connections.specs.Receivers.{HasReclaimed}
 use Rattle.iox2_connections.specs.Reclaims.{Reclaims}
@@ -29,7 +29,7 @@ use Rattle.iox2_domain.specs.Ports.{PublisherFields, slot_length}
 use Rattle.iox2_domain.specs.declared.loan_slots.LoanAt.{LoanAt}
 use Rattle.iox2_domain.proofs.lemmas.containers.SetRecords.{set-here}
 use Rattle.iox2_domain.proofs.lemmas.fields.ReachesShows.{reaches-same}
-use Rattle.iox2_domain.proofs.lemmas.slots.PublisherBooks.{read-there}
+use Rattle.iox2_domain.proofs.lemmas.slots.PublisherBooks.{BookCovers, read-there}
 use Rattle.iox2_messages.specs.ReadySlots.{IsReady, RefusesLoan}
 use Rattle.iox2_messages.proofs.CountedPass.{Counted, segments-same, counted-there, counted-is, seen, counted-book, counted-linked, counted-apart, counted-covers, counted-within, counted-room, counted-units, counted-start, counted-lends, counted-reclaims}
 use Rattle.iox2_messages.proofs.ReadyPass.{ready-lent, ready-lies}
@@ -104,7 +104,7 @@ module _ {T U : Type 0} (before : Fields T U) (agrees : IsDomain before) (i : �
       pub loan-apart : IsApart f.connections
       loan-apart = counted-apart before f i (lender_of ready) (segments_of ready) c x at
 
-      pub loan-covers : (b : Book) → get f.books x.book ≡ Some b → IsCovered x.id b.holders f.connections.slots
+      pub loan-covers : BookCovers f x
       loan-covers = counted-covers before f i (lender_of ready) (segments_of ready) c x at
 
       pub loan-within : x.book < length f.contents

@@ -28,7 +28,7 @@ use Rattle.iox2_domain.specs.declared.loan_slots.LoanAt.{LoanAt}
 use Rattle.iox2_domain.proofs.lemmas.containers.SetRecords.{set-here}
 use Rattle.iox2_domain.proofs.lemmas.slots.PublisherBooks.{read-there}
 use Rattle.iox2_domain.proofs.lemmas.loans.LendingSteps.{lends-from}
-use Rattle.iox2_domain.proofs.lemmas.loans.Lent.{decided-long, decided-limited, decided-full, decided-failed, decided-free}
+use Rattle.iox2_domain.proofs.lemmas.loans.Lent.{is_too_long, decided-long, decided-limited, decided-full, decided-failed, decided-free}
 use Rattle.iox2_domain.proofs.lemmas.loans.Loaned.{loan-refused, loan-lent, loan-lies}
 use Rattle.iox2_domain.proofs.lemmas.slots.ReclaimSteps.{publisher-reclaims}
 
@@ -63,7 +63,7 @@ module _ {T U : Type 0} (before f : Fields T U) (same : f ≡ before) (agrees : 
   is_long y = checks && nat_lt y.segment_length len
 
   -- which is the length that it was made for
-  long-is : (checks && is_static x.allocation && nat_lt x.initial_max_slice_len len) ≡ is_long x
+  long-is : is_too_long checks len x ≡ is_long x
   long-is =
       let made : x.segment_length ≡ x.initial_max_slice_len = (((subst IsDomain (sym same) agrees).parts.plain i x at).segment.static static).1 in
       by checks ∙ ap (λ (n : ℕ). checks && nat_lt n len) (sym made)
@@ -88,7 +88,7 @@ module _ {T U : Type 0} (before f : Fields T U) (same : f ≡ before) (agrees : 
   refused-long is_default long = refused is_default ExceedsMaxLoanSize (decided-long reclaimed reached.agrees i x at checks len (long-is ∙ ap is_long view ∙ long))
 
   module _ (short : is_long z ≡ false) where
-    its-short : (checks && is_static x.allocation && nat_lt x.initial_max_slice_len len) ≡ false
+    its-short : is_too_long checks len x ≡ false
     its-short = long-is ∙ ap is_long view ∙ short
 
     pub refused-limited : (is_default : U → Type 0) → x.max_loaned_samples ≤ length x.loans → Refused ExceedsMaxLoans (slice_set f.publishers i (Some z)) is_default

@@ -1,5 +1,5 @@
 -- A loan is sent to one connection: what each call on the way needs, and what they come to together.
-use Rattle.std.proofs.Common.{◌≡◌, ℕ, ◌<◌, false, length, get_or, refl, ap, sym, subst, ◌∙◌, le_refl}
+use Rattle.std.proofs.Common.{◌≡◌, ℕ, ◌<◌, false, length, get_or, refl, ap, sym, subst, ◌∙◌}
 use Rattle.std.proofs.lemmas.Bool.{eq-eqb}
 use Rattle.std.proofs.lemmas.Option.{same_Some}
 use Rattle.std.specs.declared.option.Option.TheVariants.{None, Some}
@@ -25,7 +25,7 @@ use Rattle.iox2_domain.specs.Reaches.{Reaches}
 use Rattle.iox2_domain.specs.declared.publisher_state.BlockedDelivery.{BlockedDelivery}
 use Rattle.iox2_domain.proofs.lemmas.fields.ConnectionEnds.{free-of}
 use Rattle.iox2_domain.proofs.lemmas.slots.Messages.{lies_at, message_at-slot}
-use Rattle.iox2_steps.proofs.sends.Begun.{begun-agrees, begun-blocked, begun-sends, waiter-stands}
+use Rattle.iox2_steps.proofs.sends.Begun.{begun-agrees, begun-sends, waiter-stands}
 use Rattle.iox2_steps.proofs.sends.BlockedSteps.{can-retry}
 use Rattle.iox2_messages.specs.BlockedPublishers.{CanTakeUp}
 

@@ -19,7 +19,7 @@ use Rattle.iox2_domain.specs.Invariant.{IsDomain, ReceiverHas}
 use Rattle.iox2_domain.specs.Midway.{IsMidway}
 use Rattle.iox2_domain.specs.Reaches.{Reaches, ReachesBut}
 use Rattle.iox2_domain.specs.Closes.{FindsAll, LeavesConnections, LeavesSlots, SomeHasKey, left_subscriber, left_fields}
-use Rattle.iox2_domain.proofs.lemmas.slots.PublisherBooks.{book-there, book-covers, book-counts}
+use Rattle.iox2_domain.proofs.lemmas.slots.PublisherBooks.{BookCovers, book-there, book-covers, book-counts}
 use Rattle.iox2_domain.proofs.lemmas.fields.KeptChannels.{but-channels}
 use Rattle.iox2_domain.proofs.lemmas.fields.OwnKeys.{listed-at}
 use Rattle.iox2_steps.proofs.closes.LeftKeys.{expired-gone}
@@ -120,7 +120,7 @@ module _ {T U : Type 0} (before f : Fields T U) (same : f ≡ before) (sound : I
   closes-book = leaver-book f sound_f i x here
 
   -- which counts each place where a slot of it stands
-  pub closes-covered : (b : Book) → get f.books x.book ≡ Some b → IsCovered x.id b.holders f.connections.slots
+  pub closes-covered : BookCovers f x
   closes-covered b at = leaver-covered f sound_f i x here b at
 
   -- and after it left its connections the slots of its history

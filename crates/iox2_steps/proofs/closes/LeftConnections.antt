@@ -20,7 +20,7 @@ use Rattle.iox2_connections.proofs.Counts.{stands-own}
 use Rattle.iox2_connections.specs.Leaves.{left_link, holds_slots}
 use Rattle.iox2_domain.specs.KeptLinks.{HasLink, ChannelsFollow}
 use Rattle.iox2_domain.specs.Ports.{SubscriberFields}
-use Rattle.iox2_domain.specs.Invariant.{connection_count, one_if_receivers}
+use Rattle.iox2_domain.specs.Invariant.{one_if_receivers}
 use Rattle.iox2_domain.proofs.lemmas.containers.FewerSums.{sum-fewer}
 use Rattle.iox2_domain.proofs.lemmas.slots.Recounts.{sum-alike}
 use Rattle.iox2_domain.specs.Closes.{is_awaited, if_holding, after_close, LeavesConnections}
@@ -167,16 +167,11 @@ module _ (p : ℕ) (subscribers : List (Option SubscriberFields)) (old new : Sla
               omega (arith, now, then, part was.0 (is_awaited subscribers key was.0))
         ]
 
-  -- a subscriber has no more connections
-  pub left-count : (q : ℕ) → connection_count new q ≤ connection_count old q
-  left-count q = sum-fewer (one_if_receivers q) refl old.slots new.slots (λ key. by key (get new key) refl) where
-    by : (key : ℕ) (o : Option Link) → get new key ≡ o → one_if_receivers q (get new key) ≤ one_if_receivers q (get old key)
-    by key None e = rw e (omega arith)
-    by key (Some d) e =
-        let was = left-before key d e in
-        let same : one_if_receivers q (get new key) ≡ one_if_receivers q (get old key) =
-        ap (one_if_receivers q) e ∙ ap (λ (t : Home × ℕ × ℕ × Bool × List Channel). one_if_receivers q (Some (record d { home = t.0 }))) (sym was.2) ∙ sym (ap (one_if_receivers q) was.1) in
-        omega (arith, same)
+  -- a connection that is there is its subscriber's still
+  pub left-receivers : (q key : ℕ) (d : Link) → get new key ≡ Some d → one_if_receivers q (Some d) ≡ one_if_receivers q (get old key)
+  left-receivers q key d e =
+      let was = left-before key d e in
+      ap (λ (t : Home × ℕ × ℕ × Bool × List Channel). one_if_receivers q (Some (record d { home = t.0 }))) (sym was.2) ∙ sym (ap (one_if_receivers q) was.1)
 
   -- ---- the mailboxes
 

@@ -33,10 +33,11 @@ use Rattle.iox2_domain.proofs.lemmas.slots.LoneLoans.{lone-counters}
 use Rattle.iox2_domain.proofs.lemmas.slots.OpenLoans.{open-published, open-rebooked}
 use Rattle.iox2_domain.proofs.lemmas.slots.Messages.{message_in-parts, message_in-from, lies_at, message_at-book, message_at-slot}
 use Rattle.iox2_domain.specs.Closes.{LeavesConnections, LeavesSlots, left_subscriber, left_fields, is_awaited}
-use Rattle.iox2_steps.proofs.closes.LeftConnections.{only-fewer, left-was, left-before, left-others, left-apart, left-sums, left-count}
+use Rattle.iox2_steps.proofs.closes.LeftConnections.{only-fewer, left-was, left-before, left-others, left-apart, left-sums, left-receivers}
 use Rattle.iox2_steps.proofs.closes.LeftKeys.{set-none, keys_left-was, keys_left-still, held-joined, key-leads, expired-still}
 use Rattle.iox2_steps.proofs.closes.LoansLeft.{left-counters, left-fewer, left-loans}
 use Rattle.iox2_domain.proofs.lemmas.fields.ConnectionEnds.{publisher-stands}
+use Rattle.iox2_domain.proofs.lemmas.fields.LostConnections.{fewer-connections}
 use Rattle.iox2_domain.proofs.lemmas.slots.PublisherBooks.{book-own}
 use Rattle.iox2_domain.specs.OpenMarks.{IsUnmarkedSender}
 
@@ -254,7 +255,7 @@ module _ {T U : Type 0} (f : Fields T U) (sound : IsDomain f) (i : ℕ) (x : Pub
   room = record {
     at = λ k y at_y.
         let was = subscriber-was k y at_y in
-        let fewer = left-count x.id f.subscribers f.connections new left (was.0).id in
+        let fewer = fewer-connections f.connections new (left-receivers x.id f.subscribers f.connections new left) (was.0).id in
         let enough = sound.parts.expired_room.at k was.0 was.1 in
         subst (λ (z : SubscriberFields). connection_count new z.id ≤ z.expired_room) (sym was.2) (omega (arith, fewer, enough));
   }

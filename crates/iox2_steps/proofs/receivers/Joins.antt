@@ -172,24 +172,18 @@ module _ {T U : Type 0} (environment : Environment) (f : Fields T U) (sound : Is
     abbrev link : Link
     link = empty_link (home_of i j x y) y.buffer most channels
 
-    nobody : look_up (is_between x.id y.id) f.connections.slots ≡ None
-    nobody = no-connection f sound.parts i j x y at_x at_y sound.well_formed none_x (λ key c has _ _. let no : None ≡ Some key = sym none ∙ has in absurd cc)
-
-    extends-made : (key : ℕ) (new : Slab Link) → MakesConnection f.connections (home_of i j x y) y.buffer most channels key new → Extends f.connections new
-    extends-made key new made = made-extends f.connections new (home_of i j x y) y.buffer most channels key sound.parts.apart nobody made
-
     -- a connection is made
     pub makes-connection : j < x.key_room → i < y.key_room → connection_count f.connections y.id < y.expired_room → (key : ℕ) (new : Slab Link)
         → MakesConnection f.connections (home_of i j x y) y.buffer (f.config).subscriber_max_borrowed_samples (channel_count f.config) key new
         → ConnectsEnd environment f j i y x.id (joined_fields (set_place y.keys i (Some key)) new f.warnings) None
     makes-connection room_x room room_expired key new made =
         steps-join (keys_with key) new f.warnings None (record {
-          extends = extends-made key new made;
+          extends = extends;
           grows = le_refl y.key_room;
           expired_grows = le_refl y.expired_room;
           rooms = room-made f.subscribers f.connections new key link made.was_free made.made (room-here f sound j y at_y room_expired) sound.parts.expired_room;
-          linked = linked-with new key link (receiver_linked f.connections new (extends-made key new made) y.id most y.keys (sound.parts.linked.receivers j y at_y)) made.made.changed refl refl;
-          places = places-with new key link (extends-made key new made) made.made.changed refl;
+          linked = linked-with new key link (receiver_linked f.connections new extends y.id most y.keys (sound.parts.linked.receivers j y at_y)) made.made.changed refl refl;
+          places = places-with new key link extends made.made.changed refl;
           keeps = set_place-keeps y.keys i key none;
           news = λ k c at. elim (made-news f.connections new (home_of i j x y) y.buffer most channels key sound.parts.apart nobody made k c at) [
             | inl old ↦ inl old
@@ -212,7 +206,13 @@ module _ {T U : Type 0} (environment : Environment) (f : Fields T U) (sound : Is
           ];
         }) sound.parts.warning_room
         (makes-end (keys_with key) new
-        (leads new key link (receiver_ends-same f.connections new (extends-made key new made) y.id most y.keys (sound.parts.linked.receivers j y at_y)) made.made.changed refl))
+        (leads new key link (receiver_ends-same f.connections new extends y.id most y.keys (sound.parts.linked.receivers j y at_y)) made.made.changed refl))
+      where
+        nobody : look_up (is_between x.id y.id) f.connections.slots ≡ None
+        nobody = no-connection f sound.parts i j x y at_x at_y sound.well_formed none_x (λ key c has _ _. let no : None ≡ Some key = sym none ∙ has in absurd cc)
+
+        extends : Extends f.connections new
+        extends = made-extends f.connections new (home_of i j x y) y.buffer most channels key sound.parts.apart nobody made
 
     no_sender : has_sender_end (seen f) x.id y.id ≡ false
     no_sender =

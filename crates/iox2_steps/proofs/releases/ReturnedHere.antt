@@ -1,6 +1,6 @@
 -- A message is given back where it lies, between ports that both stay.
 use Rattle.std.proofs.Common.{◌≡◌, ℕ, true, get_or, None, Some, Contains, IsSomeAnd, refl, ap, sym, subst, ◌∙◌}
-use Rattle.slab.specs.Slab.{Slab, ContainsKey, get}
+use Rattle.slab.specs.Slab.{Slab, get}
 use Rattle.iox2_connections.specs.Link.{Link}
 use Rattle.iox2_connections.specs.declared.connection.Home.{Home}
 use Rattle.iox2_machine.specs.machine.Mailbox.{is_borrowed}
@@ -41,10 +41,6 @@ module _ {T U : Type 0} (f : Fields T U) (sound : IsDomain f) (sample : SampleAt
   once-at = once-there f sound sample.connection sample.slot home borrowed-here
 
 module _ {T U : Type 0} (f : Fields T U) (sample : SampleAt) (lies : LiesAtHint f sample) where
-  -- there is a connection where the sample lies
-  pub connection-there : (v : Fields T U) → v ≡ f → ContainsKey v.connections sample.connection
-  connection-there v view = subst (λ (g : Fields T U). ContainsKey g.connections sample.connection) (sym view) (rw lies.has_connection refl)
-
   -- its mark is read
   pub is-returnable : (v : Fields T U) → v ≡ f → (d : Link) → get v.connections sample.connection ≡ Some d → d.is_open ≡ true → IsReturnable f sample
   is-returnable v view d read is_open =

@@ -28,7 +28,7 @@ use Rattle.iox2_connections.specs.declared.sender.DeliveryOutcome.{DeliveryOutco
 use Rattle.iox2_connections.proofs.DeliverySteps.{there}
 use Rattle.iox2_laws.proofs.BegunSends.{begun, begun_send, begun_keeps, begun_goes_on}
 use Rattle.iox2_laws.proofs.Puts.{found_put, put_at-same}
-use Rattle.iox2_domain.specs.BlockedSends.{CanGoOn, GoesOn, ConcludesAs, HasBlocked}
+use Rattle.iox2_domain.specs.BlockedSends.{CanGoOn, GoesOn, ConcludesAs}
 use Rattle.iox2_domain.specs.ConnectionSends.{begun_at, begun_delivery, with_begun, SendsLoanTo}
 use Rattle.iox2_domain.specs.Deliveries.{with_sent, result_of_send}
 use Rattle.iox2_domain.specs.Fields.{Fields, kept_of, publisher_of, numbers_of, within_reach}
@@ -37,6 +37,7 @@ use Rattle.iox2_domain.specs.Kept.{KeptMessage, Lent_message, state_of, entries_
 use Rattle.iox2_domain.specs.Ports.{PublisherFields}
 use Rattle.iox2_domain.specs.Reaches.{Reaches}
 use Rattle.iox2_domain.specs.declared.publisher_state.BlockedDelivery.{BlockedDelivery}
+use Rattle.iox2_domain.specs.Shows.{KeepsEntries}
 use Rattle.iox2_domain.proofs.lemmas.fields.ConnectionEnds.{publisher-stands}
 use Rattle.iox2_domain.proofs.lemmas.fields.KeptBooks.{kept-own}
 use Rattle.iox2_domain.proofs.lemmas.fields.Parts.{whole_of}
@@ -166,7 +167,7 @@ module _ {T U : Type 0} (f : Fields T U) (sound : IsDomain f) (i : ℕ) (x : Pub
   held-before q m away (In_blocked_send y c stood has is) = found_put (seen f).publishers x.id _ (λ j v. v.blocked ≡ Some c → IsHeldMessage (seen f) j m) q y (subst (λ (o : Option Publisher). put_at (seen f).publishers x.id (option_map (λ (v : Publisher). record v { blocked = Some waits }) o) q ≡ Some y) (publisher-stands f sound.parts i x here) stood)
       (λ _ h. absurd (away (sym is ∙ sym (ap (λ (o : Option BlockedSend). option_map_or (λ (v : BlockedSend). v.message) o 0) h)))) (λ _ was h. In_blocked_send y c was h is) has
 
-  entries-after : (q m : ℕ) → IsHeldMessage (state_of (kept_of after)) q m → (entry : Entry T U) × (entries_of (kept_of after) m ≡ Some entry) × ((entry.header).publisher_id ≡ q)
+  entries-after : KeepsEntries (kept_of after)
   entries-after q m is = elim (cases_eq m n) [ inl same ↦ sent same | inr away ↦ others away ] where
     lying : (k r : ℕ) × (has : HasNumber after.books k r m) × ((has.book).publisher ≡ q)
     lying = held-message-slot after parts-after.counted parts-after.publisher_ids parts-after.plain q m is
@@ -199,9 +200,6 @@ module _ {T U : Type 0} (f : Fields T U) (sound : IsDomain f) (i : ℕ) (x : Pub
 
   pub begun-agrees : IsDomain after
   begun-agrees = whole_of after parts-after lone-after kept-after well entries-after
-
-  pub begun-blocked : HasBlocked after i
-  begun-blocked = record { publisher = waiter; stands = waiter-stands; blocked = w; waits = refl }
 
   -- ---- it goes on
 

@@ -39,6 +39,7 @@ use Rattle.iox2_domain.specs.Fields.{Fields, kept_of, publisher_of, numbers_of, 
 use Rattle.iox2_domain.specs.Invariant.{IsDomain, IsOwned, HasParts, HasNumber, is_lent, is_loan_in, HasLoneLoans}
 use Rattle.iox2_domain.specs.Deliveries.{DeliversFrom, result_of_send}
 use Rattle.iox2_domain.specs.BlockedSends.{with_outcome, counters_after, CanGoOn, GoesOn, ConcludesAs}
+use Rattle.iox2_domain.specs.Shows.{KeepsEntries}
 use Rattle.iox2_domain.proofs.lemmas.fields.Views.{mailboxes-are}
 use Rattle.iox2_domain.proofs.lemmas.fields.ConnectionEnds.{publisher-stands}
 use Rattle.iox2_domain.proofs.lemmas.fields.Parts.{whole_of}
@@ -407,7 +408,7 @@ module _ {T U : Type 0} (environment : Environment) (f : Fields T U) (sound : Is
           (contains_in_appended w.channel (put.1).0 n (s.mailboxes x.id r) m (ap (λ box. contains (numbers_in box) m) (sym (put.1).2) ∙ h)))
           (delivered.each r)
 
-  entries-after : (q m : ℕ) → IsHeldMessage (state_of (kept_of after)) q m → (entry : Entry T U) × (entries_of (kept_of after) m ≡ Some entry) × ((entry.header).publisher_id ≡ q)
+  entries-after : KeepsEntries (kept_of after)
   entries-after q m is =
       let in_mid : IsHeldMessage (record s { mailboxes = boxes }) q m = held-mid q m (subst (λ t. IsHeldMessage t q m) after-is is) in
       let old = sound.entries q m (held-before-it q m in_mid) in

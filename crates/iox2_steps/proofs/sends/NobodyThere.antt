@@ -70,15 +70,15 @@ nobody-there {T} {U} environment s n l channel place x here free none =
       loans = put_at s.loans n None;
     }
 
-match_none : {A : Type 0} (o : Option A) (P : Type 0) (Q : A → Type 0) → o ≡ None → P → MatchOption o P Q
-match_none o P Q e p = subst (λ (v : Option _). MatchOption v P Q) (sym e) p
-
 -- of a publisher that is gone it is lost
 pub lost-there : {T U : Type 0} (environment : Environment) (s : State T U) (n : ℕ) (l : Loan T U) (channel place : ℕ) → s.publishers l.publisher ≡ None
     → SendToConnection environment s n l channel place (loan_discarded s n l) (Send_error ConnectionBrokenSinceSenderNoLongerExists)
 lost-there {T} {U} environment s n l channel place gone =
     match_none (s.publishers l.publisher) _ _ gone (same, refl)
   where
+    match_none : (o : Option Publisher) (P : Type 0) (Q : Publisher → Type 0) → o ≡ None → P → MatchOption o P Q
+    match_none o P Q e p = subst (λ (v : Option Publisher). MatchOption v P Q) (sym e) p
+
     nobody : option_map (λ (v : Publisher). record v { loans = without n v.loans }) (s.publishers l.publisher) ≡ s.publishers l.publisher
     nobody = ap (option_map (λ (v : Publisher). record v { loans = without n v.loans })) gone ∙ sym gone
 

@@ -5,7 +5,6 @@ use Rattle.std.specs.declared.option.Option.{Option}
 use Rattle.std.specs.declared.option.Option.TheVariants.{None, Some}
 use Rattle.std.specs.Option.{option_map_or}
 use Rattle.iox2_machine.specs.machine.Connections.{ForEachPlace, first_failure}
-use Rattle.iox2_machine.specs.machine.Numbers.{put_at}
 use Rattle.iox2_machine.specs.machine.Places.{occupant, is_port}
 use Rattle.iox2_machine.specs.machine.PublisherUpdate.{history_for, SenderSide, UpdateSenderPlace, sender_side, with_sender_side, UpdatePublisher}
 use Rattle.iox2_machine.specs.machine.Records.{Publisher, Subscriber, Environment}

@@ -61,26 +61,6 @@ module _ (old new : Slab Link) (home : Home) (buffer limit count key : ℕ) (apa
   nothing_stands : (p slot : ℕ) → stands p slot (Some link) ≡ 0
   nothing_stands p slot = grind arith
 
-  made-sums : (p slot : ℕ) → sum_by (stands p slot) new.slots ≡ sum_by (stands p slot) old.slots
-  made-sums p slot =
-      omega (
-        arith,
-        sum-updated (stands p slot) refl old.slots new.slots key made.made.others,
-        ap (stands p slot) made.was_free,
-        ap (stands p slot) made.made.changed,
-        nothing_stands p slot,
-      )
-
-  made-boxes : (number : ℕ → ℕ → ℕ) (p q : ℕ) → mailboxes_of number new p q ≡ mailboxes_of number old p q
-  made-boxes number p q =
-      ap (mailbox_if_any (number p)) (look_up-written (is_between p q) old.slots new.slots key link (made-apart.one p q)
-      (λ c at. absurd (let no : None ≡ Some c = sym made.was_free ∙ at in cc)) made.made.changed made.made.others)
-      ∙ by (is_between p q link) refl
-    where
-      by : (b : Bool) → is_between p q link ≡ b → mailbox_if_any (number p) (cond b (Some link) (look_up (is_between p q) old.slots)) ≡ mailbox_if_any (number p) (look_up (is_between p q) old.slots)
-      by true e = sym (ap (mailbox_if_any (number p)) (none_between p q e))
-      by false e = refl
-
   made-channels : (p q : ℕ) → channels_in new p q ≡ channels_in old p q
   made-channels p q =
       ap channels_if_any (look_up-written (is_between p q) old.slots new.slots key link (made-apart.one p q)
@@ -98,7 +78,26 @@ module _ (old new : Slab Link) (home : Home) (buffer limit count key : ℕ) (apa
 
   -- all else is as before
   pub made-extends : Extends old new
-  made-extends = record { apart = made-apart; sums = made-sums; boxes = made-boxes; channels = made-channels; grows = made-grows }
+  made-extends = record { apart = made-apart; sums = sums; boxes = boxes; channels = made-channels; grows = made-grows } where
+    sums : (p slot : ℕ) → sum_by (stands p slot) new.slots ≡ sum_by (stands p slot) old.slots
+    sums p slot =
+        omega (
+          arith,
+          sum-updated (stands p slot) refl old.slots new.slots key made.made.others,
+          ap (stands p slot) made.was_free,
+          ap (stands p slot) made.made.changed,
+          nothing_stands p slot,
+        )
+
+    boxes : (number : ℕ → ℕ → ℕ) (p q : ℕ) → mailboxes_of number new p q ≡ mailboxes_of number old p q
+    boxes number p q =
+        ap (mailbox_if_any (number p)) (look_up-written (is_between p q) old.slots new.slots key link (made-apart.one p q)
+        (λ c at. absurd (let no : None ≡ Some c = sym made.was_free ∙ at in cc)) made.made.changed made.made.others)
+        ∙ by (is_between p q link) refl
+      where
+        by : (b : Bool) → is_between p q link ≡ b → mailbox_if_any (number p) (cond b (Some link) (look_up (is_between p q) old.slots)) ≡ mailbox_if_any (number p) (look_up (is_between p q) old.slots)
+        by true e = sym (ap (mailbox_if_any (number p)) (none_between p q e))
+        by false e = refl
 
   -- what is there was there before, or is the new connection
   pub made-news : (k : ℕ) (c : Link) → get new k ≡ Some c → (get old k ≡ Some c) ⊎ ((k ≡ key) × (c ≡ link))

@@ -91,15 +91,6 @@ module _ {T U : Type 0} (f : Fields T U) (sound : IsDomain f) (key : ℕ) (c : L
       | inr old ↦ (d, old, refl)
     ]
 
-  returned : (k : ℕ) (d : Link) → get new k ≡ Some d → SenderHas f.publishers k d ⊎ (d.returned ≡ [])
-  returned k d at_d = elim (mark-was k d at_d) [
-    | inl here ↦ elim (sound.parts.linked.returned k c (ap (get f.connections) here.0 ∙ at)) [
-      | inl has ↦ inl (sender-seated f new seats k c d (ap seat_of (sym here.1)) has)
-      | inr none ↦ inr (ap (λ (e : Link). e.returned) here.1 ∙ none)
-    ]
-    | inr old ↦ sound.parts.linked.returned k d old
-  ]
-
   marked : (k : ℕ) (d : Link) → get new k ≡ Some d → d.is_open ≡ true → IsBetweenOpen f.publishers f.subscribers k d
   marked k d at_d is = elim (mark-was k d at_d) [
     | inl here ↦
@@ -110,12 +101,6 @@ module _ {T U : Type 0} (f : Fields T U) (sound : IsDomain f) (key : ℕ) (c : L
           receiver = open-seated f new seats c d seat both.receiver;
         }
     | inr old ↦ sound.parts.linked.marked k d old is
-  ]
-
-  counts : (k : ℕ) (d : Link) → get new k ≡ Some d → length d.channels ≡ channel_count f.config
-  counts k d at_d = elim (mark-was k d at_d) [
-    | inl here ↦ ap (λ (e : Link). length e.channels) here.1 ∙ sound.parts.linked.channel_counts k c (ap (get f.connections) here.0 ∙ at)
-    | inr old ↦ sound.parts.linked.channel_counts k d old
   ]
 
   room : HasExpiredRoom f.subscribers new
@@ -138,7 +123,21 @@ module _ {T U : Type 0} (f : Fields T U) (sound : IsDomain f) (key : ℕ) (c : L
   }
 
   consistent : HasParts with_mark
-  consistent = connected_parts f sound.parts new apart (linked-seated f new seats sound.parts.linked counts returned marked) room names counted
+  consistent = connected_parts f sound.parts new apart (linked-seated f new seats sound.parts.linked counts returned marked) room names counted where
+    returned : (k : ℕ) (d : Link) → get new k ≡ Some d → SenderHas f.publishers k d ⊎ (d.returned ≡ [])
+    returned k d at_d = elim (mark-was k d at_d) [
+      | inl here ↦ elim (sound.parts.linked.returned k c (ap (get f.connections) here.0 ∙ at)) [
+        | inl has ↦ inl (sender-seated f new seats k c d (ap seat_of (sym here.1)) has)
+        | inr none ↦ inr (ap (λ (e : Link). e.returned) here.1 ∙ none)
+      ]
+      | inr old ↦ sound.parts.linked.returned k d old
+    ]
+
+    counts : (k : ℕ) (d : Link) → get new k ≡ Some d → length d.channels ≡ channel_count f.config
+    counts k d at_d = elim (mark-was k d at_d) [
+      | inl here ↦ ap (λ (e : Link). length e.channels) here.1 ∙ sound.parts.linked.channel_counts k c (ap (get f.connections) here.0 ∙ at)
+      | inr old ↦ sound.parts.linked.channel_counts k d old
+    ]
 
   -- nothing but the mark changed
   pub changes-mark : ChangesMarks f with_mark

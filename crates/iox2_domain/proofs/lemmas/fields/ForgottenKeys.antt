@@ -14,9 +14,9 @@ use Rattle.iox2_connections.specs.declared.sender.ReceiverDetails.{ReceiverDetai
 use Rattle.iox2_connections.proofs.LookUps.{look_up-there, look_up-none, look_up-found, look_up-nothing}
 use Rattle.iox2_domain.specs.Ports.{PublisherFields, SubscriberFields}
 use Rattle.iox2_domain.specs.Fields.{Fields, is_book_of}
-use Rattle.iox2_domain.specs.Invariant.{HasParts, IsLinked, IsOwned, IsGone, HasBook, HasBooks, IsCounted, HasPublisherRoom, IsPlain, HasExpiredRoom, SenderHas, ReceiverHas, is_publisher, is_subscriber, own_holders, is_loan_in, details_of, connection_count, IsBetweenOpen}
+use Rattle.iox2_domain.specs.Invariant.{HasParts, IsLinked, IsOwned, IsGone, HasBook, HasBooks, IsCounted, HasPublisherRoom, IsPlain, HasExpiredRoom, SenderHas, ReceiverHas, is_publisher, is_subscriber, own_holders, is_loan_in, details_of, connection_count, IsBetweenOpen, one_if_receivers}
 use Rattle.iox2_domain.proofs.lemmas.containers.LookUps.{map-at, viewed, only-before}
-use Rattle.iox2_domain.proofs.lemmas.fields.LostConnections.{IsEmptyLink, LosesEmpty, lost-apart, lost-sums, lost-counts}
+use Rattle.iox2_domain.proofs.lemmas.fields.LostConnections.{IsEmptyLink, LosesEmpty, lost-apart, lost-sums, fewer-connections}
 use Rattle.iox2_domain.proofs.lemmas.fields.OwnKeys.{listed-at, listed-has}
 use Rattle.iox2_domain.proofs.lemmas.fields.Standing.{some_is}
 use Rattle.iox2_domain.proofs.lemmas.slots.OpenLoans.{open-published}
@@ -191,7 +191,7 @@ module _ {T U : Type 0} (f : Fields T U) (parts : HasParts f) (publishers : List
         let was = g.receivers i y at in
         let enough : connection_count f.connections (was.0).id ≤ (was.0).expired_room = parts.expired_room.at i was.0 was.1 in
         subst (λ (z : SubscriberFields). connection_count connections z.id ≤ z.expired_room) (sym was.2.fields)
-        (let less = lost-counts f.connections connections loses (was.0).id in omega (arith, enough, less));
+        (let less = fewer-connections f.connections connections (λ q key d at_d. ap (one_if_receivers q) (sym (loses.fewer key d at_d))) (was.0).id in omega (arith, enough, less));
   }
 
   books : HasBooks forgotten

@@ -51,6 +51,13 @@ loses-one old new key c at empty goes = record {
   ];
 }
 
+-- no subscriber has more connections where each that is there was its own before
+pub fewer-connections : (old new : Slab Link) → ((q key : ℕ) (d : Link) → get new key ≡ Some d → one_if_receivers q (Some d) ≡ one_if_receivers q (get old key)) → (q : ℕ) → connection_count new q ≤ connection_count old q
+fewer-connections old new was q = sum-fewer (one_if_receivers q) refl old.slots new.slots (λ key. by key (get new key) refl) where
+  by : (key : ℕ) (n : Option Link) → get new key ≡ n → one_if_receivers q (get new key) ≤ one_if_receivers q (get old key)
+  by key None h = let none : one_if_receivers q (get new key) ≡ 0 = ap (one_if_receivers q) h in omega (arith, none)
+  by key (Some d) h = let same : one_if_receivers q (get new key) ≡ one_if_receivers q (get old key) = ap (one_if_receivers q) h ∙ was q key d h in omega (arith, same)
+
 module _ (old new : Slab Link) (loses : LosesEmpty old new) where
   pub lost-apart : IsApart old → IsApart new
   lost-apart apart = record { one = λ p r. record { one = λ i j x y at_i at_j. (apart.one p r).one i j x y (loses.fewer i x at_i) (loses.fewer j y at_j) } }
@@ -88,10 +95,3 @@ module _ (old new : Slab Link) (loses : LosesEmpty old new) where
           other i d at_d true is_d =
               let one : i ≡ key = (apart.one p q).one i key d c (loses.fewer i d at_d) at is_d is in
               absurd (let no : None ≡ Some d = sym here ∙ sym (ap (get new) one) ∙ at_d in cc)
-
-  -- no subscriber has more of them
-  pub lost-counts : (q : ℕ) → connection_count new q ≤ connection_count old q
-  lost-counts q = sum-fewer (one_if_receivers q) refl old.slots new.slots (λ key. by key (get new key) refl) where
-    by : (key : ℕ) (n : Option Link) → get new key ≡ n → one_if_receivers q (get new key) ≤ one_if_receivers q (get old key)
-    by key None h = let none : one_if_receivers q (get new key) ≡ 0 = ap (one_if_receivers q) h in omega (arith, none)
-    by key (Some d) h = let same : one_if_receivers q (get new key) ≡ one_if_receivers q (get old key) = ap (one_if_receivers q) (h ∙ sym (loses.fewer key d h)) in omega (arith, same)

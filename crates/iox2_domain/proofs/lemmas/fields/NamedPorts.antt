@@ -1,6 +1,7 @@
 -- What the machine sees of a domain's ports, and which record it sees there.
-use Rattle.std.proofs.Common.{◌≡◌, ℕ, zero, suc, List, [], ◌∷◌, map, get_or, refl, ap, sym, ◌∙◌}
+use Rattle.std.proofs.Common.{◌≡◌, ℕ, zero, suc, List, [], ◌∷◌, map, length, get_or, ◌<◌, refl, ap, sym, ◌∙◌, arith}
 use Rattle.std.proofs.lemmas.Bool.{eq-eqb, eqb-true}
+use Rattle.std.proofs.lemmas.List.{length-map}
 use Rattle.std.specs.declared.option.Option.{Option}
 use Rattle.std.specs.declared.option.Option.TheVariants.{None, Some}
 use Rattle.std.specs.Option.{option_map, option_and_then}
@@ -13,7 +14,7 @@ use Rattle.iox2_connections.specs.LookUp.{look_up, IsOnly}
 use Rattle.iox2_connections.proofs.LookUps.{look_up-there, look_up-found}
 use Rattle.iox2_domain.specs.Kept.{Named, state_of, is_named, port_named, ids}
 use Rattle.iox2_domain.specs.Ports.{PublisherFields, SubscriberFields}
-use Rattle.iox2_domain.specs.Fields.{Fields, kept_of, publisher_of, subscriber_of}
+use Rattle.iox2_domain.specs.Fields.{Fields, kept_of, numbers_of, publisher_of, subscriber_of}
 use Rattle.iox2_domain.proofs.lemmas.containers.LookUps.{look_up-map, map-at}
 
 module _ {T U : Type 0} (f : Fields T U) where
@@ -28,6 +29,14 @@ module _ {T U : Type 0} (f : Fields T U) where
   -- A subscriber in it.
   abbrev pub seen_subscriber : SubscriberFields → Subscriber
   seen_subscriber y = (subscriber_of f.books f.connections y).port
+
+  -- a publisher has as many loans there as slots that are lent
+  pub as-many : (x : PublisherFields) → length (seen_publisher x).loans ≡ length x.loans
+  as-many x = length-map x.loans (numbers_of f.books x.id)
+
+  -- where it may lend a slot more it may there
+  pub few-numbers : (x : PublisherFields) → length x.loans < x.max_loaned_samples → length (seen_publisher x).loans < (seen_publisher x).max_loaned_samples
+  few-numbers x few = let e = as-many x in omega (arith, e, few)
 
 -- ---- ports by their ids
 

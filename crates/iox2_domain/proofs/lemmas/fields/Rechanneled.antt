@@ -100,14 +100,6 @@ module _ {T U : Type 0} (f : Fields T U) (sound : IsDomain f) (new : Slab Link) 
     };
   }
 
-  returned : (k : ℕ) (d : Link) → get new k ≡ Some d → SenderHas f.publishers k d ⊎ (d.returned ≡ [])
-  returned k d at_d =
-      let c = plain-was f.connections new same k d at_d in
-      elim (sound.parts.linked.returned k c.0 c.1) [
-        | inl has ↦ inl (sender-seated f new seats k c.0 d (ap seat_of c.2) has)
-        | inr none ↦ inr (sym (ap (λ (e : Link). e.returned) c.2) ∙ none)
-      ]
-
   counts : (k : ℕ) (d : Link) → get new k ≡ Some d → length d.channels ≡ channel_count f.config
   counts k d at_d =
       let c = plain-was f.connections new same k d at_d in
@@ -136,7 +128,14 @@ module _ {T U : Type 0} (f : Fields T U) (sound : IsDomain f) (new : Slab Link) 
   }
 
   consistent : HasParts rechanneled
-  consistent = connected_parts f sound.parts new apart (linked-seated f new seats sound.parts.linked counts returned marked) room names counted
+  consistent = connected_parts f sound.parts new apart (linked-seated f new seats sound.parts.linked counts returned marked) room names counted where
+    returned : (k : ℕ) (d : Link) → get new k ≡ Some d → SenderHas f.publishers k d ⊎ (d.returned ≡ [])
+    returned k d at_d =
+        let c = plain-was f.connections new same k d at_d in
+        elim (sound.parts.linked.returned k c.0 c.1) [
+          | inl has ↦ inl (sender-seated f new seats k c.0 d (ap seat_of c.2) has)
+          | inr none ↦ inr (sym (ap (λ (e : Link). e.returned) c.2) ∙ none)
+        ]
 
   entries : KeepsEntries (kept_of rechanneled)
   entries p n held = sound.entries p n (held-before (state_of (kept_of f)) (state_of (kept_of rechanneled)) p n

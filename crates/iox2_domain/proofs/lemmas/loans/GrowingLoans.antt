@@ -2,7 +2,6 @@
 use Rattle.std.proofs.Common.{◌≡◌, ℕ, ◌+◌, ◌*◌, ◌^◌, ◌<◌, ◌≤◌, ◌&&◌, nat_lt, Bool, true, false, max, length, get_or, drop, refl, ap, sym, subst, ◌∙◌, inl, inr, arith}
 use Rattle.std.proofs.Math.Nat.{mul-le-mul_left, mul-le-mul_right, max-le}
 use Rattle.std.proofs.lemmas.Bool.{ltb-true, lt-ltb}
-use Rattle.std.proofs.lemmas.List.{length-map}
 use Rattle.std.specs.declared.option.Option.TheVariants.{None, Some}
 use Rattle.std.specs.List.{All}
 use Rattle.iox2_machine.specs.declared.allocation.AllocationStrategy.{AllocationStrategy}
@@ -14,7 +13,7 @@ use Rattle.iox2_machine.specs.machine.Loans.{is_static, GrantLoan, IsGuaranteed,
 use Rattle.iox2_machine.specs.machine.Records.{Environment}
 use Rattle.iox2_slots.specs.SlotBook.{Book}
 use Rattle.iox2_connections.specs.Receivers.{HasReclaimed}
-use Rattle.iox2_domain.specs.Fields.{Fields, numbers_of}
+use Rattle.iox2_domain.specs.Fields.{Fields}
 use Rattle.iox2_domain.specs.Growth.{HasNoSlot}
 use Rattle.iox2_domain.specs.Invariant.{IsDomain}
 use Rattle.iox2_domain.specs.Lending.{memory_for}
@@ -22,7 +21,8 @@ use Rattle.iox2_domain.specs.Ports.{PublisherFields}
 use Rattle.iox2_domain.proofs.lemmas.fields.ConnectionEnds.{publisher-stands}
 use Rattle.iox2_domain.proofs.lemmas.loans.Granted.{lends-limited, lends-dynamic}
 use Rattle.iox2_domain.proofs.lemmas.slots.SlotsInUse.{its_book, size-from}
-use Rattle.iox2_domain.proofs.lemmas.fields.NamedPorts.{seen, seen_publisher}
+use Rattle.iox2_domain.proofs.lemmas.fields.NamedPorts.{seen, seen_publisher, as-many, few-numbers}
+use Rattle.iox2_domain.proofs.lemmas.loans.Lent.{is_too_long}
 
 -- memory may be refused where it grows
 may-refuse : (a : AllocationStrategy) → is_static a ≡ false → Environment.may_refuse_memory (memory_for a)
@@ -43,29 +43,23 @@ never-long true a initial len grows = ap (λ (b : Bool). b && nat_lt initial len
 never-long false a initial len grows = refl
 
 module _ {T U : Type 0} (f : Fields T U) (sound : IsDomain f) (i : ℕ) (x : PublisherFields) (at : get_or f.publishers i None ≡ Some x) (checks : Bool) (len : ℕ) (grows : is_static x.allocation ≡ false) where
-  as_many : length (seen_publisher f x).loans ≡ length x.loans
-  as_many = length-map x.loans (numbers_of f.books x.id)
-
-  short : (checks && is_static x.allocation && nat_lt x.initial_max_slice_len len) ≡ false
+  short : is_too_long checks len x ≡ false
   short = never-long checks x.allocation x.initial_max_slice_len len grows
 
   -- too many loans are out
   pub grows-limited : (user_header : U) → x.max_loaned_samples ≤ length x.loans → GrantLoan (memory_for x.allocation) user_header checks len (seen f) x.id (seen f) (Some ExceedsMaxLoans)
-  grows-limited user_header many = lends-limited (memory_for x.allocation) user_header (seen f) x.id (seen_publisher f x) (publisher-stands f sound.parts i x at) checks len short (let e = as_many in omega (arith, e, many))
+  grows-limited user_header many = lends-limited (memory_for x.allocation) user_header (seen f) x.id (seen_publisher f x) (publisher-stands f sound.parts i x at) checks len short (let e = as-many f x in omega (arith, e, many))
 
   module _ (few : length x.loans < x.max_loaned_samples) where
-    few_numbers : length (seen_publisher f x).loans < (seen_publisher f x).max_loaned_samples
-    few_numbers = let e = as_many in omega (arith, e, few)
-
     -- no number is left
     pub grows-last : (user_header : U) → f.next_message ≡ last_number → GrantLoan (memory_for x.allocation) user_header checks len (seen f) x.id (seen f) (Some InternalFailure)
-    grows-last user_header last = lends-dynamic (memory_for x.allocation) user_header (seen f) x.id (seen_publisher f x) (publisher-stands f sound.parts i x at) checks len short few_numbers grows (seen f) (Some InternalFailure) (refl, inl last)
+    grows-last user_header last = lends-dynamic (memory_for x.allocation) user_header (seen f) x.id (seen_publisher f x) (publisher-stands f sound.parts i x at) checks len short (few-numbers f x few) grows (seen f) (Some InternalFailure) (refl, inl last)
 
     -- a slot of a segment that is long enough is lent
     pub grows-granted : (user_header : U) → f.next_message < last_number → segment_fits f.config x.slots len ≡ true
         → GrantLoan (memory_for x.allocation) user_header checks len (seen f) x.id (loan_granted user_header (seen f) x.id (seen_publisher f x) len x.segments) None
     grows-granted user_header more fits =
-        lends-dynamic (memory_for x.allocation) user_header (seen f) x.id (seen_publisher f x) (publisher-stands f sound.parts i x at) checks len short few_numbers grows (loan_granted user_header (seen f) x.id (seen_publisher f x) len x.segments) None
+        lends-dynamic (memory_for x.allocation) user_header (seen f) x.id (seen_publisher f x) (publisher-stands f sound.parts i x at) checks len short (few-numbers f x few) grows (loan_granted user_header (seen f) x.id (seen_publisher f x) len x.segments) None
         (more, inr fits, x.segments, inl refl, refl)
 
     module _ (reclaimed : HasReclaimed f.connections x.keys) (none : HasNoSlot f x len) where
@@ -88,17 +82,17 @@ module _ {T U : Type 0} (f : Fields T U) (sound : IsDomain f) (i : ℕ) (x : Pub
       -- all segments were made
       pub grows-out : (user_header : U) → x.segments ≡ segment_limit → GrantLoan (memory_for x.allocation) user_header checks len (seen f) x.id (seen f) (Some OutOfMemory)
       grows-out user_header all =
-          lends-dynamic (memory_for x.allocation) user_header (seen f) x.id (seen_publisher f x) (publisher-stands f sound.parts i x at) checks len short few_numbers grows (seen f) (Some OutOfMemory) (refl, all, λ sure. absurd (unsure sure))
+          lends-dynamic (memory_for x.allocation) user_header (seen f) x.id (seen_publisher f x) (publisher-stands f sound.parts i x at) checks len short (few-numbers f x few) grows (seen f) (Some OutOfMemory) (refl, all, λ sure. absurd (unsure sure))
 
       -- no further one is made
       pub grows-failed : (user_header : U) → GrantLoan (memory_for x.allocation) user_header checks len (seen f) x.id (seen f) (Some InternalFailure)
       grows-failed user_header =
-          lends-dynamic (memory_for x.allocation) user_header (seen f) x.id (seen_publisher f x) (publisher-stands f sound.parts i x at) checks len short few_numbers grows (seen f) (Some InternalFailure)
+          lends-dynamic (memory_for x.allocation) user_header (seen f) x.id (seen_publisher f x) (publisher-stands f sound.parts i x at) checks len short (few-numbers f x few) grows (seen f) (Some InternalFailure)
           (refl, inr (inl (may-refuse x.allocation grows), unsure))
 
       -- one more was made
       pub grows-more : (user_header : U) → f.next_message < last_number → segment_fits f.config x.slots len ≡ true → x.segments < segment_limit
           → GrantLoan (memory_for x.allocation) user_header checks len (seen f) x.id (loan_granted user_header (seen f) x.id (seen_publisher f x) len (x.segments + 1)) None
       grows-more user_header more fits fewer =
-          lends-dynamic (memory_for x.allocation) user_header (seen f) x.id (seen_publisher f x) (publisher-stands f sound.parts i x at) checks len short few_numbers grows (loan_granted user_header (seen f) x.id (seen_publisher f x) len (x.segments + 1)) None
+          lends-dynamic (memory_for x.allocation) user_header (seen f) x.id (seen_publisher f x) (publisher-stands f sound.parts i x at) checks len short (few-numbers f x few) grows (loan_granted user_header (seen f) x.id (seen_publisher f x) len (x.segments + 1)) None
           (more, inr fits, x.segments + 1, inr (refl, fewer, unsure), refl)

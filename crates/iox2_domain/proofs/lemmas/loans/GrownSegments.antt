@@ -87,9 +87,6 @@ module _ {T U : Type 0} (f : Fields T U) (sound : IsDomain f) (i : ℕ) (x : Pub
   grown-is : state_of (kept_of after) ≡ state
   grown-is = ap (state_of {T = T} {U = U}) after-kept ∙ mid-is
 
-  entries-same : (n : ℕ) → entries_of (kept_of after) n ≡ entries_of (kept_of f) n
-  entries-same n = ap (λ (k : Kept T U ⊥ ⊥). entries_of k n) after-kept ∙ grown-entries f sound x.book g.book g.stood x.slots g.contents g.grown g.had shaped (g.grows).kept n
-
   -- ---- books
 
   new-length : length new_book.holders ≡ length (g.book).holders + x.slots
@@ -180,21 +177,20 @@ module _ {T U : Type 0} (f : Fields T U) (sound : IsDomain f) (i : ℕ) (x : Pub
   abbrev loan_of : (p slot : ℕ) → Slab Book → ℕ
   loan_of p slot w = option_map_or (λ b. cond (is_loan_in b slot) 1 0) (look_up (is_book_of p) w.slots) 0
 
-  own-same : (p slot : ℕ) → own_holders after p slot ≡ own_holders f p slot
-  own-same p slot =
-      ap (own slot (loan_of p slot books)) (look_up-publisher mid i x grower at refl sound.parts.publisher_ids p)
-      ∙ by (eqb x.id p) refl
-      ∙ ap (λ n. own slot n (look_up (is_publisher p) f.publishers)) (loans-same f sound x.book g.book g.stood x.slots g.contents g.grown g.had shaped (g.grows).kept p slot)
-    where
-      by : (t : Bool) → eqb x.id p ≡ t → own slot (loan_of p slot books) (cond t (Some grower) (look_up (is_publisher p) f.publishers)) ≡ own slot (loan_of p slot books) (look_up (is_publisher p) f.publishers)
-      by true e = sym (ap (own slot (loan_of p slot books)) (look_up-found (is_publisher p) f.publishers i x (sound.parts.publisher_ids p) at e))
-      by false e = refl
-
   counted : IsCounted after
   counted = record {
     at = λ p slot. holders-same f sound x.book g.book g.stood x.slots g.contents g.grown g.had shaped (g.grows).kept p slot
         ∙ sound.parts.counted.at p slot ∙ ap (λ n. n + sum_by (stands p slot) f.connections.slots) (sym (own-same p slot));
-  }
+  } where
+    own-same : (p slot : ℕ) → own_holders after p slot ≡ own_holders f p slot
+    own-same p slot =
+        ap (own slot (loan_of p slot books)) (look_up-publisher mid i x grower at refl sound.parts.publisher_ids p)
+        ∙ by (eqb x.id p) refl
+        ∙ ap (λ n. own slot n (look_up (is_publisher p) f.publishers)) (loans-same f sound x.book g.book g.stood x.slots g.contents g.grown g.had shaped (g.grows).kept p slot)
+      where
+        by : (t : Bool) → eqb x.id p ≡ t → own slot (loan_of p slot books) (cond t (Some grower) (look_up (is_publisher p) f.publishers)) ≡ own slot (loan_of p slot books) (look_up (is_publisher p) f.publishers)
+        by true e = sym (ap (own slot (loan_of p slot books)) (look_up-found (is_publisher p) f.publishers i x (sound.parts.publisher_ids p) at e))
+        by false e = refl
 
   shapes : HasShapes after
   shapes = record {
@@ -298,7 +294,9 @@ module _ {T U : Type 0} (f : Fields T U) (sound : IsDomain f) (i : ℕ) (x : Pub
     };
     state = grown-is;
     entries = λ n entry kept. sym (entries-same n) ∙ kept;
-  }
+  } where
+    entries-same : (n : ℕ) → entries_of (kept_of after) n ≡ entries_of (kept_of f) n
+    entries-same n = ap (λ (k : Kept T U ⊥ ⊥). entries_of k n) after-kept ∙ grown-entries f sound x.book g.book g.stood x.slots g.contents g.grown g.had shaped (g.grows).kept n
 
   -- the step
   pub grown-reaches : Reaches f f' state

@@ -5,7 +5,7 @@ use Rattle.std.specs.declared.option.Option.TheVariants.{None, Some}
 use Rattle.std.specs.Option.{MatchOption}
 use Rattle.std.specs.Prelude.{IsSomeAnd}
 use Rattle.std.specs.List.{All}
-use Rattle.std.proofs.lemmas.List.{length-map, get_or-set_same}
+use Rattle.std.proofs.lemmas.List.{get_or-set_same}
 use Rattle.slab.specs.Slab.{get, with_value}
 use Rattle.iox2_machine.specs.machine.Limits.{last_number}
 use Rattle.iox2_machine.specs.machine.Loans.{is_static, loan_granted, GrantLoan}
@@ -21,7 +21,7 @@ use Rattle.iox2_connections.specs.Receivers.{HasReclaimed}
 use Rattle.iox2_connections.proofs.MailboxChanges.{within_if_some}
 use Rattle.iox2_domain.specs.Ports.{PublisherFields}
 use Rattle.iox2_domain.specs.Kept.{Lent_message}
-use Rattle.iox2_domain.specs.Fields.{Fields, numbers_of, contents_at}
+use Rattle.iox2_domain.specs.Fields.{Fields, contents_at}
 use Rattle.iox2_domain.specs.Invariant.{IsDomain}
 use Rattle.iox2_domain.specs.Lending.{with_taken_slot, header_for, lending, memory_for, CanGrant, LoanDecided, Lends}
 use Rattle.iox2_domain.specs.LoanSlots.{IsLoanSlot, LiesInSlot}
@@ -35,7 +35,7 @@ use Rattle.iox2_domain.proofs.lemmas.slots.PublisherBooks.{book-own}
 use Rattle.iox2_domain.proofs.lemmas.loans.Taken.{CanTakeSlot, taken_book, taken_books, begun_contents, lent, taken-stands, lent-lies}
 use Rattle.iox2_domain.proofs.lemmas.loans.Granted.{lender, with_granted, lends-long, lends-limited, lends-full, lends-failed, lends-granted}
 use Rattle.iox2_domain.proofs.lemmas.loans.GrantedAgrees.{granted-reaches}
-use Rattle.iox2_domain.proofs.lemmas.fields.NamedPorts.{seen, seen_publisher}
+use Rattle.iox2_domain.proofs.lemmas.fields.NamedPorts.{seen, seen_publisher, as-many, few-numbers}
 
 -- where not each slot has a holder some slot is free
 some_slot : (hs : List ℕ) → (All (λ n. 0 < n) hs → ⊥) → (slot : ℕ) × (slot < length hs) × (get_or hs slot 0 ≡ 0)
@@ -49,20 +49,17 @@ some_slot (h ∷ hs) not_all = by h refl (λ held. some_slot hs (λ all. not_all
   by zero e later = (zero, omega arith, e)
   by (suc n) e later = let rest = later (omega arith) in (suc rest.0, omega (arith, rest.1), rest.2)
 
+-- The length is one that the publisher doesn't lend.
+abbrev pub is_too_long : (checks : Bool) (len : ℕ) → PublisherFields → Bool
+is_too_long checks len x = checks && is_static x.allocation && nat_lt x.initial_max_slice_len len
+
 module _ {T U : Type 0} (f : Fields T U) (sound : IsDomain f) (i : ℕ) (x : PublisherFields) (at : get_or f.publishers i None ≡ Some x) (checks : Bool) (len : ℕ) where
-  as_many : length (seen_publisher f x).loans ≡ length x.loans
-  as_many = length-map x.loans (numbers_of f.books x.id)
-
-  -- the length is one that the publisher doesn't lend
-  abbrev pub is_too_long : Bool
-  is_too_long = checks && is_static x.allocation && nat_lt x.initial_max_slice_len len
-
-  pub long : is_too_long ≡ true → (user_header : U) → GrantLoan (memory_for x.allocation) user_header checks len (seen f) x.id (seen f) (Some ExceedsMaxLoanSize)
+  pub long : is_too_long checks len x ≡ true → (user_header : U) → GrantLoan (memory_for x.allocation) user_header checks len (seen f) x.id (seen f) (Some ExceedsMaxLoanSize)
   long e user_header = lends-long (memory_for x.allocation) user_header (seen f) x.id (seen_publisher f x) (publisher-stands f sound.parts i x at) checks len e
 
   -- too many loans are out
-  pub limited : is_too_long ≡ false → (user_header : U) → x.max_loaned_samples ≤ length x.loans → GrantLoan (memory_for x.allocation) user_header checks len (seen f) x.id (seen f) (Some ExceedsMaxLoans)
-  limited short user_header many = lends-limited (memory_for x.allocation) user_header (seen f) x.id (seen_publisher f x) (publisher-stands f sound.parts i x at) checks len short (let e = as_many in omega arith)
+  pub limited : is_too_long checks len x ≡ false → (user_header : U) → x.max_loaned_samples ≤ length x.loans → GrantLoan (memory_for x.allocation) user_header checks len (seen f) x.id (seen f) (Some ExceedsMaxLoans)
+  limited short user_header many = lends-limited (memory_for x.allocation) user_header (seen f) x.id (seen_publisher f x) (publisher-stands f sound.parts i x at) checks len short (let e = as-many f x in omega arith)
 
   its-book : (b : Book) → get f.books x.book ≡ Some b → (its_book f sound i x at).book ≡ b
   its-book b stands = let same : Some (its_book f sound i x at).book ≡ Some b = sym (its_book f sound i x at).stands ∙ stands in cc
@@ -73,14 +70,11 @@ module _ {T U : Type 0} (f : Fields T U) (sound : IsDomain f) (i : ℕ) (x : Pub
       let same : length b.holders ≡ length (its_book f sound i x at).book.holders = ap (λ (c : Book). length c.holders) (sym (its-book b stands)) in
       omega (arith, same, (its_book f sound i x at).slots, ((sound.parts.plain i x at).segment.static static).0)
 
-  module _ (short : is_too_long ≡ false) (few : length x.loans < x.max_loaned_samples) (static : is_static x.allocation ≡ true) (b : Book) (stands : get f.books x.book ≡ Some b) where
-    few_numbers : length (seen_publisher f x).loans < (seen_publisher f x).max_loaned_samples
-    few_numbers = let e = as_many in omega arith
-
+  module _ (short : is_too_long checks len x ≡ false) (few : length x.loans < x.max_loaned_samples) (static : is_static x.allocation ≡ true) (b : Book) (stands : get f.books x.book ≡ Some b) where
     -- each slot has a holder
     pub full : HasReclaimed f.connections x.keys → (user_header : U) → All (λ n. 0 < n) b.holders → GrantLoan (memory_for x.allocation) user_header checks len (seen f) x.id (seen f) (Some OutOfMemory)
     full reclaimed user_header all =
-        lends-full (memory_for x.allocation) user_header (seen f) x.id (seen_publisher f x) (publisher-stands f sound.parts i x at) checks len short few_numbers static
+        lends-full (memory_for x.allocation) user_header (seen f) x.id (seen_publisher f x) (publisher-stands f sound.parts i x at) checks len short (few-numbers f x few) static
         (size-full f sound i x at reclaimed (subst (λ (c : Book). All (λ n. 0 < n) c.holders) (sym (its-book b stands)) all)
         ∙ ap (λ (c : Book). length c.holders) (its-book b stands) ∙ slots-are static b stands)
 
@@ -98,7 +92,7 @@ module _ {T U : Type 0} (f : Fields T U) (sound : IsDomain f) (i : ℕ) (x : Pub
         → GrantLoan (memory_for x.allocation) user_header checks len (seen f) x.id (seen f) (Some InternalFailure)
     failed user_header not_all last =
         let free = some_slot b.holders not_all in
-        lends-failed (memory_for x.allocation) user_header (seen f) x.id (seen_publisher f x) (publisher-stands f sound.parts i x at) checks len short few_numbers static (some_room free.0 free.1 free.2) last
+        lends-failed (memory_for x.allocation) user_header (seen f) x.id (seen_publisher f x) (publisher-stands f sound.parts i x at) checks len short (few-numbers f x few) static (some_room free.0 free.1 free.2) last
 
   -- ---- what is decided
 
@@ -110,13 +104,13 @@ module _ {T U : Type 0} (f : Fields T U) (sound : IsDomain f) (i : ℕ) (x : Pub
   decided decision h = subst (λ (o : Option PublisherFields). IsSomeAnd o (λ y. MatchOption decision (CanGrant f checks len i)
       (λ e. (user_header : U) → GrantLoan (memory_for y.allocation) user_header checks len (seen f) y.id (seen f) (Some e)))) (sym at) h
 
-  pub decided-long : is_too_long ≡ true → LoanDecided f checks len i (Some ExceedsMaxLoanSize)
+  pub decided-long : is_too_long checks len x ≡ true → LoanDecided f checks len i (Some ExceedsMaxLoanSize)
   decided-long e = decided (Some ExceedsMaxLoanSize) (λ user_header. long e user_header)
 
-  pub decided-limited : is_too_long ≡ false → x.max_loaned_samples ≤ length x.loans → LoanDecided f checks len i (Some ExceedsMaxLoans)
+  pub decided-limited : is_too_long checks len x ≡ false → x.max_loaned_samples ≤ length x.loans → LoanDecided f checks len i (Some ExceedsMaxLoans)
   decided-limited short many = decided (Some ExceedsMaxLoans) (λ user_header. limited short user_header many)
 
-  module _ (short : is_too_long ≡ false) (few : length x.loans < x.max_loaned_samples) (static : is_static x.allocation ≡ true) (b : Book) (stands : get f.books x.book ≡ Some b) where
+  module _ (short : is_too_long checks len x ≡ false) (few : length x.loans < x.max_loaned_samples) (static : is_static x.allocation ≡ true) (b : Book) (stands : get f.books x.book ≡ Some b) where
     pub decided-full : HasReclaimed f.connections x.keys → All (λ n. 0 < n) b.holders → LoanDecided f checks len i (Some OutOfMemory)
     decided-full reclaimed all = decided (Some OutOfMemory) (λ user_header. full short few static b stands reclaimed user_header all)
 
@@ -130,7 +124,7 @@ module _ {T U : Type 0} (f : Fields T U) (sound : IsDomain f) (i : ℕ) (x : Pub
     pub lent-grants : (slot : ℕ) → slot < length b.holders → get_or b.holders slot 0 ≡ 0 → f.next_message < last_number → (user_header : U)
         → GrantLoan (memory_for x.allocation) user_header checks len (seen f) x.id (loan_granted user_header (seen f) x.id (seen_publisher f x) len x.segments) None
     lent-grants slot within free more user_header =
-        lends-granted (memory_for x.allocation) user_header (seen f) x.id (seen_publisher f x) (publisher-stands f sound.parts i x at) checks len short (few_numbers short few static b stands) static
+        lends-granted (memory_for x.allocation) user_header (seen f) x.id (seen_publisher f x) (publisher-stands f sound.parts i x at) checks len short (few-numbers f x few) static
         (some_room short few static b stands slot within free) more
 
   -- a slot is lent

@@ -1,5 +1,5 @@
 -- A loan is a loan, whether or not slots were reclaimed before it.
-use Rattle.std.proofs.Common.{◌≡◌, ◌<◌, ◌≤◌, ◌&&◌, nat_lt, Bool, ℕ, true, false, length, get_or, ap, sym, subst, ◌∙◌, Ok, Err}
+use Rattle.std.proofs.Common.{◌≡◌, ◌<◌, ◌≤◌, Bool, ℕ, true, false, length, get_or, ap, sym, subst, ◌∙◌, Ok, Err}
 use Rattle.std.specs.declared.option.Option.{Option}
 use Rattle.std.specs.declared.option.Option.TheVariants.{None, Some}
 use Rattle.std.specs.Prelude.{IsSomeAnd}
@@ -18,7 +18,7 @@ use Rattle.iox2_domain.specs.Reaches.{Reaches}
 use Rattle.iox2_domain.specs.declared.loan_slots.LoanAt.{LoanAt}
 use Rattle.iox2_domain.proofs.lemmas.fields.ConnectionEnds.{publisher-stands}
 use Rattle.iox2_domain.proofs.lemmas.fields.ReachesShows.{reaches-then}
-use Rattle.iox2_domain.proofs.lemmas.loans.Lent.{lent-reaches, lent-grants, lent-in_slot}
+use Rattle.iox2_domain.proofs.lemmas.loans.Lent.{is_too_long, lent-reaches, lent-grants, lent-in_slot}
 
 module _ {T U : Type 0} (is_default : U → Type 0) (f mid : Fields T U) (sound : IsDomain f) (i : ℕ) (stands : (x : PublisherFields) × (get_or f.publishers i None ≡ Some x))
     (reached : Reaches f mid (state_of (kept_of f))) (same : mid.publishers ≡ f.publishers) (checks : Bool) (len : ℕ) where
@@ -45,10 +45,10 @@ module _ {T U : Type 0} (is_default : U → Type 0) (f mid : Fields T U) (sound 
   asker : (can : CanGrant mid checks len i) → can.publisher ≡ x
   asker can = let found : Some can.publisher ≡ Some x = sym can.stands ∙ at_mid in cc
 
-  short : LoanDecided mid checks len i None → (checks && is_static x.allocation && nat_lt x.initial_max_slice_len len) ≡ false
+  short : LoanDecided mid checks len i None → is_too_long checks len x ≡ false
   short free =
       let can = may-lend free in
-      subst (λ (z : PublisherFields). (checks && is_static z.allocation && nat_lt z.initial_max_slice_len len) ≡ false) (asker can) can.short
+      subst (λ (z : PublisherFields). is_too_long checks len z ≡ false) (asker can) can.short
 
   few : LoanDecided mid checks len i None → length x.loans < x.max_loaned_samples
   few free = let can = may-lend free in subst (λ (z : PublisherFields). length z.loans < z.max_loaned_samples) (asker can) can.few

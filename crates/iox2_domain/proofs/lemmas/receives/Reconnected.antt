@@ -57,13 +57,6 @@ module _ {T U : Type 0} (f : Fields T U) (key : ℕ) (c : Link) (at : get f.conn
 module _ {T U : Type 0} (f : Fields T U) (sound : IsDomain f) (key : ℕ) (c : Link) (at : get f.connections key ≡ Some c)
     (new : Slab Link) (same : SameHomes f.connections new) (others : KeepsOtherKeys key f.connections new) (stay : SameStands f.connections new)
     (returned : (d : Link) → get new key ≡ Some d → SenderHas f.publishers key d ⊎ (d.returned ≡ [])) where
-  -- slots that were given back lie where their publisher reclaims them
-  still-returned : (k : ℕ) (d : Link) → get new k ≡ Some d → SenderHas f.publishers k d ⊎ (d.returned ≡ [])
-  still-returned k d at_d = elim (cases_eq k key) [
-    | inl here ↦ subst (λ (i : ℕ). SenderHas f.publishers i d ⊎ (d.returned ≡ [])) (sym here) (returned d (sym (ap (get new) here) ∙ at_d))
-    | inr away ↦ sound.parts.linked.returned k d (sym (others.others k away) ∙ at_d)
-  ]
-
   counted-still : IsCounted (with_connections f new same)
   counted-still = record {
     at = λ p slot.
@@ -77,6 +70,13 @@ module _ {T U : Type 0} (f : Fields T U) (sound : IsDomain f) (key : ℕ) (c : L
   reconnected-consistent =
       connected_parts f sound.parts new (IsApart-same f.connections new sound.parts.apart same) (linked-still f new same sound.parts.linked still-returned)
       (room-still f.subscribers f.connections new same sound.parts.expired_room) (names-still f.books f.connections new same sound.parts.names) counted-still
+    where
+      -- slots that were given back lie where their publisher reclaims them
+      still-returned : (k : ℕ) (d : Link) → get new k ≡ Some d → SenderHas f.publishers k d ⊎ (d.returned ≡ [])
+      still-returned k d at_d = elim (cases_eq k key) [
+        | inl here ↦ subst (λ (i : ℕ). SenderHas f.publishers i d ⊎ (d.returned ≡ [])) (sym here) (returned d (sym (ap (get new) here) ∙ at_d))
+        | inr away ↦ sound.parts.linked.returned k d (sym (others.others k away) ∙ at_d)
+      ]
 
   -- whoever holds a message has its entry
   pub reconnected-complete : ((p q n : ℕ) → contains (numbers_in (mailboxes_of (numbers_of f.books) new p q)) n ≡ true → contains (numbers_in ((state_of (kept_of f)).mailboxes p q)) n ≡ true)

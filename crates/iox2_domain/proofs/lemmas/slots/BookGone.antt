@@ -18,7 +18,7 @@ use Rattle.iox2_connections.specs.Mailboxes.{sender_ends, mailbox_of}
 use Rattle.iox2_connections.proofs.LookUps.{look_up-found, look_up-nothing}
 use Rattle.iox2_connections.proofs.MailboxChanges.{within_if_some}
 use Rattle.iox2_domain.specs.Ports.{PublisherFields}
-use Rattle.iox2_domain.specs.Kept.{state_of, entries_of, entry_in, loan_in, message_numbered, port_named, ids, stands_between, box_if_any, channels_if_between}
+use Rattle.iox2_domain.specs.Kept.{state_of, loan_in, message_numbered, port_named, ids, stands_between, box_if_any, channels_if_between}
 use Rattle.iox2_domain.specs.Fields.{Fields, kept_of, kept_book, map_from, is_book_of, numbers_of, message_in, messages_in, contents_at, publisher_of, between_of, blocked_send}
 use Rattle.iox2_domain.specs.Invariant.{HasLoneLoans, HasNumber, HasBook, HasBooks, IsBook, NamesBooks, IsNumbered, IsCounted, HasShapes, HasForms, IsOwned, IsLeft, KeepsBooks, holders_of, own_holders, is_publisher, is_loan_in, cell_count, mark_at, HasParts}
 use Rattle.iox2_domain.specs.LeftBooks.{with_book_gone}
@@ -95,7 +95,7 @@ module _ {T U : Type 0} (f : Fields T U) (parts : HasParts f) (key : ℕ) (b : B
   nothing_in cs slot = rw (unused slot) refl
 
   -- each number has the message that it had
-  messages-same : (n : ℕ) → message_numbered n (map_from (kept_book after.contents) 0 after.books.slots) ≡ message_numbered n (map_from (kept_book f.contents) 0 f.books.slots)
+  pub messages-same : (n : ℕ) → message_numbered n (map_from (kept_book after.contents) 0 after.books.slots) ≡ message_numbered n (map_from (kept_book f.contents) 0 f.books.slots)
   messages-same n = numbered-same n (map_from (kept_book f.contents) 0 f.books.slots) (map_from (kept_book after.contents) 0 after.books.slots) found where
     by : (k : ℕ) (o : Option Book) → k ≢ key → found_in n (kept_book after.contents k o) ≡ found_in n (kept_book f.contents k o)
     by k None away = refl
@@ -139,20 +139,15 @@ module _ {T U : Type 0} (f : Fields T U) (parts : HasParts f) (key : ℕ) (b : B
     publisher_places = ids (publishers-shown i);
   }
 
-  -- the same entries are kept
-  pub gone-entries : (n : ℕ) → entries_of (kept_of after) n ≡ entries_of (kept_of f) n
-  gone-entries n = ap (option_and_then entry_in) (messages-same n)
-
   -- ---- the parts
-
-  had_number : (k slot n : ℕ) → HasNumber after.books k slot n → HasNumber f.books k slot n
-  had_number k slot n has = record { book = has.book; stands = (was_book k has.book has.stands).1; in_use = has.in_use; number = has.number }
 
   numbered : IsNumbered f.next_message after.books
   numbered = record {
     one = λ k k' slot slot' n this that. parts.numbered.one k k' slot slot' n (had_number k slot n this) (had_number k' slot' n that);
     below = λ k slot n this. parts.numbered.below k slot n (had_number k slot n this);
-  }
+  } where
+    had_number : (k slot n : ℕ) → HasNumber after.books k slot n → HasNumber f.books k slot n
+    had_number k slot n has = record { book = has.book; stands = (was_book k has.book has.stands).1; in_use = has.in_use; number = has.number }
 
   -- what the publisher itself has of the slot, or what is out of one that is gone
   abbrev own : (s : ℕ) → Option PublisherFields → Option Book → ℕ

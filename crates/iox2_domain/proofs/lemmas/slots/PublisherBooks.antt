@@ -16,6 +16,10 @@ use Rattle.iox2_domain.specs.Fields.{Fields}
 use Rattle.iox2_domain.specs.Invariant.{IsBookOf, IsOwned, HasBook, HasParts}
 use Rattle.iox2_domain.proofs.lemmas.slots.Holders.{book-holders, own-slots}
 
+-- The book at the publisher's key has as many holders of each slot, at least, as stand in the publisher's connections.
+abbrev pub BookCovers : {T U : Type 0} → Fields T U → PublisherFields → Type 0
+BookCovers f x = (b : Book) → get f.books x.book ≡ Some b → IsCovered x.id b.holders f.connections.slots
+
 module _ {T U : Type 0} (f : Fields T U) (parts : HasParts f) (i : ℕ) (x : PublisherFields) (here : get_or f.publishers i None ≡ Some x) where
   its_book : HasBook f x
   its_book = parts.books.publishers i x here
@@ -42,7 +46,7 @@ module _ {T U : Type 0} (f : Fields T U) (parts : HasParts f) (i : ℕ) (x : Pub
   book-counts b at slot = omega (arith, book-holders f.books x.book x.id b (parts.books.one_each x.id) at (book-own b at) slot, own-slots f parts.publisher_ids i x here slot, parts.counted.at x.id slot)
 
   -- which covers those in connections
-  pub book-covers : (b : Book) → get f.books x.book ≡ Some b → IsCovered x.id b.holders f.connections.slots
+  pub book-covers : BookCovers f x
   book-covers b at = record {
     at = λ slot. omega (arith, book-counts b at slot);
   }

@@ -1,24 +1,21 @@
 -- A publisher's connections and the counters of its slots change together, whether it stands or is gone: what the machine sees of it.
 use Rattle.std.proofs.Common.{◌≡◌, ℕ, refl, ap, subst, ◌∙◌, List}
-use Rattle.std.proofs.lemmas.Bool.{eq-eqb}
 use Rattle.std.specs.declared.option.Option.{Option}
 use Rattle.std.specs.declared.option.Option.TheVariants.{Some}
 use Rattle.slab.specs.Slab.{Slab, get}
 use Rattle.iox2_connections.specs.Link.{Link}
 use Rattle.iox2_slots.specs.SlotBook.{Book}
-use Rattle.iox2_machine.specs.machine.Records.{Entry, Loan}
-use Rattle.iox2_machine.specs.Stored.{IsHeldMessage}
+use Rattle.iox2_machine.specs.machine.Records.{Loan}
 use Rattle.iox2_machine.specs.machine.State.{State}
 use Rattle.iox2_connections.specs.Counters.{with_counters}
 use Rattle.iox2_connections.specs.Mailboxes.{mailboxes_of}
 use Rattle.iox2_connections.specs.Recounts.{Recounts}
-use Rattle.iox2_domain.specs.Kept.{KeptMessage, Lent_message, Sent_message, state_of, entries_of}
+use Rattle.iox2_domain.specs.Kept.{KeptMessage, Lent_message, state_of}
 use Rattle.iox2_domain.specs.Fields.{Fields, kept_of, numbers_of}
 use Rattle.iox2_domain.specs.Invariant.{HasNumber, HasParts}
-use Rattle.iox2_domain.proofs.lemmas.slots.Messages.{lies_at, has_number, loan-there, loan-found, entry-there, entry-found, alike-if-found}
+use Rattle.iox2_domain.proofs.lemmas.slots.Messages.{lies_at, loan-there, loan-found, alike-if-found}
 use Rattle.iox2_domain.proofs.lemmas.slots.BookChanges.{KeepsSlots, numbers-same, book-state}
 use Rattle.iox2_domain.proofs.lemmas.fields.SameEnds.{with_connections, connections-are}
-use Rattle.iox2_domain.proofs.lemmas.slots.HeldMessages.{held-message-slot}
 use Rattle.iox2_domain.proofs.lemmas.slots.Recounts.{with_recounted, OwnStays, recounted-consistent, back, forth, number-back}
 
 module _ {T U : Type 0} (f : Fields T U) (parts : HasParts f) (p key : ℕ) (b : Book) (at : get f.books key ≡ Some b) (mine : b.publisher ≡ p)
@@ -81,20 +78,3 @@ module _ {T U : Type 0} (f : Fields T U) (parts : HasParts f) (p key : ℕ) (b :
         book-state (with_connections f new r.homes) key b (with_counters b holders) at keeps parts.books.one_each
         ∙ ap (λ (s : State T U). record s { loans = (state_of (kept_of recounted_fields)).loans }) (connections-are f new r.homes)
         ∙ ap (λ (loans : ℕ → Option (Loan T U)). record (state_of (kept_of f)) { mailboxes = mailboxes_of (numbers_of f.books) new; loans = loans }) loans-same
-
-    -- ---- messages
-
-    -- no entry is newly kept
-    pub recounted-entries : (n : ℕ) (entry : Entry T U) → entries_of (kept_of recounted_fields) n ≡ Some entry → entries_of (kept_of f) n ≡ Some entry
-    recounted-entries n entry e =
-        let at_slot = entry-there recounted_fields n entry e in
-        entry-found f parts.numbered at_slot.0 at_slot.1 n entry (lay at_slot.0 at_slot.1 (Sent_message n entry) at_slot.2)
-
-    -- the entry of a message that somebody holds is still kept
-    pub recounted-keeps : (q n : ℕ) (entry : Entry T U) → IsHeldMessage (state_of (kept_of recounted_fields)) q n → entries_of (kept_of f) n ≡ Some entry
-        → entries_of (kept_of recounted_fields) n ≡ Some entry
-    recounted-keeps q n entry held e =
-        let has = held-message-slot recounted_fields consistent.counted consistent.publisher_ids consistent.plain q n held in
-        let at_slot = entry-there f n entry e in
-        let now = there at_slot.0 at_slot.1 has.0 has.1 n (has_number f.contents f.books at_slot.0 at_slot.1 n (Sent_message n entry) at_slot.2 (eq-eqb n n refl)) has.2 in
-        entry-found recounted_fields consistent.numbered at_slot.0 at_slot.1 n entry (lies at_slot.0 at_slot.1 n (Sent_message n entry) now at_slot.2)

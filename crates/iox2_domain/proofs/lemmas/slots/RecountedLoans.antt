@@ -29,9 +29,9 @@ use Rattle.iox2_domain.specs.Invariant.{IsDomain, IsOwned, KeepsBooks, HasLoneLo
 use Rattle.iox2_domain.proofs.lemmas.fields.ConnectionEnds.{publisher-stands}
 use Rattle.iox2_domain.proofs.lemmas.fields.KeptBooks.{kept-own}
 use Rattle.iox2_domain.proofs.lemmas.fields.SameEnds.{with_connections}
-use Rattle.iox2_domain.proofs.lemmas.slots.Messages.{LiesIn, message_in-parts, lies_at, message_at-book, message_at-slot, has_number}
+use Rattle.iox2_domain.proofs.lemmas.slots.Messages.{LiesIn, message_in-parts, lies_at, message_at-book, message_at-slot, has_number, entry-there, entry-found}
 use Rattle.iox2_domain.proofs.lemmas.slots.BookChanges.{KeepsSlots, books-apart, book-here, book-others}
-use Rattle.iox2_domain.proofs.lemmas.slots.HeldMessages.{slot_numbered, own-in_use, lies_with}
+use Rattle.iox2_domain.proofs.lemmas.slots.HeldMessages.{held-message-slot, slot_numbered, own-in_use, lies_with}
 use Rattle.iox2_domain.proofs.lemmas.slots.RecountedFields as fields
 use Rattle.iox2_domain.proofs.lemmas.slots.Recounts.{OwnStays, recounted-consistent}
 use Rattle.iox2_domain.proofs.lemmas.slots.Holders.{book-by_id, book-holders}
@@ -193,9 +193,16 @@ module _ {T U : Type 0} (f : Fields T U) (sound : IsDomain f) (p key : ℕ) (b :
 
   -- no entry is newly kept
   pub recounted-entries : (n : ℕ) (entry : Entry T U) → entries_of (kept_of recounted_fields) n ≡ Some entry → entries_of (kept_of f) n ≡ Some entry
-  recounted-entries = fields.recounted-entries f parts p key b at mine holders new r own loans-stay
+  recounted-entries n entry e =
+      let at_slot = entry-there recounted_fields n entry e in
+      entry-found f parts.numbered at_slot.0 at_slot.1 n entry (fields.lay f parts p key b at mine holders new r at_slot.0 at_slot.1 (Sent_message n entry) at_slot.2)
 
   -- the entry of a message that somebody holds is still kept
   pub recounted-keeps : (q n : ℕ) (entry : Entry T U) → IsHeldMessage (state_of (kept_of recounted_fields)) q n → entries_of (kept_of f) n ≡ Some entry
       → entries_of (kept_of recounted_fields) n ≡ Some entry
-  recounted-keeps = fields.recounted-keeps f parts p key b at mine holders new r own loans-stay
+  recounted-keeps q n entry held e =
+      let has = held-message-slot recounted_fields parts-recounted.counted parts-recounted.publisher_ids parts-recounted.plain q n held in
+      let at_slot = entry-there f n entry e in
+      let now = fields.there f parts p key b at mine holders new r at_slot.0 at_slot.1 has.0 has.1 n
+      (has_number f.contents f.books at_slot.0 at_slot.1 n (Sent_message n entry) at_slot.2 (eq-eqb n n refl)) has.2 in
+      entry-found recounted_fields parts-recounted.numbered at_slot.0 at_slot.1 n entry (fields.lies f parts p key b at mine holders new r at_slot.0 at_slot.1 n (Sent_message n entry) now at_slot.2)

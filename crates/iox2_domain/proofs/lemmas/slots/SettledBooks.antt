@@ -2,6 +2,7 @@
 use Rattle.std.proofs.Common.{◌≡◌, ◌≢◌, ℕ, zero, suc, ◌<◌, List, [], ◌∷◌, get_or, refl, ap, sym, subst, ◌∙◌, inl, inr, ◌⊎◌, arith}
 use Rattle.std.proofs.lemmas.Bool.{cases_eq, eq-eqb}
 use Rattle.std.specs.List.{All}
+use Rattle.std.specs.Option.{option_and_then}
 use Rattle.std.specs.declared.option.Option.TheVariants.{None, Some}
 use Rattle.slab.specs.Slab.{get}
 use Rattle.iox2_connections.specs.Link.{Link}
@@ -11,13 +12,13 @@ use Rattle.iox2_machine.specs.machine.State.{State}
 use Rattle.iox2_machine.specs.machine.WellFormed.{IsWellFormed}
 use Rattle.iox2_domain.specs.LeftBooks.{with_book_gone, IsUnused, SettlesBook}
 use Rattle.iox2_domain.specs.Ports.{PublisherFields}
-use Rattle.iox2_domain.specs.Kept.{state_of}
+use Rattle.iox2_domain.specs.Kept.{state_of, entries_of, entry_in}
 use Rattle.iox2_domain.specs.Fields.{Fields, kept_of}
 use Rattle.iox2_domain.specs.Invariant.{HasLoneLoans, IsOwned, IsLeft, HasParts}
 use Rattle.iox2_domain.specs.Reaches.{Reaches}
 use Rattle.iox2_domain.specs.Shows.{KeepsEntries}
 use Rattle.iox2_domain.proofs.lemmas.fields.Parts.{whole_of}
-use Rattle.iox2_domain.proofs.lemmas.slots.BookGone.{gone-parts, gone-state, gone-entries, gone-lone, gone-kept}
+use Rattle.iox2_domain.proofs.lemmas.slots.BookGone.{gone-parts, gone-state, messages-same, gone-lone, gone-kept}
 use Rattle.iox2_domain.proofs.lemmas.slots.HeldMessages.{held-message-slot}
 use Rattle.iox2_domain.proofs.lemmas.slots.LeftConnections.{some-number, left-numbers}
 
@@ -70,10 +71,13 @@ module _ {T U : Type 0} (f : Fields T U) (parts : HasParts f) (lone : HasLoneLoa
         (subst IsWellFormed (sym (gone-state f parts key b at unused gone (unnamed unused))) well)
         (λ q m held.
         let old = entries q m (subst (λ (s : State T U). IsHeldMessage s q m) (gone-state f parts key b at unused gone (unnamed unused)) held) in
-        (old.0, gone-entries f parts key b at unused gone (unnamed unused) m ∙ old.1, old.2));
+        (old.0, same-entries m ∙ old.1, old.2));
     state = gone-state f parts key b at unused gone (unnamed unused);
-    entries = λ m entry e. sym (gone-entries f parts key b at unused gone (unnamed unused) m) ∙ e;
-  }
+    entries = λ m entry e. sym (same-entries m) ∙ e;
+  } where
+    -- the same entries are kept
+    same-entries : (m : ℕ) → entries_of (kept_of (with_book_gone f key)) m ≡ entries_of (kept_of f) m
+    same-entries m = ap (option_and_then entry_in) (messages-same f parts key b at unused gone (unnamed unused) m)
 
   -- it stays
   stays : (s : ℕ) → 0 < holders_at b s → Reaches f f (state_of (kept_of f))
