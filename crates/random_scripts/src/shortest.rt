@@ -2,6 +2,7 @@
 use crate::failure::Failure;
 use crate::limits::{LIMITS, Limit};
 use crate::search::Search;
+use iox2_runs::Command;
 use random_commands::Script;
 use std::alloc::Global;
 
@@ -10,9 +11,6 @@ const MOST_COMMANDS_TRIED: usize = 1_000_000;
 
 // How many lines are left out at once.
 const COUNTS: [usize; 8] = [128, 64, 32, 16, 8, 4, 2, 1];
-
-// Of longer scripts the limits of single ports are left as they are.
-const MOST_WITH_PORTS: usize = 40;
 
 /// The shortest script that was found to fail, and whether shorter ones are left that weren't tried.
 #[derive(Drop)]
@@ -48,13 +46,14 @@ fn copy(alloc: Global, script: &Script) -> Result<Script, Failure> {
     })
 }
 
-// Makes limits smaller and leaves out lines, in turn.
+// Makes limits smaller, sends copies and leaves out lines, in turn, as long as that goes.
 fn shortened(search: &mut Search, script: Script) -> Result<Script, Failure> {
     let mut found = script;
-    for _ in 0..8 {
+    for _ in 0..found.commands.len() {
         let before = found.commands.len();
         found = with_smaller_limits(search, found)?;
         found = with_fewer_lines(search, found)?;
+        found = with_copies(search, found)?;
         found = with_fewer_of_both(search, found)?;
         if found.commands.len() == before {
             break;
@@ -63,15 +62,12 @@ fn shortened(search: &mut Search, script: Script) -> Result<Script, Failure> {
     Ok(found)
 }
 
-// The limits of the settings, and of the ports where the script is short.
+// The limits of the settings, and of the ports.
 fn limits_of(alloc: Global, script: &Script) -> Result<Vec<Limit>, Failure> {
     let mut limits = Vec::from_array(alloc, LIMITS)?;
-    let count = script.commands.len();
-    if count <= MOST_WITH_PORTS {
-        for position in 0..count {
-            limits.push(Limit::Port(position))?;
-            limits.push(Limit::Slots(position))?;
-        }
+    for position in 0..script.commands.len() {
+        limits.push(Limit::Port(position))?;
+        limits.push(Limit::Slots(position))?;
     }
     Ok(limits)
 }
@@ -94,7 +90,7 @@ fn with_smaller_limits(search: &mut Search, script: Script) -> Result<Script, Fa
 // Leaves out lines, many at once and then fewer, as long as that goes.
 fn with_fewer_lines(search: &mut Search, script: Script) -> Result<Script, Failure> {
     let mut found = script;
-    for _ in 0..8 {
+    for _ in 0..found.commands.len() {
         let before = found.commands.len();
         for count in COUNTS {
             found = without_so_many(search, found, count)?;
@@ -124,17 +120,56 @@ fn without_so_many(search: &mut Search, script: Script, count: usize) -> Result<
     Ok(found)
 }
 
-// Makes limits smaller by one while some lines are left out, as those of a message for which a smaller
-// buffer has no room.
+// Sends copies in place of loans, where that fails too.
+fn with_copies(search: &mut Search, script: Script) -> Result<Script, Failure> {
+    let mut found = script;
+    for later in 0..found.commands.len() {
+        let at = found.commands.len().saturating_sub(later).saturating_sub(1);
+        if let Some(fewer) = with_copy_at(search, &found, at)? {
+            found = fewer;
+        }
+    }
+    Ok(found)
+}
+
+// The script whose command at this position sends a copy in place of a loan, which is left out, if
+// that fails.
+fn with_copy_at(
+    search: &mut Search,
+    script: &Script,
+    at: usize,
+) -> Result<Option<Script>, Failure> {
+    let Some(Command::Send { of: loan }) = script.commands.get(at).copied() else {
+        return Ok(None);
+    };
+    let Some(Command::LoanUninit { of } | Command::Loan { of }) = script.commands.get(loan).copied()
+    else {
+        return Ok(None);
+    };
+    let mut copied = copy(search.alloc(), script)?;
+    if let Some(command) = copied.commands.get_mut(at) {
+        let value = loan as u64;
+        *command = Command::SendCopy { of, value };
+    }
+    let fewer = search.without_lines(&copied, loan, 1)?;
+    search.failing(fewer)
+}
+
+// Makes limits smaller, each time by one and while some lines are left out, as those of a message for
+// which a smaller buffer has no room.
 fn with_fewer_of_both(search: &mut Search, script: Script) -> Result<Script, Failure> {
     let mut found = script;
     for limit in &limits_of(search.alloc(), &found)? {
-        let size = limit.of(&found);
-        if size > 0 {
-            let smaller = limit.set(search.alloc(), &found, size - 1)?;
-            if let Some(fewer) = without_some(search, &smaller)? {
-                found = fewer;
+        for _ in 0..found.commands.len() {
+            let size = limit.of(&found);
+            if size == 0 {
+                break;
             }
+            let smaller = limit.set(search.alloc(), &found, size - 1)?;
+            let Some(fewer) = without_some(search, &smaller)? else {
+                break;
+            };
+            found = fewer;
         }
     }
     Ok(found)
