@@ -43,7 +43,8 @@ impl Model {
         publisher.loans.push(message)?;
         let segment = publisher.segments.made;
         self.segments.push(segment)?;
-        let mut cells = Vec::new(self.alloc);
+        // At once, so that a length that no memory holds is refused before any cell is made.
+        let mut cells = Vec::with_capacity(self.alloc, len)?;
         for _ in 0..len {
             cells.push(cell)?;
         }

@@ -4,7 +4,7 @@ use iox2_machine::{
     AllocationStrategy, BackpressureStrategy, DegradationAction, LoanError, ServiceConfig,
     TypeVariant, UniquePublisherId,
 };
-use iox2_model::{Memory, Model};
+use iox2_model::{Memory, Model, ModelError};
 use std::alloc::Global;
 use std::process::Abort;
 
@@ -105,6 +105,16 @@ fn a_loan_that_fits_no_segment_changes_nothing(rt: HostRuntime) {
         assert!(rt; model.max_slice_len_at(0) == 4);
         lend_and_discard(&rt, &mut model, 4);
     }
+}
+
+// The size of a segment of one slot fits. The model has no reply then, and says so at once.
+#[test]
+fn a_loan_that_no_memory_holds_gets_no_reply(rt: HostRuntime) {
+    let first = publisher(1, AllocationStrategy::BestFit, Some(1));
+    let mut model = model(&rt, rt.alloc(), Memory::ample(), first);
+    let len = usize::MAX;
+    let reply = model.carry_out(Command::LoanSlice { of: 0, len }, None);
+    assert!(rt; matches!(reply, Err(ModelError::OutOfMemory(_))));
 }
 
 #[test]

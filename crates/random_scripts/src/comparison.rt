@@ -116,13 +116,12 @@ fn different_count(model: &Model, commands: usize, ran: &Ran) -> Option<Differen
     None
 }
 
-/// Runs the commands. Whether what becomes of them isn't what the model says.
-pub(crate) fn is_refuted(
+/// Runs the commands, and says where what becomes of them first isn't what the model says.
+pub(crate) fn first_difference(
     alloc: Global,
     config: ServiceConfig,
     commands: &[Command<u64, u64>],
-) -> Result<bool, Failure> {
+) -> Result<Option<Difference>, Failure> {
     let ran = carry_out_all(alloc, config, commands)?;
-    let comparison = compare(alloc, config, commands, &ran, Memory::ample())?;
-    Ok(comparison.difference.is_some())
+    Ok(compare(alloc, config, commands, &ran, Memory::ample())?.difference)
 }

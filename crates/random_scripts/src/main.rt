@@ -8,6 +8,7 @@ mod failure;
 mod limits;
 mod refusals;
 mod rounds;
+mod search;
 mod shortest;
 mod tally;
 mod word_tally;

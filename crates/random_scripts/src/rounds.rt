@@ -1,5 +1,5 @@
 //! Script after script.
-use crate::comparison::{carry_out_all, compare};
+use crate::comparison::{carry_out_all, compare, first_difference};
 use crate::failure::Failure;
 use crate::shortest::shortest;
 use crate::tally::Tally;
@@ -72,17 +72,16 @@ fn check(
 }
 
 fn print_shortest(rt: &HostRuntime, script: &Script) -> Result<(), Failure> {
-    let fewest = shortest(rt.alloc(), script)?;
-    println!(rt;
-        "the shortest such script has {} commands:",
-        fewest.commands.len()
-    )?;
-    print_lines(rt, &fewest)?;
+    let found = shortest(rt.alloc(), script)?;
+    let fewest = found.script;
     let commands = fewest.commands.as_slice();
-    let ran = carry_out_all(rt.alloc(), fewest.config, commands)?;
-    let comparison = compare(rt.alloc(), fewest.config, commands, &ran, Memory::ample())?;
-    if let Some(difference) = comparison.difference {
+    println!(rt; "the shortest such script has {} commands:", commands.len())?;
+    print_lines(rt, &fewest)?;
+    if let Some(difference) = first_difference(rt.alloc(), fewest.config, commands)? {
         difference.print(rt)?;
+    }
+    if found.is_cut_short {
+        println!(rt; "Not all shorter ones were tried, since that takes too long.")?;
     }
     Ok(())
 }

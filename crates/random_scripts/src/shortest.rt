@@ -1,26 +1,41 @@
 //! The shortest failing script that leaving out lines and smaller limits give.
-use crate::comparison::is_refuted;
 use crate::failure::Failure;
 use crate::limits::{LIMITS, Limit};
-use random_commands::{Script, without};
+use crate::search::Search;
+use iox2_runs::Command;
+use random_commands::Script;
 use std::alloc::Global;
+
+// How many commands each of the two attempts carries out at most.
+const MOST_COMMANDS_TRIED: usize = 1_000_000;
 
 // How many lines are left out at once.
 const COUNTS: [usize; 8] = [128, 64, 32, 16, 8, 4, 2, 1];
 
-// Of longer scripts the limits of single ports are left as they are.
-const MOST_WITH_PORTS: usize = 40;
+/// The shortest script that was found to fail, and whether shorter ones are left that weren't tried.
+#[derive(Drop)]
+pub(crate) struct Found {
+    pub(crate) script: Script,
+    pub(crate) is_cut_short: bool,
+}
 
 /// The script with as many commands left out as can be, so that it still fails. Limits are made
 /// smaller first in one attempt, and lines are left out first in another.
-pub(crate) fn shortest(alloc: Global, script: &Script) -> Result<Script, Failure> {
-    let lines_first = shortened(alloc, with_fewer_lines(alloc, copy(alloc, script)?)?)?;
-    let limits_first = shortened(alloc, copy(alloc, script)?)?;
-    if limits_first.commands.len() < lines_first.commands.len() {
-        Ok(limits_first)
+pub(crate) fn shortest(alloc: Global, script: &Script) -> Result<Found, Failure> {
+    let mut search = Search::new(alloc, MOST_COMMANDS_TRIED);
+    let fewer = with_fewer_lines(&mut search, copy(alloc, script)?)?;
+    let lines_first = shortened(&mut search, fewer)?;
+    let mut other = Search::new(alloc, MOST_COMMANDS_TRIED);
+    let limits_first = shortened(&mut other, copy(alloc, script)?)?;
+    let script = if limits_first.commands.len() < lines_first.commands.len() {
+        limits_first
     } else {
-        Ok(lines_first)
-    }
+        lines_first
+    };
+    Ok(Found {
+        script,
+        is_cut_short: search.is_over() || other.is_over(),
+    })
 }
 
 // The same script.
@@ -31,14 +46,15 @@ fn copy(alloc: Global, script: &Script) -> Result<Script, Failure> {
     })
 }
 
-// Makes limits smaller and leaves out lines, in turn.
-fn shortened(alloc: Global, script: Script) -> Result<Script, Failure> {
+// Makes limits smaller, sends copies and leaves out lines, in turn, as long as that goes.
+fn shortened(search: &mut Search, script: Script) -> Result<Script, Failure> {
     let mut found = script;
-    for _ in 0..8 {
+    for _ in 0..found.commands.len() {
         let before = found.commands.len();
-        found = with_smaller_limits(alloc, found)?;
-        found = with_fewer_lines(alloc, found)?;
-        found = with_fewer_of_both(alloc, found)?;
+        found = with_smaller_limits(search, found)?;
+        found = with_fewer_lines(search, found)?;
+        found = with_copies(search, found)?;
+        found = with_fewer_of_both(search, found)?;
         if found.commands.len() == before {
             break;
         }
@@ -46,31 +62,23 @@ fn shortened(alloc: Global, script: Script) -> Result<Script, Failure> {
     Ok(found)
 }
 
-// Whether a reply isn't the model's.
-fn fails(alloc: Global, script: &Script) -> Result<bool, Failure> {
-    is_refuted(alloc, script.config, script.commands.as_slice())
-}
-
-// The limits of the settings, and of the ports where the script is short.
+// The limits of the settings, and of the ports.
 fn limits_of(alloc: Global, script: &Script) -> Result<Vec<Limit>, Failure> {
     let mut limits = Vec::from_array(alloc, LIMITS)?;
-    let count = script.commands.len();
-    if count <= MOST_WITH_PORTS {
-        for position in 0..count {
-            limits.push(Limit::Port(position))?;
-            limits.push(Limit::Slots(position))?;
-        }
+    for position in 0..script.commands.len() {
+        limits.push(Limit::Port(position))?;
+        limits.push(Limit::Slots(position))?;
     }
     Ok(limits)
 }
 
 // Makes each limit as small as can be.
-fn with_smaller_limits(alloc: Global, script: Script) -> Result<Script, Failure> {
+fn with_smaller_limits(search: &mut Search, script: Script) -> Result<Script, Failure> {
     let mut found = script;
-    for limit in &limits_of(alloc, &found)? {
+    for limit in &limits_of(search.alloc(), &found)? {
         for value in 0..limit.of(&found).min(8) {
-            let smaller = limit.set(alloc, &found, value)?;
-            if fails(alloc, &smaller)? {
+            let smaller = limit.set(search.alloc(), &found, value)?;
+            if let Some(smaller) = search.failing(smaller)? {
                 found = smaller;
                 break;
             }
@@ -80,12 +88,12 @@ fn with_smaller_limits(alloc: Global, script: Script) -> Result<Script, Failure>
 }
 
 // Leaves out lines, many at once and then fewer, as long as that goes.
-fn with_fewer_lines(alloc: Global, script: Script) -> Result<Script, Failure> {
+fn with_fewer_lines(search: &mut Search, script: Script) -> Result<Script, Failure> {
     let mut found = script;
-    for _ in 0..8 {
+    for _ in 0..found.commands.len() {
         let before = found.commands.len();
         for count in COUNTS {
-            found = without_so_many(alloc, found, count)?;
+            found = without_so_many(search, found, count)?;
         }
         if found.commands.len() == before {
             break;
@@ -95,54 +103,88 @@ fn with_fewer_lines(alloc: Global, script: Script) -> Result<Script, Failure> {
 }
 
 // Leaves out so many lines at once, from the end on, where the rest still fails.
-fn without_so_many(alloc: Global, script: Script, count: usize) -> Result<Script, Failure> {
+fn without_so_many(search: &mut Search, script: Script, count: usize) -> Result<Script, Failure> {
     let mut found = script;
-    for step in 0..found.commands.len() {
-        let passed = step.saturating_add(1).saturating_mul(count);
-        let from = found.commands.len().saturating_sub(passed);
-        let fewer = without_lines(alloc, &found, from, count)?;
-        if fewer.commands.len() < found.commands.len() && fails(alloc, &fewer)? {
+    let mut end = found.commands.len();
+    for _ in 0..end {
+        if end == 0 {
+            break;
+        }
+        let from = end.saturating_sub(count);
+        let fewer = search.without_lines(&found, from, end.saturating_sub(from))?;
+        if let Some(fewer) = search.failing(fewer)? {
+            found = fewer;
+        }
+        end = from.min(found.commands.len());
+    }
+    Ok(found)
+}
+
+// Sends copies in place of loans, where that fails too.
+fn with_copies(search: &mut Search, script: Script) -> Result<Script, Failure> {
+    let mut found = script;
+    for later in 0..found.commands.len() {
+        let at = found.commands.len().saturating_sub(later).saturating_sub(1);
+        if let Some(fewer) = with_copy_at(search, &found, at)? {
             found = fewer;
         }
     }
     Ok(found)
 }
 
-fn without_lines(
-    alloc: Global,
+// The script whose command at this position sends a copy in place of a loan, which is left out, if
+// that fails.
+fn with_copy_at(
+    search: &mut Search,
     script: &Script,
-    from: usize,
-    count: usize,
-) -> Result<Script, Failure> {
-    Ok(Script {
-        config: script.config,
-        commands: without(alloc, script.commands.as_slice(), from, count)?,
-    })
+    at: usize,
+) -> Result<Option<Script>, Failure> {
+    let Some(Command::Send { of: loan }) = script.commands.get(at).copied() else {
+        return Ok(None);
+    };
+    let Some(Command::LoanUninit { of } | Command::Loan { of }) = script.commands.get(loan).copied()
+    else {
+        return Ok(None);
+    };
+    let mut copied = copy(search.alloc(), script)?;
+    if let Some(command) = copied.commands.get_mut(at) {
+        let value = loan as u64;
+        *command = Command::SendCopy { of, value };
+    }
+    let fewer = search.without_lines(&copied, loan, 1)?;
+    search.failing(fewer)
 }
 
-// Makes limits smaller by one while some lines are left out, as those of a message for which a smaller
-// buffer has no room.
-fn with_fewer_of_both(alloc: Global, script: Script) -> Result<Script, Failure> {
+// Makes limits smaller, each time by one and while some lines are left out, as those of a message for
+// which a smaller buffer has no room.
+fn with_fewer_of_both(search: &mut Search, script: Script) -> Result<Script, Failure> {
     let mut found = script;
-    for limit in &limits_of(alloc, &found)? {
-        let size = limit.of(&found);
-        if size > 0 {
-            let smaller = limit.set(alloc, &found, size - 1)?;
-            if let Some(fewer) = without_some(alloc, &smaller)? {
-                found = fewer;
+    for limit in &limits_of(search.alloc(), &found)? {
+        for _ in 0..found.commands.len() {
+            let size = limit.of(&found);
+            if size == 0 {
+                break;
             }
+            let smaller = limit.set(search.alloc(), &found, size - 1)?;
+            let Some(fewer) = without_some(search, &smaller)? else {
+                break;
+            };
+            found = fewer;
         }
     }
     Ok(found)
 }
 
 // The script that fails without up to four lines which follow one another, if there is one.
-fn without_some(alloc: Global, script: &Script) -> Result<Option<Script>, Failure> {
+fn without_some(search: &mut Search, script: &Script) -> Result<Option<Script>, Failure> {
+    let length = script.commands.len();
     for count in 1..5 {
-        for from in 0..script.commands.len() {
-            let fewer = without_lines(alloc, script, from, count)?;
-            if fewer.commands.len() < script.commands.len() && fails(alloc, &fewer)? {
-                return Ok(Some(fewer));
+        for from in 0..length {
+            let fewer = search.without_lines(script, from, count)?;
+            if fewer.commands.len() < length {
+                if let Some(fewer) = search.failing(fewer)? {
+                    return Ok(Some(fewer));
+                }
             }
         }
     }

@@ -1,6 +1,7 @@
 //! What the lines of a script ask for.
 ghost use Rattle.std.specs.Prelude.{◌≡◌, ◌↔◌, ◌<◌, ◌*◌, ◌+◌, ℕ, Bool, Option, IfErr, IfNone, IfOk, IfSome, IsSome, length};
 ghost use Rattle.std.specs.Duration.{as_nanos};
+ghost use Rattle.std.specs.Str.{IsUtf8};
 ghost use Rattle.iox2_machine.specs.declared.allocation.AllocationStrategy.{AllocationStrategy};
 ghost use Rattle.iox2_machine.specs.declared.backpressure.BackpressureAction.{BackpressureAction};
 ghost use Rattle.iox2_machine.specs.declared.degradation.DegradationAction.{DegradationAction};
@@ -66,10 +67,7 @@ pub fn domain_of(line: &[u8]) -> Option<ServiceConfig>
     ensures reads { IfSome result (NamesDomain line.now) }
     ensures refuses { IfNone result ((config : ServiceConfig) → ¬ NamesDomain line.now config) }
 {
-    let Ok(text) = str::from_utf8(line) else {
-        return None;
-    };
-    let words = split_words(text)?;
+    let words = split_words(line)?;
     parse_domain(&words)
 }
 
@@ -79,10 +77,7 @@ pub fn command_of(line: &[u8]) -> Option<Command<u64, u64>>
     ensures reads { IfSome result (NamesCommand line.now) }
     ensures refuses { IfNone result ((command : Command ℕ ℕ) → ¬ NamesCommand line.now command) }
 {
-    let Ok(text) = str::from_utf8(line) else {
-        return None;
-    };
-    let words = split_words(text)?;
+    let words = split_words(line)?;
     parse_command(&words)
 }
 
@@ -357,13 +352,17 @@ fn parse_strategy(word: &str) -> Option<BackpressureStrategy>
 /// The most words that a line has: those of the domain line.
 const MOST_WORDS: usize = 8;
 
-/// The words of a line, which spaces part. None where they are more than any line has.
-fn split_words(line: &str) -> Option<ArrayVec<&str, MOST_WORDS>>
-    ensures splits { IfSome result (λ words. texts words.items ≡ line_words line.now) }
-    ensures refuses { IfNone result (MOST_WORDS < length (line_words line.now)) }
+/// The words of a line, which spaces part. None where it isn't text, or they are more than any line
+/// has.
+fn split_words(line: &[u8]) -> Option<ArrayVec<&str, MOST_WORDS>>
+    ensures splits { IfSome result (λ words. IsUtf8 line.now × (texts words.items ≡ line_words line.now)) }
+    ensures refuses { IfNone result (IsUtf8 line.now → MOST_WORDS < length (line_words line.now)) }
 {
+    let Ok(text) = str::from_utf8(line) else {
+        return None;
+    };
     let mut words = ArrayVec::new();
-    for word in line.split(' ') {
+    for word in text.split(' ') {
         if !word.is_empty() {
             let Ok(()) = words.try_push(word) else {
                 return None;
