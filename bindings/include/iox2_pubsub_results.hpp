@@ -37,8 +37,7 @@ enum class Error : std::uint32_t {
   SendConnectionIncompatibleBufferSize = IOX2PS_SEND_ERROR_CONNECTION_INCOMPATIBLE_BUFFER_SIZE,
   /** As ConnectionOutOfMemory, and nobody has the message. */
   SendConnectionOutOfMemory = IOX2PS_SEND_ERROR_CONNECTION_OUT_OF_MEMORY,
-  /** As ConnectionExpiredBufferFull, and nobody has the message. */
-  SendConnectionExpiredBufferFull = IOX2PS_SEND_ERROR_CONNECTION_EXPIRED_BUFFER_FULL,
+  SendConnectionExpiredBufferFull = IOX2PS_SEND_ERROR_CONNECTION_EXPIRED_BUFFER_FULL, /**< never returned */
   SendConnectionUnableToMap = IOX2PS_SEND_ERROR_CONNECTION_UNABLE_TO_MAP, /**< never returned */
 
   /** Messages wait, but of each of their publishers as many samples are held as may be. */
