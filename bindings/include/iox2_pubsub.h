@@ -110,8 +110,7 @@ typedef enum iox2ps_status_e {
   IOX2PS_SEND_ERROR_CONNECTION_INCOMPATIBLE_BUFFER_SIZE = 24, /**< never returned */
   /** As IOX2PS_CONNECTION_FAILURE_OUT_OF_MEMORY, and nobody has the message. */
   IOX2PS_SEND_ERROR_CONNECTION_OUT_OF_MEMORY = 25,
-  /** As IOX2PS_CONNECTION_FAILURE_EXPIRED_BUFFER_FULL, and nobody has the message. */
-  IOX2PS_SEND_ERROR_CONNECTION_EXPIRED_BUFFER_FULL = 26,
+  IOX2PS_SEND_ERROR_CONNECTION_EXPIRED_BUFFER_FULL = 26, /**< never returned */
   IOX2PS_SEND_ERROR_CONNECTION_UNABLE_TO_MAP = 27, /**< never returned */
   /** Messages wait, but of each of their publishers as many samples are held as may be. */
   IOX2PS_RECEIVE_ERROR_EXCEEDS_MAX_BORROWS = 30,
@@ -202,7 +201,8 @@ typedef struct iox2ps_wide_t {
  *     max_subscribers * number_of_channels * (subscriber_max_buffer_size + subscriber_max_borrowed_samples) + history_size
  *         + its loans
  *
- * so that no loan is ever refused for want of a slot. By default these are 8 * 1 * (2 + 2) + 0 + 2 = 34. */
+ * so that no loan of up to so many bytes is ever refused for want of a slot, where its options ask for no fewer. By
+ * default these are 8 * 1 * (2 + 2) + 0 + 2 = 34. */
 typedef struct iox2ps_config_t {
   iox2ps_wide_t service_id; /**< names the domain */
   iox2ps_wide_t node_id;    /**< what the header of each message names */
@@ -442,7 +442,8 @@ IOX2PS_NODISCARD iox2ps_status_t iox2ps_publisher_send_copy(iox2ps_domain_t *dom
 
 /** Sends a message, and says how many subscribers took it. With IOX2PS_BLOCKED it waits for one whose buffer
  * is full, and blocked names the send. The loan is spent with IOX2PS_OK, IOX2PS_BLOCKED and each
- * IOX2PS_SEND_ERROR_..., and stays with IOX2PS_NOT_LIVE and IOX2PS_PUBLISHER_IS_BLOCKED. */
+ * IOX2PS_SEND_ERROR_..., and stays with IOX2PS_NOT_LIVE and IOX2PS_PUBLISHER_IS_BLOCKED. Where
+ * a connection can't be made, the publisher's others are made all the same. */
 IOX2PS_NODISCARD iox2ps_status_t iox2ps_loan_send(iox2ps_domain_t *domain, const iox2ps_loan_t *loan, size_t *receivers,
                                                   iox2ps_blocked_t *blocked);
 
@@ -491,7 +492,7 @@ IOX2PS_NODISCARD iox2ps_status_t iox2ps_subscriber_has_samples(iox2ps_domain_t *
                                                                uint32_t *waits);
 
 /** Makes the subscriber's connections with publishers that came, as each receive does first.
- * IOX2PS_NOT_LIVE, IOX2PS_CONNECTION_FAILURE_... */
+ * IOX2PS_NOT_LIVE, IOX2PS_CONNECTION_FAILURE_..., after which the other connections are made all the same. */
 IOX2PS_NODISCARD iox2ps_status_t iox2ps_subscriber_update_connections(iox2ps_domain_t *domain,
                                                                       const iox2ps_subscriber_t *subscriber);
 
@@ -505,7 +506,8 @@ IOX2PS_NODISCARD iox2ps_status_t iox2ps_subscriber_receive(iox2ps_domain_t *doma
 /** Receives a message, copies it to bytes, and releases it: a receive, a copy and a release in one call, and
  * len is how many bytes were written. With IOX2PS_TOO_SMALL, which says that the message has more than room
  * bytes, nothing is lost: sample names the message, which is to be copied or read and released, len says how
- * long it is, and bytes are as they were. sample is changed with IOX2PS_TOO_SMALL alone. */
+ * long it is, and bytes are as they were. sample is changed with IOX2PS_TOO_SMALL alone. With IOX2PS_NO_SAMPLE and
+ * IOX2PS_RECEIVE_ERROR_... connections may have changed. */
 IOX2PS_NODISCARD iox2ps_status_t iox2ps_subscriber_receive_copy(iox2ps_domain_t *domain,
                                                                 const iox2ps_subscriber_t *subscriber, void *bytes,
                                                                 size_t room, size_t *len, iox2ps_sample_t *sample);

@@ -566,8 +566,8 @@ public:
 
   /** For several threads alone: lends a message with its default value. Waits while an earlier send of the publisher does,
    * while as many loans are out as it may have, or while no slot is free; or, where a time is given, until that has passed, or
-   * until waits are stopped. The error then is that of the last try. What is too long is refused at once. Where memory
-   * grows, it also waits while memory is refused. */
+   * until waits are stopped. The error then is that of the last try. What is too long is refused at once, and
+   * so is a message for which memory is to grow and can't. */
   template <typename Q = P, std::enable_if_t<!detail::is_slice<Q>, int> = 0> Result<Loan<P, M>> blocking_loan(Until until = {}) {
     return lend(1, begin_value(Element()), waiting(until));
   }

@@ -23,7 +23,7 @@ enum class Error : std::uint32_t {
   PublisherIsBlocked = IOX2PS_PUBLISHER_IS_BLOCKED, /**< an earlier send of the publisher waits, and nothing was done */
   InvalidSettings = IOX2PS_INVALID_SETTINGS,        /**< a setting has none of its values */
 
-  LoanOutOfMemory = IOX2PS_LOAN_ERROR_OUT_OF_MEMORY,                   /**< each slot is in use */
+  LoanOutOfMemory = IOX2PS_LOAN_ERROR_OUT_OF_MEMORY,                   /**< each slot is in use, or memory may not grow further */
   LoanExceedsMaxLoans = IOX2PS_LOAN_ERROR_EXCEEDS_MAX_LOANS,           /**< as many loans are out as may be */
   LoanExceedsMaxLoanSize = IOX2PS_LOAN_ERROR_EXCEEDS_MAX_LOAN_SIZE,    /**< too long, and memory doesn't grow */
   LoanInternalFailure = IOX2PS_LOAN_ERROR_INTERNAL_FAILURE,            /**< memory is to grow and can't, or no number is left */
@@ -37,8 +37,7 @@ enum class Error : std::uint32_t {
   SendConnectionIncompatibleBufferSize = IOX2PS_SEND_ERROR_CONNECTION_INCOMPATIBLE_BUFFER_SIZE,
   /** As ConnectionOutOfMemory, and nobody has the message. */
   SendConnectionOutOfMemory = IOX2PS_SEND_ERROR_CONNECTION_OUT_OF_MEMORY,
-  /** As ConnectionExpiredBufferFull, and nobody has the message. */
-  SendConnectionExpiredBufferFull = IOX2PS_SEND_ERROR_CONNECTION_EXPIRED_BUFFER_FULL,
+  SendConnectionExpiredBufferFull = IOX2PS_SEND_ERROR_CONNECTION_EXPIRED_BUFFER_FULL, /**< never returned */
   SendConnectionUnableToMap = IOX2PS_SEND_ERROR_CONNECTION_UNABLE_TO_MAP, /**< never returned */
 
   /** Messages wait, but of each of their publishers as many samples are held as may be. */

@@ -134,13 +134,13 @@ errors! {
 errors! {
     /// Why a publisher lends no message.
     LoanError {
-        /// Every slot is taken.
+        /// Every slot is taken, or memory may not grow further.
         OutOfMemory = LOAN_ERROR_OUT_OF_MEMORY,
         /// As many loans are out as the publisher may have at a time.
         ExceedsMaxLoans = LOAN_ERROR_EXCEEDS_MAX_LOANS,
-        /// The message is longer than the publisher's greatest.
+        /// The message is longer than the publisher's greatest, and its memory doesn't grow.
         ExceedsMaxLoanSize = LOAN_ERROR_EXCEEDS_MAX_LOAN_SIZE,
-        /// The domain has no message numbers left.
+        /// Memory is to grow and can't, or the domain has no message numbers left.
         InternalFailure = LOAN_ERROR_INTERNAL_FAILURE,
         /// An earlier send of the publisher waits. This library's own.
         PublisherIsBlocked = PUBLISHER_IS_BLOCKED,

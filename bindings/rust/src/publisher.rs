@@ -245,8 +245,8 @@ fn send_copy<T: Copy + 'static>(
 
 impl<T: Copy + 'static, M: MayWait> Publisher<T, M> {
     /// Lends a message that isn't written yet. Waits while an earlier send of the publisher does, while as
-    /// many loans are out as it may have, or while no slot is free. Where its memory grows, it also waits
-    /// while memory is refused.
+    /// many loans are out as it may have, or while no slot is free. Where its memory is to grow and can't,
+    /// that is refused at once.
     ///
     /// # Errors
     ///
