@@ -7,7 +7,7 @@ use Rattle.std.specs.declared.option.Option.TheVariants.{Some}
 use Rattle.iox2_machine.specs.declared.header.Header.{Header}
 use Rattle.iox2_machine.specs.declared.key.Key.{Key}
 use Rattle.iox2_machine.specs.SingleValues.{is_single_valued}
-use Rattle.iox2_contents.specs.SlotContents.{with_first_cell, with_first_value, with_user_header as with_header_in, with_cells as with_cells_in, with_values as with_values_in, first_cell_at, first_value_at, cells_at, values_at, user_header_at}
+use Rattle.iox2_contents.specs.SlotContents.{first_cell_at, first_value_at, cells_at, values_at, user_header_at}
 use Rattle.iox2_machine.specs.machine.Records.{Loan}
 use Rattle.iox2_machine.specs.machine.SingleCalls.{HoldsLoan}
 use Rattle.iox2_machine.specs.machine.State.{State, Messages, with_loan}
@@ -15,10 +15,10 @@ use Rattle.iox2_domain.specs.Kept.{Kept, state_of, with_loan_changed}
 use Rattle.iox2_domain.specs.Boxes.{DomainBoxes}
 use Rattle.iox2_domain.specs.Fields.{Fields, kept_of, contents_at, contents_in, keeping}
 use Rattle.iox2_domain.specs.Invariant.{IsDomain}
-use Rattle.iox2_domain.specs.LoanCalls.{HoldsUnwritten, HoldsWritten, HasCells, HasCell, HasLoanUserHeader, HasContents, HasContentIn, with_content, first_cell_changed, cells_changed, user_header_changed}
+use Rattle.iox2_domain.specs.LoanCalls.{HoldsUnwritten, HoldsWritten, HasCells, HasCell, HasLoanUserHeader, HasContents, HasContentIn, first_cell_changed, cells_changed, user_header_changed}
 use Rattle.iox2_domain.specs.LoanSlots.{LiesInSlot}
 use Rattle.iox2_domain.specs.Shows.{Shows}
-use Rattle.iox2_domain.proofs.lemmas.loans.LentLoans.{IsLent, header-lent, cell-lent, cells-lent, value-lent, values-lent}
+use Rattle.iox2_domain.proofs.lemmas.loans.LentLoans.{IsLent}
 use Rattle.iox2_domain.proofs.lemmas.slots.BookContents.{contents-there}
 use Rattle.iox2_domain.proofs.lemmas.loans.LoanCalls.{some-at, is-unwritten, is-written, user_header-read, in-lists, cells-listed, cell-some, cell-read, cells-read, value-some, value-read, values-read}
 use Rattle.iox2_pubsub.specs.ChangedLoans.{with_cell, with_cells, with_payload, with_payloads, with_user_header}
@@ -200,22 +200,13 @@ module _ {T U : Type 0} (f : Fields T U) (sound : IsDomain f) (p n key slot : �
   pub header-there : HasContentIn f key slot (λ content. content ≡ content)
   header-there = (has.0, has.1, some-at f sound p n key slot at has.0 has.1 (λ content. content ≡ content) refl)
 
-  pub header-lends : (user_header : U) → IsLent f (with_content f key slot (with_header_in user_header)) n at.loan (user_header_changed user_header)
-  header-lends user_header = header-lent f sound p n key slot at has.0 has.1 user_header
-
   pub header-known : (user_header : U) → user_header_at (contents_at f.contents key) slot ≡ Some user_header → HasLoanUserHeader (state_of (kept_of f)) n user_header
   header-known user_header known =
       user_header-read f sound p n key slot at has.0 has.1 user_header (sym (ap (λ o. user_header_at (contents_in o) slot) has.1) ∙ known)
 
   -- the value of a written loan
   module _ (out : HoldsWritten (state_of (kept_of f)) p n) where
-    pub value-lends : (value : T) → IsLent f (with_content f key slot (with_first_value value)) n at.loan (first_cell_changed (Some value))
-    value-lends value = value-lent f sound p n key slot at has.0 has.1 (is-written f sound p n key slot at out) value
-
     -- its values, where they lie in a list
-    pub values-lends : (values : List T) → IsLent f (with_content f key slot (with_values_in values)) n at.loan (cells_changed (map Some values))
-    values-lends values = values-lent f sound p n key slot at has.0 has.1 (is-written f sound p n key slot at out) values
-
     pub values-there : is_single_valued f.config ≡ false → HasContentIn f key slot (λ content. content.is_in_place ≡ false)
     values-there several = (has.0, has.1, some-at f sound p n key slot at has.0 has.1 (λ content. content.is_in_place ≡ false) (in-lists f sound p n key slot at has.0 has.1 several))
 
@@ -233,13 +224,7 @@ module _ {T U : Type 0} (f : Fields T U) (sound : IsDomain f) (p n key slot : �
 
   -- the cell of an unwritten loan
   module _ (out : HoldsUnwritten (state_of (kept_of f)) p n) where
-    pub cell-lends : (cell : Option T) → IsLent f (with_content f key slot (with_first_cell cell)) n at.loan (first_cell_changed cell)
-    cell-lends cell = cell-lent f sound p n key slot at has.0 has.1 (is-unwritten f sound p n key slot at out) cell
-
     -- its cells, where they lie in a list
-    pub cells-lends : (cells : List (Option T)) → IsLent f (with_content f key slot (with_cells_in cells)) n at.loan (cells_changed cells)
-    cells-lends cells = cells-lent f sound p n key slot at has.0 has.1 (is-unwritten f sound p n key slot at out) cells
-
     pub cells-there : is_single_valued f.config ≡ false → (f.config).lists_cells ≡ true → HasContentIn f key slot (λ content. 0 < content.lists)
     cells-there several lists =
         (has.0, has.1, some-at f sound p n key slot at has.0 has.1 (λ content. 0 < content.lists) (cells-listed f sound p n key slot at has.0 has.1 several lists))

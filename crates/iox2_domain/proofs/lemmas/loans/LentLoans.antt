@@ -13,12 +13,14 @@ use Rattle.iox2_slots.specs.declared.slots.mark.SlotMark.TheVariants.{Unwritten,
 use Rattle.iox2_domain.specs.Kept.{Lent_message, state_of, with_loan_changed}
 use Rattle.iox2_domain.specs.Fields.{Fields, kept_of}
 use Rattle.iox2_domain.specs.Invariant.{IsDomain}
-use Rattle.iox2_domain.specs.LoanCalls.{with_content, first_cell_changed, cells_changed, user_header_changed}
+use Rattle.iox2_domain.specs.LoanCalls.{HasContents, HoldsUnwritten, HoldsWritten, with_content, first_cell_changed, cells_changed, user_header_changed}
 use Rattle.iox2_domain.specs.LoanSlots.{LiesInSlot}
 use Rattle.iox2_domain.specs.Reaches.{Reaches}
+use Rattle.iox2_domain.proofs.lemmas.slots.BookContents.{contents-there}
 use Rattle.iox2_domain.proofs.lemmas.slots.Messages.{LiesIn}
 use Rattle.iox2_domain.proofs.lemmas.loans.ChangedLoan.{ChangesTo, loan-parts, unwritten-mark, written-mark}
 use Rattle.iox2_domain.proofs.lemmas.loans.KeptLoan.{content-agrees, content-reaches, content-kept}
+use Rattle.iox2_domain.proofs.lemmas.loans.LoanCalls.{is-unwritten, is-written}
 use Rattle.iox2_domain.proofs.lemmas.loans.LoanChanges.{cells-changed, values-changed, header-changed}
 
 -- what is known of some values after a write through a list of them
@@ -56,8 +58,16 @@ pub record IsLent {T U : Type 0} (f new : Fields T U) (n : ℕ) (loan : Loan T U
   pub reaches : Reaches f new (with_loan (state_of (kept_of f)) n (Some (h loan)))
   pub kept : kept_of new ≡ with_loan_changed n h (kept_of f)
 
-module _ {T U : Type 0} (f : Fields T U) (sound : IsDomain f) (p n key slot : ℕ) (at : LiesInSlot f p n key slot)
-    (cs : List (ContentState T U)) (at_c : get_or f.contents key None ≡ Some cs) where
+module _ {T U : Type 0} (f : Fields T U) (sound : IsDomain f) (p n key slot : ℕ) (at : LiesInSlot f p n key slot) where
+  has : HasContents f key
+  has = contents-there f sound.parts key at.book at.stands
+
+  abbrev cs : List (ContentState T U)
+  cs = has.0
+
+  at_c : get_or f.contents key None ≡ Some cs
+  at_c = has.1
+
   abbrev parts : LiesIn at.book cs slot (Lent_message n at.loan)
   parts = loan-parts f sound p n key slot at cs at_c
 
@@ -75,7 +85,10 @@ module _ {T U : Type 0} (f : Fields T U) (sound : IsDomain f) (p n key slot : �
       lent parts.mark parts.marks (with_user_header user_header) (user_header_changed user_header)
       (header-changed at.book cs slot n at.loan parts (sound.well_formed.loans n at.loan at.is_out).complete user_header)
 
-  module _ (unwritten : (at.loan).is_written ≡ false) where
+  module _ (out : HoldsUnwritten (state_of (kept_of f)) p n) where
+    unwritten : (at.loan).is_written ≡ false
+    unwritten = is-unwritten f sound p n key slot at out
+
     marks-unwritten : slice_get (at.book).marks slot ≡ Some Unwritten
     marks-unwritten = parts.marks ∙ ap Some (unwritten-mark at.book cs slot n at.loan parts unwritten)
 
@@ -91,7 +104,10 @@ module _ {T U : Type 0} (f : Fields T U) (sound : IsDomain f) (p n key slot : �
         lent Unwritten marks-unwritten (with_cells cells) (cells_changed cells)
         (cells-changed at.book cs slot n at.loan parts unwritten (λ xs. refill (length xs) xs cells) (λ xs. length-refill xs cells))
 
-  module _ (written : (at.loan).is_written ≡ true) where
+  module _ (out : HoldsWritten (state_of (kept_of f)) p n) where
+    written : (at.loan).is_written ≡ true
+    written = is-written f sound p n key slot at out
+
     marks-written : slice_get (at.book).marks slot ≡ Some Written
     marks-written = parts.marks ∙ ap Some (written-mark at.book cs slot n at.loan parts written)
 

@@ -3,11 +3,12 @@ use Rattle.iox2_machine.specs.SingleValues.{is_single_valued}
 use Rattle.iox2_domain.specs.Fields.{kept_of}
 use Rattle.iox2_domain.specs.Kept.{Kept, state_of}
 use Rattle.iox2_domain.specs.LoanCalls.{HasCells, cells_changed}
+use Rattle.iox2_domain.proofs.lemmas.loans.LentLoans.{values-lent}
 use Rattle.iox2_pubsub.specs.Live.{written_key}
 use Rattle.iox2_pubsub.proofs.LoanHandles.{written-out, loan-out}
 use Rattle.iox2_pubsub.proofs.SliceParts.{holds-parts, has-values}
 use Rattle.iox2_pubsub.specs.ChangedLoans.{with_payloads}
-use Rattle.iox2_pubsub.proofs.LentHandles.{payloads-word, values-there, values-known, values-lends, values-left, was-lent}
+use Rattle.iox2_pubsub.proofs.LentHandles.{payloads-word, values-there, values-known, values-left, was-lent}
 use Rattle.iox2_pubsub.proofs.slice.sample_mut.SampleMut.payload_mut.Goals as goal
 
 pub find_live_loan-at-requires-clause-live : goal.find_live_loan-at-requires-clause-live
@@ -17,13 +18,13 @@ pub values_at_mut-requires : goal.values_at_mut-requires
 values_at_mut-requires g c = values-there {T = g.row.T.Denot} {U = g.row.U.Denot} c.domain.inside.state c.domain.invariant c.args.sample.now.sample.loan.publisher c.args.sample.now.sample.loan.number c.find_live_loan-at.result.book c.find_live_loan-at.result.slot c.find_live_loan-at.ensures (written-out {T = g.row.T.Denot} {U = g.row.U.Denot} _ c.args.domain.now c.domain.view_is c.args.sample.now.sample c.requires.live) (subst (λ (k : Kept g.row.T.Denot g.row.U.Denot g.row.F.Denot g.row.G.Denot). is_single_valued k.config ≡ false) (sym c.domain.view_is) (holds-parts c.args.domain.now c.requires.sliced))
 
 pub invariant_of-domain-lent : goal.invariant_of-domain-lent
-invariant_of-domain-lent g c = λ w. (values-lends {T = g.row.T.Denot} {U = g.row.U.Denot} c.domain.inside.state c.domain.invariant c.args.sample.now.sample.loan.publisher c.args.sample.now.sample.loan.number c.find_live_loan-at.result.book c.find_live_loan-at.result.slot c.find_live_loan-at.ensures (written-out {T = g.row.T.Denot} {U = g.row.U.Denot} _ c.args.domain.now c.domain.view_is c.args.sample.now.sample c.requires.live) w).agrees
+invariant_of-domain-lent g c = λ w. (values-lent {T = g.row.T.Denot} {U = g.row.U.Denot} c.domain.inside.state c.domain.invariant c.args.sample.now.sample.loan.publisher c.args.sample.now.sample.loan.number c.find_live_loan-at.result.book c.find_live_loan-at.result.slot c.find_live_loan-at.ensures (written-out {T = g.row.T.Denot} {U = g.row.U.Denot} _ c.args.domain.now c.domain.view_is c.args.sample.now.sample c.requires.live) w).agrees
 
 pub returns : goal.returns
 returns g c =
     let out = written-out {T = g.row.T.Denot} {U = g.row.U.Denot} _ c.args.domain.now c.domain.view_is c.args.sample.now.sample c.requires.live in
     let known = values-known {T = g.row.T.Denot} {U = g.row.U.Denot} c.domain.inside.state c.domain.invariant c.args.sample.now.sample.loan.publisher c.args.sample.now.sample.loan.number c.find_live_loan-at.result.book c.find_live_loan-at.result.slot c.find_live_loan-at.ensures out _ c.values_at_mut.ensures.value in
-    let lent = λ (w : List g.row.T.Denot). was-lent {T = g.row.T.Denot} {U = g.row.U.Denot} c.domain.inside.state _ c.domain.invariant c.args.domain.now c.domain.view_is c.args.sample.now.sample.loan.number (c.find_live_loan-at.ensures).loan (c.find_live_loan-at.ensures).is_out (cells_changed (map Some w)) (values-lends {T = g.row.T.Denot} {U = g.row.U.Denot} c.domain.inside.state c.domain.invariant c.args.sample.now.sample.loan.publisher c.args.sample.now.sample.loan.number c.find_live_loan-at.result.book c.find_live_loan-at.result.slot c.find_live_loan-at.ensures out w) (with_payloads c.args.domain.now c.args.sample.now.sample.loan.number w) (payloads-word c.args.domain.now c.args.sample.now.sample.loan.number w) in (
+    let lent = λ (w : List g.row.T.Denot). was-lent {T = g.row.T.Denot} {U = g.row.U.Denot} c.domain.inside.state _ c.domain.invariant c.args.domain.now c.domain.view_is c.args.sample.now.sample.loan.number (c.find_live_loan-at.ensures).loan (c.find_live_loan-at.ensures).is_out (cells_changed (map Some w)) (values-lent {T = g.row.T.Denot} {U = g.row.U.Denot} c.domain.inside.state c.domain.invariant c.args.sample.now.sample.loan.publisher c.args.sample.now.sample.loan.number c.find_live_loan-at.result.book c.find_live_loan-at.result.slot c.find_live_loan-at.ensures out w) (with_payloads c.args.domain.now c.args.sample.now.sample.loan.number w) (payloads-word c.args.domain.now c.args.sample.now.sample.loan.number w) in (
       (refl, λ w. (lent w).is),
       record {
         writes_back = tt;
