@@ -116,10 +116,6 @@ module _ (environment : Environment) (c : ServiceConfig) (p : ℕ) (strategy : B
   abbrev pub Put : (q retries : ℕ) → Duration → (buffer : Option ℕ) → Mailbox → PutResult → Mailbox → Type 0
   Put q retries elapsed buffer box result box' = PutIn 0 q retries elapsed buffer box result box'
 
-  -- `PutAtEndIn` at channel 0.
-  abbrev pub PutAtEnd : (retries : ℕ) → Duration → (end : Option ℕ) → (ℕ → Mailbox) → PutResult → (ℕ → Mailbox) → Type 0
-  PutAtEnd retries elapsed end boxes result boxes' = PutAtEndIn 0 retries elapsed end boxes result boxes'
-
   -- `DeliverIn` at channel 0.
   abbrev pub Deliver : (retries : ℕ) → Duration → (place : ℕ) → List (Option ℕ) → (count : ℕ) → (has_failed : Bool) → (ℕ → Mailbox) → DeliveryEnd → (ℕ → Mailbox) → Type 0
   Deliver retries elapsed place ends count has_failed boxes how boxes' = DeliverIn 0 retries elapsed place ends count has_failed boxes how boxes'
