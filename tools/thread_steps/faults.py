@@ -109,6 +109,19 @@ IN_CPP = [
 ]
 
 
+def header_of(name):
+    """The header of C++ that a fault names."""
+    return f"include/iox2_pubsub{'_' if name else ''}{name}.hpp"
+
+
+def planted():
+    """Each fault, the file in bindings that it is planted into, and what it replaces there."""
+    for fault, name, old, _, _ in IN_RUST:
+        yield fault, f"rust/src/{name}", old
+    for fault, name, old, _ in IN_CPP:
+        yield fault, header_of(name), old
+
+
 def replace(path, old, new):
     """Replaces what stands once in a file."""
     text = path.read_text()
@@ -178,7 +191,7 @@ def see_fault_cpp(fault):
     """cpp/threads.cpp fails, or waits for good."""
     _, header, old, new = fault
     include = copied("include") / "include"
-    replace(include / f"iox2_pubsub{'_' if header else ''}{header}.hpp", old, new)
+    replace(include.parent / header_of(header), old, new)
     ending = how_it_ends(compiled_cpp(include))
     if ending == "passes":
         raise RuntimeError("cpp/threads.cpp passes")

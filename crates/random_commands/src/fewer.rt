@@ -2,6 +2,15 @@
 use iox2_commands::Command;
 use std::alloc::{AllocError, Global};
 
+/// How many commands are left out at once in search of a shorter list, one count after the other.
+pub const COUNTS: [usize; 15] = [
+    8192, 4096, 2048, 1024, 512, 256, 128, 64, 32, 16, 8, 4, 3, 2, 1,
+];
+
+/// At how many offsets so many commands in a row are tried, since lists often repeat a few commands that
+/// have to go together.
+pub const MOST_PHASES: usize = 8;
+
 /// The commands without `count` of them from the position `from` on. The others name what they named
 /// before; one that named a command that is left out names none.
 pub fn without(

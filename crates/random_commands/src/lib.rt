@@ -10,5 +10,5 @@ mod positions;
 mod scripts;
 mod sizes;
 
-pub use fewer::without;
+pub use fewer::{COUNTS, MOST_PHASES, without};
 pub use scripts::{Script, draw_script};

@@ -66,7 +66,7 @@ impl Search {
             self.left = 0;
             return Ok(None);
         }
-        self.left -= commands.len();
+        self.left = self.left.saturating_sub(commands.len());
         match first_difference(self.alloc, script.config, commands) {
             Ok(None) => Ok(None),
             Ok(Some(difference)) => Ok(Some(difference.rank(commands.len()).saturating_add(1))),

@@ -3,14 +3,11 @@ use crate::failure::Failure;
 use crate::limits::{LIMITS, Limit};
 use crate::search::Search;
 use iox2_runs::Command;
-use random_commands::Script;
+use random_commands::{COUNTS, MOST_PHASES, Script};
 use std::alloc::Global;
 
 // How many commands each of the two attempts carries out at most.
 const MOST_COMMANDS_TRIED: usize = 1_000_000;
-
-// How many lines are left out at once.
-const COUNTS: [usize; 8] = [128, 64, 32, 16, 8, 4, 2, 1];
 
 /// The shortest script that was found to fail, and whether shorter ones are left that weren't tried.
 #[derive(Drop)]
@@ -93,7 +90,9 @@ fn with_fewer_lines(search: &mut Search, script: Script) -> Result<Script, Failu
     for _ in 0..found.commands.len() {
         let before = found.commands.len();
         for count in COUNTS {
-            found = without_so_many(search, found, count)?;
+            for phase in 0..count.min(MOST_PHASES) {
+                found = without_so_many(search, found, count, phase)?;
+            }
         }
         if found.commands.len() == before {
             break;
@@ -102,10 +101,15 @@ fn with_fewer_lines(search: &mut Search, script: Script) -> Result<Script, Failu
     Ok(found)
 }
 
-// Leaves out so many lines at once, from the end on, where the rest still fails.
-fn without_so_many(search: &mut Search, script: Script, count: usize) -> Result<Script, Failure> {
+// Leaves out so many lines at once, from before the last ones on, where the rest still fails.
+fn without_so_many(
+    search: &mut Search,
+    script: Script,
+    count: usize,
+    phase: usize,
+) -> Result<Script, Failure> {
     let mut found = script;
-    let mut end = found.commands.len();
+    let mut end = found.commands.len().saturating_sub(phase);
     for _ in 0..end {
         if end == 0 {
             break;
@@ -165,7 +169,7 @@ fn with_fewer_of_both(search: &mut Search, script: Script) -> Result<Script, Fai
             if size == 0 {
                 break;
             }
-            let smaller = limit.set(search.alloc(), &found, size - 1)?;
+            let smaller = limit.set(search.alloc(), &found, size.saturating_sub(1))?;
             let Some(fewer) = without_some(search, &smaller)? else {
                 break;
             };
@@ -180,6 +184,9 @@ fn without_some(search: &mut Search, script: &Script) -> Result<Option<Script>, 
     let length = script.commands.len();
     for count in 1..5 {
         for from in 0..length {
+            if search.is_over() {
+                return Ok(None);
+            }
             let fewer = search.without_lines(script, from, count)?;
             if fewer.commands.len() < length {
                 if let Some(fewer) = search.failing(fewer)? {

@@ -72,7 +72,7 @@ fn try_other_reply(rt: &HostRuntime, recording: Recording, number: u64) -> Resul
         return refuted(rt, number, "hides another reply");
     }
     if number % 20 == 0 {
-        let fewest = shortest(rt.alloc(), &changed, position)?;
+        let fewest = shortest(rt.alloc(), &changed, position)?.recording;
         let again = recorded(rt.alloc(), fewest.config, fewest.commands.as_slice())?;
         let last = fewest.commands.len().saturating_sub(1);
         if fewest.replies.get(last) == again.replies.get(last) {

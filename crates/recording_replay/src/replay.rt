@@ -18,7 +18,8 @@ pub(crate) fn replay(rt: &HostRuntime, text: &[u8]) -> Result<(), Failure> {
         return Ok(());
     };
     print_difference(rt, &before, &after, position)?;
-    let fewest = shortest(rt.alloc(), &before, position)?;
+    let found = shortest(rt.alloc(), &before, position)?;
+    let fewest = found.recording;
     println!(rt;
         "the shortest list that shows it has {} commands:",
         fewest.commands.len()
@@ -27,6 +28,9 @@ pub(crate) fn replay(rt: &HostRuntime, text: &[u8]) -> Result<(), Failure> {
     let again = recorded(rt.alloc(), fewest.config, fewest.commands.as_slice())?;
     if let Some(last) = again.replies.last() {
         println!(rt; "now the last replies {last}")?;
+    }
+    if found.is_cut_short {
+        println!(rt; "Not all shorter ones were tried, since that takes too long.")?;
     }
     Err(Failure::OtherReply)
 }

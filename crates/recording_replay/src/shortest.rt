@@ -1,29 +1,68 @@
 //! The fewest commands that show a difference from what was recorded.
 use crate::failure::Failure;
 use crate::record::recorded;
-use random_commands::without;
+use random_commands::{COUNTS, MOST_PHASES, without};
 use recordings::Recording;
 use std::alloc::Global;
 
-// How many commands are left out at once.
-const COUNTS: [usize; 8] = [128, 64, 32, 16, 8, 4, 2, 1];
+// How many commands are carried out at most in search of a shorter list; of long lists, for each of their
+// commands.
+const MOST_COMMANDS_TRIED: usize = 1_000_000;
+
+const MOST_FOR_EACH: usize = 200;
+
+/// The shortest list that was found, and whether shorter ones are left that weren't tried.
+#[derive(Drop)]
+pub(crate) struct Found {
+    pub(crate) recording: Recording,
+    pub(crate) is_cut_short: bool,
+}
+
+// What the last command has to reply, and how many commands may still be carried out.
+#[derive(Drop)]
+struct Search {
+    after: String,
+    left: usize,
+}
 
 /// The recording up to the command at the position, with as many commands before it left out as can be:
 /// so that all others reply as they did, but for the ids of ports, and the last as the whole replay does.
+/// The search ends after so many commands.
 pub(crate) fn shortest(
     alloc: Global,
     recording: &Recording,
     position: usize,
-) -> Result<Recording, Failure> {
+) -> Result<Found, Failure> {
     let mut found = first_commands(alloc, recording, position.saturating_add(1))?;
     let again = recorded(alloc, found.config, found.commands.as_slice())?;
-    let Some(after) = again.replies.last() else {
-        return Ok(found);
-    };
-    for _ in 0..8 {
+    let mut is_cut_short = false;
+    if let Some(last) = again.replies.last() {
+        let mut search = Search {
+            after: copy(alloc, last.as_str())?,
+            left: MOST_COMMANDS_TRIED.max(MOST_FOR_EACH.saturating_mul(found.commands.len())),
+        };
+        found = with_fewer(alloc, &mut search, found)?;
+        is_cut_short = search.left == 0;
+    }
+    Ok(Found {
+        recording: found,
+        is_cut_short,
+    })
+}
+
+// Leaves out commands, many at once and then fewer, as long as that goes.
+fn with_fewer(
+    alloc: Global,
+    search: &mut Search,
+    recording: Recording,
+) -> Result<Recording, Failure> {
+    let mut found = recording;
+    for _ in 0..found.commands.len() {
         let before = found.commands.len();
         for count in COUNTS {
-            found = without_so_many(alloc, found, after.as_str(), count)?;
+            for phase in 0..count.min(MOST_PHASES) {
+                found = without_so_many(alloc, search, found, count, phase)?;
+            }
         }
         if found.commands.len() == before {
             break;
@@ -56,27 +95,27 @@ fn copy(alloc: Global, text: &str) -> Result<String, Failure> {
     Ok(copied)
 }
 
-// Leaves out so many commands at once, from the end on, where the rest still shows the difference.
+// Leaves out so many commands at once, from before the last ones on, where the rest still shows the
+// difference. The last one stays.
 fn without_so_many(
     alloc: Global,
+    search: &mut Search,
     recording: Recording,
-    after: &str,
     count: usize,
+    phase: usize,
 ) -> Result<Recording, Failure> {
     let mut found = recording;
-    for step in 0..found.commands.len() {
-        let passed = step
-            .saturating_add(1)
-            .saturating_mul(count)
-            .saturating_add(1);
-        let from = found.commands.len().saturating_sub(passed);
-        let last = found.commands.len().saturating_sub(1);
-        if from.saturating_add(count) <= last {
-            let fewer = without_some(alloc, &found, from, count)?;
-            if shows(alloc, &fewer, after)? {
-                found = fewer;
-            }
+    let mut end = found.commands.len().saturating_sub(phase).saturating_sub(1);
+    for _ in 0..end {
+        if end == 0 || search.left == 0 {
+            break;
         }
+        let from = end.saturating_sub(count);
+        let fewer = without_some(alloc, &found, from, end.saturating_sub(from))?;
+        if shows(alloc, search, &fewer)? {
+            found = fewer;
+        }
+        end = from;
     }
     Ok(found)
 }
@@ -99,8 +138,14 @@ fn without_some(
     Ok(fewer)
 }
 
-// Whether all commands but the last reply as they did, and the last doesn't, but as is said.
-fn shows(alloc: Global, recording: &Recording, after: &str) -> Result<bool, Failure> {
+// Whether all commands but the last reply as they did, and the last doesn't, but as is said. None does
+// when the search is over.
+fn shows(alloc: Global, search: &mut Search, recording: &Recording) -> Result<bool, Failure> {
+    if search.left <= recording.commands.len() {
+        search.left = 0;
+        return Ok(false);
+    }
+    search.left = search.left.saturating_sub(recording.commands.len());
     let again = recorded(alloc, recording.config, recording.commands.as_slice())?;
     let first = recording
         .replies
@@ -109,7 +154,8 @@ fn shows(alloc: Global, recording: &Recording, after: &str) -> Result<bool, Fail
         .position(|(old, new)| !is_alike(old.as_str(), new.as_str()));
     Ok(match (first, again.replies.last()) {
         (Some(position), Some(last)) => {
-            position.saturating_add(1) == recording.commands.len() && is_alike(last.as_str(), after)
+            let is_last = position.saturating_add(1) == recording.commands.len();
+            is_last && is_alike(last.as_str(), search.after.as_str())
         }
         _ => false,
     })
