@@ -35,7 +35,7 @@ use Rattle.iox2_pubsub.proofs.DepartedStays.{RoomStays as MachineRoomStays, port
 use Rattle.iox2_pubsub.proofs.LiveParts.{loan-parts, passes-parts, publisher-parts, unfailed-parts}
 use Rattle.iox2_pubsub.proofs.OverflowSends.{IsUnhindered, concludes-unhindered, delivery-ends}
 use Rattle.iox2_pubsub.proofs.PassingSends.{never-suspended}
-use Rattle.iox2_pubsub.proofs.SendShown.{LeavesSent, leaves-shown, loan-is}
+use Rattle.iox2_pubsub.proofs.SendShown.{LeavesSent, loan-is}
 use Rattle.iox2_pubsub.proofs.SendsServe.{same-connections}
 use Rattle.iox2_pubsub.proofs.SentMessages.{sent-before-stays}
 use Rattle.iox2_pubsub.proofs.CallsStay.{free-waits}
@@ -140,10 +140,10 @@ module _ {T U : Type 0} (environment : Environment) (s : State T U) (n : ℕ) (l
 
 -- ---- what the domain shows
 
-module _ {T U : Type 0} (environment : Environment) (f g : Fields T U) (n channel connection : ℕ) (result : SendResult) (sends : SendsLoanTo environment f g n channel connection result)
-    (m : Messages T U) (s : State T U) (l : Loan T U) (shown : Shows (kept_of f) m s) (out : s.loans n ≡ Some l) where
-  abbrev leaves : LeavesSent f g n result
-  leaves = record {
+module _ {T U : Type 0} (environment : Environment) (f g : Fields T U) (n channel connection : ℕ) (result : SendResult) (sends : SendsLoanTo environment f g n channel connection result) where
+  -- what a send to one connection leaves
+  abbrev pub leaves-sent-to : LeavesSent f g n result
+  leaves-sent-to = record {
     loan = sends.loan;
     out = sends.out;
     agrees = sends.agrees;
@@ -154,13 +154,10 @@ module _ {T U : Type 0} (environment : Environment) (f g : Fields T U) (n channe
   }
 
   -- the machine's step
-  pub machine-sends-to : SendToConnection environment s n l channel connection (state_of (kept_of g)) result
-  machine-sends-to =
+  pub machine-sends-to : (m : Messages T U) (s : State T U) (l : Loan T U) → Shows (kept_of f) m s → s.loans n ≡ Some l → SendToConnection environment s n l channel connection (state_of (kept_of g)) result
+  machine-sends-to m s l shown out =
       subst (λ (t : State T U). SendToConnection environment t n l channel connection (state_of (kept_of g)) result) (sym shown.state)
-      (subst (λ (k : Loan T U). SendToConnection environment (state_of (kept_of f)) n k channel connection (state_of (kept_of g)) result) (loan-is f g n result leaves m s l shown out) sends.sends)
-
-  pub sent-to-shown : (outcome : Result SendOutcome SendError) → result ≡ result_of_send outcome → Shows (kept_of g) (messages_after m n l outcome) (state_of (kept_of g))
-  sent-to-shown = leaves-shown f g n result leaves m s l shown out
+      (subst (λ (k : Loan T U). SendToConnection environment (state_of (kept_of f)) n k channel connection (state_of (kept_of g)) result) (loan-is f g n result leaves-sent-to m s l shown out) sends.sends)
 
 -- ---- what stays
 

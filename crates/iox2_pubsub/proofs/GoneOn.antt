@@ -4,7 +4,6 @@ use Rattle.std.specs.Prelude.{IfErr, IfOk, IsOk}
 use Rattle.iox2_machine.specs.declared.errors.SendError.{SendError}
 use Rattle.iox2_machine.specs.declared.errors.SendError.TheVariants.{UnableToDeliver}
 use Rattle.iox2_machine.specs.declared.key.Key.{Key}
-use Rattle.iox2_domain.specs.Boxes.{DomainBoxes}
 use Rattle.iox2_domain.specs.Kept.{Kept}
 use Rattle.iox2_pubsub.specs.BlockedSends.{GoesOn, StaysSince}
 use Rattle.iox2_pubsub.specs.Live.{AddAtMost, IsBlockedSend, IsUnblocked, NeverFails, StaysBut, UpToDateStay, blocked_key, blocked_send, lender_key, written_key}

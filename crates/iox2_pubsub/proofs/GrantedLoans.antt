@@ -1,5 +1,5 @@
 -- A loan that is granted or refused, seen from outside: what the publisher lends, and what the call leaves.
-use Rattle.std.proofs.Common.{◌≡◌, ◌*◌, Bool, ℕ, replicate, get_or, refl, ap, subst, sym, ◌∙◌, Result, Ok, None, Some}
+use Rattle.std.proofs.Common.{◌≡◌, ◌*◌, Bool, ℕ, replicate, get_or, refl, ap, subst, sym, ◌∙◌, Result, Ok, None}
 use Rattle.std.specs.Prelude.{IsSomeAnd, OnErr}
 use Rattle.iox2_machine.specs.declared.errors.LoanError.{LoanError}
 use Rattle.iox2_machine.specs.declared.key.Key.{Key}
@@ -10,7 +10,6 @@ use Rattle.iox2_domain.specs.Fields.{Fields, kept_of, keeping}
 use Rattle.iox2_domain.specs.Invariant.{IsDomain}
 use Rattle.iox2_domain.specs.Kept.{Kept}
 use Rattle.iox2_domain.specs.Lending.{IsNamed, LoanCall, LoanReaches, header_for}
-use Rattle.iox2_domain.specs.Ports.{PublisherFields}
 use Rattle.iox2_domain.specs.Shows.{Shows}
 use Rattle.iox2_domain.specs.declared.loan_slots.LoanAt.{LoanAt}
 use Rattle.iox2_pubsub.specs.GrantedLoans.{IsLent, IsLentUnwritten, IsUnfilled}
@@ -23,7 +22,7 @@ use Rattle.iox2_pubsub.specs.declared.sample_mut_uninit.SampleMutUninit.{SampleM
 use Rattle.iox2_pubsub.proofs.CallsStay.{always-shown, loan-is-new, loan-stays}
 use Rattle.iox2_pubsub.proofs.LiveParts.{never-waits-alike, publisher-parts, unblocked-alike}
 use Rattle.iox2_pubsub.proofs.LoansLeftShown.{loan-takes, refused-left}
-use Rattle.iox2_pubsub.proofs.PlacedHandles.{publisher-at-place}
+use Rattle.iox2_pubsub.proofs.PlacedHandles.{StandsAtPlace, publisher-at-place}
 use Rattle.iox2_pubsub.proofs.StaysBut.{same-boxes}
 use Rattle.iox2_pubsub.proofs.UninitLoans.{ok-cells, ok-header, ok-lengths, ok-live, ok-number, ok-publisher, ok-shown}
 use Rattle.iox2_pubsub.proofs.UpToDateShown.{loan-leaves}
@@ -68,7 +67,7 @@ module _ {T U F G : Type 0} {boxes : DomainBoxes F G} (is_default : U → Type 0
 
   module _ (answer : Result LoanAt LoanError) (reaches : IsSomeAnd (get_or f.publishers publisher.place None) (λ x. LoanReaches is_default checks len f x answer mid))
       (loan : LoanAt) (is : answer ≡ Ok loan) (named : IsSomeAnd (get_or f.publishers publisher.place None) (λ x. IsNamed f x loan)) where
-    stands : (x : PublisherFields) × (get_or f.publishers publisher.place None ≡ Some x) × (x.id ≡ publisher.id)
+    stands : StandsAtPlace f publisher
     stands = publisher-at-place f sound kept view publisher ready
 
     abbrev unwritten : SampleMutUninit

@@ -32,7 +32,7 @@ use Rattle.iox2_pubsub.proofs.FilledLoans.{filled-leaves, filled-left, filled-li
 use Rattle.iox2_pubsub.proofs.GrantedLoans.{call-leaves, call-refused, granted-leaves, granted-live, granted-new, granted-publisher, is-lent, next}
 use Rattle.iox2_pubsub.proofs.LiveParts.{never-waits-alike}
 use Rattle.iox2_pubsub.proofs.LoanHandles.{unwritten-out}
-use Rattle.iox2_pubsub.proofs.PlacedHandles.{publisher-at-place}
+use Rattle.iox2_pubsub.proofs.PlacedHandles.{StandsAtPlace, publisher-at-place}
 use Rattle.iox2_pubsub.proofs.StaysBut.{stays-on}
 use Rattle.iox2_pubsub.proofs.SureLoans.{sure-granted, sure-of-loan}
 use Rattle.iox2_pubsub.proofs.UninitLoans.{err-shown, ok-cells, ok-shown}
@@ -71,7 +71,7 @@ may-lend {T} {U} {F} {G} len f sound kept view publisher ready =
 module _ {T U F G : Type 0} {boxes : DomainBoxes F G} (is_default : U → Type 0) (len : ℕ) (f mid : Fields T U) (sound : IsDomain f) (kept : Kept T U F G) (view : keeping boxes f ≡ kept)
     (publisher : Publisher) (ready : IsReadyForSlices kept publisher) (answer : Result LoanAt LoanError)
     (reaches : IsSomeAnd (get_or f.publishers publisher.place None) (λ x. LoanReaches is_default true len f x answer mid)) where
-  stands : (x : PublisherFields) × (get_or f.publishers publisher.place None ≡ Some x) × (x.id ≡ publisher.id)
+  stands : StandsAtPlace f publisher
   stands = publisher-at-place f sound kept view publisher ready.ready
 
   -- a loan that was refused

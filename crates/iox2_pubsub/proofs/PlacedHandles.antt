@@ -41,6 +41,10 @@ module _ {A B : Type 0} (f : A → Named B) where
 abbrev shown : {T U : Type 0} → Fields T U → State T U
 shown f = state_of (kept_of f)
 
+-- The record of the handle's publisher stands at the handle's place.
+abbrev pub StandsAtPlace : {T U : Type 0} → Fields T U → PublisherHandle → Type 0
+StandsAtPlace f it = (x : PublisherFields) × (get_or f.publishers it.place None ≡ Some x) × (x.id ≡ it.id)
+
 module _ {T U : Type 0} (f : Fields T U) (sound : IsDomain f) where
   -- a publisher whose record stands at a place is there, at that place
   pub publisher-at : (id place : ℕ) → (x : PublisherFields) × (get_or f.publishers place None ≡ Some x) × (x.id ≡ id) → (x : Publisher) × ((shown f).publishers id ≡ Some x) × (x.place ≡ place)
@@ -53,7 +57,7 @@ module _ {T U : Type 0} (f : Fields T U) (sound : IsDomain f) where
 
 module _ {T U F G : Type 0} (boxes : DomainBoxes F G) (f : Fields T U) (sound : IsDomain f) where
   -- a publisher whose record stands at its handle's place is where the handle says
-  pub publisher-placed : (it : PublisherHandle) → (x : PublisherFields) × (get_or f.publishers it.place None ≡ Some x) × (x.id ≡ it.id) → IsPlacedPublisher (keeping boxes f) it
+  pub publisher-placed : (it : PublisherHandle) → StandsAtPlace f it → IsPlacedPublisher (keeping boxes f) it
   publisher-placed it at =
       let there = publisher-at f sound it.id it.place at in
       placed-from (keeping boxes f) it (
@@ -75,7 +79,7 @@ module _ {T U F G : Type 0} (boxes : DomainBoxes F G) (f : Fields T U) (sound : 
 
 module _ {T U F G : Type 0} {boxes : DomainBoxes F G} (f : Fields T U) (sound : IsDomain f) (kept : Kept T U F G) (view : keeping boxes f ≡ kept) where
   -- the record of a publisher that is there stands at its handle's place
-  pub publisher-there : (it : PublisherHandle) → IsPublisherKey kept (publisher_key it) → IsPlacedPublisher kept it → (x : PublisherFields) × (get_or f.publishers it.place None ≡ Some x) × (x.id ≡ it.id)
+  pub publisher-there : (it : PublisherHandle) → IsPublisherKey kept (publisher_key it) → IsPlacedPublisher kept it → StandsAtPlace f it
   publisher-there it there placed =
       let has = (publisher-parts (keeping boxes f) _ (subst (λ (k : Kept T U F G). IsPublisherKey k (publisher_key it)) (sym view) there)).2 in
       let parts = placed-parts (keeping boxes f) it (subst (λ (k : Kept T U F G). IsPlacedPublisher k it) (sym view) placed) in
@@ -83,7 +87,7 @@ module _ {T U F G : Type 0} {boxes : DomainBoxes F G} (f : Fields T U) (sound : 
       ap (option_map {T = Publisher} {U = ℕ} (λ x. x.place)) has.1 ∙ ap Some (parts.1 has.0 has.1) in
       occupied (publisher_of f.books f.connections) f.publishers it.place it.id (((sound.well_formed).publisher_places).stands it.id it.place place)
 
-  pub publisher-at-place : (it : PublisherHandle) → IsReadyPublisher kept it → (x : PublisherFields) × (get_or f.publishers it.place None ≡ Some x) × (x.id ≡ it.id)
+  pub publisher-at-place : (it : PublisherHandle) → IsReadyPublisher kept it → StandsAtPlace f it
   publisher-at-place it ready = publisher-there it ready.there ready.placed
 
   -- and that of a live subscriber
@@ -115,7 +119,7 @@ module _ {T U F G : Type 0} {boxes : DomainBoxes F G} (f : Fields T U) (sound : 
   subscriber-among key live = subscriber-parts (keeping boxes f) key (subst (λ (k : Kept T U F G). IsSubscriberKey k key) (sym view) live)
 
   -- a handle with the place at which its port was found says where that stands
-  pub publisher-found-placed : (it : PublisherHandle) → (x : PublisherFields) × (get_or f.publishers it.place None ≡ Some x) × (x.id ≡ it.id) → IsPlacedPublisher kept it
+  pub publisher-found-placed : (it : PublisherHandle) → StandsAtPlace f it → IsPlacedPublisher kept it
   publisher-found-placed it found = subst (λ (k : Kept T U F G). IsPlacedPublisher k it) view (publisher-placed boxes f sound it found)
 
   pub subscriber-found-placed : (it : SubscriberHandle) → (y : SubscriberFields) × (get_or f.subscribers it.place None ≡ Some y) × (y.id ≡ it.id) → IsPlacedSubscriber kept it
@@ -136,7 +140,7 @@ module _ {T U F G : Type 0} {boxes : DomainBoxes F G} (f : Fields T U) (sound : 
 
   -- and where its record stands there, and only there
   pub publisher-hinted : (it : PublisherHandle) → it.service_id ≡ (f.config).service_id
-      → ((x : PublisherFields) × (get_or f.publishers it.place None ≡ Some x) × (x.id ≡ it.id)) ↔ (IsPublisherKey kept (publisher_key it) × IsPlacedPublisher kept it)
+      → StandsAtPlace f it ↔ (IsPublisherKey kept (publisher_key it) × IsPlacedPublisher kept it)
   publisher-hinted it service = (
     λ at. (publisher-in it service (present-publisher f it.id sound it.place at.0 at.1 at.2) it.place at).0 refl,
     λ live. publisher-there it live.0 live.1,

@@ -22,7 +22,7 @@ use Rattle.iox2_pubsub.proofs.ConnectionsShown.{publisher-close-connections, pub
 use Rattle.iox2_pubsub.proofs.DepartedShown.{publisher-close-room}
 use Rattle.iox2_pubsub.proofs.LiveParts.{unblocked-test}
 use Rattle.iox2_pubsub.proofs.LoansLeftShown.{publisher-close-numbers, publisher-close-others}
-use Rattle.iox2_pubsub.proofs.PlacedHandles.{publisher-at-place}
+use Rattle.iox2_pubsub.proofs.PlacedHandles.{StandsAtPlace, publisher-at-place}
 use Rattle.iox2_pubsub.proofs.StaysBut.{BoxesStayBut}
 
 -- What its close leaves.
@@ -38,7 +38,7 @@ pub record Closed {T U F G : Type 0} (publisher : Publisher) (old new : Kept T U
   pub stays : BoxesStayBut (publisher_port publisher) old new → StaysBut (publisher_port publisher) old new
 
 module _ {T U F G : Type 0} {boxes : DomainBoxes F G} (f : Fields T U) (sound : IsDomain f) (kept : Kept T U F G) (view : keeping boxes f ≡ kept) (publisher : Publisher) (ready : IsReadyPublisher kept publisher) where
-  its-place : (x : PublisherFields) × (get_or f.publishers publisher.place None ≡ Some x) × (x.id ≡ publisher.id)
+  its-place : StandsAtPlace f publisher
   its-place = publisher-at-place f sound kept view publisher ready
 
   -- it stands at its place, and no delivery of it is blocked there

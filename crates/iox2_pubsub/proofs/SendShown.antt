@@ -129,9 +129,9 @@ module _ {T U : Type 0} (f g : Fields T U) (n : ℕ) (result : SendResult) (send
     | inr lost ↦ subst (λ (k : Messages T U). Shows (kept_of g) k (state_of (kept_of g))) (sym lost.1) (lost-shown error lost.0 is)
   ]
 
-module _ {T U : Type 0} (environment : Environment) (f g : Fields T U) (n : ℕ) (result : SendResult) (sends : SendsLoan environment f g n result) (m : Messages T U) (s : State T U) (l : Loan T U)
-    (shown : Shows (kept_of f) m s) (out : s.loans n ≡ Some l) where
-  abbrev leaves-sent : LeavesSent f g n result
+module _ {T U : Type 0} (environment : Environment) (f g : Fields T U) (n : ℕ) (result : SendResult) (sends : SendsLoan environment f g n result) where
+  -- what a send leaves
+  abbrev pub leaves-sent : LeavesSent f g n result
   leaves-sent = record {
     loan = sends.loan;
     out = sends.out;
@@ -143,14 +143,10 @@ module _ {T U : Type 0} (environment : Environment) (f g : Fields T U) (n : ℕ)
   }
 
   -- the machine's step
-  pub machine-sends : Send environment s n l (state_of (kept_of g)) result
-  machine-sends =
+  pub machine-sends : (m : Messages T U) (s : State T U) (l : Loan T U) → Shows (kept_of f) m s → s.loans n ≡ Some l → Send environment s n l (state_of (kept_of g)) result
+  machine-sends m s l shown out =
       subst (λ (t : State T U). Send environment t n l (state_of (kept_of g)) result) (sym shown.state)
       (subst (λ (k : Loan T U). Send environment (state_of (kept_of f)) n k (state_of (kept_of g)) result) (loan-is f g n result leaves-sent m s l shown out) sends.sends)
-
-  -- either way
-  pub sent-shown : (outcome : Result SendOutcome SendError) → result ≡ result_of_send outcome → Shows (kept_of g) (messages_after m n l outcome) (state_of (kept_of g))
-  sent-shown = leaves-shown f g n result leaves-sent m s l shown out
 
 -- a send that hadn't failed succeeds
 pub only-ok : (end : SendEnd) → IsKept end → (end_result end ≡ Send_error UnableToDeliver → ⊥) → (outcome : Result SendOutcome SendError) → result_of_send outcome ≡ end_result end

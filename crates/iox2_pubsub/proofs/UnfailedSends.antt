@@ -34,14 +34,6 @@ module _ (e : Environment) (c : ServiceConfig) (p : ℕ) (strategy : Backpressur
   put-unfailed none q retries elapsed (Some buffer) box result box' h =
       by_bool (is_failed result ≡ false) (has_room_in channel buffer box || c.enable_safe_overflow) _ _ h (λ _ k. ap is_failed k.0) (λ _ k. decides-passes e p strategy handler none _ result k.0)
 
-  end-unfailed : (retries : ℕ) (elapsed : Duration) (end : Option ℕ) (boxes : ℕ → Mailbox) (result : PutResult) (boxes' : ℕ → Mailbox)
-      → PutAtEndIn e c p strategy handler buffers n channel retries elapsed end boxes result boxes' → is_failed result ≡ false
-  end-unfailed retries elapsed None boxes result boxes' h = ap is_failed h.0
-  end-unfailed retries elapsed (Some q) boxes result boxes' h = elim mild [
-    | inl over ↦ (end-passes e c p strategy handler buffers n channel over retries elapsed (Some q) boxes result boxes' h).1
-    | inr none ↦ put-unfailed none q retries elapsed (buffers q) (boxes q) result h.0 h.1
-  ]
-
   delivery-unfailed : (retries : ℕ) (elapsed : Duration) (place : ℕ) (ends : List (Option ℕ)) (count : ℕ) (has_failed : Bool) (boxes : ℕ → Mailbox) (how : DeliveryEnd) (boxes' : ℕ → Mailbox)
       → has_failed ≡ false → DeliverIn e c p strategy handler buffers n channel retries elapsed place ends count has_failed boxes how boxes' → FailedAt how ≡ false
   delivery-unfailed retries elapsed place [] count has_failed boxes how boxes' none h = ap FailedAt h.0 ∙ none
@@ -49,8 +41,15 @@ module _ (e : Environment) (c : ServiceConfig) (p : ℕ) (strategy : Backpressur
       by_bool (FailedAt how ≡ false) (is_blocking h.0) _ _ h.3
       (λ _ k. ap FailedAt k.0 ∙ none)
       (λ _ k. delivery-unfailed 0 no_time (place + 1) rest (count + accepted_count h.0) (has_failed || is_failed h.0) h.1 how boxes'
-      (neither has_failed (is_failed h.0) none (end-unfailed retries elapsed end boxes h.0 h.1 h.2)) k)
+      (neither has_failed (is_failed h.0) none (unfailed end h.2)) k)
     where
+      unfailed : (at : Option ℕ) → PutAtEndIn e c p strategy handler buffers n channel retries elapsed at boxes h.0 h.1 → is_failed h.0 ≡ false
+      unfailed None put = ap is_failed put.0
+      unfailed (Some q) put = elim mild [
+        | inl over ↦ (end-passes e c p strategy handler buffers n channel over retries elapsed (Some q) boxes h.0 h.1 put).1
+        | inr passes ↦ put-unfailed passes q retries elapsed (buffers q) (boxes q) h.0 put.0 put.1
+      ]
+
       neither : (a b : Bool) → a ≡ false → b ≡ false → (a || b) ≡ false
       neither true b ea eb = absurd cc
       neither false b ea eb = eb

@@ -1,11 +1,11 @@
-use Rattle.std.proofs.Common.{◌≤◌, refl, sym, subst, ◌∙◌}
+use Rattle.std.proofs.Common.{◌≤◌, sym, subst, ◌∙◌}
 use Rattle.iox2_domain.specs.Boxes.{answers_of}
 use Rattle.iox2_machine.specs.machine.Sends.{Retry}
 use Rattle.iox2_machine.specs.machine.State.{State}
 use Rattle.iox2_laws.proofs.SendsRemain.{retry_waits_with}
 use Rattle.iox2_messages.specs.SendEnds.{end_result}
 use Rattle.iox2_domain.specs.Fields.{kept_of, keeping}
-use Rattle.iox2_domain.specs.Kept.{Kept, state_of}
+use Rattle.iox2_domain.specs.Kept.{state_of}
 use Rattle.iox2_pubsub.specs.SendCalls.{result_of_send}
 use Rattle.iox2_pubsub.proofs.BlockedShown.{retry-shown, retry-stays, retry-frees-key, only-undelivered}
 use Rattle.iox2_pubsub.proofs.GoneOn.{went-on}

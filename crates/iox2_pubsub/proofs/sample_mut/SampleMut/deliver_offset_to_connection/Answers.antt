@@ -15,10 +15,10 @@ use Rattle.iox2_messages.specs.SendEnds.{end_result}
 use Rattle.iox2_pubsub.specs.Live.{IsBlockedKey, blocked_key, written_key}
 use Rattle.iox2_pubsub.specs.SendCalls.{result_of_send}
 use Rattle.iox2_pubsub.proofs.SentLoans.{from-shown}
-use Rattle.iox2_pubsub.proofs.ConnectionSendShown.{machine-sends-to, sent-to-shown, sent-to-stays, sent-to-others, sent-to-up_to_date, sent-to-ok, fails-delivery, to-never-waits, to-spends}
+use Rattle.iox2_pubsub.proofs.ConnectionSendShown.{leaves-sent-to, machine-sends-to, sent-to-stays, sent-to-others, sent-to-up_to_date, sent-to-ok, fails-delivery, to-never-waits, to-spends}
 use Rattle.iox2_pubsub.proofs.LiveParts.{written-parts, unblocked-parts, unblocked-test, blocked-live}
 use Rattle.iox2_pubsub.proofs.LoansLeftShown.{send-to-left, send-to-gives, sent-free}
-use Rattle.iox2_pubsub.proofs.SendShown.{is-blocked, is-delivered}
+use Rattle.iox2_pubsub.proofs.SendShown.{is-blocked, is-delivered, leaves-shown}
 use Rattle.iox2_pubsub.proofs.StaysBut.{same-boxes}
 use Rattle.iox2_pubsub.proofs.WaitingShown.{send-to-adds}
 use Rattle.iox2_pubsub.proofs.sample_mut.SampleMut.deliver_offset_to_connection.Goals as goal
@@ -43,7 +43,7 @@ returns-clause-sent g c = λ m s l shown out.
     let sends : SendToConnection (answers_of g.F.BackpressureFn.allows g.G.DegradationFn.allows c.domain.inside.boxes.boxes) s c.args.self.loan.number l c.args.channel c.args.connection after (end_result c.send_to_connection-end.result) =
     machine-sends-to (answers_of g.F.BackpressureFn.allows g.G.DegradationFn.allows c.domain.inside.boxes.boxes) c.domain.inside.state c.send_to_connection-end.new.state c.args.self.loan.number c.args.channel c.args.connection (end_result c.send_to_connection-end.result) c.send_to_connection-end.ensures m s l before out in (
       after,
-      sent-to-shown (answers_of g.F.BackpressureFn.allows g.G.DegradationFn.allows c.domain.inside.boxes.boxes) c.domain.inside.state c.send_to_connection-end.new.state c.args.self.loan.number c.args.channel c.args.connection (end_result c.send_to_connection-end.result) c.send_to_connection-end.ensures m s l before out
+      leaves-shown _ _ _ _ (leaves-sent-to (answers_of g.F.BackpressureFn.allows g.G.DegradationFn.allows c.domain.inside.boxes.boxes) c.domain.inside.state c.send_to_connection-end.new.state c.args.self.loan.number c.args.channel c.args.connection (end_result c.send_to_connection-end.result) c.send_to_connection-end.ensures) m s l before out
           c.outcome_of.result (sym c.outcome_of.ensures.same),
       subst (SendToConnection (answers_of g.F.BackpressureFn.allows g.G.DegradationFn.allows c.args.domain.now.boxes.publishers) s c.args.self.loan.number l c.args.channel c.args.connection after) (sym c.outcome_of.ensures.same)
           (subst (λ (boxes : List (PortBox g.row.F.Denot g.row.G.Denot)). SendToConnection (answers_of g.F.BackpressureFn.allows g.G.DegradationFn.allows boxes) s c.args.self.loan.number l c.args.channel c.args.connection after (end_result c.send_to_connection-end.result))

@@ -1,4 +1,4 @@
-use Rattle.std.proofs.Common.{◌≡◌, ℕ, List, false, ap, sym, subst, ◌∙◌, refl}
+use Rattle.std.proofs.Common.{◌≡◌, ℕ, List, false, ap, sym, subst, ◌∙◌}
 use Rattle.iox2_machine.specs.machine.State.{is_blocked}
 use Rattle.iox2_machine.specs.machine.SingleCalls.{HoldsBlocked}
 use Rattle.iox2_machine.specs.declared.service_config.ServiceConfig.{ServiceConfig}
@@ -15,7 +15,7 @@ use Rattle.iox2_domain.specs.Kept.{Kept, state_of}
 use Rattle.iox2_domain.specs.LoanCalls.{HoldsWritten}
 use Rattle.iox2_messages.specs.SendEnds.{end_result}
 use Rattle.iox2_domain.specs.Shows.{Shows}
-use Rattle.iox2_pubsub.proofs.SendShown.{machine-sends, steady-ok, never-unconnected-here, only-error, handler-error, either-error, fails-send, never-waits-send, never-fails-here, is-delivered, is-blocked, sent-entry, sent-shown}
+use Rattle.iox2_pubsub.proofs.SendShown.{machine-sends, steady-ok, never-unconnected-here, only-error, handler-error, either-error, fails-send, never-waits-send, never-fails-here, is-delivered, is-blocked, sent-entry, leaves-sent, leaves-shown}
 use Rattle.iox2_pubsub.specs.Live.{IsBlockedKey, blocked_key, lender_key, written_key}
 use Rattle.iox2_pubsub.specs.SendCalls.{result_of_send}
 use Rattle.iox2_pubsub.proofs.CallsStay.{sent-stays, send-spends}
@@ -41,7 +41,7 @@ returns-clause-sent g c = λ m s l shown out.
     let sends : Send (answers_of g.F.BackpressureFn.allows g.G.DegradationFn.allows c.domain.inside.boxes.boxes) s c.args.self.loan.number l after (end_result c.send_loan.ensures.ends.0) =
     machine-sends (answers_of g.F.BackpressureFn.allows g.G.DegradationFn.allows c.domain.inside.boxes.boxes) c.domain.inside.state c.send_loan.new.state c.args.self.loan.number (end_result c.send_loan.ensures.ends.0) c.send_loan.ensures.ends.1 m s l before out in (
       after,
-      sent-shown (answers_of g.F.BackpressureFn.allows g.G.DegradationFn.allows c.domain.inside.boxes.boxes) c.domain.inside.state c.send_loan.new.state c.args.self.loan.number (end_result c.send_loan.ensures.ends.0) c.send_loan.ensures.ends.1 m s l before out
+      leaves-shown _ _ _ _ (leaves-sent (answers_of g.F.BackpressureFn.allows g.G.DegradationFn.allows c.domain.inside.boxes.boxes) c.domain.inside.state c.send_loan.new.state c.args.self.loan.number (end_result c.send_loan.ensures.ends.0) c.send_loan.ensures.ends.1) m s l before out
           c.send_loan.result (sym c.send_loan.ensures.ends.3),
       subst (Send (answers_of g.F.BackpressureFn.allows g.G.DegradationFn.allows c.args.domain.now.boxes.publishers) s c.args.self.loan.number l after) (sym c.send_loan.ensures.ends.3)
           (subst (λ (boxes : List (PortBox g.row.F.Denot g.row.G.Denot)). Send (answers_of g.F.BackpressureFn.allows g.G.DegradationFn.allows boxes) s c.args.self.loan.number l after (end_result c.send_loan.ensures.ends.0))
