@@ -1,4 +1,4 @@
-//! Where a loan lies. The slot that its handle names is tested first.
+//! Where a loan lies, and its mark as written. The slot that its handle names is tested first.
 ghost use Rattle.std.specs.Prelude.{◌≡◌, Some, false, IsTrue};
 ghost use Rattle.slab.specs.Slab.{get};
 ghost use Rattle.iox2_machine.specs.machine.SingleCalls.{HoldsLoan};
@@ -30,8 +30,8 @@ pub(crate) fn is_loan_at_hint<T: Drop, U: Default + Drop>(
     }
 }
 
-/// A live loan counts as written, where it lies in the book and the slot that it names. Returns whether
-/// it lies there; else nothing changes.
+/// Marks a live loan as written if it lies in the book and the slot that it names, and returns whether
+/// it does. Else nothing changes.
 pub(crate) fn mark_at_hint<T: Drop, U: Default + Drop>(
     state: &mut DomainState<T, U>,
     loan: &LoanAt,
@@ -48,7 +48,7 @@ pub(crate) fn mark_at_hint<T: Drop, U: Default + Drop>(
     state.books[loan.book].mark_message(loan.slot, loan.number, SlotMark::Written)
 }
 
-/// A live loan counts as written, wherever it lies. Returns where that is.
+/// Marks a live loan as written, wherever it lies, and returns where that is.
 pub(crate) fn mark_loan<T: Drop, U: Default + Drop>(
     state: &mut DomainState<T, U>,
     loan: &LoanAt,

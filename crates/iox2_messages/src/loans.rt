@@ -17,7 +17,7 @@ use iox2_contents::Contents;
 use iox2_domain::{DomainState, LoanAt, PublisherState};
 use iox2_machine::{AllocationStrategy, LoanError};
 
-// In the slot, which nobody holds, starts a loan of so many elements of so many units.
+// In the slot, which nobody holds, starts a loan of so many elements, each of so many units.
 fn start<T: Drop, U: Default + Drop>(
     contents: &mut Option<Contents<T, U>>,
     slot: usize,

@@ -189,8 +189,8 @@ impl SlotBook {
         self.slots[slot].mark = mark;
     }
 
-    /// Says how far the message with this number has come, where the slot is in use for it, and returns
-    /// whether it is. Else the book stays as it is.
+    /// Says how far the message with this number has come if the slot is in use for it, and returns
+    /// whether it is. Else the book stays as it is. This is `has` and `set_mark` in one call.
     pub fn mark_message(&mut self, slot: usize, number: u128, mark: SlotMark) -> bool
         ensures used { IsTrue result ↔ IsUsedFor self.old number slot }
         ensures marked { IsTrue result → self.new ≡ record self.old { marks = slice_set self.old.marks slot mark } }
