@@ -27,13 +27,13 @@ pub record IsLent {T U F G : Type 0} (port : Publisher) (loan : Key) (old new : 
   pub lent : HasLender new loan
   pub lender : lender_key loan ≡ publisher_key port
 
--- The publisher has lent the loan, which isn't written, and no send is ever blocked where none of the publisher was.
+-- The publisher has lent the loan, which isn't written. It is a live one if no send of the publisher is ever blocked, or failed by a handler.
 pub record IsLentUnwritten {T U F G : Type 0} (port : Publisher) (loan : SampleMutUninit) (old new : Kept T U F G) : Type 0 where
   pub out : IsUnwritten new loan
   pub live : NeverWaits old (publisher_key port) → IsUnwrittenLoan new loan
   pub lent : IsLent port (unwritten_key loan) old new
 
--- The publisher has lent the loan, which is written, and no send is ever blocked where none of the publisher was.
+-- The publisher has lent the loan, which is written. It is a live one if no send of the publisher is ever blocked, or failed by a handler.
 pub record IsLentWritten {T U F G : Type 0} (port : Publisher) (loan : SampleMut) (old new : Kept T U F G) : Type 0 where
   pub out : IsWritten new loan
   pub live : NeverWaits old (publisher_key port) → IsWrittenLoan new loan

@@ -144,7 +144,7 @@ module _ {T U F G : Type 0} (domain : Kept T U F G) where
     pub placed : IsPlacedPublisher publisher
     pub unblocked : IsUnblocked (publisher_key publisher)
 
-  -- The publisher is one of the domain's, wasn't closed, and no send of it is ever blocked.
+  -- The publisher is one of the domain's, wasn't closed, and no send of it is ever blocked, or failed by a handler.
   pub record IsLivePublisher (publisher : Publisher) : Type 0 where
     pub ready : IsReadyPublisher publisher
     pub never_waits : NeverWaits (publisher_key publisher)
@@ -164,12 +164,12 @@ module _ {T U F G : Type 0} (domain : Kept T U F G) where
     pub live : IsLoanKey (written_key loan)
     pub written : HasMark loan.loan.number true
 
-  -- The loan is one of the domain's that is out and isn't written, and no send of its publisher is ever blocked.
+  -- The loan is one of the domain's that is out and isn't written, and no send of its publisher is ever blocked, or failed by a handler.
   pub record IsUnwrittenLoan (loan : SampleMutUninit) : Type 0 where
     pub out : IsUnwritten loan
     pub never_waits : NeverWaits (unwritten_key loan)
 
-  -- The loan is one of the domain's that is out and is written, and no send of its publisher is ever blocked.
+  -- The loan is one of the domain's that is out and is written, and no send of its publisher is ever blocked, or failed by a handler.
   pub record IsWrittenLoan (loan : SampleMut) : Type 0 where
     pub out : IsWritten loan
     pub never_waits : NeverWaits (written_key loan)
