@@ -1,5 +1,6 @@
 """Packs the folder as a release, with what it was proved from, and compares a release with a clone."""
 import hashlib
+import re
 import shutil
 import subprocess
 import tarfile
@@ -77,7 +78,7 @@ def pack(to):
     shutil.copytree(OUT, folder, ignore=shutil.ignore_patterns("target", "doc"))
     if (BINDINGS / "dds").exists():
         shutil.copytree(BINDINGS / "dds", folder / "dds", ignore=shutil.ignore_patterns("tests", "build"))
-    shutil.copyfile(BINDINGS / "README.md", folder / "README.md")
+    (folder / "README.md").write_text(page())
     head = HOW.format(commit=commit(), version=version(), kit=kit())
     (folder / PROOFS).write_text(head + "\n".join(crate_lines()) + "\n")
     write_sums(folder)
@@ -86,6 +87,16 @@ def pack(to):
         file.add(folder, name, filter=owned_by_nobody)
     shutil.rmtree(folder)
     return packed
+
+
+def page():
+    """The page of bindings. What it links to outside of them isn't in a release, so that is named in place of the link."""
+
+    def named(link):
+        text, path = link.groups()
+        return f"`{path}` of the repository" if text == path else f"{text} (`{path}` of the repository)"
+
+    return re.sub(r"\[([^\]]+)\]\(\.\./([^)#]+)[^)]*\)", named, (BINDINGS / "README.md").read_text())
 
 
 def owned_by_nobody(member):
