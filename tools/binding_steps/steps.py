@@ -2,6 +2,8 @@
 import re
 import subprocess
 import sys
+import threading
+import time
 
 LAST_LINE = re.compile(r"^(\d+) passed, (\d+) failed$", re.M)
 
@@ -21,22 +23,28 @@ def said(*words, fails=False, both=True, **more):
 
 
 class Steps:
-    """A list of steps as it is run: each says one line."""
+    """A list of steps as it is run: each says one line. Threads may run steps at a time."""
 
     def __init__(self):
         self.passed = self.failed = 0
         self.skipped = []
+        self.lock = threading.Lock()
+
+    def add(self, passed, failed, text):
+        """Counts what passed and what failed, and says it."""
+        with self.lock:
+            self.passed, self.failed = self.passed + passed, self.failed + failed
+            print(text, end="", flush=True)
 
     def run(self, name, step, *given):
         """Runs a step, which returns what it has to say, or raises."""
+        began = time.monotonic()
         try:
             last = (step(*given) or "").strip().rsplit("\n", 1)[-1]
         except (Failed, OSError, subprocess.SubprocessError) as failure:
-            self.failed += 1
-            print(f"FAILED  {name}\n{failure}", flush=True)
+            self.add(0, 1, f"FAILED  {name}\n{failure}\n")
             return
-        self.passed += 1
-        print(f"ok      {name}: {last}", flush=True)
+        self.add(1, 0, f"ok      {name}: {last} ({time.monotonic() - began:.0f} s)\n")
 
     def run_counted(self, name, *words, **more):
         """Runs a command whose last line is 'N passed, M failed', and takes over its counts."""
@@ -44,10 +52,9 @@ class Steps:
         ran = subprocess.run([str(word) for word in words], stdin=subprocess.DEVNULL, stdout=subprocess.PIPE, stderr=subprocess.STDOUT,
                              text=True, errors="replace", **more)
         counts = LAST_LINE.findall(ran.stdout)
-        print("".join(f"        {line}\n" for line in ran.stdout.splitlines()), end="", flush=True)
         passed, failed = map(int, counts[-1]) if counts else (0, 1)
-        self.passed += passed
-        self.failed += failed if ran.returncode == 0 else max(failed, 1)
+        said_below = "".join(f"        {line}\n" for line in ran.stdout.splitlines())
+        self.add(passed, failed if ran.returncode == 0 else max(failed, 1), said_below)
 
     def skip(self, what, lacking):
         """Says that something isn't run, since a program isn't there."""
