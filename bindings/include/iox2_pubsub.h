@@ -11,10 +11,9 @@
  *  - malloc, realloc and free are the C library's, and no call is made from a signal handler;
  *  - a pointer to a payload is used as the call that gives it says, and not longer.
  *
- * It isn't owed that a call fits: where the numbers of a port, a loan, a sample or a blocked send name
- * nothing that is live in the domain, the call returns IOX2PS_NOT_LIVE and changes nothing. So numbers may
- * be copied, used twice, kept too long or made up. Domains whose handles are to be told apart need
- * service_ids of their own.
+ * Handles need not be valid. Where the numbers of a port, a loan, a sample or a blocked send name nothing that
+ * is live in the domain, the call returns IOX2PS_NOT_LIVE and changes nothing. So numbers may be copied, used
+ * twice, kept too long or made up. Domains whose handles are to be told apart need service_ids of their own.
  *
  * What a call does to the domain, which code it returns, and the numbers, lengths and copies that it writes
  * are proved. Where a pointer to a payload leads is tested alone: to the bytes of its own message and of no
