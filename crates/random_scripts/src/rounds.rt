@@ -1,5 +1,5 @@
 //! Script after script.
-use crate::comparison::{carry_out_all, compare, first_difference};
+use crate::comparison::{carry_out_all, compare};
 use crate::failure::Failure;
 use crate::shortest::shortest;
 use crate::tally::Tally;
@@ -73,15 +73,23 @@ fn check(
 
 fn print_shortest(rt: &HostRuntime, script: &Script) -> Result<(), Failure> {
     let found = shortest(rt.alloc(), script)?;
-    let fewest = found.script;
-    let commands = fewest.commands.as_slice();
-    println!(rt; "the shortest such script has {} commands:", commands.len())?;
-    print_lines(rt, &fewest)?;
-    if let Some(difference) = first_difference(rt.alloc(), fewest.config, commands)? {
-        difference.print(rt)?;
-    }
+    let count = found.script.commands.len();
+    println!(rt; "the shortest such script has {count} commands:")?;
+    print_lines(rt, &found.script)?;
+    print_difference(rt, &found.script)?;
     if found.is_cut_short {
         println!(rt; "Not all shorter ones were tried, since that takes too long.")?;
+    }
+    Ok(())
+}
+
+// Runs a script, and prints where its replies first aren't the model's.
+fn print_difference(rt: &HostRuntime, script: &Script) -> Result<(), Failure> {
+    let commands = script.commands.as_slice();
+    let ran = carry_out_all(rt.alloc(), script.config, commands)?;
+    let comparison = compare(rt.alloc(), script.config, commands, &ran, Memory::ample())?;
+    if let Some(difference) = comparison.difference {
+        difference.print(rt)?;
     }
     Ok(())
 }
