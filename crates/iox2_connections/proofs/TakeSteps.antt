@@ -10,7 +10,7 @@ use Rattle.iox2_connections.specs.Mailboxes.{mailbox_of, mailboxes_of, with_box}
 use Rattle.iox2_connections.specs.Homes.{IsApart, SameHomes, fixed_of}
 use Rattle.iox2_connections.specs.Takes.{KeepsOtherKeys, KeepsReturned, SameStands, BorrowsSlot, TakesSlot, ReleasesSlot}
 use Rattle.iox2_connections.specs.declared.receiver.Taken.{Taken}
-use Rattle.iox2_connections.proofs.MailboxChanges.{Updates-with_value, mailbox-there, mailboxes-changed, was}
+use Rattle.iox2_connections.proofs.MailboxChanges.{Updates-with_value, mailbox-there, mailboxes-changed}
 use Rattle.iox2_connections.proofs.Counts.{CountersFollow-kept}
 use Rattle.iox2_connections.proofs.DeliverySteps.{same_link}
 use Rattle.iox2_connections.proofs.ListedNumbers.{contains-from}
@@ -70,12 +70,6 @@ stands-returned slab key slot c d borrowed once at returned = record {
   follows = λ p holders. CountersFollow-kept p holders slab.slots key c d at (ap (λ (x : Link). x.home) returned)
       (λ n. rw returned (stands_in-with_returned n slot c (borrowed-at slab key slot c borrowed at) (rw at at once)));
 }
-
--- the connection from which a message was taken stands where it stood
-pub home-stands : (old new : Slab Link) (taken : Taken) → TakesSlot old taken new → IsSomeAnd (get new taken.connection) (λ (c : Link). c.home ≡ taken.home)
-home-stands old new taken t =
-    let still = was new old taken.connection t.link (record { same = λ k. sym (t.homes.same k) }) t.stands in
-    rw still.1 (ap (λ x. x.0) still.2 ∙ sym t.home_is)
 
 -- what is taken from a connection
 pub takes-slot : (old new : Slab Link) (taken : Taken) (key : ℕ) → taken.connection ≡ key → IsSomeAnd (get old key) (λ (c : Link). taken.home ≡ c.home)

@@ -133,9 +133,16 @@ pub fn key_in(keys: &[Option<usize>], place: usize) -> Option<usize>
     }
 }
 
-// Borrows the message that `receive` returns. Where its connection stands was read before that.
+/// Borrows the message that has waited longest in the first connection of which one may be borrowed:
+/// first among the expired ones, whose publishers are gone, in their order, then at `last_place`, and
+/// then by rising place, which `last_place` is afterwards. `None` where no message waits.
+///
+/// `ExceedsMaxBorrows` where messages wait, but only in connections of which as many are borrowed as
+/// may be.
+///
+/// iceoryx2's `Receiver::receive` (`src/port/details/receiver.rs`).
 #[inline(always)]
-fn borrow(
+pub fn receive(
     connections: &mut Slab<Connection>,
     expired: &[usize],
     keys: &[Option<usize>],
@@ -166,50 +173,6 @@ fn borrow(
     match found {
         Found::AtLimit => Err(ReceiveError::ExceedsMaxBorrows),
         _ => Ok(None),
-    }
-}
-
-// Reads where the connection stands of which a message was taken, behind all ways to take one: a
-// release that follows then finds it read and compared. A look-up in connections that may be written
-// tests less, and nothing is written.
-// (docs/decisions/cost.md, "A receive reads its connection after it took the message".)
-#[inline(always)]
-fn read_home(connections: &mut Slab<Connection>, taken: Taken) -> Taken
-    requires { IsSomeAnd (get connections.old taken.connection) (λ c. c.home ≡ taken.home) }
-    ensures as_before { result ≡ taken }
-    ensures same { connections.new ≡ connections.old }
-{
-    let connection = &mut connections[taken.connection];
-    Taken {
-        home: connection.home(),
-        ..taken
-    }
-}
-
-/// Borrows the message that has waited longest in the first connection of which one may be borrowed:
-/// first among the expired ones, whose publishers are gone, in their order, then at `last_place`, and
-/// then by rising place, which `last_place` is afterwards. `None` where no message waits.
-///
-/// `ExceedsMaxBorrows` where messages wait, but only in connections of which as many are borrowed as
-/// may be.
-///
-/// iceoryx2's `Receiver::receive` (`src/port/details/receiver.rs`).
-#[inline(always)]
-pub fn receive(
-    connections: &mut Slab<Connection>,
-    expired: &[usize],
-    keys: &[Option<usize>],
-    last_place: &mut usize,
-) -> Result<Option<Taken>, ReceiveError>
-    requires expired { HasConnections connections.old (map Some expired.now) }
-    requires keys { HasConnections connections.old keys.now }
-    requires apart { IsApart connections.old }
-    ensures { ReceivesSlot connections.old expired.now keys.now result connections.new }
-{
-    match borrow(connections, expired, keys, last_place) {
-        Ok(Some(taken)) => Ok(Some(read_home(connections, taken))),
-        Ok(None) => Ok(None),
-        Err(error) => Err(error),
     }
 }
 

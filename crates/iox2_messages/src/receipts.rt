@@ -15,8 +15,8 @@ ghost use Rattle.iox2_domain.specs.Receipts.{IsReceiptFor, TakesAs, ReceivesAs};
 ghost use Rattle.iox2_domain.specs.Updates.{is_subscriber_due};
 
 use crate::hinted_samples::{find_live_sample, is_last_at_hint};
-use iox2_connections::Home;
 use iox2_connections::receiver::{Taken, let_go, receive, release};
+use iox2_connections::{Connection, Home};
 use iox2_domain::{Boxes, DomainState, Receipt, SampleAt, SampleSlot, stands_at};
 use iox2_machine::{
     BackpressureFn, DegradationFn, ReceiveError, UniquePublisherId, UniqueSubscriberId,
@@ -25,14 +25,23 @@ use iox2_slots::SlotBook;
 use iox2_updates::{forget_if_empty, free_book_if_unused, leave_if_unused, update_subscriber};
 use slab::Slab;
 
-// The receipt of a message that was taken. A look-up in books that may be written tests less, and
-// nothing is written (docs/decisions/cost.md, "Look-ups that can't fail go through `&mut`").
-fn receipt_of(books: &mut Slab<SlotBook>, taken: Taken) -> Receipt
-    requires { IsSomeAnd (get books.old (taken.home).book) (λ b. taken.slot < length b.holders) }
+// The receipt of a message that was taken. Where the connection stands is read from it as it is now,
+// after the message was taken, so that a release which follows finds it read and compared. Look-ups in
+// what may be written test less, and nothing is written.
+// (docs/decisions/cost.md, "A receipt reads its connection after the message was taken".)
+fn receipt_of(
+    connections: &mut Slab<Connection>,
+    books: &mut Slab<SlotBook>,
+    taken: Taken,
+) -> Receipt
+    requires home { IsSomeAnd (get connections.old taken.connection) (λ c. c.home ≡ taken.home) }
+    requires within { IsSomeAnd (get books.old (taken.home).book) (λ b. taken.slot < length b.holders) }
     ensures receipt { IsReceiptFor books.old taken result }
-    ensures same { books.new ≡ books.old }
+    ensures same_connections { connections.new ≡ connections.old }
+    ensures same_books { books.new ≡ books.old }
 {
-    let home = taken.home;
+    let connection = &mut connections[taken.connection];
+    let home = connection.home();
     let book = &mut books[home.book];
     let sample = SampleAt {
         subscriber: UniqueSubscriberId::new(home.subscriber),
@@ -69,7 +78,7 @@ fn take_at<T: Drop, U: Default + Drop>(
     let Some(taken) = taken else {
         return Ok(None);
     };
-    Ok(Some(receipt_of(&mut state.books, taken)))
+    Ok(Some(receipt_of(&mut state.connections, &mut state.books, taken)))
 }
 
 // Whether the subscriber at a place is due for an update.

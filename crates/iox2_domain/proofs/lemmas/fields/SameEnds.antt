@@ -36,6 +36,10 @@ module _ (old new : Slab Link) (same : SameHomes old new) where
   pub same-subscriber_of_key : subscriber_of_key new ≡ subscriber_of_key old
   same-subscriber_of_key = seated-subscriber_of_key old new seats-of
 
+  -- a connection that stood still does, between the same ports
+  pub stands_still : (key : ℕ) (c : Link) → get old key ≡ Some c → (d : Link) × (get new key ≡ Some d) × (fixed_of d ≡ fixed_of c)
+  stands_still key c at = was new old key c (record { same = λ k. sym (same.same k) }) at
+
 module _ {T U : Type 0} (f : Fields T U) (new : Slab Link) (same : SameHomes f.connections new) where
   -- the fields with these connections
   abbrev pub with_connections : Fields T U

@@ -7,6 +7,7 @@ use Rattle.iox2_domain.specs.contracts.state.DomainState.{the_view}
 use Rattle.std.proofs.Common.{◌≡◌, ◌∙◌, ap, sym, subst, Option, None, Some, Result, Ok, Err, slice_index_or, slice_set, rules, vec_len}
 use Rattle.iox2_domain.specs.Receipts.{TakesAs}
 use Rattle.iox2_domain.proofs.lemmas.receives.ReceiptSteps.{has-keys, put-back, connected-places, connected-expired, taken-within, at-taken, at-nothing, at-error}
+use Rattle.iox2_domain.proofs.lemmas.fields.SameEnds.{stands_still}
 use Rattle.iox2_messages.proofs.StandingPlaces.{place-within, place-read}
 use Rattle.iox2_messages.proofs.receipts.take_at.Goals as goal
 
@@ -50,8 +51,16 @@ returns-in_default-taken g c = λ y at.
     c.index_mut.ensures.value c.in-Some.is c.subscriber.view_is c.deref.ensures.value c.deref-2.ensures.value)
     c.receive.new.connections got.0 got.1 y at)
 
-pub receipt_of-requires : goal.receipt_of-requires
-receipt_of-requires g c =
+pub receipt_of-requires-clause-home : goal.receipt_of-requires-clause-home
+receipt_of-requires-clause-home g c =
+    let got : ReceivesSlot c.state.inside.connections c.deref.result.now c.deref-2.result.now (Ok (Some c.in-Some-taken.taken)) c.receive.new.connections =
+    subst (λ (r : Result (Option Taken) ReceiveError). ReceivesSlot c.state.inside.connections c.deref.result.now c.deref-2.result.now r c.receive.new.connections)
+    (c.in_ok-taken.was ∙ ap (λ (o : Option Taken). Ok o) c.in-Some-taken.is) c.receive.ensures in
+    let still = stands_still c.state.inside.connections c.receive.new.connections (got.1).homes c.in-Some-taken.taken.connection (got.1).link (got.1).stands in
+    rw still.1 (ap (λ t. t.0) still.2 ∙ sym (got.1).home_is)
+
+pub receipt_of-requires-clause-within : goal.receipt_of-requires-clause-within
+receipt_of-requires-clause-within g c =
     let got : ReceivesSlot c.state.inside.connections c.deref.result.now c.deref-2.result.now (Ok (Some c.in-Some-taken.taken)) c.receive.new.connections =
     subst (λ (r : Result (Option Taken) ReceiveError). ReceivesSlot c.state.inside.connections c.deref.result.now c.deref-2.result.now r c.receive.new.connections)
     (c.in_ok-taken.was ∙ ap (λ (o : Option Taken). Ok o) c.in-Some-taken.is) c.receive.ensures in
@@ -65,7 +74,7 @@ returns g c = λ y at.
     let kept : slice_set c.state.inside.subscribers.items c.args.place (Some _) ≡ c.state.inside.subscribers.items =
     put-back c.state.inside.subscribers.items c.args.place c.index_mut.result.now c.in-Some.subscriber _ c.index_mut.ensures.value c.in-Some.is c.subscriber.view_is in
     subst (λ (f : Fields g.row.T.Denot g.row.U.Denot). TakesAs c.args.state.now y.id (Ok (Some c.receipt_of.result)) f)
-    (λ k. record (the_view (param 0 g.row.T) (param 1 g.row.U) c.state.inside) { subscribers = sym kept k; connections = c.receive.new.connections; books = sym c.receipt_of.ensures.same k })
+    (λ k. record (the_view (param 0 g.row.T) (param 1 g.row.U) c.state.inside) { subscribers = sym kept k; connections = sym c.receipt_of.ensures.same_connections k; books = sym c.receipt_of.ensures.same_books k })
     (at-taken _ c.args.state.now c.args.place c.in-Some.subscriber c.deref.result.now c.deref-2.result.now
     (has-keys _ c.args.state.now c.args.place c.index_mut.result.now c.in-Some.subscriber _ c.deref.result.now c.deref-2.result.now c.requires.agrees c.state.view_is c.requires.stands
     c.index_mut.ensures.value c.in-Some.is c.subscriber.view_is c.deref.ensures.value c.deref-2.ensures.value)

@@ -1,7 +1,7 @@
 use Rattle.std.proofs.Common.{◌≡◌, false, drop, map, Some}
 use Rattle.iox2_connections.specs.Finds.{first_found, search}
 use Rattle.iox2_connections.proofs.Searches.{is_ready}
-use Rattle.iox2_connections.proofs.receiver.borrow.Given as goal
+use Rattle.iox2_connections.proofs.receiver.receive.Given as goal
 
 -- no connection to take from was found so far, and what was found and the rest of the search are the whole search
 abbrev pub invariant-loop-place : goal.invariant-loop-place
