@@ -10,7 +10,7 @@ use Rattle.iox2_connections.specs.Link.{Link, slots_in, with_slots_in, is_shut_i
 use Rattle.iox2_machine.specs.machine.Channel.{Channel, is_closed}
 use Rattle.iox2_machine.specs.machine.Mailbox.{Mailbox, waiting_in, with_waiting_in, has_room_in}
 use Rattle.iox2_machine.specs.machine.Records.{Environment}
-use Rattle.iox2_machine.specs.machine.Delivery.{PutResult, Skipped, DeliveryEnd, PutIn, is_blocking, is_failed, accepted_count}
+use Rattle.iox2_machine.specs.machine.Delivery.{PutResult, Skipped, DeliveryEnd, PutIn, is_blocking, is_failed, accepted_count, DeliverIn}
 use Rattle.iox2_machine.specs.declared.service_config.ServiceConfig.{ServiceConfig}
 use Rattle.iox2_connections.specs.declared.connection.Home.{Home}
 use Rattle.iox2_connections.specs.declared.connection.PutOutcome.{PutOutcome}
@@ -25,7 +25,7 @@ use Rattle.iox2_connections.specs.Mailboxes.{mailbox_of, mailboxes_of, subscribe
 use Rattle.iox2_connections.specs.Homes.{IsApart, SameHomes, KeepsOthers, IsSenders, IsSenderLinked, fixed_of}
 use Rattle.iox2_connections.specs.Receivers.{has_id, buffer_if_open, buffers_of, taking_buffers, is_open_one, is_open_at, takes_at, KnowsReceivers, HaveChannel, IsReadyToDeliver}
 use Rattle.iox2_connections.specs.Handlers.{marks_of}
-use Rattle.iox2_connections.specs.Deliveries.{result_of, end_of, retries_at, elapsed_at, ComesTo, PutsMessage, DeliversMessage}
+use Rattle.iox2_connections.specs.Deliveries.{result_of, end_of, retries_at, elapsed_at, ComesTo, PutsMessage}
 use Rattle.iox2_connections.proofs.OtherNumbers.{waiting-in, with-waiting-in}
 use Rattle.iox2_connections.proofs.LookUps.{look_up-found, look_up-there}
 use Rattle.iox2_connections.proofs.MailboxChanges.{Updates-with_value, SameHomes-updated, KeepsOthers-updated, was, IsApart-same, both-true, mailbox-there, channels-there, channels-same, row-changed, put_at-own}
@@ -281,6 +281,12 @@ subscriber_of_key-same old new same (Some key) = by (get old key) (get new key) 
 
 pub ends-at : (old now : Slab Link) (keys : List (Option ℕ)) (i : ℕ) → SameHomes old now → subscriber_of_key now (get_or keys i None) ≡ get_or (sender_ends old keys) i None
 ends-at old now keys i same = subscriber_of_key-same old now same (get_or keys i None) ∙ sym (get_or-map (subscriber_of_key old) keys i None)
+
+module _ {F : Type 0} (environment : Environment) (config : ServiceConfig) (d : Delivery) (handler : Option (BackpressureHandler F)) (buffers : ℕ → Option ℕ) where
+  -- The machine's delivery of the message n to these ends, which stand from that place on, in the publisher's mailboxes.
+  abbrev pub DeliversMessage : (n place : ℕ) → List (Option ℕ) → (count : ℕ) → (has_failed : Bool) → (ℕ → Mailbox) → DeliveryEnd → (ℕ → Mailbox) → Type 0
+  DeliversMessage n place ends count has_failed boxes how boxes' =
+      DeliverIn environment config d.publisher d.strategy (marks_of handler) buffers n d.channel (retries_at d place) (elapsed_at d place) place ends count has_failed boxes how boxes'
 
 -- behind the first place each receiver is asked anew
 anew : (v : Delivery) (i : ℕ) → (v.start).place ≤ i → eqb (i + 1) (v.start).place ≡ false

@@ -1,5 +1,5 @@
 -- What waits in a connection is lost, one slot after the other.
-use Rattle.std.proofs.Common.{◌≡◌, ℕ, ◌+◌, ◌<◌, List, [], length, map, None, Some, get_or, refl, ap, sym, ◌∙◌, arith}
+use Rattle.std.proofs.Common.{◌≡◌, ℕ, ◌+◌, ◌<◌, List, [], length, map, None, Some, get_or, refl, ap, sym, ◌∙◌, arith, ◌≤◌, slice_index}
 use Rattle.std.proofs.lemmas.List.{length-set}
 use Rattle.std.specs.Prelude.{IsSomeAnd}
 use Rattle.slab.specs.Slab.{Slab, ContainsKey, get, Updates, with_value}
@@ -10,7 +10,7 @@ use Rattle.iox2_connections.specs.Mailboxes.{mailbox_of, mailboxes_of, with_box}
 use Rattle.iox2_connections.specs.Homes.{IsApart, fixed_of}
 use Rattle.iox2_connections.specs.Counters.{times, stands_in, one_holder_less, with_counters}
 use Rattle.iox2_connections.specs.Recounts.{Recounts}
-use Rattle.iox2_connections.specs.Drops.{DropsFrom, DropsWaiting, EmptiesFrom, DropsAll, RemovesConnection, without_waiting}
+use Rattle.iox2_connections.specs.Drops.{DropsFrom, DropsWaiting, DropsAll, RemovesConnection, without_waiting}
 use Rattle.iox2_connections.specs.Reclaims.{IsHeld, ReclaimsFrom}
 use Rattle.iox2_connections.proofs.MailboxChanges.{Updates-with_value, mailbox-there, mailboxes-changed}
 use Rattle.iox2_connections.proofs.Counts.{one_if, one_if_same, times-cons, get_or-one_holder_less}
@@ -77,6 +77,15 @@ dropped-held hs slot c d held r = record { at = λ n. omega (arith, held.at n, (
 pub drops-next : (old book : Book) (slot : ℕ) (a c d : Link) → Follows DropsFrom old a book c → LosesOne slot c d → Follows DropsFrom old a (with_counters book (one_holder_less slot book.holders)) d
 drops-next old book slot a c d follows r =
     follows-more DropsFrom old book slot a c d follows (dropped-held book.holders slot c d follows.held r) (drops-more old.holders book.holders slot a c d follows.held follows.went r)
+
+-- Slots that waited in the connection went, and others that were given back: nothing else of it changes, and each of them
+-- has one holder less.
+pub record EmptiesFrom (holders : List ℕ) (old : Link) (holders' : List ℕ) (new : Link) : Type 0 where
+  pub kept : new ≡ record old { waiting = new.waiting; returned = new.returned; others = new.others }
+  pub fewer : length new.returned ≤ length old.returned
+  pub counters : (slot : ℕ) → slice_index holders' slot + stands_in slot old ≡ slice_index holders slot + stands_in slot new
+  pub shrinks : (slot : ℕ) → slice_index holders' slot ≤ slice_index holders slot
+  pub slots : length holders' ≡ length holders
 
 -- then what was given back is reclaimed
 pub drops-reclaims : (hs hs' hs'' : List ℕ) (a b c : Link) → DropsFrom hs a hs' b → ReclaimsFrom hs' b hs'' c → EmptiesFrom hs a hs'' c

@@ -1,5 +1,5 @@
 -- A delivery from the slots of a slab's connections, in the machine's words.
-use Rattle.std.specs.Prelude.{◌≡◌, ◌==◌, ℕ, Bool, false, cond, List, drop}
+use Rattle.std.specs.Prelude.{◌≡◌, ◌==◌, ℕ, false, cond, List, drop}
 use Rattle.std.specs.declared.option.Option.{Option}
 use Rattle.std.specs.declared.time.Duration.{Duration}
 use Rattle.slab.specs.Slab.{Slab}
@@ -64,11 +64,6 @@ module _ {F : Type 0} (environment : Environment) (config : ServiceConfig) (d : 
     abbrev pub PutsMessage : (n place : ℕ) → (end : Option ℕ) → (ℕ → Mailbox) → PutResult → (ℕ → Mailbox) → Type 0
     PutsMessage n place end boxes result boxes' =
         PutAtEndIn environment config d.publisher d.strategy (marks_of handler) buffers n d.channel (retries_at d place) (elapsed_at d place) end boxes result boxes'
-
-    -- The machine's delivery of the message n to these ends, which stand from that place on, in the publisher's mailboxes.
-    abbrev pub DeliversMessage : (n place : ℕ) → List (Option ℕ) → (count : ℕ) → (has_failed : Bool) → (ℕ → Mailbox) → DeliveryEnd → (ℕ → Mailbox) → Type 0
-    DeliversMessage n place ends count has_failed boxes how boxes' =
-        DeliverIn environment config d.publisher d.strategy (marks_of handler) buffers n d.channel (retries_at d place) (elapsed_at d place) place ends count has_failed boxes how boxes'
 
   module _ (receivers : List (Option ReceiverDetails)) where
     -- Whatever numbers the slots have, the slot's message is put at the end to which the key at the place leads.

@@ -19,14 +19,6 @@ pub record DropsFrom (holders : List ℕ) (old : Link) (holders' : List ℕ) (ne
   pub shrinks : (slot : ℕ) → slice_index holders' slot ≤ slice_index holders slot
   pub slots : length holders' ≡ length holders
 
--- The same, and slots that were given back may have gone too.
-pub record EmptiesFrom (holders : List ℕ) (old : Link) (holders' : List ℕ) (new : Link) : Type 0 where
-  pub kept : new ≡ record old { waiting = new.waiting; returned = new.returned; others = new.others }
-  pub fewer : length new.returned ≤ length old.returned
-  pub counters : (slot : ℕ) → slice_index holders' slot + stands_in slot old ≡ slice_index holders slot + stands_in slot new
-  pub shrinks : (slot : ℕ) → slice_index holders' slot ≤ slice_index holders slot
-  pub slots : length holders' ≡ length holders
-
 -- What waits in the connection at the key is lost, and what was given back there is reclaimed. Each of these slots of the
 -- publisher p has one holder less.
 pub record DropsAll (p : ℕ) (holders : List ℕ) (old : Slab Link) (key : ℕ) (holders' : List ℕ) (new : Slab Link) : Type 0 where

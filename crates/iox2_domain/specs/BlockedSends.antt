@@ -1,13 +1,12 @@
 -- A blocked send goes on: its message is delivered to the receivers that remain.
-use Rattle.std.specs.Prelude.{◌≡◌, ℕ, ◌≤◌, drop, List, length, slice_set, slice_index_or}
-use Rattle.std.specs.declared.option.Option.{Option}
+use Rattle.std.specs.Prelude.{◌≡◌, ℕ, ◌≤◌, List, length, slice_set, slice_index_or}
 use Rattle.std.specs.declared.option.Option.TheVariants.{None, Some}
 use Rattle.std.specs.declared.time.Duration.{Duration}
 use Rattle.slab.specs.Slab.{get, with_value}
 use Rattle.iox2_slots.specs.SlotBook.{Book}
 use Rattle.iox2_machine.specs.machine.Numbers.{without}
 use Rattle.iox2_machine.specs.machine.Records.{Entry, Environment, BlockedSend}
-use Rattle.iox2_machine.specs.machine.Sends.{Retry, GiveUp, SendResult, DeliverAndConclude}
+use Rattle.iox2_machine.specs.machine.Sends.{Retry, GiveUp, SendResult}
 use Rattle.iox2_connections.specs.Counters.{with_counters, one_holder_less}
 use Rattle.iox2_connections.specs.Mailboxes.{sender_ends}
 use Rattle.iox2_connections.specs.declared.sender.Progress.{Progress}
@@ -46,14 +45,6 @@ pub record GoesOn {T U : Type 0} (environment : Environment) (old : Fields T U) 
     publishers = slice_set delivered.publishers place (Some (with_outcome outcome b x));
     books = with_value delivered.books x.book (with_counters book (counters_after outcome b.slot book.holders));
   }
-
--- The machine's delivery of the message n of the publisher x goes on from there, into that channel at these keys, and its send ends
--- or is blocked again. No entry is newly kept.
-pub record ConcludesAs {T U : Type 0} (environment : Environment) (old new : Fields T U) (x : PublisherFields) (n channel : ℕ) (keys : List (Option ℕ)) (start : Progress) (elapsed : Duration) (result : SendResult) : Type 0 where
-  pub agrees : IsDomain new
-  pub concludes : DeliverAndConclude environment (state_of (kept_of old)) x.id n channel start.retries elapsed start.place (drop start.place (sender_ends old.connections keys)) start.count start.has_failed
-      (state_of (kept_of new)) result
-  pub entries : (m : ℕ) (entry : Entry T U) → entries_of (kept_of new) m ≡ Some entry → entries_of (kept_of old) m ≡ Some entry
 
 -- A delivery of the publisher at the place is blocked.
 pub record HasBlocked {T U : Type 0} (f : Fields T U) (place : ℕ) : Type 0 where

@@ -1,18 +1,14 @@
 -- What the close of a publisher leaves of a domain's fields.
-use Rattle.std.specs.Prelude.{◌≡◌, ◌⊎◌, ℕ, Bool, true, false, cond, ◌+◌, ◌==◌, ◌&&◌, List, length, map, slice_index, slice_index_or, slice_set}
+use Rattle.std.specs.Prelude.{◌≡◌, ◌⊎◌, ℕ, Bool, true, false, cond, ◌==◌, ◌&&◌, List, slice_index_or, slice_set}
 use Rattle.std.specs.declared.option.Option.{Option}
 use Rattle.std.specs.declared.option.Option.TheVariants.{None, Some}
-use Rattle.std.specs.Option.{option_map, option_map_or, option_and_then}
-use Rattle.std.specs.List.{sum_by}
-use Rattle.slab.specs.Slab.{Slab, get, with_value}
+use Rattle.std.specs.Option.{option_map_or, option_and_then}
+use Rattle.slab.specs.Slab.{Slab, get}
 use Rattle.iox2_connections.specs.Link.{Link}
-use Rattle.iox2_slots.specs.SlotBook.{Book}
 use Rattle.iox2_machine.specs.machine.Places.{is_port}
-use Rattle.iox2_connections.specs.Counters.{times, stands, with_counters}
 use Rattle.iox2_connections.specs.Leaves.{left_link, holds_slots}
 use Rattle.iox2_domain.specs.Ports.{PublisherFields, SubscriberFields}
 use Rattle.iox2_domain.specs.Departures.{HasKey}
-use Rattle.iox2_domain.specs.Fields.{Fields}
 use Rattle.iox2_domain.specs.Updates.{receiver_key}
 
 -- ---- one connection
@@ -62,20 +58,3 @@ keys_left connections place keys =
 -- The subscriber without its end at the publisher's place, where that led to a connection that is gone; and due.
 abbrev pub left_subscriber : Slab Link → (place : ℕ) → SubscriberFields → SubscriberFields
 left_subscriber connections place y = record y { keys = keys_left connections place y.keys; is_due = true }
-
--- Each slot of the publisher x has one holder less for each place where it stood in its history or its connections and
--- stands no more.
-pub record LeavesSlots (x : PublisherFields) (holders : List ℕ) (connections : List (Option Link)) (holders' : List ℕ) (connections' : List (Option Link)) : Type 0 where
-  pub slots : length holders' ≡ length holders
-  pub at : (slot : ℕ) → slice_index holders' slot + times slot (x.history).items + sum_by (stands x.id slot) connections
-      ≡ slice_index holders slot + sum_by (stands x.id slot) connections'
-
-module _ {T U : Type 0} where
-  -- The fields after the publisher with this book left the place i, with these connections and these counters.
-  abbrev pub left_fields : Fields T U → (i key : ℕ) → Book → (holders : List ℕ) → Slab Link → Fields T U
-  left_fields f i key b holders connections = record f {
-    publishers = slice_set f.publishers i None;
-    subscribers = map (option_map (left_subscriber connections i)) f.subscribers;
-    connections = connections;
-    books = with_value f.books key (with_counters b holders);
-  }

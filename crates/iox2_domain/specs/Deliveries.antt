@@ -1,5 +1,5 @@
 -- A publisher's message is delivered, and its send ends.
-use Rattle.std.specs.Prelude.{◌≡◌, ◌⊎◌, ℕ, ◌≤◌, false, cond, drop, List, [], ◌∷◌, ◌++◌, length, map, nat_lt, slice_get, slice_set}
+use Rattle.std.specs.Prelude.{◌≡◌, ℕ, ◌≤◌, false, cond, drop, List, [], ◌∷◌, ◌++◌, length, map, nat_lt, slice_get, slice_set}
 use Rattle.std.specs.declared.option.Option.{Option}
 use Rattle.std.specs.declared.option.Option.TheVariants.{None, Some}
 use Rattle.std.specs.Option.{option_map}
@@ -7,10 +7,9 @@ use Rattle.slab.specs.Slab.{Slab, get, with_value}
 use Rattle.circular_buffer.specs.Buffer.{Buffer, buffer, keep_last}
 use Rattle.iox2_machine.specs.machine.Delivery.{DeliverIn, no_time}
 use Rattle.iox2_connections.specs.Link.{Link}
-use Rattle.iox2_machine.specs.machine.Loans.{entry_of}
-use Rattle.iox2_machine.specs.machine.Numbers.{put_at, without}
-use Rattle.iox2_machine.specs.machine.Records.{Entry, Loan, Environment}
-use Rattle.iox2_machine.specs.machine.Sends.{SendResult, Delivered_to, Blocked_send, Send_error, Publish}
+use Rattle.iox2_machine.specs.machine.Numbers.{without}
+use Rattle.iox2_machine.specs.machine.Records.{Environment}
+use Rattle.iox2_machine.specs.machine.Sends.{SendResult, Delivered_to, Blocked_send, Send_error}
 use Rattle.iox2_machine.specs.declared.errors.SendError.TheVariants.{UnableToDeliver}
 use Rattle.iox2_slots.specs.SlotBook.{Book, holders_at}
 use Rattle.iox2_slots.specs.declared.slots.mark.SlotMark.TheVariants.{Sent}
@@ -23,9 +22,8 @@ use Rattle.std.specs.declared.time.Duration.{Duration}
 use Rattle.iox2_connections.specs.Receivers.{taking_buffers}
 use Rattle.iox2_connections.specs.Recounts.{Recounts}
 use Rattle.iox2_domain.specs.Ports.{PublisherFields}
-use Rattle.iox2_domain.specs.Kept.{state_of, entries_of}
-use Rattle.iox2_domain.specs.Fields.{Fields, kept_of}
-use Rattle.iox2_domain.specs.Invariant.{IsDomain, details_of}
+use Rattle.iox2_domain.specs.Fields.{Fields}
+use Rattle.iox2_domain.specs.Invariant.{details_of}
 
 -- The slot of the publisher x went into that channel at these keys of its own, from the start on, with this outcome. Connections
 -- and counters changed together, and nothing else did.
@@ -46,11 +44,6 @@ pub record DeliversFrom {T U : Type 0} (environment : Environment) (old : Fields
 abbrev pub with_loan_out : (slot : ℕ) → PublisherFields → PublisherFields
 with_loan_out slot x = record x { loans = without slot x.loans }
 
--- The publisher without the loan in the slot, which stands last in its history. For a moment this may have one slot more
--- than fits.
-abbrev pub with_remembered : (slot : ℕ) → PublisherFields → PublisherFields
-with_remembered slot x = record (with_loan_out slot x) { history = buffer (x.history.items ++ slot ∷ []) x.history.capacity }
-
 -- The history with the slot as its last, without its oldest where there would be more slots than fit.
 abbrev pub pushed : Buffer ℕ → (slot : ℕ) → Buffer ℕ
 pushed history slot = buffer (keep_last history.capacity (history.items ++ slot ∷ [])) history.capacity
@@ -67,22 +60,6 @@ with_sent slot book = record book { marks = slice_set book.marks slot Sent }
 abbrev pub with_left : Option ℕ → Book → Book
 with_left None book = book
 with_left (Some oldest) book = with_counters book (one_holder_less oldest book.holders)
-
--- The fields after the publisher x, which stands at that place, has sent the loan in the slot of its book. The loan's one
--- holder is the history now.
-abbrev pub with_send_ended : {T U : Type 0} → Fields T U → (place : ℕ) → PublisherFields → (slot : ℕ) → Book → Fields T U
-with_send_ended f place x slot book = record f {
-  publishers = slice_set f.publishers place (Some (record (with_loan_out slot x) { history = pushed x.history slot }));
-  books = with_value f.books x.book (with_left (leaving x.history slot) (with_sent slot book));
-}
-
--- The fields after the publisher x, which stands at that place, has sent the loan in the slot of its book, and waits for a
--- receiver. The loan is out still, and the history is one holder more.
-abbrev pub with_send_blocked : {T U : Type 0} → Fields T U → (place : ℕ) → PublisherFields → (slot : ℕ) → Progress → Book → Fields T U
-with_send_blocked f place x slot progress book = record f {
-  publishers = slice_set f.publishers place (Some (record x { history = pushed x.history slot; blocked = Some (record { slot = slot; channel = 0; is_alone = false; progress = progress }) }));
-  books = with_value f.books x.book (with_left (leaving x.history slot) (with_counters (with_sent slot book) (one_holder_more slot book.holders)));
-}
 
 -- The publisher whose slot was delivered with this outcome: it is out no more, or it waits for a receiver.
 abbrev pub with_delivered : DeliveryOutcome → (slot : ℕ) → PublisherFields → PublisherFields
@@ -130,11 +107,3 @@ pub record SendsSlot {T U : Type 0} (environment : Environment) (old : Fields T 
   pub book : Book
   pub stands : get delivered.books x.book ≡ Some book
   pub ended : new ≡ with_send outcome delivered place x slot book
-
--- The loan n of the publisher p was published, with this result. Its entry may be newly kept, and no other is.
-pub record Publishes {T U : Type 0} (environment : Environment) (old new : Fields T U) (p n : ℕ) (l : Loan T U) (result : SendResult) : Type 0 where
-  pub agrees : IsDomain new
-  pub publishes : Publish environment (state_of (kept_of old)) p n (state_of (kept_of new)) result
-  pub loans : (state_of (kept_of new)).loans ≡ put_at (state_of (kept_of old)).loans n None
-  pub entries : (m : ℕ) (entry : Entry T U) → entries_of (kept_of new) m ≡ Some entry
-      → ((m ≡ n) × (entry ≡ entry_of l)) ⊎ (entries_of (kept_of old) m ≡ Some entry)

@@ -1,18 +1,13 @@
 -- A publisher lends a free slot of its book.
-use Rattle.std.specs.Prelude.{◌≡◌, ℕ, Bool, true, false, ◌&&◌, ◌*◌, nat_lt, ◌+◌, ◌<◌, ◌≤◌, max, List, [], ◌∷◌, ◌++◌, length, slice_index_or, slice_set, Result, MatchResult, MatchOption, IsSomeAnd}
+use Rattle.std.specs.Prelude.{◌≡◌, ℕ, Bool, ◌<◌, ◌≤◌, max, List, [], ◌∷◌, ◌++◌, Result, MatchResult}
 use Rattle.std.specs.declared.option.Option.{Option}
 use Rattle.std.specs.declared.option.Option.TheVariants.{None, Some}
-use Rattle.std.specs.List.{All}
-use Rattle.slab.specs.Slab.{get, with_value}
-use Rattle.iox2_machine.specs.machine.Limits.{last_number}
-use Rattle.iox2_machine.specs.machine.Loans.{is_static, GrantLoan, loan_granted}
-use Rattle.iox2_slots.specs.SlotBook.{Book, holders_at}
+use Rattle.iox2_machine.specs.machine.Loans.{GrantLoan, loan_granted}
 use Rattle.iox2_contents.specs.SlotContents.{ContentState, SomeAt, open_count, with_changed, unwritten_content}
 use Rattle.iox2_machine.specs.machine.State.{State}
 use Rattle.iox2_machine.specs.declared.errors.LoanError.{LoanError}
 use Rattle.iox2_machine.specs.declared.header.Header.{Header}
 use Rattle.iox2_machine.specs.declared.service_config.ServiceConfig.{ServiceConfig}
-use Rattle.iox2_slots.specs.declared.slots.mark.SlotMark.TheVariants.{Unwritten}
 use Rattle.iox2_machine.specs.machine.Environments.{ample_memory, fixed_handlers}
 use Rattle.iox2_machine.specs.machine.Records.{Publisher, Environment}
 use Rattle.iox2_machine.specs.declared.allocation.AllocationStrategy.{AllocationStrategy}
@@ -26,15 +21,6 @@ use Rattle.iox2_domain.specs.declared.loan_slots.LoanAt.{LoanAt}
 -- The header of a message of so many elements of the publisher.
 abbrev pub header_for : ServiceConfig → (publisher len : ℕ) → Header
 header_for c publisher len = record { node_id = c.node_id; publisher_id = publisher; number_of_elements = len }
-
--- The book with the slot taken for the message with this number and header.
-abbrev pub with_taken_slot : Book → (slot number : ℕ) → Header → Book
-with_taken_slot book slot number header = record book {
-  numbers = slice_set book.numbers slot number;
-  headers = slice_set book.headers slot header;
-  marks = slice_set book.marks slot Unwritten;
-  holders = slice_set book.holders slot 1;
-}
 
 -- The publisher with the slot among its loans, of so many elements, and with so many segments.
 abbrev pub lending : (len slot segments : ℕ) → PublisherFields → PublisherFields
@@ -52,24 +38,6 @@ memory_if_any None = ample_memory
 memory_if_any (Some x) = memory_for x.allocation_strategy
 
 module _ {T U : Type 0} where
-  -- The static publisher at the place has fewer loans out than it may have, some slot of its book is free, and a number is
-  -- left.
-  pub record CanGrant (f : Fields T U) (checks : Bool) (len place : ℕ) : Type 0 where
-    pub publisher : PublisherFields
-    pub book : Book
-    pub stands : slice_index_or f.publishers place None ≡ Some publisher
-    pub its : get f.books publisher.book ≡ Some book
-    pub few : length publisher.loans < publisher.max_loaned_samples
-    pub some_free : All (λ n. 0 < n) book.holders → ⊥
-    pub more : f.next_message < last_number
-    pub short : (checks && is_static publisher.allocation && nat_lt publisher.initial_max_slice_len len) ≡ false
-    pub static : is_static publisher.allocation ≡ true
-
-  -- A loan by the static publisher at the place is refused for this reason, or a slot may be lent.
-  abbrev pub LoanDecided : Fields T U → (checks : Bool) → (len place : ℕ) → Option LoanError → Type 0
-  LoanDecided f checks len place decision = IsSomeAnd (slice_index_or f.publishers place None) (λ x. MatchOption decision (CanGrant f checks len place)
-      (λ e. (user_header : U) → GrantLoan (memory_for x.allocation) user_header checks len (state_of (kept_of f)) x.id (state_of (kept_of f)) (Some e)))
-
   -- In the slot of these contents a loan of that length may start: there is room for it, and where cells can be handed out
   -- as lists, the slot has no cells, and fewer slots have some than there are lists.
   pub record MayStart (contents : List (ContentState T U)) (slot len : ℕ) : Type 0 where
@@ -84,21 +52,6 @@ module _ {T U : Type 0} where
     pub had : old ≡ Some contents
     pub default : is_default user_header
     pub started : new ≡ Some (with_changed contents slot (unwritten_content user_header len))
-
-  -- The publisher at the place lends a slot that was free, for the message with the next number. It has so many segments then.
-  pub record Lends (is_default : U → Type 0) (old : Fields T U) (place : ℕ) (x : PublisherFields) (slot len segments : ℕ) (new : Fields T U) : Type 0 where
-    pub book : Book
-    pub stood : get old.books x.book ≡ Some book
-    pub within : slot < length book.holders
-    pub free : holders_at book slot ≡ 0
-    pub started : Option (List (ContentState T U))
-    pub starts : Starts is_default (slice_index_or old.contents x.book None) started slot (len * (old.config).units_per_element)
-    pub lent : new ≡ record old {
-      next_message = old.next_message + 1;
-      books = with_value old.books x.book (with_taken_slot book slot old.next_message (header_for old.config x.id len));
-      contents = slice_set old.contents x.book started;
-      publishers = slice_set old.publishers place (Some (lending len slot segments x));
-    }
 
   -- The loan is the publisher's, of the message with the next number, in the publisher's book.
   pub record IsNamed (old : Fields T U) (x : PublisherFields) (loan : LoanAt) : Type 0 where

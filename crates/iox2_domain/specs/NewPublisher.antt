@@ -1,11 +1,10 @@
 -- A publisher enters a domain, with its book and the contents of its slots.
-use Rattle.std.specs.Prelude.{◌≡◌, ◌≢◌, ◌≤◌, ◌==◌, ℕ, Bool, true, false, cond, nat_lt, List, [], length, replicate, slice_index_or}
+use Rattle.std.specs.Prelude.{◌≡◌, ◌==◌, ℕ, Bool, true, false, cond, nat_lt, List, [], length, replicate}
 use Rattle.std.specs.List.{All}
 use Rattle.std.specs.declared.option.Option.{Option}
-use Rattle.std.specs.declared.option.Option.TheVariants.{None, Some}
+use Rattle.std.specs.declared.option.Option.TheVariants.{None}
 use Rattle.std.specs.declared.result.Result.{Result}
 use Rattle.std.specs.declared.result.Result.TheVariants.{Ok, Err}
-use Rattle.slab.specs.Slab.{Slab, get, Updates}
 use Rattle.circular_buffer.specs.Buffer.{Buffer}
 use Rattle.iox2_machine.specs.machine.Limits.{last_number}
 use Rattle.iox2_machine.specs.machine.Records.{PublisherSettings, Handler}
@@ -21,7 +20,7 @@ use Rattle.iox2_machine.specs.declared.errors.PublisherCreateError.TheVariants.{
 use Rattle.iox2_domain.specs.Handlers.{handler_of}
 use Rattle.iox2_domain.specs.declared.handlers.HandlerMark.TheVariants as mark
 use Rattle.iox2_domain.specs.declared.options.PublisherOptions.{PublisherOptions}
-use Rattle.iox2_domain.specs.Ports.{PublisherFields, SubscriberFields}
+use Rattle.iox2_domain.specs.Ports.{PublisherFields}
 use Rattle.iox2_domain.specs.Fields.{Fields}
 use Rattle.iox2_domain.specs.Placed.{lowest_empty}
 
@@ -79,10 +78,6 @@ module _ {T U : Type 0} where
       cond (f.next_port == last_number) (Err UnableToCreatePortTag)
       (cond (nat_lt (lowest_empty f.publishers) (f.config).max_publishers) (Ok (lowest_empty f.publishers)) (Err ExceedsMaxSupportedPublishers))
 
--- The subscriber, due for an update.
-abbrev pub subscriber_due : SubscriberFields → SubscriberFields
-subscriber_due y = record y { is_due = true }
-
 -- A book of so many slots of the publisher, which names its node. None of the slots is in use, and their contents,
 -- each without cells and with room for so many elements, lie in lists where they are to, and their cells can then be handed
 -- out for so many loans at a time.
@@ -96,21 +91,3 @@ pub record IsNewSegment {T U : Type 0} (book : Book) (contents : List (ContentSt
   pub contents_form : in_lists ≡ true → All (λ content. content.is_in_place ≡ false) contents
   pub contents_closed : All (λ content. content.cells ≡ []) contents
   pub contents_lists : All (λ content. content.lists ≡ lists_for in_lists lists) contents
-
--- A book of the publisher, none of whose slots is in use, is among the books now, at a key that had none. At that key are
--- contents for its slots, each without cells and with room for so many elements. Nothing else changes.
-pub record BookEnters {T U : Type 0} (node publisher slots room key : ℕ) (old_books : Slab Book) (old_contents : List (Option (List (ContentState T U))))
-    (books : Slab Book) (contents : List (Option (List (ContentState T U)))) : Type 0 where
-  pub book : Book
-  pub vacant : get old_books key ≡ None
-  pub updates : Updates old_books books key (Some book)
-  pub is_its : book.publisher ≡ publisher
-  pub names_node : book.node ≡ node
-  pub unused : book.holders ≡ replicate slots 0
-  pub aligned : IsAligned book
-  pub slot_contents : List (ContentState T U)
-  pub contents_here : slice_index_or contents key None ≡ Some slot_contents
-  pub contents_others : (k : ℕ) → k ≢ key → slice_index_or contents k None ≡ slice_index_or old_contents k None
-  pub contents_length : length slot_contents ≡ slots
-  pub has_room : All (λ content. room ≤ content.room) slot_contents
-  pub closed : All (λ content. content.cells ≡ []) slot_contents

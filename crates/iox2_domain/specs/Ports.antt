@@ -48,10 +48,6 @@ pub record SubscriberFields : Type 0 where
 abbrev pub slot_length : (segment_length : ℕ) → ℕ
 slot_length segment_length = max 1 segment_length
 
--- The publisher, due for an update.
-abbrev pub due : PublisherFields → PublisherFields
-due x = record x { is_due = true }
-
 -- A subscriber that was just made, with this handler of degradations, and with room for so many connections and expired ones.
 abbrev pub entering : (id place buffer : ℕ) → Handler DegradationAction → (key_room expired_room : ℕ) → SubscriberFields
 entering id place buffer handler key_room expired_room = record {

@@ -104,13 +104,6 @@ module _ {T U : Type 0} where
       warnings = warning_ring (warned f.warnings.items (ExpiredDataDiscarded c.home.publisher c.home.subscriber)) warning_limit;
     }
 
-  -- The book at the key is gone where no slot of it has a holder. The state stays.
-  pub record FreesBook (f f' : Fields T U) : Type 0 where
-    pub agrees : IsDomain f'
-    pub fields : f' ≡ record f { books = f'.books; contents = f'.contents }
-    pub state : state_of (kept_of f') ≡ state_of (kept_of f)
-    pub entries : (n : ℕ) (entry : Entry T U) → entries_of (kept_of f') n ≡ Some entry → entries_of (kept_of f) n ≡ Some entry
-
 module _ {T U : Type 0} where
   -- The publisher x has no connection with the subscriber q at its place j.
   pub record NotJoined (f : Fields T U) (x : PublisherFields) (j q : ℕ) : Type 0 where

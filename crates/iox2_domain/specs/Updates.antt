@@ -67,10 +67,6 @@ publisher_but_room x = with_sender_room 0 x
 abbrev pub subscriber_but_room : SubscriberFields → SubscriberFields
 subscriber_but_room y = with_receiver_rooms 0 0 y
 
--- The publisher, due no more.
-abbrev pub updated_publisher : PublisherFields → PublisherFields
-updated_publisher x = record x { is_due = false }
-
 -- The key that the port at a place has for its connection at a place of the other side, where a port has these keys.
 abbrev pub key_at : {A : Type 0} → (A → List (Option ℕ)) → List (Option A) → (at place : ℕ) → Option ℕ
 key_at {A} keys ports at place = option_and_then (λ (x : A). slice_index_or (keys x) place None) (slice_index_or ports at None)

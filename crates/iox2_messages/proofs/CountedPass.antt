@@ -15,11 +15,11 @@ use Rattle.iox2_connections.proofs.MailboxChanges.{within_if_some}
 use Rattle.iox2_domain.specs.Fields.{Fields, kept_of}
 use Rattle.iox2_domain.specs.Invariant.{IsDomain}
 use Rattle.iox2_domain.specs.Kept.{state_of}
-use Rattle.iox2_domain.specs.Lending.{Lends, MayStart, Starts, lending}
+use Rattle.iox2_domain.specs.Lending.{MayStart, Starts, lending}
 use Rattle.iox2_domain.specs.Ports.{PublisherFields, slot_length}
 use Rattle.iox2_domain.specs.Reaches.{Reaches}
 use Rattle.iox2_domain.proofs.lemmas.fields.ReachesShows.{reaches-then}
-use Rattle.iox2_domain.proofs.lemmas.loans.LendingSteps.{contents-within, lends-from, lent-fits, may-start}
+use Rattle.iox2_domain.proofs.lemmas.loans.LendingSteps.{contents-within, lends-from, lent-fits, may-start, Lends}
 use Rattle.iox2_domain.proofs.lemmas.slots.PublisherBooks.{BookCovers, read-there, book-there, sender-linked, book-covers}
 use Rattle.iox2_domain.proofs.lemmas.slots.ReclaimSteps.{publisher-reclaims}
 use Rattle.iox2_messages.specs.ReadySlots.{with_segments}

@@ -23,13 +23,14 @@ use Rattle.iox2_connections.specs.Reclaims.{Reclaims}
 use Rattle.iox2_connections.proofs.MailboxChanges.{within_if_some}
 use Rattle.iox2_domain.specs.Fields.{Fields}
 use Rattle.iox2_domain.specs.Invariant.{IsDomain}
-use Rattle.iox2_domain.specs.Lending.{IsNamed, Lends, LoanReaches, MayStart, Starts, lending}
+use Rattle.iox2_domain.specs.Lending.{IsNamed, LoanReaches, MayStart, Starts, lending}
 use Rattle.iox2_domain.specs.LoanSlots.{LiesInSlot}
 use Rattle.iox2_domain.specs.Ports.{PublisherFields, slot_length}
 use Rattle.iox2_domain.specs.declared.loan_slots.LoanAt.{LoanAt}
 use Rattle.iox2_domain.proofs.lemmas.containers.SetRecords.{set-here}
 use Rattle.iox2_domain.proofs.lemmas.fields.ReachesShows.{reaches-same}
 use Rattle.iox2_domain.proofs.lemmas.slots.PublisherBooks.{BookCovers, read-there}
+use Rattle.iox2_domain.proofs.lemmas.loans.LendingSteps.{Lends}
 use Rattle.iox2_messages.specs.ReadySlots.{IsReady, RefusesLoan}
 use Rattle.iox2_messages.proofs.CountedPass.{Counted, segments-same, counted-there, counted-is, seen, counted-book, counted-linked, counted-apart, counted-covers, counted-within, counted-room, counted-units, counted-start, counted-lends, counted-reclaims}
 use Rattle.iox2_messages.proofs.ReadyPass.{ready-lent, ready-lies}

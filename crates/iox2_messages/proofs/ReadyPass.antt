@@ -7,13 +7,14 @@ use Rattle.iox2_machine.specs.machine.State.{State}
 use Rattle.iox2_domain.specs.Fields.{Fields, kept_of, publisher_of}
 use Rattle.iox2_domain.specs.Invariant.{IsDomain}
 use Rattle.iox2_domain.specs.Kept.{state_of}
-use Rattle.iox2_domain.specs.Lending.{Lends, LoanReaches, memory_for}
+use Rattle.iox2_domain.specs.Lending.{LoanReaches, memory_for}
 use Rattle.iox2_domain.specs.LoanSlots.{LiesInSlot}
 use Rattle.iox2_domain.specs.Ports.{PublisherFields}
 use Rattle.iox2_domain.specs.Reaches.{Reaches}
 use Rattle.iox2_domain.proofs.lemmas.fields.ConnectionEnds.{publisher-stands}
 use Rattle.iox2_domain.proofs.lemmas.fields.ReachesShows.{reaches-then}
 use Rattle.iox2_domain.proofs.lemmas.loans.Lent.{lent-in_slot, lent-reaches}
+use Rattle.iox2_domain.proofs.lemmas.loans.LendingSteps.{Lends}
 
 module _ {T U : Type 0} (f mid : Fields T U) (sound : IsDomain f) (i : ℕ) (x : PublisherFields) (at : get_or f.publishers i None ≡ Some x)
     (reached : Reaches f mid (state_of (kept_of f))) (y : PublisherFields) (at_mid : get_or mid.publishers i None ≡ Some y) (id : y.id ≡ x.id) where

@@ -20,15 +20,15 @@ use Rattle.iox2_connections.proofs.Recounts.{Recounts-same}
 use Rattle.iox2_domain.specs.Fields.{Fields, kept_of}
 use Rattle.iox2_domain.specs.Invariant.{IsDomain}
 use Rattle.iox2_domain.specs.Kept.{state_of}
-use Rattle.iox2_domain.specs.Lending.{IsNamed, Lends, LoanDecided, LoanReaches, Starts, lending}
+use Rattle.iox2_domain.specs.Lending.{IsNamed, LoanReaches, Starts, lending}
 use Rattle.iox2_domain.specs.LoanSlots.{LiesInSlot}
 use Rattle.iox2_domain.specs.Ports.{PublisherFields}
 use Rattle.iox2_domain.specs.Reaches.{Reaches}
 use Rattle.iox2_domain.specs.declared.loan_slots.LoanAt.{LoanAt}
 use Rattle.iox2_domain.proofs.lemmas.containers.SetRecords.{set-here}
 use Rattle.iox2_domain.proofs.lemmas.slots.PublisherBooks.{read-there}
-use Rattle.iox2_domain.proofs.lemmas.loans.LendingSteps.{lends-from}
-use Rattle.iox2_domain.proofs.lemmas.loans.Lent.{is_too_long, decided-long, decided-limited, decided-full, decided-failed, decided-free}
+use Rattle.iox2_domain.proofs.lemmas.loans.LendingSteps.{lends-from, Lends}
+use Rattle.iox2_domain.proofs.lemmas.loans.Lent.{is_too_long, decided-long, decided-limited, decided-full, decided-failed, decided-free, LoanDecided}
 use Rattle.iox2_domain.proofs.lemmas.loans.Loaned.{loan-refused, loan-lent, loan-lies}
 use Rattle.iox2_domain.proofs.lemmas.slots.ReclaimSteps.{publisher-reclaims}
 

@@ -1,12 +1,12 @@
 -- The steps of a close.
-use Rattle.std.specs.Prelude.{◌≡◌, ◌≢◌, ◌⊎◌, ◌<◌, ◌&&◌, ℕ, Bool, false, cond, List, slice_index_or, IsSomeAnd}
+use Rattle.std.specs.Prelude.{◌≡◌, ◌≢◌, ◌⊎◌, ◌<◌, ℕ, false, cond, List, slice_index_or, IsSomeAnd}
 use Rattle.std.specs.declared.option.Option.{Option}
 use Rattle.std.specs.declared.option.Option.TheVariants.{None, Some}
 use Rattle.slab.specs.Slab.{get, Updates}
-use Rattle.iox2_connections.specs.Link.{Link, other_slots}
+use Rattle.iox2_connections.specs.Link.{Link}
 use Rattle.iox2_slots.specs.SlotBook.{Book}
 use Rattle.iox2_machine.specs.machine.Mailbox.{has_numbers, waiting_dropped}
-use Rattle.iox2_machine.specs.machine.Numbers.{without, is_nil}
+use Rattle.iox2_machine.specs.machine.Numbers.{without}
 use Rattle.iox2_machine.specs.machine.Places.{vacated}
 use Rattle.iox2_machine.specs.machine.Records.{Subscriber}
 use Rattle.iox2_machine.specs.machine.State.{State, with_mailbox, subscriber_changed}
@@ -40,10 +40,6 @@ IsStanding publishers home = IsSomeAnd (slice_index_or publishers home.publisher
 abbrev pub HasNoPublisher : List (Option PublisherFields) → Link → Type 0
 HasNoPublisher publishers c = StandsNowhere publishers c.home.publisher
 
--- No slot waits there, in whatever channel, and none is borrowed.
-abbrev pub is_empty_link : Link → Bool
-is_empty_link c = is_nil (other_slots c) && (is_nil c.waiting && is_nil c.borrowed)
-
 -- Some slot stands in the connection.
 pub record IsBusy (c : Link) : Type 0 where
   pub slot : ℕ
@@ -75,16 +71,6 @@ module _ {T U : Type 0} where
     pub next_port : f'.next_port ≡ f.next_port
     pub connection : Updates f.connections f'.connections key (Some (without_waiting c))
     pub books : (k : ℕ) → k ≢ c.home.book → get f'.books k ≡ get f.books k
-
-  -- The book at the key has gone if nothing held a slot of it.
-  pub record FreesBook (f : Fields T U) (key : ℕ) (f' : Fields T U) : Type 0 where
-    pub passes : Passes f f' (state_of (kept_of f))
-    pub publishers : f'.publishers ≡ f.publishers
-    pub subscribers : f'.subscribers ≡ f.subscribers
-    pub connections : f'.connections ≡ f.connections
-    pub next_port : f'.next_port ≡ f.next_port
-    pub others : (k : ℕ) → k ≢ key → get f'.books k ≡ get f.books k
-    pub held : (b : Book) → get f'.books key ≡ Some b → IsUsed b
 
   -- The subscriber at the place has forgotten the connection at the key, which is gone, if no slot stood in it, and so is
   -- the book of its publisher if nothing held a slot of it.

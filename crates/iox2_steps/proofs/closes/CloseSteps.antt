@@ -18,12 +18,14 @@ use Rattle.iox2_domain.specs.Fields.{Fields, kept_of, publisher_of}
 use Rattle.iox2_domain.specs.Invariant.{IsDomain, ReceiverHas}
 use Rattle.iox2_domain.specs.Midway.{IsMidway}
 use Rattle.iox2_domain.specs.Reaches.{Reaches, ReachesBut}
-use Rattle.iox2_domain.specs.Closes.{FindsAll, LeavesConnections, LeavesSlots, SomeHasKey, left_subscriber, left_fields}
+use Rattle.iox2_domain.specs.Closes.{FindsAll, LeavesConnections, SomeHasKey, left_subscriber}
 use Rattle.iox2_domain.proofs.lemmas.slots.PublisherBooks.{BookCovers, book-there, book-covers, book-counts}
 use Rattle.iox2_domain.proofs.lemmas.fields.KeptChannels.{but-channels}
 use Rattle.iox2_domain.proofs.lemmas.fields.OwnKeys.{listed-at}
 use Rattle.iox2_steps.proofs.closes.LeftKeys.{expired-gone}
 use Rattle.iox2_steps.proofs.closes.LeftState.{left-reaches}
+use Rattle.iox2_steps.proofs.closes.LoansLeft.{LeavesSlots}
+use Rattle.iox2_steps.proofs.closes.LeftParts.{left_fields}
 use Rattle.iox2_domain.specs.OpenMarks.{IsUnmarkedSender}
 
 module _ {T U : Type 0} (key : ℕ) (old new : Fields T U) (s : State T U) (left : ReachesBut key old new s) where

@@ -1,5 +1,5 @@
 -- The fields after a publisher left: what holds of them.
-use Rattle.std.proofs.Common.{◌≡◌, ◌≢◌, ℕ, Bool, ◌+◌, ◌<◌, ◌≤◌, true, cond, List, [], length, map, get_or, refl, ap, sym, subst, ◌∙◌, inl, inr, ◌⊎◌, arith}
+use Rattle.std.proofs.Common.{◌≡◌, ◌≢◌, ℕ, Bool, ◌+◌, ◌<◌, ◌≤◌, true, cond, List, [], length, map, get_or, refl, ap, sym, subst, ◌∙◌, inl, inr, ◌⊎◌, arith, slice_set}
 use Rattle.std.proofs.lemmas.Bool.{cases_eq, eq-eqb, ne_eqb}
 use Rattle.std.proofs.lemmas.List.{get_or-set_other}
 use Rattle.std.specs.Prelude.{IsSomeAnd, Contains}
@@ -7,7 +7,7 @@ use Rattle.std.specs.declared.option.Option.{Option}
 use Rattle.std.specs.declared.option.Option.TheVariants.{None, Some}
 use Rattle.std.specs.Option.{option_map, option_map_or}
 use Rattle.std.specs.List.{sum_by}
-use Rattle.slab.specs.Slab.{Slab, get}
+use Rattle.slab.specs.Slab.{Slab, get, with_value}
 use Rattle.iox2_connections.specs.Link.{Link}
 use Rattle.iox2_machine.specs.machine.Channel.{Channel}
 use Rattle.iox2_slots.specs.SlotBook.{Book, IsAligned, holders_at}
@@ -32,14 +32,23 @@ use Rattle.iox2_domain.proofs.lemmas.slots.BookChanges.{with_book, book-after, K
 use Rattle.iox2_domain.proofs.lemmas.slots.LoneLoans.{lone-counters}
 use Rattle.iox2_domain.proofs.lemmas.slots.OpenLoans.{open-published, open-rebooked}
 use Rattle.iox2_domain.proofs.lemmas.slots.Messages.{message_in-parts, message_in-from, lies_at, message_at-book, message_at-slot}
-use Rattle.iox2_domain.specs.Closes.{LeavesConnections, LeavesSlots, left_subscriber, left_fields, is_awaited}
+use Rattle.iox2_domain.specs.Closes.{LeavesConnections, left_subscriber, is_awaited}
 use Rattle.iox2_steps.proofs.closes.LeftConnections.{only-fewer, left-was, left-before, left-others, left-apart, left-sums, left-receivers}
 use Rattle.iox2_steps.proofs.closes.LeftKeys.{set-none, keys_left-was, keys_left-still, held-joined, key-leads, expired-still}
-use Rattle.iox2_steps.proofs.closes.LoansLeft.{left-counters, left-fewer, left-loans}
+use Rattle.iox2_steps.proofs.closes.LoansLeft.{left-counters, left-fewer, left-loans, LeavesSlots}
 use Rattle.iox2_domain.proofs.lemmas.fields.ConnectionEnds.{publisher-stands}
 use Rattle.iox2_domain.proofs.lemmas.fields.LostConnections.{fewer-connections}
 use Rattle.iox2_domain.proofs.lemmas.slots.PublisherBooks.{book-own}
 use Rattle.iox2_domain.specs.OpenMarks.{IsUnmarkedSender}
+
+-- The fields after the publisher with this book left the place i, with these connections and these counters.
+abbrev pub left_fields : {T U : Type 0} → Fields T U → (i key : ℕ) → Book → (holders : List ℕ) → Slab Link → Fields T U
+left_fields f i key b holders connections = record f {
+  publishers = slice_set f.publishers i None;
+  subscribers = map (option_map (left_subscriber connections i)) f.subscribers;
+  connections = connections;
+  books = with_value f.books key (with_counters b holders);
+}
 
 module _ {T U : Type 0} (f : Fields T U) (sound : IsDomain f) (i : ℕ) (x : PublisherFields) (here : get_or f.publishers i None ≡ Some x)
     (b : Book) (at : get f.books x.book ≡ Some b) (new : Slab Link) (left : LeavesConnections x.id f.subscribers f.connections new) (holders : List ℕ)

@@ -27,8 +27,8 @@ use Rattle.iox2_domain.proofs.lemmas.slots.BookChanges.{book-here, book-others, 
 use Rattle.iox2_domain.proofs.lemmas.slots.HeldMessages.{held-message-slot}
 use Rattle.iox2_domain.proofs.lemmas.slots.Messages.{lies_at, has_number, loan-there, loan-found, entry-there, entry-found}
 use Rattle.iox2_domain.specs.Reaches.{ReachesBut}
-use Rattle.iox2_domain.specs.Closes.{LeavesConnections, LeavesSlots}
-use Rattle.iox2_steps.proofs.closes.LoansLeft.{left-counters}
+use Rattle.iox2_domain.specs.Closes.{LeavesConnections}
+use Rattle.iox2_steps.proofs.closes.LoansLeft.{left-counters, LeavesSlots}
 use Rattle.iox2_steps.proofs.closes.LeftParts.{after, between, keeps_slots, publishers-apart, plain, number-back, numbered, counted, back, forth, leaver-agrees, leaver-parts}
 use Rattle.iox2_steps.proofs.closes.LeftConnections.{left-channels, left-had}
 use Rattle.iox2_steps.proofs.updates.ResetChannels.{sender-reset}

@@ -1,10 +1,11 @@
 -- The slots of a publisher that leaves: its loans stay out, and are marked so in its book.
-use Rattle.std.proofs.Common.{◌≡◌, ℕ, zero, suc, ◌+◌, ◌<◌, ◌≤◌, Bool, true, false, cond, List, get_or, map, refl, ap, sym, ◌∙◌, inl, inr, ◌⊎◌, arith}
+use Rattle.std.proofs.Common.{◌≡◌, ℕ, zero, suc, ◌+◌, ◌<◌, ◌≤◌, Bool, true, false, cond, List, get_or, map, refl, ap, sym, ◌∙◌, inl, inr, ◌⊎◌, arith, length}
 use Rattle.std.proofs.lemmas.Bool.{ltb-true, lt-ltb, and_from, eq-eqb}
 use Rattle.std.specs.Prelude.{slice_get, slice_index}
 use Rattle.std.specs.declared.option.Option.TheVariants.{None, Some}
 use Rattle.std.specs.Option.{option_map_or}
 use Rattle.std.specs.List.{sum_by}
+use Rattle.std.specs.declared.option.Option.{Option}
 use Rattle.slab.specs.Slab.{Slab, get}
 use Rattle.iox2_connections.specs.Link.{Link}
 use Rattle.iox2_slots.specs.SlotBook.{Book, holders_at}
@@ -21,12 +22,19 @@ use Rattle.iox2_domain.proofs.lemmas.fields.Views.{unblocked}
 use Rattle.iox2_domain.proofs.lemmas.slots.Messages.{lies_at, message_in-parts, message_at-slot, has_number, held-message, in_use_within, loan-there}
 use Rattle.iox2_domain.proofs.lemmas.slots.NumbersInUse.{times-stands, contains-map}
 use Rattle.iox2_domain.proofs.lemmas.loans.LoanSlots.{lent-loan, loan-lent}
-use Rattle.iox2_domain.specs.Closes.{LeavesConnections, LeavesSlots}
+use Rattle.iox2_domain.specs.Closes.{LeavesConnections}
 use Rattle.iox2_steps.proofs.closes.LeftConnections.{left-sum_own}
 use Rattle.iox2_domain.proofs.lemmas.fields.ConnectionEnds.{publisher-stands}
 use Rattle.iox2_domain.proofs.lemmas.slots.PublisherBooks.{book-counts}
 use Rattle.iox2_steps.proofs.closes.ClosingPorts.{its-number}
 use Rattle.iox2_steps.proofs.sends.LoanAlone.{loan-once}
+
+-- Each slot of the publisher x has one holder less for each place where it stood in its history or its connections and
+-- stands no more.
+pub record LeavesSlots (x : PublisherFields) (holders : List ℕ) (connections : List (Option Link)) (holders' : List ℕ) (connections' : List (Option Link)) : Type 0 where
+  pub slots : length holders' ≡ length holders
+  pub at : (slot : ℕ) → slice_index holders' slot + times slot (x.history).items + sum_by (stands x.id slot) connections
+      ≡ slice_index holders slot + sum_by (stands x.id slot) connections'
 
 module _ {T U : Type 0} (f : Fields T U) (sound : IsDomain f) (i : ℕ) (x : PublisherFields) (here : get_or f.publishers i None ≡ Some x)
     (b : Book) (at : get f.books x.book ≡ Some b) where

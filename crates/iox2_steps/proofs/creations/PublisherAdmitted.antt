@@ -17,12 +17,12 @@ use Rattle.iox2_domain.specs.Ports.{PublisherFields, slot_length}
 use Rattle.iox2_domain.specs.Kept.{state_of, ids}
 use Rattle.iox2_domain.specs.Fields.{Fields, kept_of, publisher_of}
 use Rattle.iox2_domain.specs.Invariant.{HasForms, IsDomain, HasPublisherRoom, cell_lists}
-use Rattle.iox2_domain.specs.NewPublisher.{BookEnters}
 use Rattle.iox2_domain.specs.Reaches.{Reaches}
 use Rattle.iox2_steps.proofs.creations.SubscribersDue.{with_subscribers_due, subscribers_due-are, subscribers_due-agree}
 use Rattle.iox2_steps.proofs.creations.PublisherEntered.{PublisherEnters, with_entered_publisher, newcomer, entered-is}
 use Rattle.iox2_steps.proofs.creations.PublisherEnteredAgrees.{entered-agrees, entries_same}
 use Rattle.iox2_domain.proofs.lemmas.fields.NamedPorts.{named-at}
+use Rattle.iox2_domain.proofs.lemmas.slots.NewBook.{BookEnters}
 
 module _ {T U : Type 0} (f : Fields T U) where
   -- a place at which no publisher stands is free in the state

@@ -22,10 +22,10 @@ use Rattle.iox2_machine.specs.machine.Channel.{Channel}
 use Rattle.iox2_domain.specs.Fields.{Fields, kept_of, publisher_of}
 use Rattle.iox2_domain.specs.Invariant.{IsDomain, HasForms, cell_lists, is_publisher}
 use Rattle.iox2_domain.specs.Placed.{placed}
-use Rattle.iox2_domain.specs.NewPublisher.{BookEnters, entering_publisher}
+use Rattle.iox2_domain.specs.NewPublisher.{entering_publisher}
 use Rattle.iox2_domain.proofs.lemmas.containers.LookUps.{look_up-map, look_up-written, IsOnly-inserted}
 use Rattle.iox2_domain.proofs.lemmas.containers.Placed.{placed-here, placed-others, map-placed, placed-ids}
-use Rattle.iox2_domain.proofs.lemmas.slots.NewBook.{messages-same, publishers-shown, connections-shown}
+use Rattle.iox2_domain.proofs.lemmas.slots.NewBook.{messages-same, publishers-shown, connections-shown, BookEnters}
 use mathlib.Core.Path.{fun_ext}
 use Rattle.iox2_domain.proofs.lemmas.fields.NamedPorts.{named-unseen}
 

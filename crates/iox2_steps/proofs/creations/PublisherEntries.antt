@@ -20,14 +20,16 @@ use Rattle.iox2_domain.specs.Ports.{PublisherFields, slot_length}
 use Rattle.iox2_domain.specs.Kept.{state_of}
 use Rattle.iox2_domain.specs.Fields.{Fields, kept_of}
 use Rattle.iox2_domain.specs.Invariant.{IsDomain, IsLinked, HasBooks, HasNumber, IsNumbered, HasForms, HasPublisherRoom, cell_lists}
-use Rattle.iox2_domain.specs.NewPublisher.{BookEnters, entering_publisher, subscriber_due, place_for_publisher}
+use Rattle.iox2_domain.specs.NewPublisher.{entering_publisher, place_for_publisher}
 use Rattle.iox2_domain.specs.Placed.{placed, lowest_empty}
 use Rattle.iox2_domain.specs.Reaches.{Reaches}
 use Rattle.iox2_domain.proofs.lemmas.fields.NamedBooks.{names-books}
 use Rattle.iox2_domain.proofs.lemmas.containers.FreePlaces.{lowest_empty-low, lowest_empty-free}
 use Rattle.iox2_domain.proofs.lemmas.containers.Placed.{placed-here, placed-others}
 use Rattle.iox2_domain.proofs.lemmas.slots.OpenLoans.{lists-some, same-lists, open-kept}
+use Rattle.iox2_domain.proofs.lemmas.slots.NewBook.{BookEnters}
 use Rattle.iox2_steps.proofs.creations.PublisherAdmitted.{with_admitted, admitted-reaches}
+use Rattle.iox2_steps.proofs.creations.SubscribersDue.{subscriber_due}
 
 -- the tests of a place that a publisher has, in their order
 pub record HasPlace {T U : Type 0} (f : Fields T U) (place : ℕ) : Type 0 where

@@ -8,7 +8,7 @@ use Rattle.iox2_machine.specs.machine.Records.{Publisher}
 use Rattle.iox2_machine.specs.machine.State.{State, publishers_due}
 use Rattle.iox2_machine.specs.Stored.{IsHeldMessage}
 use Rattle.iox2_laws.proofs.PortChanges.{publishers_due_keeps}
-use Rattle.iox2_domain.specs.Ports.{PublisherFields, due}
+use Rattle.iox2_domain.specs.Ports.{PublisherFields}
 use Rattle.iox2_domain.specs.Kept.{state_of, port_named}
 use Rattle.iox2_domain.specs.Fields.{Fields, kept_of, publisher_of}
 use Rattle.iox2_domain.specs.Invariant.{IsDomain, IsOwned, IsGone, SenderHas, HasParts}
@@ -19,6 +19,10 @@ use Rattle.iox2_domain.proofs.lemmas.fields.ForgottenKeys.{ForgetsSenderKeys, Fo
 use Rattle.iox2_domain.proofs.lemmas.fields.Parts.{whole_of}
 use Rattle.iox2_domain.proofs.lemmas.fields.Views.{KeepsHeld, held-before}
 use mathlib.Core.Path.{fun_ext}
+
+-- The publisher, due for an update.
+abbrev pub due : PublisherFields → PublisherFields
+due x = record x { is_due = true }
 
 -- the fields with every publisher due
 abbrev pub with_publishers_due : {T U : Type 0} → Fields T U → Fields T U

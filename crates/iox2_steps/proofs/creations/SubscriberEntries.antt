@@ -15,7 +15,7 @@ use Rattle.iox2_machine.specs.machine.State.{State}
 use Rattle.iox2_machine.specs.declared.errors.SubscriberCreateError.{SubscriberCreateError}
 use Rattle.iox2_machine.specs.declared.errors.SubscriberCreateError.TheVariants.{UnableToCreatePortTag, BufferSizeExceedsMaxSupportedBufferSizeOfService, ExceedsMaxSupportedSubscribers}
 use Rattle.iox2_domain.specs.WarningRing.{WarningRing, warning_ring}
-use Rattle.iox2_domain.specs.Ports.{PublisherFields, SubscriberFields, due, entering}
+use Rattle.iox2_domain.specs.Ports.{PublisherFields, SubscriberFields, entering}
 use Rattle.iox2_domain.specs.Kept.{Named, state_of}
 use Rattle.iox2_domain.specs.Fields.{Fields, kept_of, subscriber_of}
 use Rattle.iox2_domain.specs.Invariant.{IsDomain}
@@ -24,6 +24,7 @@ use Rattle.iox2_domain.specs.Reaches.{Reaches}
 use Rattle.iox2_domain.specs.FirstUpdates.{SubscriberFirstUpdates}
 use Rattle.iox2_domain.specs.SubscriberEntry.{place_for_subscriber}
 use Rattle.iox2_steps.proofs.creations.SubscriberAdmitted.{with_admitted, admitted-is, admitted-agrees}
+use Rattle.iox2_steps.proofs.creations.PublishersDue.{due}
 use Rattle.iox2_domain.proofs.lemmas.containers.Placed.{placed-here}
 use Rattle.iox2_domain.proofs.lemmas.fields.ReachesShows.{reaches-then}
 use Rattle.iox2_domain.proofs.lemmas.containers.FreePlaces.{lowest_empty-low, lowest_empty-free, lowest_free-ids, lowest_empty-map}

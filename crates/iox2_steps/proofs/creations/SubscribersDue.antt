@@ -6,7 +6,6 @@ use Rattle.iox2_machine.specs.machine.Records.{Subscriber}
 use Rattle.iox2_machine.specs.machine.State.{subscribers_due}
 use Rattle.iox2_laws.proofs.PortChanges.{subscribers_due_keeps}
 use Rattle.iox2_domain.specs.Ports.{SubscriberFields}
-use Rattle.iox2_domain.specs.NewPublisher.{subscriber_due}
 use Rattle.iox2_domain.specs.Kept.{state_of}
 use Rattle.iox2_domain.specs.Fields.{Fields, kept_of, subscriber_of}
 use Rattle.iox2_domain.specs.Invariant.{HasParts, IsDomain}
@@ -17,6 +16,10 @@ use Rattle.iox2_domain.proofs.lemmas.fields.ForgottenKeys.{ForgetsReceiverKeys, 
 use Rattle.iox2_domain.proofs.lemmas.fields.OpenReceivers.{open-still}
 use Rattle.iox2_domain.proofs.lemmas.fields.Views.{held-before}
 use mathlib.Core.Path.{fun_ext}
+
+-- The subscriber, due for an update.
+abbrev pub subscriber_due : SubscriberFields → SubscriberFields
+subscriber_due y = record y { is_due = true }
 
 -- the fields with every subscriber due
 abbrev pub with_subscribers_due : {T U : Type 0} → Fields T U → Fields T U

@@ -19,14 +19,15 @@ use Rattle.iox2_connections.specs.declared.retirement.Retirement.TheVariants.{Re
 use Rattle.iox2_domain.specs.KeptLinks.{ChannelsFollow}
 use Rattle.iox2_domain.specs.WarningRing.{warning_ring}
 use Rattle.iox2_domain.specs.Ports.{SubscriberFields}
-use Rattle.iox2_domain.specs.Kept.{state_of}
+use Rattle.iox2_domain.specs.Kept.{state_of, entries_of}
 use Rattle.iox2_domain.specs.Fields.{Fields, kept_of, subscriber_of}
 use Rattle.iox2_domain.specs.Invariant.{IsDomain, IsDomainBut}
 use Rattle.iox2_domain.specs.Updates.{changed_at, publisher_but_room, without_receiver_key}
 use Rattle.iox2_domain.specs.Reaches.{Reaches}
 use Rattle.iox2_domain.specs.Midway.{ChangesBooks, IsMidway}
-use Rattle.iox2_domain.specs.ReceiverSteps.{HasDepartedEnd, ChangesReceiverTo, ChangesReceiver, FreesBook, LosesConnection, RetiresReceiver, Retired, Refused, retired, refused, machine_retirement, with_expired, without_expired, replacing_expired}
+use Rattle.iox2_domain.specs.ReceiverSteps.{HasDepartedEnd, ChangesReceiverTo, ChangesReceiver, LosesConnection, RetiresReceiver, Retired, Refused, retired, refused, machine_retirement, with_expired, without_expired, replacing_expired}
 use Rattle.iox2_machine.specs.machine.WellFormed.{IsWellFormed}
+use Rattle.iox2_machine.specs.machine.Records.{Entry}
 use Rattle.iox2_domain.proofs.lemmas.fields.Parts.{midway-but}
 use Rattle.iox2_steps.proofs.updates.DropCalls.{cleared-place}
 use Rattle.iox2_steps.proofs.receivers.LeftEnds.{IsDeparted}
@@ -35,6 +36,13 @@ use Rattle.iox2_steps.proofs.receivers.Evictions.{HasExpiredEnd, lost-departed, 
 use Rattle.iox2_steps.proofs.receivers.ExpiredKeys.{expired-link}
 use Rattle.iox2_steps.proofs.receivers.Choices.{none-borrowed, borrows-are, publisher_at, in_machine, length-expired, chosen-is}
 use Rattle.iox2_domain.proofs.lemmas.slots.PublisherBooks.{its-book}
+
+-- The book at the key is gone where no slot of it has a holder. The state stays.
+pub record FreesBook {T U : Type 0} (f f' : Fields T U) : Type 0 where
+  pub agrees : IsDomain f'
+  pub fields : f' ≡ record f { books = f'.books; contents = f'.contents }
+  pub state : state_of (kept_of f') ≡ state_of (kept_of f)
+  pub entries : (n : ℕ) (entry : Entry T U) → entries_of (kept_of f') n ≡ Some entry → entries_of (kept_of f) n ≡ Some entry
 
 -- the same book is spared
 pub spares-same : {T U : Type 0} (f : Fields T U) (k key : ℕ) → k ≡ key → IsDomainBut key f → IsDomainBut k f

@@ -11,9 +11,10 @@ use Rattle.iox2_domain.specs.Fields.{Fields, kept_of}
 use Rattle.iox2_domain.specs.Kept.{state_of}
 use Rattle.iox2_domain.specs.Invariant.{HasParts}
 use Rattle.iox2_domain.specs.Midway.{IsMidway}
-use Rattle.iox2_domain.specs.Ports.{SubscriberFields, due}
+use Rattle.iox2_domain.specs.Ports.{SubscriberFields}
 use Rattle.iox2_steps.proofs.releases.Idle.{BorrowsNowhere, borrower-used, closed-unused, goes-midway, idle-load, nothing-anywhere, open-used, stays-midway}
 use Rattle.iox2_steps.proofs.releases.Left.{left-midway}
+use Rattle.iox2_steps.proofs.creations.PublishersDue.{due}
 
 -- the fields without the subscriber at a place, with these connections
 abbrev pub without_subscriber : {T U : Type 0} → Fields T U → (place : ℕ) → Slab Link → Fields T U

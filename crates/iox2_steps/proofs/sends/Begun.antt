@@ -28,7 +28,7 @@ use Rattle.iox2_connections.specs.declared.sender.DeliveryOutcome.{DeliveryOutco
 use Rattle.iox2_connections.proofs.DeliverySteps.{there}
 use Rattle.iox2_laws.proofs.BegunSends.{begun, begun_send, begun_keeps, begun_goes_on}
 use Rattle.iox2_laws.proofs.Puts.{found_put, put_at-same}
-use Rattle.iox2_domain.specs.BlockedSends.{CanGoOn, GoesOn, ConcludesAs}
+use Rattle.iox2_domain.specs.BlockedSends.{CanGoOn, GoesOn}
 use Rattle.iox2_domain.specs.ConnectionSends.{begun_at, begun_delivery, with_begun, SendsLoanTo}
 use Rattle.iox2_domain.specs.Deliveries.{with_sent, result_of_send}
 use Rattle.iox2_domain.specs.Fields.{Fields, kept_of, publisher_of, numbers_of, within_reach}
@@ -49,7 +49,7 @@ use Rattle.iox2_domain.proofs.lemmas.slots.LoneLoans.{lone-sent}
 use Rattle.iox2_domain.proofs.lemmas.slots.Messages.{lies_at, in_use_within, entry-found}
 use Rattle.iox2_domain.proofs.lemmas.slots.OwnSlots.{own-is, own-parts}
 use Rattle.iox2_domain.proofs.lemmas.slots.PublisherBooks.{book-own, book-owned}
-use Rattle.iox2_steps.proofs.sends.GoneOn.{goes-on}
+use Rattle.iox2_steps.proofs.sends.GoneOn.{goes-on, ConcludesAs}
 use Rattle.iox2_steps.proofs.sends.LoanAlone.{loan-is, loan-of, loan-once, loan-number, loan-alone}
 use Rattle.iox2_steps.proofs.sends.Reach.{reach-ends}
 use Rattle.iox2_steps.proofs.sends.SendEnded.{ended-numbered, ended-loans, ended-shapes, ended-entries, only-slot, sent-there, others-same, marked-written}

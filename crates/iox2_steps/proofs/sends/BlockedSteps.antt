@@ -30,12 +30,12 @@ use Rattle.iox2_domain.specs.Fields.{Fields, kept_of, publisher_of, numbers_of, 
 use Rattle.iox2_domain.specs.Invariant.{IsDomain}
 use Rattle.iox2_domain.specs.Reaches.{Reaches}
 use Rattle.iox2_domain.specs.Deliveries.{result_of_send}
-use Rattle.iox2_domain.specs.BlockedSends.{CanGoOn, GoesOn, ConcludesAs, RetriesAs, GivesUpAs, waiting_send}
+use Rattle.iox2_domain.specs.BlockedSends.{CanGoOn, GoesOn, RetriesAs, GivesUpAs, waiting_send}
 use Rattle.iox2_domain.proofs.lemmas.fields.ConnectionEnds.{publisher-stands}
 use Rattle.iox2_domain.proofs.lemmas.slots.PublisherBooks.{book-counts}
 use Rattle.iox2_steps.proofs.updates.HistoryBounds.{held-few}
 use Rattle.iox2_steps.proofs.sends.LoanAlone.{once-times}
-use Rattle.iox2_steps.proofs.sends.GoneOn.{goes-on}
+use Rattle.iox2_steps.proofs.sends.GoneOn.{goes-on, ConcludesAs}
 use Rattle.iox2_steps.proofs.sends.Reach.{reach-ends}
 
 module _ {T U : Type 0} (f : Fields T U) (sound : IsDomain f) (i : ℕ) (x : PublisherFields) (here : get_or f.publishers i None ≡ Some x)

@@ -16,7 +16,7 @@ use Rattle.iox2_machine.specs.machine.Mailbox.{Mailbox, numbers_in}
 use Rattle.iox2_machine.specs.machine.Numbers.{put_at, contains, without}
 use Rattle.iox2_machine.specs.machine.Places.{occupant}
 use Rattle.iox2_machine.specs.machine.Records.{Entry, Loan, Publisher, BlockedSend, Environment}
-use Rattle.iox2_machine.specs.machine.Sends.{ConcludeSend, DeliverAndConclude, with_mailboxes}
+use Rattle.iox2_machine.specs.machine.Sends.{ConcludeSend, DeliverAndConclude, with_mailboxes, SendResult}
 use Rattle.iox2_machine.specs.Stored.{IsHeldMessage, In_history, In_mailbox, In_blocked_send}
 use Rattle.iox2_machine.specs.machine.State.{State, channel_buffer}
 use Rattle.iox2_machine.specs.machine.WellFormed.{IsWellFormed, IsInjective, LeadsTo}
@@ -38,7 +38,7 @@ use Rattle.iox2_domain.specs.Kept.{Lent_message, Sent_message, state_of, entries
 use Rattle.iox2_domain.specs.Fields.{Fields, kept_of, publisher_of, numbers_of, message_of, within_reach, blocked_send, contents_at}
 use Rattle.iox2_domain.specs.Invariant.{IsDomain, IsOwned, HasParts, HasNumber, is_lent, is_loan_in, HasLoneLoans}
 use Rattle.iox2_domain.specs.Deliveries.{DeliversFrom, result_of_send}
-use Rattle.iox2_domain.specs.BlockedSends.{with_outcome, counters_after, CanGoOn, GoesOn, ConcludesAs}
+use Rattle.iox2_domain.specs.BlockedSends.{with_outcome, counters_after, CanGoOn, GoesOn}
 use Rattle.iox2_domain.specs.Shows.{KeepsEntries}
 use Rattle.iox2_domain.proofs.lemmas.fields.Views.{mailboxes-are}
 use Rattle.iox2_domain.proofs.lemmas.fields.ConnectionEnds.{publisher-stands}
@@ -61,6 +61,14 @@ use Rattle.iox2_domain.proofs.lemmas.loans.PublisherChanges.{other_slots}
 use Rattle.iox2_domain.proofs.lemmas.slots.Holders.{book-by_id}
 use mathlib.Core.Path.{fun_ext}
 use Rattle.iox2_laws.proofs.Cases.{match_some}
+
+-- The machine's delivery of the message n of the publisher x goes on from there, into that channel at these keys, and its send ends
+-- or is blocked again. No entry is newly kept.
+pub record ConcludesAs {T U : Type 0} (environment : Environment) (old new : Fields T U) (x : PublisherFields) (n channel : ℕ) (keys : List (Option ℕ)) (start : Progress) (elapsed : Duration) (result : SendResult) : Type 0 where
+  pub agrees : IsDomain new
+  pub concludes : DeliverAndConclude environment (state_of (kept_of old)) x.id n channel start.retries elapsed start.place (drop start.place (sender_ends old.connections keys)) start.count start.has_failed
+      (state_of (kept_of new)) result
+  pub entries : (m : ℕ) (entry : Entry T U) → entries_of (kept_of new) m ≡ Some entry → entries_of (kept_of old) m ≡ Some entry
 
 -- a message that was sent has that mark
 mark-sent : {T U : Type 0} (p number : ℕ) (header : _) (content : _) (n : ℕ) (entry : Entry T U) (mark : SlotMark) → Sent_message n entry ≡ message_of {T = T} {U = U} p number header content mark → mark ≡ Sent

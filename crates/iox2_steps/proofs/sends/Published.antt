@@ -7,7 +7,7 @@ use Rattle.std.specs.Prelude.{slice_get, slice_set, nat_lt}
 use Rattle.std.specs.declared.option.Option.{Option}
 use Rattle.std.specs.declared.option.Option.TheVariants.{None, Some}
 use Rattle.std.specs.Option.{option_map, option_and_then, option_map_or}
-use Rattle.slab.specs.Slab.{get, Slab}
+use Rattle.slab.specs.Slab.{get, Slab, with_value}
 use Rattle.iox2_machine.specs.machine.Delivery.{Deliver, no_time, DeliveryEnd}
 use Rattle.iox2_machine.specs.machine.Loans.{entry_of}
 use Rattle.iox2_slots.specs.SlotBook.{Book, IsInUse, holders_at}
@@ -35,7 +35,7 @@ use Rattle.iox2_domain.specs.Ports.{PublisherFields, SubscriberFields}
 use Rattle.iox2_domain.specs.Kept.{Named, Lent_message, Sent_message, state_of, entries_of, is_named, entry_in, KeptMessage}
 use Rattle.iox2_domain.specs.Fields.{Fields, kept_of, publisher_of, subscriber_of, numbers_of, blocked_send, contents_at}
 use Rattle.iox2_domain.specs.Invariant.{IsDomain, IsOwned, KeepsBooks, HasNumber, details_of, is_publisher, is_subscriber, HasLoneLoans, HasParts, is_lent}
-use Rattle.iox2_domain.specs.Deliveries.{SendsSlot, Publishes, with_loan_out, with_remembered, pushed, leaving, with_sent, with_left, with_send_ended, DeliversFrom, with_send_blocked, result_of_send}
+use Rattle.iox2_domain.specs.Deliveries.{SendsSlot, with_loan_out, pushed, leaving, with_sent, with_left, DeliversFrom, result_of_send}
 use Rattle.iox2_domain.proofs.lemmas.containers.LookUps.{look_up-map}
 use Rattle.iox2_domain.proofs.lemmas.fields.Views.{mailboxes-are, unblocked}
 use Rattle.iox2_domain.proofs.lemmas.fields.ConnectionEnds.{publisher-stands}
@@ -49,7 +49,7 @@ use Rattle.iox2_domain.proofs.lemmas.slots.Recounts.{back, forth}
 use Rattle.iox2_domain.proofs.lemmas.slots.RecountedFields.{same-numbers}
 use Rattle.iox2_domain.proofs.lemmas.slots.RecountedLoans.{recounted_fields, recounted-kept, parts-recounted, recounted-is, recounted-entries, recounted-keeps}
 use Rattle.iox2_steps.proofs.sends.LoanAlone.{loan-is, loan-of, loan-slot, loan-once, loan-number}
-use Rattle.iox2_steps.proofs.sends.SendEnded.{ended, lies-sent, others-lie, only-slot, sent-there, others-same, ended-entries, ended-is, ended-parts}
+use Rattle.iox2_steps.proofs.sends.SendEnded.{ended, lies-sent, others-lie, only-slot, sent-there, others-same, ended-entries, ended-is, ended-parts, with_remembered}
 use Rattle.iox2_steps.proofs.sends.Trimmed.{Trims, trims}
 use Rattle.iox2_domain.proofs.lemmas.slots.NumbersInUse.{contains-map}
 use Rattle.iox2_domain.proofs.lemmas.loans.PublisherChanges.{changed-kept_books, changed-here, other_slots}
@@ -67,6 +67,30 @@ use mathlib.Core.Path.{fun_ext}
 use Rattle.iox2_domain.proofs.lemmas.fields.KeptBooks.{kept-own}
 use Rattle.iox2_laws.proofs.Cases.{match_some}
 use Rattle.iox2_domain.proofs.lemmas.fields.NamedPorts.{named-stands}
+
+-- The fields after the publisher x, which stands at that place, has sent the loan in the slot of its book. The loan's one
+-- holder is the history now.
+abbrev pub with_send_ended : {T U : Type 0} → Fields T U → (place : ℕ) → PublisherFields → (slot : ℕ) → Book → Fields T U
+with_send_ended f place x slot book = record f {
+  publishers = slice_set f.publishers place (Some (record (with_loan_out slot x) { history = pushed x.history slot }));
+  books = with_value f.books x.book (with_left (leaving x.history slot) (with_sent slot book));
+}
+
+-- The fields after the publisher x, which stands at that place, has sent the loan in the slot of its book, and waits for a
+-- receiver. The loan is out still, and the history is one holder more.
+abbrev pub with_send_blocked : {T U : Type 0} → Fields T U → (place : ℕ) → PublisherFields → (slot : ℕ) → Progress → Book → Fields T U
+with_send_blocked f place x slot progress book = record f {
+  publishers = slice_set f.publishers place (Some (record x { history = pushed x.history slot; blocked = Some (record { slot = slot; channel = 0; is_alone = false; progress = progress }) }));
+  books = with_value f.books x.book (with_left (leaving x.history slot) (with_counters (with_sent slot book) (one_holder_more slot book.holders)));
+}
+
+-- The loan n of the publisher p was published, with this result. Its entry may be newly kept, and no other is.
+pub record Publishes {T U : Type 0} (environment : Environment) (old new : Fields T U) (p n : ℕ) (l : Loan T U) (result : SendResult) : Type 0 where
+  pub agrees : IsDomain new
+  pub publishes : Publish environment (state_of (kept_of old)) p n (state_of (kept_of new)) result
+  pub loans : (state_of (kept_of new)).loans ≡ put_at (state_of (kept_of old)).loans n None
+  pub entries : (m : ℕ) (entry : Entry T U) → entries_of (kept_of new) m ≡ Some entry
+      → ((m ≡ n) × (entry ≡ entry_of l)) ⊎ (entries_of (kept_of old) m ≡ Some entry)
 
 -- a publisher that stands somewhere is in the state, where ids are apart
 named : {T U : Type 0} (f : Fields T U) → ((p : ℕ) → IsOnly (is_publisher p) f.publishers) → (i : ℕ) (x : PublisherFields) → get_or f.publishers i None ≡ Some x

@@ -6,6 +6,7 @@ use Rattle.std.specs.Prelude.{slice_get, slice_index, slice_set}
 use Rattle.std.specs.declared.option.Option.{Option}
 use Rattle.std.specs.declared.option.Option.TheVariants.{None, Some}
 use Rattle.circular_buffer.proofs.Places.{slice_get-set_other}
+use Rattle.circular_buffer.specs.Buffer.{buffer}
 use Rattle.slab.specs.Slab.{get, with_value}
 use Rattle.iox2_machine.specs.machine.Loans.{entry_of}
 use Rattle.iox2_slots.specs.SlotBook.{Book, IsAligned, IsInUse, holders_at}
@@ -18,7 +19,7 @@ use Rattle.iox2_domain.specs.Ports.{PublisherFields}
 use Rattle.iox2_domain.specs.Kept.{KeptMessage, Lent_message, Sent_message, state_of, entries_of, is_numbered, message_numbered, loan_in, entry_in}
 use Rattle.iox2_domain.specs.Fields.{Fields, kept_of, publisher_of, numbers_of, message_in, contents_at}
 use Rattle.iox2_domain.specs.Invariant.{IsNumbered, HasNumber, HasShape, HasShapes, HasParts, cell_count}
-use Rattle.iox2_domain.specs.Deliveries.{with_remembered, with_sent}
+use Rattle.iox2_domain.specs.Deliveries.{with_sent, with_loan_out}
 use Rattle.iox2_domain.proofs.lemmas.slots.Messages.{lies_at, message_in-parts, message_at-book, message_at-slot, has_number, loan-there, entry-there, ChangesSlot, message_numbered-others}
 use Rattle.iox2_domain.proofs.lemmas.slots.BookChanges.{book-here, book-others, book-was}
 use Rattle.iox2_domain.proofs.lemmas.loans.ChangedLoan.{written-mark}
@@ -26,6 +27,11 @@ use Rattle.iox2_domain.proofs.lemmas.loans.PublisherChanges.{KeepsSettings, othe
 use Rattle.iox2_domain.proofs.lemmas.slots.OwnSlots.{own-is, own-parts}
 use Rattle.iox2_steps.proofs.sends.SentSlots.{times-without-one, map-without, sent-keeps, sent-others, LiesWritten, written-loan, sent-lies, sent-is, values-of}
 use mathlib.Core.Path.{fun_ext}
+
+-- The publisher without the loan in the slot, which stands last in its history. For a moment this may have one slot more
+-- than fits.
+abbrev pub with_remembered : (slot : ℕ) → PublisherFields → PublisherFields
+with_remembered slot x = record (with_loan_out slot x) { history = buffer (x.history.items ++ slot ∷ []) x.history.capacity }
 
 module _ {T U : Type 0} (f : Fields T U) (parts : HasParts f) (i : ℕ) (x : PublisherFields) (here : get_or f.publishers i None ≡ Some x)
     (b : Book) (at : get f.books x.book ≡ Some b) (mine : b.publisher ≡ x.id) (slot n : ℕ) (l : Loan T U) (in_use : IsInUse b slot)

@@ -20,7 +20,7 @@ use Rattle.iox2_connections.specs.declared.sender.DeliveryOutcome.{DeliveryOutco
 use Rattle.iox2_connections.proofs.MailboxChanges.{within_if_some}
 use Rattle.iox2_laws.proofs.PublisherUpdates.{update_publisher_leaves}
 use Rattle.iox2_domain.specs.Connects.{UpdatesPublisher}
-use Rattle.iox2_domain.specs.Deliveries.{CanSend, SendsSlot, Publishes, result_of_send}
+use Rattle.iox2_domain.specs.Deliveries.{CanSend, SendsSlot, result_of_send}
 use Rattle.iox2_domain.specs.Fields.{Fields, kept_of, publisher_of}
 use Rattle.iox2_domain.specs.Handlers.{may_fail}
 use Rattle.iox2_domain.specs.Invariant.{IsDomain}
@@ -33,7 +33,7 @@ use Rattle.iox2_domain.proofs.lemmas.fields.ConnectionEnds.{publisher-stands}
 use Rattle.iox2_steps.proofs.sends.LoanAlone.{loan-once, loan-alone, loan-own}
 use Rattle.iox2_domain.proofs.lemmas.slots.Messages.{lies_at, message_at-slot}
 use Rattle.iox2_steps.proofs.sends.DeliverySteps.{never-fails}
-use Rattle.iox2_steps.proofs.sends.Published.{send-publishes}
+use Rattle.iox2_steps.proofs.sends.Published.{send-publishes, Publishes}
 use Rattle.iox2_domain.proofs.lemmas.loans.LoanSlots.{book-its}
 use Rattle.iox2_steps.proofs.updates.SenderUpdates.{idle-updates}
 use Rattle.iox2_laws.proofs.Cases.{match_some}

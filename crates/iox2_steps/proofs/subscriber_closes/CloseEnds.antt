@@ -27,12 +27,12 @@ use Rattle.iox2_connections.specs.LookUp.{look_up}
 use Rattle.iox2_connections.specs.Mailboxes.{is_between, mailbox_if_any, receiver_ends, numbered}
 use Rattle.iox2_connections.proofs.LookUps.{look_up-there}
 use Rattle.iox2_connections.proofs.MailboxChanges.{both-true}
-use Rattle.iox2_domain.specs.Ports.{PublisherFields, SubscriberFields, due}
+use Rattle.iox2_domain.specs.Ports.{PublisherFields, SubscriberFields}
 use Rattle.iox2_domain.specs.Kept.{state_of}
 use Rattle.iox2_domain.specs.Fields.{Fields, kept_of, subscriber_of, numbers_of}
 use Rattle.iox2_domain.specs.Invariant.{IsDomain, HasParts, KeepsBooks}
 use Rattle.iox2_domain.proofs.lemmas.containers.LookUps.{map-at}
-use Rattle.iox2_steps.proofs.creations.PublishersDue.{with_publishers_due, publishers_due-are}
+use Rattle.iox2_steps.proofs.creations.PublishersDue.{with_publishers_due, publishers_due-are, due}
 use Rattle.iox2_domain.proofs.lemmas.fields.OwnKeys.{receiver-leads}
 use Rattle.iox2_domain.proofs.lemmas.fields.Standing.{some_is}
 use Rattle.iox2_domain.proofs.lemmas.fields.Views.{mailboxes-are}
@@ -45,11 +45,11 @@ use Rattle.iox2_steps.proofs.releases.Leaving.{FreesMidway}
 use Rattle.iox2_domain.proofs.lemmas.fields.ConnectionEnds.{publisher-stands, subscriber-stands}
 use Rattle.iox2_steps.proofs.receivers.DepartedEnds.{nothing-returned}
 use Rattle.iox2_steps.specs.Agreement.{IsOrphan, HasOwnedParts, KeepsMessages}
-use Rattle.iox2_steps.specs.Closes.{HasNoPublisher, is_empty_link}
+use Rattle.iox2_steps.specs.Closes.{HasNoPublisher}
 use Rattle.iox2_steps.proofs.subscriber_closes.OwnedParts.{due-parts}
 use Rattle.iox2_steps.proofs.subscriber_closes.KeptMessages.{keeps-trans, keeps-entries, keeps-complete}
 use Rattle.iox2_steps.proofs.subscriber_closes.Sheds.{sheds-closed, HasLost}
-use Rattle.iox2_steps.proofs.subscriber_closes.CloseSteps.{box-numbers, link-empty}
+use Rattle.iox2_steps.proofs.subscriber_closes.CloseSteps.{box-numbers, link-empty, is_empty_link}
 use Rattle.iox2_steps.proofs.subscriber_closes.CloseWalk.{IsClosing, IsDrained}
 
 -- the machine's publisher, due

@@ -13,7 +13,7 @@ use Rattle.iox2_connections.specs.Drops.{without_waiting}
 use Rattle.iox2_connections.specs.Finds.{IsReceivers}
 use Rattle.iox2_connections.proofs.MailboxChanges.{within_if_some}
 use Rattle.iox2_domain.specs.Departures.{ForgetsConnection, key_forgotten, HasKey, KnowsKey}
-use Rattle.iox2_domain.specs.Ports.{PublisherFields, SubscriberFields, due}
+use Rattle.iox2_domain.specs.Ports.{PublisherFields, SubscriberFields}
 use Rattle.iox2_domain.specs.Fields.{Fields}
 use Rattle.iox2_domain.specs.Invariant.{IsBookOf, IsDomain, details_of}
 use Rattle.iox2_domain.specs.LeftBooks.{CanGo, SettlesBook}
@@ -22,12 +22,12 @@ use Rattle.iox2_domain.proofs.lemmas.containers.LookUps.{map-at}
 use Rattle.iox2_steps.proofs.releases.BookFreed.{contents-within, unused-book}
 use Rattle.iox2_domain.proofs.lemmas.fields.LostConnections.{no-length}
 use Rattle.iox2_domain.proofs.lemmas.containers.ChangedRecords.{changed-here}
-use Rattle.iox2_steps.proofs.creations.PublishersDue.{with_publishers_due}
+use Rattle.iox2_steps.proofs.creations.PublishersDue.{with_publishers_due, due}
 use Rattle.iox2_domain.proofs.lemmas.fields.Standing.{some_is}
 use Rattle.iox2_steps.specs.Agreement.{IsOrphan, HasOwnedParts}
-use Rattle.iox2_steps.specs.Closes.{HasNoPublisher, IsBusy, IsLeftAt, IsStanding, FreesBook, ForgetsIfEmpty, LosesLeft, LosesWaiting, is_empty_link, shut_subscriber}
-use Rattle.iox2_steps.proofs.subscriber_closes.CloseSteps.{book, link-busy, link-empty, stays-busy, forgot-parts, book-left, others-busy, forgets-empty}
-use Rattle.iox2_steps.proofs.subscriber_closes.FreedBooks.{can-go, frees}
+use Rattle.iox2_steps.specs.Closes.{HasNoPublisher, IsBusy, IsLeftAt, IsStanding, ForgetsIfEmpty, LosesLeft, LosesWaiting, shut_subscriber}
+use Rattle.iox2_steps.proofs.subscriber_closes.CloseSteps.{book, link-busy, link-empty, stays-busy, forgot-parts, book-left, others-busy, forgets-empty, is_empty_link}
+use Rattle.iox2_steps.proofs.subscriber_closes.FreedBooks.{can-go, frees, FreesBook}
 use Rattle.iox2_steps.proofs.subscriber_closes.CloseWalk.{IsClosing, closing-begins, closing-passes}
 use Rattle.iox2_steps.proofs.subscriber_closes.CloseKeys.{ExpiredBelow, ExpiredLeft, KeysLeft}
 use Rattle.iox2_domain.specs.OpenMarks.{IsUnmarkedReceiver}

@@ -41,12 +41,13 @@ use Rattle.iox2_steps.proofs.updates.FollowedChannels.{has-link, links-same}
 use Rattle.iox2_domain.proofs.lemmas.fields.KeptChannels.{but-channels}
 use Rattle.iox2_domain.specs.Midway.{with_channels_of}
 use Rattle.iox2_steps.specs.Agreement.{IsOrphan, HasOwnedParts}
-use Rattle.iox2_steps.specs.Closes.{HasNoPublisher, IsBusy, LosesWaiting, FreesBook, ForgetsIfEmpty, is_empty_link, lost_from, forgotten_if_empty, without_publisher}
+use Rattle.iox2_steps.specs.Closes.{HasNoPublisher, IsBusy, LosesWaiting, ForgetsIfEmpty, lost_from, forgotten_if_empty, without_publisher}
 use Rattle.iox2_steps.proofs.subscriber_closes.ClosedSubscribers.{forgetful-parts, forgetful-is}
 use Rattle.iox2_steps.proofs.subscriber_closes.KeptMessages.{keeps-same, keeps-trans}
 use Rattle.iox2_steps.proofs.subscriber_closes.LeftRecounts.{with_fewer, fewer-parts, fewer-is, fewer-keeps}
 use mathlib.Core.Path.{fun_ext}
 use Rattle.iox2_steps.proofs.closes.LeftConnections.{numbers-held}
+use Rattle.iox2_steps.proofs.subscriber_closes.FreedBooks.{FreesBook}
 
 -- ---- lists of slots
 
@@ -54,6 +55,10 @@ use Rattle.iox2_steps.proofs.closes.LeftConnections.{numbers-held}
 some-slot : (xs : List ℕ) → is_nil xs ≡ false → (slot : ℕ) × (0 < times slot xs)
 some-slot [] e = absurd cc
 some-slot (x ∷ xs) e = (x, omega (arith, times-cons x x xs, one_if_same x))
+
+-- No slot waits there, in whatever channel, and none is borrowed.
+abbrev pub is_empty_link : Link → Bool
+is_empty_link c = is_nil (other_slots c) && (is_nil c.waiting && is_nil c.borrowed)
 
 -- a connection is empty, or something stands in it
 pub link-busy : (c : Link) → is_empty_link c ≡ false → IsBusy c

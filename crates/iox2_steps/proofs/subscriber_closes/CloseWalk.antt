@@ -28,12 +28,12 @@ use Rattle.iox2_domain.specs.KeptLinks.{HasLink}
 use Rattle.iox2_domain.specs.Midway.{with_channels_of}
 use Rattle.iox2_steps.proofs.updates.FollowedChannels.{has-link, link-through}
 use Rattle.iox2_steps.specs.Agreement.{IsOrphan, HasOwnedParts, KeepsMessages}
-use Rattle.iox2_steps.specs.Closes.{HasNoPublisher, IsBusy, LosesWaiting, ForgetsIfEmpty, LosesLeft, LosesIfLeft, is_empty_link, lost_from, forgotten_if_empty, without_publisher}
+use Rattle.iox2_steps.specs.Closes.{HasNoPublisher, IsBusy, LosesWaiting, ForgetsIfEmpty, LosesLeft, LosesIfLeft, lost_from, forgotten_if_empty, without_publisher}
 use Rattle.iox2_steps.proofs.subscriber_closes.OwnedParts.{owned_parts_of, left-held}
 use Rattle.iox2_steps.proofs.subscriber_closes.ClosedSubscribers.{shut, with_shut, shut-parts, shut-is}
 use Rattle.iox2_steps.proofs.subscriber_closes.KeptMessages.{keeps-trans}
 use Rattle.iox2_steps.proofs.subscriber_closes.Sheds.{Sheds, sheds-channels, with_publishers, sheds-none, sheds-there, sheds-dropped, sheds-forgotten}
-use Rattle.iox2_steps.proofs.subscriber_closes.CloseSteps.{link-busy, departed-absent, box-numbers}
+use Rattle.iox2_steps.proofs.subscriber_closes.CloseSteps.{link-busy, departed-absent, box-numbers, is_empty_link}
 use Rattle.iox2_domain.specs.OpenMarks.{IsUnmarkedReceiver}
 use Rattle.iox2_domain.proofs.lemmas.fields.ConnectionEnds.{subscriber-stands}
 

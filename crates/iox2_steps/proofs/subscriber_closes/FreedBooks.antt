@@ -18,9 +18,19 @@ use Rattle.iox2_domain.proofs.lemmas.slots.Messages.{lies_at, message_at-book, m
 use Rattle.iox2_domain.proofs.lemmas.slots.PublisherBooks.{link-held}
 use Rattle.iox2_steps.proofs.updates.FollowedChannels.{has-link}
 use Rattle.iox2_domain.proofs.lemmas.fields.KeptChannels.{but-channels}
-use Rattle.iox2_steps.specs.Agreement.{IsOrphan, HasOwnedParts, KeepsMessages}
-use Rattle.iox2_steps.specs.Closes.{IsBusy, FreesBook}
+use Rattle.iox2_steps.specs.Agreement.{IsOrphan, HasOwnedParts, KeepsMessages, Passes}
+use Rattle.iox2_steps.specs.Closes.{IsBusy}
 use Rattle.iox2_steps.proofs.subscriber_closes.KeptMessages.{keeps-same}
+
+-- The book at the key has gone if nothing held a slot of it.
+pub record FreesBook {T U : Type 0} (f : Fields T U) (key : ℕ) (f' : Fields T U) : Type 0 where
+  pub passes : Passes f f' (state_of (kept_of f))
+  pub publishers : f'.publishers ≡ f.publishers
+  pub subscribers : f'.subscribers ≡ f.subscribers
+  pub connections : f'.connections ≡ f.connections
+  pub next_port : f'.next_port ≡ f.next_port
+  pub others : (k : ℕ) → k ≢ key → get f'.books k ≡ get f.books k
+  pub held : (b : Book) → get f'.books key ≡ Some b → IsUsed b
 
 module _ {T U : Type 0} (f : Fields T U) (parts : HasOwnedParts f) (key : ℕ) (b : Book) (at : get f.books key ≡ Some b) (orphan : IsOrphan f b)
     (busy : (k : ℕ) (c : Link) → get f.connections k ≡ Some c → c.home.book ≡ key → IsBusy c) where

@@ -6,7 +6,7 @@ use Rattle.iox2_connections.specs.Mailboxes.{mailboxes_of, sender_ends}
 use Rattle.iox2_connections.specs.Receivers.{HaveChannel, IsReadyToDeliver, taking_buffers}
 use Rattle.iox2_connections.specs.Counters.{GrowsAlone, with_counters}
 use Rattle.iox2_connections.specs.Recounts.{Recounts}
-use Rattle.iox2_connections.specs.Deliveries.{DeliversMessage}
+use Rattle.iox2_connections.proofs.DeliverySteps.{DeliversMessage}
 use Rattle.std.specs.Prelude.{map}
 use Rattle.std.specs.Option.{option_map}
 use Rattle.iox2_connections.proofs.sender.deliver.Given as goal

@@ -1,24 +1,50 @@
 -- What the steps of a loan need and come to.
-use Rattle.std.proofs.Common.{◌≡◌, ℕ, ◌+◌, ◌*◌, ◌^◌, ◌<◌, ◌≤◌, List, [], length, get_or, slice_set, refl, ap, sym, subst, ◌∙◌, arith}
+use Rattle.std.proofs.Common.{◌≡◌, ℕ, ◌+◌, ◌*◌, ◌^◌, ◌<◌, ◌≤◌, List, [], length, get_or, slice_set, refl, ap, sym, subst, ◌∙◌, arith, slice_index_or}
 use Rattle.std.proofs.Math.Nat.{mul-le-mul_right}
 use Rattle.std.proofs.lemmas.Option.{get_or_from_slice_get}
 use Rattle.std.specs.declared.option.Option.{Option}
 use Rattle.std.specs.declared.option.Option.TheVariants.{None, Some}
 use Rattle.std.specs.Option.{option_map}
 use Rattle.std.specs.Prelude.{IsSomeAnd}
+use Rattle.iox2_machine.specs.declared.header.Header.{Header}
 use Rattle.circular_buffer.proofs.Places.{slice_get-some}
 use Rattle.slab.specs.Slab.{get, with_value}
 use Rattle.iox2_slots.specs.SlotBook.{Book, TakesFreeSlot, header_in, holders_at}
+use Rattle.iox2_slots.specs.declared.slots.mark.SlotMark.TheVariants.{Unwritten}
 use Rattle.iox2_contents.specs.SlotContents.{ContentState, open_count}
 use Rattle.iox2_connections.proofs.MailboxChanges.{within_if_some}
 use Rattle.iox2_domain.specs.Ports.{PublisherFields, slot_length}
 use Rattle.iox2_domain.specs.Fields.{Fields}
 use Rattle.iox2_domain.specs.Invariant.{IsDomain, IsBook, HasBook, HasRoomFrom, cell_lists}
-use Rattle.iox2_domain.specs.Lending.{header_for, with_taken_slot, lending, MayStart, Starts, Lends}
+use Rattle.iox2_domain.specs.Lending.{header_for, lending, MayStart, Starts}
 use Rattle.iox2_domain.proofs.lemmas.slots.OpenCounts.{free-closed, open-few}
 use Rattle.iox2_domain.proofs.lemmas.slots.OpenLoans.{lists-enough}
 use Rattle.iox2_domain.proofs.lemmas.slots.PublisherBooks.{read-there}
 use Rattle.iox2_domain.proofs.lemmas.slots.SlotRoom.{several-fit}
+
+-- The book with the slot taken for the message with this number and header.
+abbrev pub with_taken_slot : Book → (slot number : ℕ) → Header → Book
+with_taken_slot book slot number header = record book {
+  numbers = slice_set book.numbers slot number;
+  headers = slice_set book.headers slot header;
+  marks = slice_set book.marks slot Unwritten;
+  holders = slice_set book.holders slot 1;
+}
+
+-- The publisher at the place lends a slot that was free, for the message with the next number. It has so many segments then.
+pub record Lends {T U : Type 0} (is_default : U → Type 0) (old : Fields T U) (place : ℕ) (x : PublisherFields) (slot len segments : ℕ) (new : Fields T U) : Type 0 where
+  pub book : Book
+  pub stood : get old.books x.book ≡ Some book
+  pub within : slot < length book.holders
+  pub free : holders_at book slot ≡ 0
+  pub started : Option (List (ContentState T U))
+  pub starts : Starts is_default (slice_index_or old.contents x.book None) started slot (len * (old.config).units_per_element)
+  pub lent : new ≡ record old {
+    next_message = old.next_message + 1;
+    books = with_value old.books x.book (with_taken_slot book slot old.next_message (header_for old.config x.id len));
+    contents = slice_set old.contents x.book started;
+    publishers = slice_set old.publishers place (Some (lending len slot segments x));
+  }
 
 module _ {T U : Type 0} (f : Fields T U) (sound : IsDomain f) (i : ℕ) (x : PublisherFields) (at : get_or f.publishers i None ≡ Some x) where
   -- its book has contents

@@ -1,5 +1,5 @@
 -- A loan of a single value, as the machine says it.
-use Rattle.std.proofs.Common.{◌≡◌, ℕ, ◌+◌, ◌*◌, ◌<◌, ◌≤◌, zero, suc, Bool, true, false, ◌&&◌, nat_lt, List, [], ◌∷◌, length, get_or, slice_set, refl, ap, sym, subst, ◌∙◌, arith}
+use Rattle.std.proofs.Common.{◌≡◌, ℕ, ◌+◌, ◌*◌, ◌<◌, ◌≤◌, zero, suc, Bool, true, false, ◌&&◌, nat_lt, List, [], ◌∷◌, length, get_or, slice_set, refl, ap, sym, subst, ◌∙◌, arith, slice_index_or}
 use Rattle.std.specs.declared.option.Option.{Option}
 use Rattle.std.specs.declared.option.Option.TheVariants.{None, Some}
 use Rattle.std.specs.Option.{MatchOption}
@@ -20,22 +20,40 @@ use Rattle.iox2_machine.specs.declared.errors.LoanError.TheVariants.{OutOfMemory
 use Rattle.iox2_connections.specs.Receivers.{HasReclaimed}
 use Rattle.iox2_connections.proofs.MailboxChanges.{within_if_some}
 use Rattle.iox2_domain.specs.Ports.{PublisherFields}
-use Rattle.iox2_domain.specs.Kept.{Lent_message}
-use Rattle.iox2_domain.specs.Fields.{Fields, contents_at}
+use Rattle.iox2_domain.specs.Kept.{Lent_message, state_of}
+use Rattle.iox2_domain.specs.Fields.{Fields, contents_at, kept_of}
 use Rattle.iox2_domain.specs.Invariant.{IsDomain}
-use Rattle.iox2_domain.specs.Lending.{with_taken_slot, header_for, lending, memory_for, CanGrant, LoanDecided, Lends}
+use Rattle.iox2_domain.specs.Lending.{header_for, lending, memory_for}
 use Rattle.iox2_domain.specs.LoanSlots.{IsLoanSlot, LiesInSlot}
 use Rattle.iox2_domain.specs.Reaches.{Reaches}
 use Rattle.iox2_domain.proofs.lemmas.fields.ConnectionEnds.{publisher-stands}
 use Rattle.iox2_domain.proofs.lemmas.loans.LoanSlots.{lies-in-slot, loan-lent as lent-slot}
 use Rattle.iox2_domain.proofs.lemmas.slots.Messages.{message_in-parts, message_at-slot}
 use Rattle.iox2_domain.proofs.lemmas.slots.SlotsInUse.{its_book, size-full, size-free}
-use Rattle.iox2_domain.proofs.lemmas.loans.LendingSteps.{contents-of}
+use Rattle.iox2_domain.proofs.lemmas.loans.LendingSteps.{contents-of, with_taken_slot, Lends}
 use Rattle.iox2_domain.proofs.lemmas.slots.PublisherBooks.{book-own}
 use Rattle.iox2_domain.proofs.lemmas.loans.Taken.{CanTakeSlot, taken_book, taken_books, begun_contents, lent, taken-stands, lent-lies}
 use Rattle.iox2_domain.proofs.lemmas.loans.Granted.{lender, with_granted, lends-long, lends-limited, lends-full, lends-failed, lends-granted}
 use Rattle.iox2_domain.proofs.lemmas.loans.GrantedAgrees.{granted-reaches}
 use Rattle.iox2_domain.proofs.lemmas.fields.NamedPorts.{seen, seen_publisher, as-many, few-numbers}
+
+-- The static publisher at the place has fewer loans out than it may have, some slot of its book is free, and a number is
+-- left.
+pub record CanGrant {T U : Type 0} (f : Fields T U) (checks : Bool) (len place : ℕ) : Type 0 where
+  pub publisher : PublisherFields
+  pub book : Book
+  pub stands : slice_index_or f.publishers place None ≡ Some publisher
+  pub its : get f.books publisher.book ≡ Some book
+  pub few : length publisher.loans < publisher.max_loaned_samples
+  pub some_free : All (λ n. 0 < n) book.holders → ⊥
+  pub more : f.next_message < last_number
+  pub short : (checks && is_static publisher.allocation && nat_lt publisher.initial_max_slice_len len) ≡ false
+  pub static : is_static publisher.allocation ≡ true
+
+-- A loan by the static publisher at the place is refused for this reason, or a slot may be lent.
+abbrev pub LoanDecided : {T U : Type 0} → Fields T U → (checks : Bool) → (len place : ℕ) → Option LoanError → Type 0
+LoanDecided {T} {U} f checks len place decision = IsSomeAnd (slice_index_or f.publishers place None) (λ x. MatchOption decision (CanGrant f checks len place)
+    (λ e. (user_header : U) → GrantLoan (memory_for x.allocation) user_header checks len (state_of (kept_of f)) x.id (state_of (kept_of f)) (Some e)))
 
 -- where not each slot has a holder some slot is free
 some_slot : (hs : List ℕ) → (All (λ n. 0 < n) hs → ⊥) → (slot : ℕ) × (slot < length hs) × (get_or hs slot 0 ≡ 0)

@@ -12,13 +12,14 @@ use Rattle.iox2_domain.specs.Ports.{PublisherFields}
 use Rattle.iox2_domain.specs.Kept.{state_of}
 use Rattle.iox2_domain.specs.Fields.{Fields, kept_of, publisher_of}
 use Rattle.iox2_domain.specs.Invariant.{IsDomain}
-use Rattle.iox2_domain.specs.Lending.{CanGrant, LoanDecided, IsNamed, Lends, LoanReaches, memory_for}
+use Rattle.iox2_domain.specs.Lending.{IsNamed, LoanReaches, memory_for}
 use Rattle.iox2_domain.specs.LoanSlots.{LiesInSlot}
 use Rattle.iox2_domain.specs.Reaches.{Reaches}
 use Rattle.iox2_domain.specs.declared.loan_slots.LoanAt.{LoanAt}
 use Rattle.iox2_domain.proofs.lemmas.fields.ConnectionEnds.{publisher-stands}
 use Rattle.iox2_domain.proofs.lemmas.fields.ReachesShows.{reaches-then}
-use Rattle.iox2_domain.proofs.lemmas.loans.Lent.{is_too_long, lent-reaches, lent-grants, lent-in_slot}
+use Rattle.iox2_domain.proofs.lemmas.loans.Lent.{is_too_long, lent-reaches, lent-grants, lent-in_slot, CanGrant, LoanDecided}
+use Rattle.iox2_domain.proofs.lemmas.loans.LendingSteps.{Lends}
 
 module _ {T U : Type 0} (is_default : U → Type 0) (f mid : Fields T U) (sound : IsDomain f) (i : ℕ) (stands : (x : PublisherFields) × (get_or f.publishers i None ≡ Some x))
     (reached : Reaches f mid (state_of (kept_of f))) (same : mid.publishers ≡ f.publishers) (checks : Bool) (len : ℕ) where

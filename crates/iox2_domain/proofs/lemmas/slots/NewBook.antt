@@ -1,12 +1,13 @@
 -- A book enters of which no slot is in use.
-use Rattle.std.proofs.Common.{◌≡◌, ◌≢◌, ℕ, zero, suc, ◌<◌, List, [], map, true, cond, eqb, get_or, replicate, refl, ap, sym, subst, ◌∙◌, inl, inr, ◌⊎◌, arith}
+use Rattle.std.proofs.Common.{◌≡◌, ◌≢◌, ℕ, zero, suc, ◌<◌, List, [], map, true, cond, eqb, get_or, replicate, refl, ap, sym, subst, ◌∙◌, inl, inr, ◌⊎◌, arith, ◌≤◌, length, slice_index_or}
 use Rattle.std.proofs.lemmas.Bool.{cases_eq, eqb-true, ne_eqb, ltb-true}
 use Rattle.std.specs.declared.option.Option.{Option}
 use Rattle.std.specs.declared.option.Option.TheVariants.{None, Some}
 use Rattle.std.specs.Option.{option_map, option_map_or}
-use Rattle.slab.specs.Slab.{Slab, get}
+use Rattle.std.specs.List.{All}
+use Rattle.slab.specs.Slab.{Slab, get, Updates}
 use Rattle.iox2_connections.specs.Link.{Link}
-use Rattle.iox2_slots.specs.SlotBook.{Book, holders_at}
+use Rattle.iox2_slots.specs.SlotBook.{Book, holders_at, IsAligned}
 use Rattle.iox2_contents.specs.SlotContents.{ContentState}
 use Rattle.iox2_connections.specs.LookUp.{look_up, IsOnly}
 use Rattle.iox2_connections.proofs.LookUps.{look_up-nothing}
@@ -15,13 +16,30 @@ use Rattle.iox2_domain.specs.Ports.{PublisherFields}
 use Rattle.iox2_domain.specs.Kept.{message_numbered}
 use Rattle.iox2_domain.specs.Fields.{Fields, kept_book, map_from, is_book_of, numbers_of, message_in, messages_in, contents_at, publisher_of, between_of, blocked_send}
 use Rattle.iox2_domain.specs.Invariant.{IsDomain, HasNumber, IsNumbered, HasLoneLoans}
-use Rattle.iox2_domain.specs.NewPublisher.{BookEnters}
 use Rattle.iox2_domain.proofs.lemmas.containers.LookUps.{look_up-written, IsOnly-inserted}
 use Rattle.iox2_domain.proofs.lemmas.fields.ConnectionEnds.{publisher-stands}
 use Rattle.iox2_domain.proofs.lemmas.slots.MessageLists.{look_up-nothing_there, found_in, numbered-same}
 use Rattle.iox2_domain.proofs.lemmas.slots.Messages.{map_from_zero-at}
 use Rattle.iox2_domain.proofs.lemmas.slots.Renumbered.{map-alike}
 use Rattle.iox2_connections.proofs.MailboxChanges.{both-true}
+
+-- A book of the publisher, none of whose slots is in use, is among the books now, at a key that had none. At that key are
+-- contents for its slots, each without cells and with room for so many elements. Nothing else changes.
+pub record BookEnters {T U : Type 0} (node publisher slots room key : ℕ) (old_books : Slab Book) (old_contents : List (Option (List (ContentState T U))))
+    (books : Slab Book) (contents : List (Option (List (ContentState T U)))) : Type 0 where
+  pub book : Book
+  pub vacant : get old_books key ≡ None
+  pub updates : Updates old_books books key (Some book)
+  pub is_its : book.publisher ≡ publisher
+  pub names_node : book.node ≡ node
+  pub unused : book.holders ≡ replicate slots 0
+  pub aligned : IsAligned book
+  pub slot_contents : List (ContentState T U)
+  pub contents_here : slice_index_or contents key None ≡ Some slot_contents
+  pub contents_others : (k : ℕ) → k ≢ key → slice_index_or contents k None ≡ slice_index_or old_contents k None
+  pub contents_length : length slot_contents ≡ slots
+  pub has_room : All (λ content. room ≤ content.room) slot_contents
+  pub closed : All (λ content. content.cells ≡ []) slot_contents
 
 none_of : (n i : ℕ) → get_or {A = ℕ} (replicate n 0) i 0 ≡ 0
 none_of zero zero = refl

@@ -8,7 +8,7 @@ use Rattle.iox2_contents.specs.SlotContents.{ContentState, lists_for}
 use denote.Param.{param}
 use Rattle.iox2_domain.specs.contracts.state.DomainState.{the_view}
 use Rattle.iox2_domain.specs.Handlers.{handler_if_any}
-use Rattle.iox2_domain.specs.NewPublisher.{entering_publisher, subscriber_due}
+use Rattle.iox2_domain.specs.NewPublisher.{entering_publisher}
 use Rattle.iox2_ports.specs.Settings.{settings_with}
 use Rattle.iox2_domain.specs.Ports.{PublisherFields}
 use Rattle.iox2_domain.specs.Fields.{Fields}
@@ -16,6 +16,7 @@ use Rattle.iox2_domain.specs.Placed.{placed}
 use Rattle.iox2_domain.proofs.lemmas.containers.Placed.{placed-here}
 use Rattle.iox2_domain.proofs.lemmas.fields.ReachesShows.{reaches-same}
 use Rattle.iox2_steps.proofs.creations.PublisherEntries.{entered-reaches-as, room-reaches, numbered-low, place-low}
+use Rattle.iox2_steps.proofs.creations.SubscribersDue.{subscriber_due}
 use Rattle.iox2_ports.proofs.publisher_entry.admit_publisher.Goals as goal
 
 pub returns-in_default-entering-clause-step : goal.returns-in_default-entering-clause-step

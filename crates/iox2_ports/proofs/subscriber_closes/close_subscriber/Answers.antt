@@ -7,7 +7,7 @@ use Rattle.std.specs.Vec.{with_items}
 use Rattle.iox2_machine.specs.machine.WellFormed.{MailboxIsWellFormed}
 use Rattle.iox2_domain.specs.Fields.{Fields, kept_of}
 use Rattle.iox2_domain.specs.Kept.{state_of}
-use Rattle.iox2_domain.specs.Ports.{SubscriberFields, due}
+use Rattle.iox2_domain.specs.Ports.{SubscriberFields}
 use Rattle.iox2_domain.specs.Updates.{changed_at}
 use Rattle.iox2_domain.specs.Invariant.{HasParts}
 use Rattle.iox2_steps.proofs.releases.Leaving.{FreesMidway}
@@ -15,6 +15,7 @@ use Rattle.iox2_steps.specs.Closes.{HasNoPublisher, shut_subscriber}
 use Rattle.iox2_steps.proofs.subscriber_closes.CloseReads.{some-of, closing-starts, closing-turns, due-read}
 use Rattle.iox2_steps.proofs.subscriber_closes.CloseKeys.{KeysLeft, expired-known, closing-expired, key-known, closing-key, none-left}
 use Rattle.iox2_steps.proofs.subscriber_closes.CloseEnds.{closes-parts, closes-stands, closes}
+use Rattle.iox2_steps.proofs.creations.PublishersDue.{due}
 use Rattle.iox2_ports.proofs.subscriber_closes.close_subscriber.Goals.{After-make_all_due}
 use Rattle.iox2_ports.proofs.subscriber_closes.close_subscriber.Goals as goal
 

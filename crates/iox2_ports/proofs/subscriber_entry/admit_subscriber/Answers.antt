@@ -6,9 +6,10 @@ use Rattle.iox2_domain.specs.contracts.state.DomainState.{the_view}
 use Rattle.iox2_domain.specs.Handlers.{handler_of}
 use Rattle.iox2_domain.specs.SubscriberEntry.{asked_for}
 use Rattle.iox2_domain.specs.Fields.{Fields}
-use Rattle.iox2_domain.specs.Ports.{due, entering}
+use Rattle.iox2_domain.specs.Ports.{entering}
 use Rattle.iox2_domain.specs.Placed.{placed}
 use Rattle.iox2_steps.proofs.creations.SubscriberEntries.{has-entered, place-low}
+use Rattle.iox2_steps.proofs.creations.PublishersDue.{due}
 use Rattle.iox2_ports.proofs.subscriber_entry.admit_subscriber.Goals as goal
 
 pub returns-in_default-clause-step : goal.returns-in_default-clause-step

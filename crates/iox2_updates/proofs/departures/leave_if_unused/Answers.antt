@@ -6,8 +6,9 @@ use denote.Param.{param}
 use Rattle.iox2_domain.specs.contracts.state.DomainState.{the_view}
 use Rattle.iox2_domain.specs.Departures.{BorrowsNothing, BorrowsSome, DropsUnshared, KnowsKey}
 use Rattle.iox2_domain.specs.Fields.{Fields}
-use Rattle.iox2_domain.specs.Ports.{PublisherFields, SubscriberFields, due}
+use Rattle.iox2_domain.specs.Ports.{PublisherFields, SubscriberFields}
 use Rattle.iox2_steps.proofs.releases.Leaving.{FreesMidway, leaves, stays-open, stays-used, without_subscriber}
+use Rattle.iox2_steps.proofs.creations.PublishersDue.{due}
 use Rattle.iox2_domain.proofs.lemmas.slots.PublisherBooks.{read-there}
 use Rattle.iox2_updates.proofs.departures.leave_if_unused.Goals.{In-Some, then-subscriber-via-then-subscriber, then-subscriber-via-else-subscriber+then-has_borrowed}
 use Rattle.iox2_updates.proofs.departures.leave_if_unused.Goals as goal

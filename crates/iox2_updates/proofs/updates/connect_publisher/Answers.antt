@@ -7,10 +7,15 @@ use Rattle.iox2_machine.specs.machine.Records.{Environment}
 use Rattle.iox2_machine.specs.declared.errors.ConnectionFailure.{ConnectionFailure}
 use Rattle.iox2_domain.specs.Boxes.{answers_of}
 use Rattle.iox2_domain.specs.Fields.{Fields}
-use Rattle.iox2_domain.specs.Updates.{changed_at, updated_publisher}
+use Rattle.iox2_domain.specs.Updates.{changed_at}
+use Rattle.iox2_domain.specs.Ports.{PublisherFields}
 use Rattle.iox2_steps.proofs.updates.SenderUpdates.{WalksSender, walk-begins, walk-more, walk-updates, walking-stands, walking-subscribers, due-at}
 use Rattle.iox2_updates.specs.Ends.{IsSenderDue, IsSettledAt}
 use Rattle.iox2_updates.proofs.updates.connect_publisher.Goals as goal
+
+-- The publisher, due no more.
+abbrev updated_publisher : PublisherFields → PublisherFields
+updated_publisher x = record x { is_due = false }
 
 -- midway the publisher isn't due any more
 abbrev settled : {T U : Type 0} (environment : Environment) (old : Fields T U) (place : ℕ) (due : IsSenderDue old place) (other : ℕ) (mid : Fields T U) (first : Option ConnectionFailure)
