@@ -32,7 +32,7 @@ use Rattle.iox2_commands.proofs.AlikeReceives.{IsAlike, alike_equal}
 -- A receiver's mailbox after a message was put there.
 abbrev put_box : ServiceConfig → (n : ℕ) → (buffer : Option ℕ) → Mailbox → Mailbox
 put_box c n None box = box
-put_box c n (Some buffer) box = cond (has_room buffer box || c.enable_safe_overflow) (with_appended buffer n box) box
+put_box c n (Some buffer) box = cond (has_room 0 buffer box || c.enable_safe_overflow) (with_appended 0 buffer n box) box
 
 -- without room and overflow, the message is discarded
 discards : (room overflow discarding : Bool) → (room || overflow) ≡ false → (overflow || discarding) ≡ true → discarding ≡ true
@@ -76,19 +76,19 @@ module _ (environment : Environment) (c : ServiceConfig) (p : ℕ) (strategy : B
   Went result box box' = (is_blocking result ≡ false) × (is_failed result ≡ false) × (box' ≡ box)
 
   put_is : (q retries : ℕ) (elapsed : Duration) (buffer : Option ℕ) (box : Mailbox) (result : PutResult) (box' : Mailbox)
-      → Put environment c p strategy handler buffers n q retries elapsed buffer box result box' → Went result (put_box c n buffer box) box'
+      → Put environment c p strategy handler buffers n 0 q retries elapsed buffer box result box' → Went result (put_box c n buffer box) box'
   put_is q retries elapsed None box result box' h = (ap is_blocking h.0, ap is_failed h.0, h.1)
   put_is q retries elapsed (Some buffer) box result box' h =
-      by_bool (Went result (put_box c n (Some buffer) box) box') (has_room buffer box || c.enable_safe_overflow) _ _ h
-      (λ t h. (ap is_blocking h.0, ap is_failed h.0, h.1 ∙ ap (λ (b : Bool). cond b (with_appended buffer n box) box) (sym t)))
+      by_bool (Went result (put_box c n (Some buffer) box) box') (has_room 0 buffer box || c.enable_safe_overflow) _ _ h
+      (λ t h. (ap is_blocking h.0, ap is_failed h.0, h.1 ∙ ap (λ (b : Bool). cond b (with_appended 0 buffer n box) box) (sym t)))
       (λ f h.
-      let off : is_discarding strategy handler ≡ true = discards (has_room buffer box) c.enable_safe_overflow (is_discarding strategy handler) f independent in
+      let off : is_discarding strategy handler ≡ true = discards (has_room 0 buffer box) c.enable_safe_overflow (is_discarding strategy handler) f independent in
       let past : result ≡ Skipped = decided environment p handler strategy _ result off h.0 in
-      (ap is_blocking past, ap is_failed past, h.1 ∙ ap (λ (b : Bool). cond b (with_appended buffer n box) box) (sym f)))
+      (ap is_blocking past, ap is_failed past, h.1 ∙ ap (λ (b : Bool). cond b (with_appended 0 buffer n box) box) (sym f)))
 
   -- A delivery that never waits reaches all receivers.
   pub deliver_is : (q retries : ℕ) (elapsed : Duration) (place : ℕ) (ends : List (Option ℕ)) (count : ℕ) (failed : Bool) (boxes : ℕ → Mailbox) (how : DeliveryEnd) (boxes' : ℕ → Mailbox) → failed ≡ false
-      → Deliver environment c p strategy handler buffers n retries elapsed place ends count failed boxes how boxes'
+      → Deliver environment c p strategy handler buffers n 0 retries elapsed place ends count failed boxes how boxes'
       → (total : ℕ) × (how ≡ Complete total false) × (boxes' q ≡ deliver_box c n (buffers q) q ends (boxes q))
   deliver_is q retries elapsed place [] count failed boxes how boxes' f h = (count, h.0 ∙ ap (λ (b : Bool). Complete count b) f, ap (λ (g : ℕ → Mailbox). g q) h.1)
   deliver_is q retries elapsed place (None ∷ rest) count failed boxes how boxes' f h =

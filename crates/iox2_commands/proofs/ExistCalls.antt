@@ -14,7 +14,7 @@ use Rattle.iox2_machine.specs.machine.Places.{occupants, free_place}
 use Rattle.iox2_machine.specs.machine.Mailbox.{Mailbox, can_receive, has_data, BorrowsFirst}
 use Rattle.iox2_machine.specs.machine.Records.{Loan, Publisher, Subscriber, PublisherSettings, SubscriberSettings}
 use Rattle.iox2_machine.specs.machine.State.{State, held, channel_buffer, connected_publishers, with_mailbox, with_loan, publisher_changed, receiver_channels_reset}
-use Rattle.iox2_machine.specs.machine.Delivery.{DeliveryEnd, Complete, Suspended, no_time, DeliverIn}
+use Rattle.iox2_machine.specs.machine.Delivery.{DeliveryEnd, Complete, Suspended, no_time, Deliver}
 use Rattle.iox2_machine.specs.machine.PublisherUpdate.{UpdatePublisher}
 use Rattle.iox2_machine.specs.machine.SubscriberUpdate.{UpdateSubscriber}
 use Rattle.iox2_machine.specs.machine.Loans.{GrantLoan, StaticLoan, DynamicLoan, IsGuaranteed, NoSegmentFits, known_length, loan_granted, limit_error, is_static, loan_discarded, written}
@@ -257,7 +257,7 @@ module _ {T U : Type 0} where
   pub delivers : (s : State T U) (p : ℕ) (x : Publisher) → s.publishers p ≡ Some x → IsFixed s → (n channel retries : ℕ) (elapsed : Duration) (place : ℕ) (ends : List (Option ℕ)) (count : ℕ) (has_failed : Bool)
       → ComesTo SendResult (DeliverAndConclude ample_memory s p n channel retries elapsed place ends count has_failed)
   delivers s p x present k n channel retries elapsed place ends count has_failed =
-      let d : ComesWith DeliveryEnd (ℕ → Mailbox) (DeliverIn ample_memory s.config p x.backpressure_strategy x.backpressure_handler (channel_buffer s p channel) n channel retries elapsed place ends count has_failed (s.mailboxes p)) (anything DeliveryEnd (ℕ → Mailbox)) =
+      let d : ComesWith DeliveryEnd (ℕ → Mailbox) (Deliver ample_memory s.config p x.backpressure_strategy x.backpressure_handler (channel_buffer s p channel) n channel retries elapsed place ends count has_failed (s.mailboxes p)) (anything DeliveryEnd (ℕ → Mailbox)) =
       deliver_comes s.config p x.backpressure_strategy x.backpressure_handler (k.handlers p x present) (channel_buffer s p channel) n channel retries elapsed place ends count has_failed (s.mailboxes p) in
       let e : ComesTo SendResult (ConcludeSend (with_mailboxes s p d.1) p n d.0) = conclude_comes (with_mailboxes s p d.1) p n d.0 (record { message = k.message; handlers = k.handlers }) in
       (e.0, e.1, match_some (s.publishers p) x _ _ present (d.0, d.1, d.2, e.2), e.3)

@@ -7,11 +7,11 @@ use Rattle.std.proofs.lemmas.Bool.{true≢false}
 use Rattle.iox2_machine.specs.machine.Limits.{expired_limit}
 use Rattle.iox2_machine.specs.machine.Numbers.{put_at}
 use Rattle.iox2_machine.specs.machine.Places.{occupant}
-use Rattle.iox2_machine.specs.machine.Mailbox.{Mailbox, has_room_in, with_appended_in}
+use Rattle.iox2_machine.specs.machine.Mailbox.{Mailbox, has_room, with_appended}
 use Rattle.iox2_machine.specs.machine.Records.{Publisher, Subscriber, Handler, Fixed, Custom}
 use Rattle.iox2_machine.specs.machine.State.{State, receiving_buffer, has_receiver_end, has_sender_end, sender_channels_reset, receiver_channels_reset}
 use Rattle.iox2_machine.specs.machine.Connections.{ForEachPlace, first_failure, expired_buffer_full}
-use Rattle.iox2_machine.specs.machine.Delivery.{PutResult, Accepted, Skipped, Failed, Would_block, DeliveryEnd, Complete, by_strategy, by_action, Decides, no_time, info_of, PutIn, PutAtEndIn, DeliverIn}
+use Rattle.iox2_machine.specs.machine.Delivery.{PutResult, Accepted, Skipped, Failed, Would_block, DeliveryEnd, Complete, by_strategy, by_action, Decides, no_time, info_of, Put, PutAtEnd, Deliver}
 use Rattle.iox2_machine.specs.machine.PublisherUpdate.{SenderSide, SenderAction, Keep_end, Drop_waiting, Disconnect, Connect, sender_action, dropped, disconnected, connected, Performs, UpdateSenderPlace, sender_side, with_sender_side, history_for, UpdatePublisher}
 use Rattle.iox2_machine.specs.machine.SubscriberUpdate.{ReceiverSide, retirement_of, is_refused, after_retirement, with_end, ConnectReceiver, Retire, ConnectAtPlace, DisconnectAtPlace, UpdateReceiverSide, receiver_side, with_receiver_side, UpdateSubscriber}
 use Rattle.iox2_machine.specs.declared.service_config.ServiceConfig.{ServiceConfig}
@@ -66,44 +66,44 @@ module _ (c : ServiceConfig) (p : ℕ) (strategy : BackpressureStrategy) (handle
       at (Some Custom) f = absurd (true≢false (sym f))
 
   put_comes : (channel q retries : ℕ) (elapsed : Duration) (buffer : Option ℕ) (box : Mailbox)
-      → ComesWith PutResult Mailbox (PutIn ample_memory c p strategy handler buffers n channel q retries elapsed buffer box) (anything PutResult Mailbox)
+      → ComesWith PutResult Mailbox (Put ample_memory c p strategy handler buffers n channel q retries elapsed buffer box) (anything PutResult Mailbox)
   put_comes channel q retries elapsed None box = (Skipped, box, (refl, refl), tt)
   put_comes channel q retries elapsed (Some buffer) box =
-      comes_bool PutResult Mailbox (anything PutResult Mailbox) (has_room_in channel buffer box || c.enable_safe_overflow) _ _
-      (λ _. (Accepted, with_appended_in channel buffer n box, (refl, refl), tt))
+      comes_bool PutResult Mailbox (anything PutResult Mailbox) (has_room channel buffer box || c.enable_safe_overflow) _ _
+      (λ _. (Accepted, with_appended channel buffer n box, (refl, refl), tt))
       (λ _. let d : (result : PutResult) × Decides ample_memory p handler strategy (info_of ample_memory c p strategy handler buffers n q retries elapsed) result =
       decides (info_of ample_memory c p strategy handler buffers n q retries elapsed) in
       (d.0, box, (d.1, refl), tt))
 
   put_at_end_comes : (channel retries : ℕ) (elapsed : Duration) (end : Option ℕ) (boxes : ℕ → Mailbox)
-      → ComesWith PutResult (ℕ → Mailbox) (PutAtEndIn ample_memory c p strategy handler buffers n channel retries elapsed end boxes) (anything PutResult (ℕ → Mailbox))
+      → ComesWith PutResult (ℕ → Mailbox) (PutAtEnd ample_memory c p strategy handler buffers n channel retries elapsed end boxes) (anything PutResult (ℕ → Mailbox))
   put_at_end_comes channel retries elapsed None boxes = (Skipped, boxes, (refl, refl), tt)
   put_at_end_comes channel retries elapsed (Some q) boxes =
-      let put : ComesWith PutResult Mailbox (PutIn ample_memory c p strategy handler buffers n channel q retries elapsed (buffers q) (boxes q)) (anything PutResult Mailbox) =
+      let put : ComesWith PutResult Mailbox (Put ample_memory c p strategy handler buffers n channel q retries elapsed (buffers q) (boxes q)) (anything PutResult Mailbox) =
       put_comes channel q retries elapsed (buffers q) (boxes q) in
       (put.0, put_at boxes q put.1, (put.1, put.2, refl), tt)
 
   -- A delivery comes to its end.
   pub deliver_comes : (channel retries : ℕ) (elapsed : Duration) (place : ℕ) (ends : List (Option ℕ)) (count : ℕ) (has_failed : Bool) (boxes : ℕ → Mailbox)
-      → ComesWith DeliveryEnd (ℕ → Mailbox) (DeliverIn ample_memory c p strategy handler buffers n channel retries elapsed place ends count has_failed boxes) (anything DeliveryEnd (ℕ → Mailbox))
+      → ComesWith DeliveryEnd (ℕ → Mailbox) (Deliver ample_memory c p strategy handler buffers n channel retries elapsed place ends count has_failed boxes) (anything DeliveryEnd (ℕ → Mailbox))
   deliver_comes channel retries elapsed place [] count has_failed boxes = (Complete count has_failed, boxes, (refl, refl), tt)
   deliver_comes channel retries elapsed place (end ∷ rest) count has_failed boxes =
-      let put : ComesWith PutResult (ℕ → Mailbox) (PutAtEndIn ample_memory c p strategy handler buffers n channel retries elapsed end boxes) (anything PutResult (ℕ → Mailbox)) =
+      let put : ComesWith PutResult (ℕ → Mailbox) (PutAtEnd ample_memory c p strategy handler buffers n channel retries elapsed end boxes) (anything PutResult (ℕ → Mailbox)) =
       put_at_end_comes channel retries elapsed end boxes in
       go (λ count' has_failed' mid. deliver_comes channel 0 no_time (place + 1) rest count' has_failed' mid) put.0 put.1 put.2
     where
-      go : ((count' : ℕ) (has_failed' : Bool) (mid : ℕ → Mailbox) → ComesWith DeliveryEnd (ℕ → Mailbox) (DeliverIn ample_memory c p strategy handler buffers n channel 0 no_time (place + 1) rest count' has_failed' mid) (anything DeliveryEnd (ℕ → Mailbox)))
-          → (result : PutResult) (mid : ℕ → Mailbox) → PutAtEndIn ample_memory c p strategy handler buffers n channel retries elapsed end boxes result mid
-          → ComesWith DeliveryEnd (ℕ → Mailbox) (DeliverIn ample_memory c p strategy handler buffers n channel retries elapsed place (end ∷ rest) count has_failed boxes) (anything DeliveryEnd (ℕ → Mailbox))
+      go : ((count' : ℕ) (has_failed' : Bool) (mid : ℕ → Mailbox) → ComesWith DeliveryEnd (ℕ → Mailbox) (Deliver ample_memory c p strategy handler buffers n channel 0 no_time (place + 1) rest count' has_failed' mid) (anything DeliveryEnd (ℕ → Mailbox)))
+          → (result : PutResult) (mid : ℕ → Mailbox) → PutAtEnd ample_memory c p strategy handler buffers n channel retries elapsed end boxes result mid
+          → ComesWith DeliveryEnd (ℕ → Mailbox) (Deliver ample_memory c p strategy handler buffers n channel retries elapsed place (end ∷ rest) count has_failed boxes) (anything DeliveryEnd (ℕ → Mailbox))
       go more Would_block mid h = (_, mid, (Would_block, mid, h, (refl, refl)), tt)
       go more Accepted mid h =
-          let later : ComesWith DeliveryEnd (ℕ → Mailbox) (DeliverIn ample_memory c p strategy handler buffers n channel 0 no_time (place + 1) rest (count + 1) (has_failed || false) mid) (anything DeliveryEnd (ℕ → Mailbox)) = more (count + 1) (has_failed || false) mid in
+          let later : ComesWith DeliveryEnd (ℕ → Mailbox) (Deliver ample_memory c p strategy handler buffers n channel 0 no_time (place + 1) rest (count + 1) (has_failed || false) mid) (anything DeliveryEnd (ℕ → Mailbox)) = more (count + 1) (has_failed || false) mid in
           (later.0, later.1, (Accepted, mid, h, later.2), tt)
       go more Skipped mid h =
-          let later : ComesWith DeliveryEnd (ℕ → Mailbox) (DeliverIn ample_memory c p strategy handler buffers n channel 0 no_time (place + 1) rest (count + 0) (has_failed || false) mid) (anything DeliveryEnd (ℕ → Mailbox)) = more (count + 0) (has_failed || false) mid in
+          let later : ComesWith DeliveryEnd (ℕ → Mailbox) (Deliver ample_memory c p strategy handler buffers n channel 0 no_time (place + 1) rest (count + 0) (has_failed || false) mid) (anything DeliveryEnd (ℕ → Mailbox)) = more (count + 0) (has_failed || false) mid in
           (later.0, later.1, (Skipped, mid, h, later.2), tt)
       go more Failed mid h =
-          let later : ComesWith DeliveryEnd (ℕ → Mailbox) (DeliverIn ample_memory c p strategy handler buffers n channel 0 no_time (place + 1) rest (count + 0) (has_failed || true) mid) (anything DeliveryEnd (ℕ → Mailbox)) = more (count + 0) (has_failed || true) mid in
+          let later : ComesWith DeliveryEnd (ℕ → Mailbox) (Deliver ample_memory c p strategy handler buffers n channel 0 no_time (place + 1) rest (count + 0) (has_failed || true) mid) (anything DeliveryEnd (ℕ → Mailbox)) = more (count + 0) (has_failed || true) mid in
           (later.0, later.1, (Failed, mid, h, later.2), tt)
 
 -- ---- updates

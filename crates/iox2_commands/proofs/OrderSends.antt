@@ -4,9 +4,9 @@ use Rattle.std.specs.declared.time.Duration.{Duration}
 use Rattle.std.proofs.lemmas.Bool.{cond_both, true≢false}
 use Rattle.std.proofs.lemmas.List.{append_assoc}
 use Rattle.iox2_machine.specs.machine.Numbers.{put_at}
-use Rattle.iox2_machine.specs.machine.Mailbox.{Mailbox, with_appended, with_appended_in, has_room_in}
+use Rattle.iox2_machine.specs.machine.Mailbox.{Mailbox, with_appended, has_room}
 use Rattle.iox2_machine.specs.machine.Records.{Handler, Environment}
-use Rattle.iox2_machine.specs.machine.Delivery.{PutResult, accepted_count, is_failed, is_blocking, DeliveryEnd, Complete, Suspended, no_time, PutIn, PutAtEndIn, DeliverIn}
+use Rattle.iox2_machine.specs.machine.Delivery.{PutResult, accepted_count, is_failed, is_blocking, DeliveryEnd, Complete, Suspended, no_time, Put, PutAtEnd, Deliver}
 use Rattle.iox2_machine.specs.machine.WellFormed.{LeadsTo, IsInjective}
 use Rattle.iox2_machine.specs.declared.service_config.ServiceConfig.{ServiceConfig}
 use Rattle.iox2_machine.specs.declared.backpressure.BackpressureStrategy.{BackpressureStrategy}
@@ -22,7 +22,7 @@ use Rattle.iox2_laws.proofs.DeliveryLaws.{leads_further}
 
 -- a number that is appended comes behind what was there
 appended_in_order : (buffer n : ℕ) (box : Mailbox) (got before : List ℕ) → IsSubsequence (got ++ box.waiting) before
-    → IsSubsequence (got ++ (with_appended buffer n box).waiting) (before ++ n ∷ [])
+    → IsSubsequence (got ++ (with_appended 0 buffer n box).waiting) (before ++ n ∷ [])
 appended_in_order buffer n box got before h =
     let behind : (ws : List ℕ) → IsSubsequence ws box.waiting → IsSubsequence (got ++ (ws ++ n ∷ [])) (before ++ n ∷ []) =
     λ ws part. subst (λ xs. IsSubsequence xs (before ++ n ∷ [])) (append_assoc got ws (n ∷ []))
@@ -56,7 +56,7 @@ module _ (p0 : ℕ) (got : ℕ → List ℕ) (before : List ℕ) (n : ℕ) where
   }
 
   -- the first of the ends gets the message
-  served : (q : ℕ) (rest : List (Option ℕ)) (boxes : ℕ → Mailbox) (buffer : ℕ) (box : Mailbox) → IsInjective (Some q ∷ rest) → box ≡ with_appended buffer n (boxes q)
+  served : (q : ℕ) (rest : List (Option ℕ)) (boxes : ℕ → Mailbox) (buffer : ℕ) (box : Mailbox) → IsInjective (Some q ∷ rest) → box ≡ with_appended 0 buffer n (boxes q)
       → Serving (Some q ∷ rest) boxes → Serving rest (put_at boxes q box)
   served q rest boxes buffer box apart e v = record {
     whole = λ r. at_each boxes q box (λ r b. p0 ≤ r → IsSubsequence (got r ++ b.waiting) (before ++ n ∷ [])) r
@@ -69,7 +69,7 @@ module _ (p0 : ℕ) (got : ℕ → List ℕ) (before : List ℕ) (n : ℕ) where
 
   -- or it gets it in another channel, and what waits in channel 0 stays
   served_in : (channel q : ℕ) (rest : List (Option ℕ)) (boxes : ℕ → Mailbox) (buffer : ℕ) (box : Mailbox) → IsInjective (Some q ∷ rest)
-      → box ≡ with_appended_in channel buffer n (boxes q) → Serving (Some q ∷ rest) boxes → Serving rest (put_at boxes q box)
+      → box ≡ with_appended channel buffer n (boxes q) → Serving (Some q ∷ rest) boxes → Serving rest (put_at boxes q box)
   served_in zero q rest boxes buffer box apart e v = served q rest boxes buffer box apart e v
   served_in (suc k) q rest boxes buffer box apart e v = record {
     whole = λ r. at_each boxes q box (λ r b. p0 ≤ r → IsSubsequence (got r ++ b.waiting) (before ++ n ∷ [])) r
@@ -89,16 +89,16 @@ module _ (p0 : ℕ) (got : ℕ → List ℕ) (before : List ℕ) (n : ℕ) where
 
     put_in_order : (q : ℕ) (rest : List (Option ℕ)) (channel retries : ℕ) (elapsed : Duration) (buffer : Option ℕ) (boxes : ℕ → Mailbox) (result : PutResult) (box : Mailbox)
         → IsInjective (Some q ∷ rest) → Serving (Some q ∷ rest) boxes
-        → PutIn environment c p strategy handler buffers n channel q retries elapsed buffer (boxes q) result box → AfterEnd (Some q) rest result (put_at boxes q box)
+        → Put environment c p strategy handler buffers n channel q retries elapsed buffer (boxes q) result box → AfterEnd (Some q) rest result (put_at boxes q box)
     put_in_order q rest channel retries elapsed None boxes result box apart v h =
         left_out (Some q) rest boxes (put_at boxes q box) result (rewritten (Some q ∷ rest) boxes q box h.1 v)
     put_in_order q rest channel retries elapsed (Some buffer) boxes result box apart v h =
-        by_bool (AfterEnd (Some q) rest result (put_at boxes q box)) (has_room_in channel buffer (boxes q) || c.enable_safe_overflow) _ _ h
+        by_bool (AfterEnd (Some q) rest result (put_at boxes q box)) (has_room channel buffer (boxes q) || c.enable_safe_overflow) _ _ h
         (λ _ h. (served_in channel q rest boxes buffer box apart h.1 v, λ blocks. absurd (true≢false (sym blocks ∙ ap is_blocking h.0))))
         (λ _ h. left_out (Some q) rest boxes (put_at boxes q box) result (rewritten (Some q ∷ rest) boxes q box h.1 v))
 
     put_at_end_in_order : (end : Option ℕ) (rest : List (Option ℕ)) (channel retries : ℕ) (elapsed : Duration) (boxes : ℕ → Mailbox) (result : PutResult) (mid : ℕ → Mailbox)
-        → IsInjective (end ∷ rest) → Serving (end ∷ rest) boxes → PutAtEndIn environment c p strategy handler buffers n channel retries elapsed end boxes result mid
+        → IsInjective (end ∷ rest) → Serving (end ∷ rest) boxes → PutAtEnd environment c p strategy handler buffers n channel retries elapsed end boxes result mid
         → AfterEnd end rest result mid
     put_at_end_in_order None rest channel retries elapsed boxes result mid apart v h =
         left_out None rest boxes mid result (subst (Serving (None ∷ rest)) (sym h.1) v)
@@ -107,7 +107,7 @@ module _ (p0 : ℕ) (got : ℕ → List ℕ) (before : List ℕ) (n : ℕ) where
 
     -- A delivery leaves each receiver with what it had, or with the message behind all that was sent before.
     pub deliver_in_order : (channel retries : ℕ) (elapsed : Duration) (place : ℕ) (ends : List (Option ℕ)) (count : ℕ) (has_failed : Bool) (boxes : ℕ → Mailbox) (how : DeliveryEnd) (boxes' : ℕ → Mailbox)
-        → IsInjective ends → Serving ends boxes → DeliverIn environment c p strategy handler buffers n channel retries elapsed place ends count has_failed boxes how boxes'
+        → IsInjective ends → Serving ends boxes → Deliver environment c p strategy handler buffers n channel retries elapsed place ends count has_failed boxes how boxes'
         → LeftSo how boxes'
     deliver_in_order channel retries elapsed place [] count has_failed boxes how boxes' apart v h =
         subst (λ (d : DeliveryEnd). LeftSo d boxes') (sym h.0) (subst (Serving []) (sym h.1) v)

@@ -4,12 +4,12 @@ use Rattle.std.specs.Prelude.{nat_lt, MatchOption}
 use Rattle.std.specs.Bool.{MatchBool}
 use Rattle.std.specs.declared.time.Duration.{Duration}
 use Rattle.iox2_machine.specs.machine.Limits.{buffer_limit, last_number}
-use Rattle.iox2_machine.specs.machine.Mailbox.{Mailbox, has_room_in}
+use Rattle.iox2_machine.specs.machine.Mailbox.{Mailbox, has_room}
 use Rattle.iox2_machine.specs.machine.Places.{free_place}
 use Rattle.iox2_machine.specs.machine.SingleCalls.{GrantWrittenLoan}
 use Rattle.iox2_machine.specs.machine.Records.{Loan, Publisher, Subscriber, BlockedSend, Handler, Fixed, Custom, PublisherSettings, SubscriberSettings}
 use Rattle.iox2_machine.specs.machine.State.{State, warned, channel_buffer}
-use Rattle.iox2_machine.specs.machine.Delivery.{PutResult, DeliveryEnd, Complete, Suspended, Decides, is_blocking, is_failed, accepted_count, no_time, PutIn, PutAtEndIn, DeliverIn}
+use Rattle.iox2_machine.specs.machine.Delivery.{PutResult, DeliveryEnd, Complete, Suspended, Decides, is_blocking, is_failed, accepted_count, no_time, Put, PutAtEnd, Deliver}
 use Rattle.iox2_machine.specs.machine.Loans.{GrantLoan, is_static, limit_error, loan_discarded}
 use Rattle.iox2_machine.specs.machine.Sends.{Send, SendResult, Send_error, Publish, DeliverAndConclude, ConcludeSend, Retry, GiveUp, more_retries, published, with_mailboxes}
 use Rattle.iox2_machine.specs.machine.Receives.{Receive, TakeSample, ReceiveResult, Got_sample, No_sample, Receive_error}
@@ -44,18 +44,18 @@ module _ (c : ServiceConfig) (p : ℕ) (strategy : BackpressureStrategy) (handle
   decides_ample (Some Custom) info result h = absurd h.1
 
   put_ample : (channel q retries : ℕ) (elapsed : Duration) (buffer : Option ℕ) (box : Mailbox) (result : PutResult) (box' : Mailbox)
-      → PutIn fixed_handlers c p strategy handler buffers n channel q retries elapsed buffer box result box' → PutIn ample_memory c p strategy handler buffers n channel q retries elapsed buffer box result box'
+      → Put fixed_handlers c p strategy handler buffers n channel q retries elapsed buffer box result box' → Put ample_memory c p strategy handler buffers n channel q retries elapsed buffer box result box'
   put_ample channel q retries elapsed None box result box' h = h
-  put_ample channel q retries elapsed (Some buffer) box result box' h = bool_maps (has_room_in channel buffer box || c.enable_safe_overflow) _ _ _ _ h (λ h. h) (λ h. (decides_ample handler _ result h.0, h.1))
+  put_ample channel q retries elapsed (Some buffer) box result box' h = bool_maps (has_room channel buffer box || c.enable_safe_overflow) _ _ _ _ h (λ h. h) (λ h. (decides_ample handler _ result h.0, h.1))
 
   put_at_end_ample : (channel retries : ℕ) (elapsed : Duration) (end : Option ℕ) (boxes : ℕ → Mailbox) (result : PutResult) (boxes' : ℕ → Mailbox)
-      → PutAtEndIn fixed_handlers c p strategy handler buffers n channel retries elapsed end boxes result boxes' → PutAtEndIn ample_memory c p strategy handler buffers n channel retries elapsed end boxes result boxes'
+      → PutAtEnd fixed_handlers c p strategy handler buffers n channel retries elapsed end boxes result boxes' → PutAtEnd ample_memory c p strategy handler buffers n channel retries elapsed end boxes result boxes'
   put_at_end_ample channel retries elapsed end boxes result boxes' h =
       option_maps end _ _ _ _ h (λ h. h) (λ q _ h. (h.0, put_ample channel q retries elapsed (buffers q) (boxes q) result h.0 h.1, h.2))
 
   deliver_ample : (channel retries : ℕ) (elapsed : Duration) (place : ℕ) (ends : List (Option ℕ)) (count : ℕ) (has_failed : Bool) (boxes : ℕ → Mailbox) (how : DeliveryEnd) (boxes' : ℕ → Mailbox)
-      → DeliverIn fixed_handlers c p strategy handler buffers n channel retries elapsed place ends count has_failed boxes how boxes'
-      → DeliverIn ample_memory c p strategy handler buffers n channel retries elapsed place ends count has_failed boxes how boxes'
+      → Deliver fixed_handlers c p strategy handler buffers n channel retries elapsed place ends count has_failed boxes how boxes'
+      → Deliver ample_memory c p strategy handler buffers n channel retries elapsed place ends count has_failed boxes how boxes'
   deliver_ample channel retries elapsed place [] count has_failed boxes how boxes' h = h
   deliver_ample channel retries elapsed place (end ∷ rest) count has_failed boxes how boxes' h = (
     h.0,

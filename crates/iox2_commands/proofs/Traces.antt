@@ -2,9 +2,9 @@
 use Rattle.std.proofs.Common.{◌≡◌, ℕ, Bool, true, List, [], ◌∷◌, ◌++◌, sym, subst, ◌∙◌, Option, ⊎_elim, ap}
 use Rattle.std.specs.declared.time.Duration.{Duration}
 use Rattle.iox2_machine.specs.machine.Numbers.{contains, last_n}
-use Rattle.iox2_machine.specs.machine.Mailbox.{Mailbox, numbers_in, is_borrowed, with_waiting, waiting_dropped, BorrowsFirst, with_appended_in, other_numbers}
+use Rattle.iox2_machine.specs.machine.Mailbox.{Mailbox, numbers_in, is_borrowed, with_waiting, waiting_dropped, BorrowsFirst, with_appended, other_numbers}
 use Rattle.iox2_machine.specs.machine.Records.{Handler, Environment, BlockedSend}
-use Rattle.iox2_machine.specs.machine.Delivery.{DeliveryEnd, Suspended, DeliverIn}
+use Rattle.iox2_machine.specs.machine.Delivery.{DeliveryEnd, Suspended, Deliver}
 use Rattle.iox2_machine.specs.machine.Connections.{ForEachPlace}
 use Rattle.iox2_machine.specs.machine.PublisherUpdate.{SenderSide, UpdateSenderPlace}
 use Rattle.iox2_machine.specs.machine.SubscriberUpdate.{ReceiverSide, UpdateReceiverSide}
@@ -29,7 +29,7 @@ module _ (Ok : ℕ → Type 0) (old new : Mailbox) (good : IsGood Ok old new) wh
   good_dropped = (λ k h. good.0 k (contains_in_dropped new k h), good.1)
 
   -- a number comes in
-  pub good_appended : (channel buffer n : ℕ) → Ok n → IsGood Ok old (with_appended_in channel buffer n new)
+  pub good_appended : (channel buffer n : ℕ) → Ok n → IsGood Ok old (with_appended channel buffer n new)
   good_appended channel buffer n ok = (
     λ k h. ⊎_elim (λ e. subst Ok (sym e) ok) (λ there. good.0 k there) (contains_in_appended channel buffer n new k h),
     λ k h. ap (λ ns. contains ns k) (borrowed-appended channel buffer n new) ∙ good.1 k h,
@@ -87,7 +87,7 @@ module _ (Ok : ℕ → ℕ → Type 0) (old : ℕ → Mailbox) where
       (buffers : ℕ → Option ℕ) (n channel : ℕ) (ok : (i : ℕ) → Ok i n)
       (retries : ℕ) (elapsed : Duration) (place : ℕ) (ends : List (Option ℕ)) (count : ℕ) (has_failed : Bool) (boxes : ℕ → Mailbox)
       (how : DeliveryEnd) (boxes' : ℕ → Mailbox)
-      → AreGood boxes → DeliverIn environment c p strategy handler buffers n channel retries elapsed place ends count has_failed boxes how boxes'
+      → AreGood boxes → Deliver environment c p strategy handler buffers n channel retries elapsed place ends count has_failed boxes how boxes'
       → AreGood boxes' × ((b : BlockedSend) → how ≡ Suspended b → b.message ≡ n)
   deliver_good environment c p strategy handler buffers n channel ok =
       deliver_keeps Good good_with_dropped environment c p strategy handler buffers n channel

@@ -2,9 +2,9 @@
 use Rattle.std.proofs.Common.{ℕ, ◌+◌, ◌||◌, Bool, true, false, List, [], ◌∷◌, Option, None, Some}
 use Rattle.std.specs.Bool.{MatchBool}
 use Rattle.std.specs.declared.time.Duration.{Duration}
-use Rattle.iox2_machine.specs.machine.Mailbox.{Mailbox, has_room_in}
+use Rattle.iox2_machine.specs.machine.Mailbox.{Mailbox, has_room}
 use Rattle.iox2_machine.specs.machine.Records.{Handler, Fixed, Custom, Environment}
-use Rattle.iox2_machine.specs.machine.Delivery.{PutResult, DeliveryEnd, is_blocking, is_failed, accepted_count, no_time, Decides, PutIn, PutAtEndIn, DeliverIn}
+use Rattle.iox2_machine.specs.machine.Delivery.{PutResult, DeliveryEnd, is_blocking, is_failed, accepted_count, no_time, Decides, Put, PutAtEnd, Deliver}
 use Rattle.iox2_machine.specs.declared.service_config.ServiceConfig.{ServiceConfig}
 use Rattle.iox2_machine.specs.declared.backpressure.BackpressureAction.{BackpressureAction}
 use Rattle.iox2_machine.specs.declared.backpressure.BackpressureInfo.{BackpressureInfo}
@@ -27,19 +27,19 @@ module _ (e e' : Environment) (c : ServiceConfig) (p : ℕ) (strategy : Backpres
   either A B C false g h = g h
 
   put-any : (q retries : ℕ) (elapsed : Duration) (buffer : Option ℕ) (box : Mailbox) (result : PutResult) (box' : Mailbox)
-      → PutIn e c p strategy handler buffers n channel q retries elapsed buffer box result box' → PutIn e' c p strategy handler buffers n channel q retries elapsed buffer box result box'
+      → Put e c p strategy handler buffers n channel q retries elapsed buffer box result box' → Put e' c p strategy handler buffers n channel q retries elapsed buffer box result box'
   put-any q retries elapsed None box result box' h = h
   put-any q retries elapsed (Some buffer) box result box' h =
-      either _ _ _ (has_room_in channel buffer box || c.enable_safe_overflow) (λ d. (decides-any handler allows _ result d.0, d.1)) h
+      either _ _ _ (has_room channel buffer box || c.enable_safe_overflow) (λ d. (decides-any handler allows _ result d.0, d.1)) h
 
   put_at_end-any : (retries : ℕ) (elapsed : Duration) (end : Option ℕ) (boxes : ℕ → Mailbox) (result : PutResult) (boxes' : ℕ → Mailbox)
-      → PutAtEndIn e c p strategy handler buffers n channel retries elapsed end boxes result boxes' → PutAtEndIn e' c p strategy handler buffers n channel retries elapsed end boxes result boxes'
+      → PutAtEnd e c p strategy handler buffers n channel retries elapsed end boxes result boxes' → PutAtEnd e' c p strategy handler buffers n channel retries elapsed end boxes result boxes'
   put_at_end-any retries elapsed None boxes result boxes' h = h
   put_at_end-any retries elapsed (Some q) boxes result boxes' h = (h.0, put-any q retries elapsed (buffers q) (boxes q) result h.0 h.1, h.2)
 
   -- what is delivered where a box may answer so is delivered where it may answer as much
   pub Deliver-any : (retries : ℕ) (elapsed : Duration) (place : ℕ) (ends : List (Option ℕ)) (count : ℕ) (has_failed : Bool) (boxes : ℕ → Mailbox) (how : DeliveryEnd) (boxes' : ℕ → Mailbox)
-      → DeliverIn e c p strategy handler buffers n channel retries elapsed place ends count has_failed boxes how boxes' → DeliverIn e' c p strategy handler buffers n channel retries elapsed place ends count has_failed boxes how boxes'
+      → Deliver e c p strategy handler buffers n channel retries elapsed place ends count has_failed boxes how boxes' → Deliver e' c p strategy handler buffers n channel retries elapsed place ends count has_failed boxes how boxes'
   Deliver-any retries elapsed place [] count has_failed boxes how boxes' h = h
   Deliver-any retries elapsed place (end ∷ rest) count has_failed boxes how boxes' h = (
     h.0,

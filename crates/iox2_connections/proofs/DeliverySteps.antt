@@ -8,9 +8,9 @@ use Rattle.std.specs.Prelude.{IsSomeAnd}
 use Rattle.slab.specs.Slab.{Slab, get, with_value, ContainsKey}
 use Rattle.iox2_connections.specs.Link.{Link, slots_in, with_slots_in, is_shut_in, IsPut}
 use Rattle.iox2_machine.specs.machine.Channel.{Channel, is_closed}
-use Rattle.iox2_machine.specs.machine.Mailbox.{Mailbox, waiting_in, with_waiting_in, has_room_in}
+use Rattle.iox2_machine.specs.machine.Mailbox.{Mailbox, waiting_in, with_waiting_in, has_room}
 use Rattle.iox2_machine.specs.machine.Records.{Environment}
-use Rattle.iox2_machine.specs.machine.Delivery.{PutResult, Skipped, DeliveryEnd, PutIn, is_blocking, is_failed, accepted_count, DeliverIn}
+use Rattle.iox2_machine.specs.machine.Delivery.{PutResult, Skipped, DeliveryEnd, Put, is_blocking, is_failed, accepted_count, Deliver}
 use Rattle.iox2_machine.specs.declared.service_config.ServiceConfig.{ServiceConfig}
 use Rattle.iox2_connections.specs.declared.connection.Home.{Home}
 use Rattle.iox2_connections.specs.declared.connection.PutOutcome.{PutOutcome}
@@ -128,15 +128,15 @@ module _ {F : Type 0} (environment : Environment) (number : ℕ → ℕ) (config
       ∙ ap (λ (xs : List ℕ). with_waiting_in v.channel xs box) (map-append number slots (v.slot ∷ []) ∙ ap (λ (xs : List ℕ). xs ++ number v.slot ∷ []) same)
 
   pub put-mailbox : (o : PutOutcome) (result : PutResult) → IsPut v.channel c v.slot config.enable_safe_overflow o d → ComesTo environment config v handler place q o result
-      → PutIn environment config v.publisher v.strategy (marks_of handler) buffers (number v.slot) v.channel q (retries_at v place) (elapsed_at v place) (Some c.buffer) (mailbox_of number c) result (mailbox_of number d)
+      → Put environment config v.publisher v.strategy (marks_of handler) buffers (number v.slot) v.channel q (retries_at v place) (elapsed_at v place) (Some c.buffer) (mailbox_of number c) result (mailbox_of number d)
   put-mailbox Taken result h comes =
-      let room : has_room_in v.channel c.buffer (mailbox_of number c) ≡ true = lt-true (length (waiting_in v.channel (mailbox_of number c))) c.buffer (omega (arith, as-long, h.0)) in
+      let room : has_room v.channel c.buffer (mailbox_of number c) ≡ true = lt-true (length (waiting_in v.channel (mailbox_of number c))) c.buffer (omega (arith, as-long, h.0)) in
       rw room (comes, replaced (slots_in v.channel c) (waiting_in v.channel (mailbox_of number c)) h.1 (sym waits))
   put-mailbox (Overwrote oldest) result h comes =
-      let full : has_room_in v.channel c.buffer (mailbox_of number c) ≡ false = lt-false (length (waiting_in v.channel (mailbox_of number c))) c.buffer (as-long ∙ h.1) in
+      let full : has_room v.channel c.buffer (mailbox_of number c) ≡ false = lt-false (length (waiting_in v.channel (mailbox_of number c))) c.buffer (as-long ∙ h.1) in
       rw (full, h.0) (comes, replaced h.2.0 (drop 1 (waiting_in v.channel (mailbox_of number c))) h.2.2 (sym (ap (λ (xs : List ℕ). drop 1 xs) (waits ∙ ap (map number) h.2.1))))
   put-mailbox Full result h comes =
-      let full : has_room_in v.channel c.buffer (mailbox_of number c) ≡ false = lt-false (length (waiting_in v.channel (mailbox_of number c))) c.buffer (as-long ∙ h.1) in
+      let full : has_room v.channel c.buffer (mailbox_of number c) ≡ false = lt-false (length (waiting_in v.channel (mailbox_of number c))) c.buffer (as-long ∙ h.1) in
       rw (full, h.0) (comes, ap (mailbox_of number) h.2)
 
 -- other slots in a channel leave what never changes, and what was given back
@@ -198,7 +198,7 @@ module _ {p : ℕ} {slab : Slab Link} {keys : List (Option ℕ)} {receivers : Li
           ∙ ap (λ (b : Bool). cond b None (buffers_of receivers c.home.subscriber)) (takes-shut receivers i v.channel c receiving)
           ∙ buffers-open slab receivers key i c ready.knows (ready.one_id c.home.subscriber) was_c (takes-open receivers i v.channel c receiving)
 
-      goes : PutIn environment config v.publisher v.strategy (marks_of handler) (taking_buffers slab p v.channel receivers) (number p v.slot) v.channel c.home.subscriber (retries_at v i) (elapsed_at v i) (taking_buffers slab p v.channel receivers c.home.subscriber) (mailboxes_of number slab p c.home.subscriber) (result_of result) (mailbox_of (number p) d)
+      goes : Put environment config v.publisher v.strategy (marks_of handler) (taking_buffers slab p v.channel receivers) (number p v.slot) v.channel c.home.subscriber (retries_at v i) (elapsed_at v i) (taking_buffers slab p v.channel receivers c.home.subscriber) (mailboxes_of number slab p c.home.subscriber) (result_of result) (mailbox_of (number p) d)
       goes = rw (mailbox-there number slab key p c.home.subscriber c ready.apart was_c (home-of c was_c).publisher refl, takes)
           (put-mailbox environment (number p) config v handler i c.home.subscriber (taking_buffers slab p v.channel receivers) c d o (result_of result) put comes)
 
@@ -215,7 +215,7 @@ module _ {p : ℕ} {slab : Slab Link} {keys : List (Option ℕ)} {receivers : Li
             | inr closed ↦ ap (λ (b : Bool). cond b None (buffers_of receivers c.home.subscriber)) closed
           ]
 
-      skipped : PutIn environment config v.publisher v.strategy (marks_of handler) (taking_buffers slab p v.channel receivers) (number p v.slot) v.channel c.home.subscriber (retries_at v i) (elapsed_at v i) (taking_buffers slab p v.channel receivers c.home.subscriber) (mailboxes_of number slab p c.home.subscriber) Skipped (mailboxes_of number slab p c.home.subscriber)
+      skipped : Put environment config v.publisher v.strategy (marks_of handler) (taking_buffers slab p v.channel receivers) (number p v.slot) v.channel c.home.subscriber (retries_at v i) (elapsed_at v i) (taking_buffers slab p v.channel receivers c.home.subscriber) (mailboxes_of number slab p c.home.subscriber) Skipped (mailboxes_of number slab p c.home.subscriber)
       skipped = rw none (refl, refl)
 
 -- ---- the loop
@@ -286,7 +286,7 @@ module _ {F : Type 0} (environment : Environment) (config : ServiceConfig) (d : 
   -- The machine's delivery of the message n to these ends, which stand from that place on, in the publisher's mailboxes.
   abbrev pub DeliversMessage : (n place : ℕ) → List (Option ℕ) → (count : ℕ) → (has_failed : Bool) → (ℕ → Mailbox) → DeliveryEnd → (ℕ → Mailbox) → Type 0
   DeliversMessage n place ends count has_failed boxes how boxes' =
-      DeliverIn environment config d.publisher d.strategy (marks_of handler) buffers n d.channel (retries_at d place) (elapsed_at d place) place ends count has_failed boxes how boxes'
+      Deliver environment config d.publisher d.strategy (marks_of handler) buffers n d.channel (retries_at d place) (elapsed_at d place) place ends count has_failed boxes how boxes'
 
 -- behind the first place each receiver is asked anew
 anew : (v : Delivery) (i : ℕ) → (v.start).place ≤ i → eqb (i + 1) (v.start).place ≡ false

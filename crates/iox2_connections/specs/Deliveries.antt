@@ -6,7 +6,7 @@ use Rattle.slab.specs.Slab.{Slab}
 use Rattle.iox2_connections.specs.Link.{Link}
 use Rattle.iox2_machine.specs.machine.Mailbox.{Mailbox}
 use Rattle.iox2_machine.specs.machine.Records.{Environment}
-use Rattle.iox2_machine.specs.machine.Delivery.{PutResult, Accepted, Skipped, Failed, Would_block, DeliveryEnd, Complete, Suspended, Decides, no_time, PutAtEndIn, DeliverIn}
+use Rattle.iox2_machine.specs.machine.Delivery.{PutResult, Accepted, Skipped, Failed, Would_block, DeliveryEnd, Complete, Suspended, Decides, no_time, PutAtEnd, Deliver}
 use Rattle.iox2_machine.specs.declared.service_config.ServiceConfig.{ServiceConfig}
 use Rattle.iox2_connections.specs.declared.connection.PutOutcome.{PutOutcome}
 use Rattle.iox2_connections.specs.declared.connection.PutOutcome.TheVariants.{Taken, Overwrote, Full}
@@ -63,7 +63,7 @@ module _ {F : Type 0} (environment : Environment) (config : ServiceConfig) (d : 
     -- The machine's put of the message n at the end that stands at the place, in the publisher's mailboxes.
     abbrev pub PutsMessage : (n place : ℕ) → (end : Option ℕ) → (ℕ → Mailbox) → PutResult → (ℕ → Mailbox) → Type 0
     PutsMessage n place end boxes result boxes' =
-        PutAtEndIn environment config d.publisher d.strategy (marks_of handler) buffers n d.channel (retries_at d place) (elapsed_at d place) end boxes result boxes'
+        PutAtEnd environment config d.publisher d.strategy (marks_of handler) buffers n d.channel (retries_at d place) (elapsed_at d place) end boxes result boxes'
 
   module _ (receivers : List (Option ReceiverDetails)) where
     -- Whatever numbers the slots have, the slot's message is put at the end to which the key at the place leads.
@@ -75,6 +75,6 @@ module _ {F : Type 0} (environment : Environment) (config : ServiceConfig) (d : 
     -- the delivery is taken up, with what it came to so far.
     abbrev pub DeliversSlot : (keys : List (Option ℕ)) → Slab Link → DeliveryOutcome → Slab Link → Type 0
     DeliversSlot keys old how new = (number : ℕ → ℕ → ℕ)
-        → DeliverIn environment config d.publisher d.strategy (marks_of handler) (taking_buffers old d.publisher d.channel receivers) (number d.publisher d.slot) d.channel (d.start).retries d.elapsed
+        → Deliver environment config d.publisher d.strategy (marks_of handler) (taking_buffers old d.publisher d.channel receivers) (number d.publisher d.slot) d.channel (d.start).retries d.elapsed
         (d.start).place (drop (d.start).place (sender_ends old keys)) (d.start).count (d.start).has_failed (mailboxes_of number old d.publisher)
         (end_of (number d.publisher d.slot) d.channel (sender_ends old keys) how) (mailboxes_of number new d.publisher)

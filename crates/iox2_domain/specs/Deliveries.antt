@@ -5,7 +5,7 @@ use Rattle.std.specs.declared.option.Option.TheVariants.{None, Some}
 use Rattle.std.specs.Option.{option_map}
 use Rattle.slab.specs.Slab.{Slab, get, with_value}
 use Rattle.circular_buffer.specs.Buffer.{Buffer, buffer, keep_last}
-use Rattle.iox2_machine.specs.machine.Delivery.{DeliverIn, no_time}
+use Rattle.iox2_machine.specs.machine.Delivery.{Deliver, no_time}
 use Rattle.iox2_connections.specs.Link.{Link}
 use Rattle.iox2_machine.specs.machine.Numbers.{without}
 use Rattle.iox2_machine.specs.machine.Records.{Environment}
@@ -36,7 +36,7 @@ pub record DeliversFrom {T U : Type 0} (environment : Environment) (old : Fields
   pub recounts : Recounts x.id book.holders old.connections holders connections
   pub alone : GrowsAlone slot book.holders holders
   pub delivers : (number : ℕ → ℕ → ℕ)
-      → DeliverIn environment old.config x.id x.strategy x.backpressure_handler (taking_buffers old.connections x.id channel (map (option_map details_of) old.subscribers)) (number x.id slot)
+      → Deliver environment old.config x.id x.strategy x.backpressure_handler (taking_buffers old.connections x.id channel (map (option_map details_of) old.subscribers)) (number x.id slot)
       channel start.retries elapsed start.place (drop start.place (sender_ends old.connections keys)) start.count start.has_failed (mailboxes_of number old.connections x.id)
       (end_of (number x.id slot) channel (sender_ends old.connections keys) outcome) (mailboxes_of number connections x.id)
 

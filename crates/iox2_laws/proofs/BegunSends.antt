@@ -8,7 +8,7 @@ use Rattle.iox2_machine.specs.machine.Places.{occupant}
 use Rattle.iox2_machine.specs.machine.Mailbox.{Mailbox}
 use Rattle.iox2_machine.specs.machine.Records.{Loan, Publisher, BlockedSend, Environment}
 use Rattle.iox2_machine.specs.machine.State.{State, channel_buffer, with_loan}
-use Rattle.iox2_machine.specs.machine.Delivery.{DeliverIn, DeliveryEnd, Complete, Suspended, no_time}
+use Rattle.iox2_machine.specs.machine.Delivery.{Deliver, DeliveryEnd, Complete, Suspended, no_time}
 use Rattle.iox2_machine.specs.machine.Sends.{SendResult, ConcludeSend, send_blocked, with_mailboxes, DeliverAndConclude, SendToConnection}
 use Rattle.iox2_machine.specs.machine.WellFormed.{IsWellFormed}
 use Rattle.iox2_laws.proofs.Cases.{by_option, match_some}
@@ -58,7 +58,7 @@ module _ {T U : Type 0} where
       match_some (s.publishers l.publisher) x _ _ here (
         k.0,
         k.1,
-        subst (λ (v : Publisher). DeliverIn environment s.config l.publisher v.backpressure_strategy v.backpressure_handler (channel_buffer s l.publisher channel) n
+        subst (λ (v : Publisher). Deliver environment s.config l.publisher v.backpressure_strategy v.backpressure_handler (channel_buffer s l.publisher channel) n
             channel 0 no_time place (take 1 (drop place x.ends)) 0 false (s.mailboxes l.publisher) k.0 k.1) (sym same) k.2,
         concludes k.0 k.1 k.3,
       )))

@@ -8,10 +8,10 @@ use Rattle.iox2_machine.specs.machine.Limits.{buffer_limit, channel_count}
 use Rattle.iox2_machine.specs.machine.Numbers.{contains, without, size, IsOnce}
 use Rattle.iox2_machine.specs.machine.Places.{occupant, occupants}
 use Rattle.iox2_machine.specs.machine.Channel.{is_closed}
-use Rattle.iox2_machine.specs.machine.Mailbox.{Mailbox, numbers_in, has_borrows, waiting_count, has_room_in, with_appended_in, IsWithin, OthersWithin}
+use Rattle.iox2_machine.specs.machine.Mailbox.{Mailbox, numbers_in, has_borrows, waiting_count, has_room, with_appended, IsWithin, OthersWithin}
 use Rattle.iox2_machine.specs.machine.Records.{Loan, Handler, Environment, Publisher, Subscriber, BlockedSend}
 use Rattle.iox2_machine.specs.machine.State.{State, held, receiving_buffer, channel_buffer}
-use Rattle.iox2_machine.specs.machine.Delivery.{PutIn, PutAtEndIn, DeliverIn, PutResult, Accepted, Skipped, Failed, Would_block, accepted_count, is_failed, is_blocking, DeliveryEnd, Complete, Suspended, no_time}
+use Rattle.iox2_machine.specs.machine.Delivery.{Put, PutAtEnd, Deliver, PutResult, Accepted, Skipped, Failed, Would_block, accepted_count, is_failed, is_blocking, DeliveryEnd, Complete, Suspended, no_time}
 use Rattle.iox2_machine.specs.machine.WellFormed.{LeadsTo, IsInjective, BlockedIsWellFormed, PublisherIsWellFormed, SubscriberIsWellFormed, MailboxIsWellFormed, LoanIsWellFormed, IsWellFormed}
 use Rattle.iox2_machine.specs.declared.service_config.ServiceConfig.{ServiceConfig}
 use Rattle.iox2_machine.specs.declared.backpressure.BackpressureStrategy.{BackpressureStrategy}
@@ -92,7 +92,7 @@ not_suspended count has_failed b e = cc
 module _ (buffers : ℕ → Option ℕ) (n channel : ℕ) where
   -- At q the mailbox stays, or the message is put there.
   abbrev pub Puts : (boxes boxes' : ℕ → Mailbox) (q : ℕ) → Type 0
-  Puts boxes boxes' q = (buffer : ℕ) × (buffers q ≡ Some buffer) × (boxes' q ≡ with_appended_in channel buffer n (boxes q))
+  Puts boxes boxes' q = (buffer : ℕ) × (buffers q ≡ Some buffer) × (boxes' q ≡ with_appended channel buffer n (boxes q))
 
   -- What a delivery at these ends does, which are some of the whole from a place on: each mailbox stays, or the message
   -- is put there once; and where it is suspended, those from there on stay, a receiver stands at its place, and no more
@@ -110,28 +110,28 @@ module _ (buffers : ℕ → Option ℕ) (n channel : ℕ) where
 module _ (environment : Environment) (c : ServiceConfig) (p : ℕ) (strategy : BackpressureStrategy) (handler : Option (Handler BackpressureAction))
     (buffers : ℕ → Option ℕ) (n channel : ℕ) where
   put_is : (q retries : ℕ) (elapsed : Duration) (buffer : Option ℕ) (box : Mailbox) (result : PutResult) (box' : Mailbox)
-      → PutIn environment c p strategy handler buffers n channel q retries elapsed buffer box result box'
-      → (box' ≡ box) ⊎ ((size : ℕ) × (buffer ≡ Some size) × (box' ≡ with_appended_in channel size n box) × (result ≡ Accepted))
+      → Put environment c p strategy handler buffers n channel q retries elapsed buffer box result box'
+      → (box' ≡ box) ⊎ ((size : ℕ) × (buffer ≡ Some size) × (box' ≡ with_appended channel size n box) × (result ≡ Accepted))
   put_is q retries elapsed None box result box' h = inl h.1
   put_is q retries elapsed (Some buffer) box result box' h =
-      by_bool _ (has_room_in channel buffer box || c.enable_safe_overflow) _ _ h (λ _ h. inr (buffer, refl, h.1, h.0)) (λ _ h. inl h.1)
+      by_bool _ (has_room channel buffer box || c.enable_safe_overflow) _ _ h (λ _ h. inr (buffer, refl, h.1, h.0)) (λ _ h. inl h.1)
 
   -- one end: a mailbox stays, or it is the end's and the message is accepted there
   put_at_end_is : (retries : ℕ) (elapsed : Duration) (end : Option ℕ) (boxes : ℕ → Mailbox) (result : PutResult) (boxes' : ℕ → Mailbox)
-      → PutAtEndIn environment c p strategy handler buffers n channel retries elapsed end boxes result boxes' → (q : ℕ)
+      → PutAtEnd environment c p strategy handler buffers n channel retries elapsed end boxes result boxes' → (q : ℕ)
       → (boxes' q ≡ boxes q) ⊎ ((end ≡ Some q) × (result ≡ Accepted) × Puts buffers n channel boxes boxes' q)
   put_at_end_is retries elapsed end boxes result boxes' h q =
       by_option _ end _ _ h
       (λ _ h. inl (ap (λ (f : ℕ → Mailbox). f q) h.1))
       (λ r leads h. subst (λ (f : ℕ → Mailbox). (f q ≡ boxes q) ⊎ ((end ≡ Some q) × (result ≡ Accepted) × Puts buffers n channel boxes f q)) (sym h.2)
       (at_each boxes r h.0 (λ i box. (box ≡ boxes i)
-      ⊎ ((end ≡ Some i) × (result ≡ Accepted) × ((buffer : ℕ) × (buffers i ≡ Some buffer) × (box ≡ with_appended_in channel buffer n (boxes i))))) q
+      ⊎ ((end ≡ Some i) × (result ≡ Accepted) × ((buffer : ℕ) × (buffers i ≡ Some buffer) × (box ≡ with_appended channel buffer n (boxes i))))) q
       (λ _. ⊎_elim (λ same. inl same) (λ new. inr (leads, new.3, (new.0, new.1, new.2))) (put_is r retries elapsed (buffers r) (boxes r) result h.0 h.1))
       (λ _. inl refl)))
 
   -- an end that blocks leads to a receiver
   blocked_at_receiver : (retries : ℕ) (elapsed : Duration) (end : Option ℕ) (boxes : ℕ → Mailbox) (result : PutResult) (boxes' : ℕ → Mailbox)
-      → PutAtEndIn environment c p strategy handler buffers n channel retries elapsed end boxes result boxes' → is_blocking result ≡ true → (q : ℕ) × (end ≡ Some q)
+      → PutAtEnd environment c p strategy handler buffers n channel retries elapsed end boxes result boxes' → is_blocking result ≡ true → (q : ℕ) × (end ≡ Some q)
   blocked_at_receiver retries elapsed end boxes result boxes' h blocks =
       by_option ((q : ℕ) × (end ≡ Some q)) end _ _ h (λ _ h. absurd (true≢false (sym blocks ∙ ap is_blocking h.0))) (λ q leads _. (q, leads))
 
@@ -139,7 +139,7 @@ module _ (environment : Environment) (c : ServiceConfig) (p : ℕ) (strategy : B
   pub deliver_is : (retries : ℕ) (elapsed : Duration) (place : ℕ) (ends : List (Option ℕ)) (count : ℕ) (has_failed : Bool) (whole : List (Option ℕ))
       (boxes : ℕ → Mailbox) (how : DeliveryEnd) (boxes' : ℕ → Mailbox)
       → IsInjective ends → AreFrom whole ends place → count ≤ place
-      → DeliverIn environment c p strategy handler buffers n channel retries elapsed place ends count has_failed boxes how boxes'
+      → Deliver environment c p strategy handler buffers n channel retries elapsed place ends count has_failed boxes how boxes'
       → Delivered buffers n channel whole ends boxes how boxes'
   deliver_is retries elapsed place [] count has_failed whole boxes how boxes' apart tail few h = record {
     each = λ q. inl (ap (λ (f : ℕ → Mailbox). f q) h.1);
@@ -182,7 +182,7 @@ module _ (environment : Environment) (c : ServiceConfig) (p : ℕ) (strategy : B
         each = λ q. ⊎_elim
             (λ same. ⊎_elim (λ first. inl (same ∙ first)) (λ put. inr ((zero, put.0), ((put.2).0, (put.2).1, same ∙ (put.2).2))) (step q))
             (λ put. ⊎_elim
-            (λ first. inr (leads_further end rest q put.0, ((put.1).0, (put.1).1, (put.1).2 ∙ ap (with_appended_in channel (put.1).0 n) first)))
+            (λ first. inr (leads_further end rest q put.0, ((put.1).0, (put.1).1, (put.1).2 ∙ ap (with_appended channel (put.1).0 n) first)))
             (λ first. absurd (first_apart end rest q apart first.0 put.0)) (step q))
             (later.each q);
         message = later.message;
@@ -263,7 +263,7 @@ module _ {T U : Type 0} (s : State T U) (w : IsWellFormed s) (p : ℕ) (x : Publ
 
   -- a mailbox into which the message was put
   appended_is_well_formed : (x' : Publisher) → x'.ends ≡ x.ends → (q buffer : ℕ) → LeadsTo ends q → channel_buffer s p channel q ≡ Some buffer
-      → boxes q ≡ with_appended_in channel buffer n (s.mailboxes p q)
+      → boxes q ≡ with_appended channel buffer n (s.mailboxes p q)
       → MailboxIsWellFormed (uniform s x' boxes loans s.next_message) p q
   appended_is_well_formed x' same_ends q buffer end takes put =
       option_and_then_some (λ (y : Subscriber). cond y.is_open (Some y.buffer) None) (s.subscribers q) buffer (taken_by_open s p channel q buffer takes) (λ y found is_buffer.
@@ -281,13 +281,13 @@ module _ {T U : Type 0} (s : State T U) (w : IsWellFormed s) (p : ℕ) (x : Publ
             (subst (λ i. i ≤ buffer_limit s.config) size v.buffer_bound)
             (subst (λ i. OthersWithin (channel_count s.config) i (s.mailboxes p q)) size (m.others_room y found)) m.others);
         others_room = λ z e. subst (λ (k : Mailbox). OthersWithin (channel_count s.config) z.buffer k) (sym put)
-            (subst (λ i. OthersWithin (channel_count s.config) i (with_appended_in channel buffer n (s.mailboxes p q)))
+            (subst (λ i. OthersWithin (channel_count s.config) i (with_appended channel buffer n (s.mailboxes p q)))
             (sym size ∙ ap (λ (o : Subscriber). o.buffer) (same_Some y z (sym found ∙ e)))
             (OthersWithin-appended (channel_count s.config) buffer channel buffer n (s.mailboxes p q) known some (le_refl buffer)
             (subst (λ i. OthersWithin (channel_count s.config) i (s.mailboxes p q)) size (m.others_room y found))
             (subst (λ i. OthersWithin (channel_count s.config) i (s.mailboxes p q)) size (m.others_room y found))));
         room = λ z e. subst (λ (k : Mailbox). waiting_count k ≤ z.buffer) (sym put)
-            (subst (λ i. waiting_count (with_appended_in channel buffer n (s.mailboxes p q)) ≤ i)
+            (subst (λ i. waiting_count (with_appended channel buffer n (s.mailboxes p q)) ≤ i)
             (sym size ∙ ap (λ (o : Subscriber). o.buffer) (same_Some y z (sym found ∙ e)))
             (waiting_count-appended channel buffer n (s.mailboxes p q) some room));
         below = λ k h. ⊎_elim (λ same. subst (λ i. i < s.next_message) (sym same) low) (λ old. m.below k old) (in_boxes q k h);

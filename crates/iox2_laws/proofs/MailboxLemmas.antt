@@ -6,7 +6,7 @@ use Rattle.iox2_laws.proofs.NumberLemmas.{contains_in_append, contains_left, con
 use Rattle.iox2_laws.proofs.NumberLemmas.{length-last_n, length-without_le, IsOnce-drop, IsOnce-last_n, IsOnce-push, IsOnce-left, IsOnce-right, IsOnce-apart, IsOnce-append, IsOnce-without}
 use Rattle.iox2_machine.specs.machine.Numbers.{contains, without, is_nil, last_n, IsOnce}
 use Rattle.iox2_laws.proofs.ChannelNumbers.{numbers, numbers_of-same, numbers_of-other, contains_in_part, IsOnce-part, contains_in_replaced, IsOnce-replaced, length-part_le, length-numbers, length-channels}
-use Rattle.iox2_machine.specs.machine.Mailbox.{ChannelNumber, numbers_of, with_numbers_of, other_numbers, waiting_in, with_waiting_in, has_room_in, with_appended_in, other_room, OthersWithin, Mailbox, empty_mailbox, numbers_in, has_numbers, has_borrows, is_borrowed, has_waiting, has_data, can_receive, waiting_count, with_waiting, waiting_dropped, BorrowsFirst, with_released, IsWithin}
+use Rattle.iox2_machine.specs.machine.Mailbox.{ChannelNumber, numbers_of, with_numbers_of, other_numbers, waiting_in, with_waiting_in, has_room, with_appended, other_room, OthersWithin, Mailbox, empty_mailbox, numbers_in, has_numbers, has_borrows, is_borrowed, has_waiting, has_data, can_receive, waiting_count, with_waiting, waiting_dropped, BorrowsFirst, with_released, IsWithin}
 
 -- ---- numbers and their presence
 
@@ -156,12 +156,12 @@ IsOnce-waiting_in (suc k) ns box once new from =
 
 -- what waits in its channel then
 abbrev pushed : (channel buffer n : ℕ) → Mailbox → List ℕ
-pushed channel buffer n box = cond (has_room_in channel buffer box) (waiting_in channel box) (drop 1 (waiting_in channel box)) ++ n ∷ []
+pushed channel buffer n box = cond (has_room channel buffer box) (waiting_in channel box) (drop 1 (waiting_in channel box)) ++ n ∷ []
 
 contains_in_pushed : (channel buffer n : ℕ) (box : Mailbox) (m : ℕ) → contains (pushed channel buffer n box) m ≡ true
     → (contains (waiting_in channel box) m ≡ true) ⊎ (m ≡ n)
 contains_in_pushed channel buffer n box m =
-    cond_both (has_room_in channel buffer box) (waiting_in channel box) (drop 1 (waiting_in channel box))
+    cond_both (has_room channel buffer box) (waiting_in channel box) (drop 1 (waiting_in channel box))
     (λ ws. contains (ws ++ n ∷ []) m ≡ true → (contains (waiting_in channel box) m ≡ true) ⊎ (m ≡ n))
     (λ _ h. ⊎_elim (λ old. inl old) (λ new. inr (sym (contains_one n m new))) (contains_in_append (waiting_in channel box) (n ∷ []) m h))
     (λ _ h. ⊎_elim (λ old. inl (contains_in_drop 1 (waiting_in channel box) m old)) (λ new. inr (sym (contains_one n m new)))
@@ -169,7 +169,7 @@ contains_in_pushed channel buffer n box m =
 
 IsOnce-pushed : (channel buffer n : ℕ) (box : Mailbox) → IsOnce (waiting_in channel box) → contains (waiting_in channel box) n ≡ false → IsOnce (pushed channel buffer n box)
 IsOnce-pushed channel buffer n box once absent =
-    cond_both (has_room_in channel buffer box) (waiting_in channel box) (drop 1 (waiting_in channel box)) (λ ws. IsOnce (ws ++ n ∷ []))
+    cond_both (has_room channel buffer box) (waiting_in channel box) (drop 1 (waiting_in channel box)) (λ ws. IsOnce (ws ++ n ∷ []))
     (λ _. IsOnce-push (waiting_in channel box) n once absent)
     (λ _. IsOnce-push (drop 1 (waiting_in channel box)) n (IsOnce-drop 1 (waiting_in channel box) once)
     (absent_from (drop 1 (waiting_in channel box)) n (λ h. true≢false (sym (contains_in_drop 1 (waiting_in channel box) n h) ∙ absent))))
@@ -181,14 +181,14 @@ IsOnce-waiting (suc k) box once = IsOnce-part (λ (v : ChannelNumber). eqb v.cha
 
 -- how many wait in channel 0 then
 waiting-appended : (limit channel buffer n : ℕ) (box : Mailbox) → 0 < buffer → buffer ≤ limit → waiting_count box ≤ buffer → length box.waiting ≤ limit
-    → length (with_appended_in channel buffer n box).waiting ≤ limit
+    → length (with_appended channel buffer n box).waiting ≤ limit
 waiting-appended limit zero buffer n box some fits room within = omega (arith, appended_count buffer n box.waiting some room)
 waiting-appended limit (suc k) buffer n box some fits room within = within
 
 -- a number that is put, which isn't in the mailbox yet, keeps to the receiver's buffer and to the service's limit
 pub IsWithin-appended : (limit borrow_limit channel buffer n : ℕ) (box : Mailbox) → 0 < buffer → buffer ≤ limit → waiting_count box ≤ buffer
     → contains (numbers_in box) n ≡ false
-    → IsWithin limit borrow_limit box → IsWithin limit borrow_limit (with_appended_in channel buffer n box)
+    → IsWithin limit borrow_limit box → IsWithin limit borrow_limit (with_appended channel buffer n box)
 IsWithin-appended limit borrow_limit channel buffer n box some fits room absent w = record {
   waiting = waiting-appended limit channel buffer n box some fits room w.waiting;
   borrowed = omega (arith, ap length (borrowed-waiting_in channel (pushed channel buffer n box) box), w.borrowed);
@@ -199,12 +199,12 @@ IsWithin-appended limit borrow_limit channel buffer n box some fits room absent 
 }
 
 -- after a number was appended, what waits in channel 0 keeps to the receiver's buffer
-pub waiting_count-appended : (channel buffer n : ℕ) (box : Mailbox) → 0 < buffer → waiting_count box ≤ buffer → waiting_count (with_appended_in channel buffer n box) ≤ buffer
+pub waiting_count-appended : (channel buffer n : ℕ) (box : Mailbox) → 0 < buffer → waiting_count box ≤ buffer → waiting_count (with_appended channel buffer n box) ≤ buffer
 waiting_count-appended channel buffer n box some room = waiting-appended buffer channel buffer n box some (omega arith) room room
 
 -- and so does what waits in the other channels
 pub OthersWithin-appended : (channels limit channel buffer n : ℕ) (box : Mailbox) → channel < channels → 0 < buffer → buffer ≤ limit
-    → OthersWithin channels buffer box → OthersWithin channels limit box → OthersWithin channels limit (with_appended_in channel buffer n box)
+    → OthersWithin channels buffer box → OthersWithin channels limit box → OthersWithin channels limit (with_appended channel buffer n box)
 OthersWithin-appended channels limit zero buffer n box low some fits room within other = within other
 OthersWithin-appended channels limit (suc k) buffer n box low some fits room within other = at (eqb other (suc k)) refl
   where
@@ -214,27 +214,27 @@ OthersWithin-appended channels limit (suc k) buffer n box low some fits room wit
     count : length (pushed (suc k) buffer n box) ≤ buffer
     count = appended_count buffer n (waiting_in (suc k) box) some (omega (arith, room (suc k), roomy buffer))
 
-    at : (b : Bool) → eqb other (suc k) ≡ b → length (numbers_of other (with_appended_in (suc k) buffer n box).others) ≤ other_room channels limit other
+    at : (b : Bool) → eqb other (suc k) ≡ b → length (numbers_of other (with_appended (suc k) buffer n box).others) ≤ other_room channels limit other
     at true same =
-        subst (λ j. length (numbers_of j (with_appended_in (suc k) buffer n box).others) ≤ other_room channels limit j) (sym (eqb-true other (suc k) same))
+        subst (λ j. length (numbers_of j (with_appended (suc k) buffer n box).others) ≤ other_room channels limit j) (sym (eqb-true other (suc k) same))
         (omega (arith, count, fits, roomy limit, ap length (numbers_of-same (suc k) (pushed (suc k) buffer n box) box.others)))
     at false apart =
         subst (λ ns. length ns ≤ other_room channels limit other) (sym (numbers_of-other other (suc k) (eqb-false other (suc k) apart) (pushed (suc k) buffer n box) box.others))
         (within other)
 
 -- a number in a mailbox after one was appended is that one, or it was there
-pub contains_in_appended : (channel buffer n : ℕ) (box : Mailbox) (m : ℕ) → contains (numbers_in (with_appended_in channel buffer n box)) m ≡ true
+pub contains_in_appended : (channel buffer n : ℕ) (box : Mailbox) (m : ℕ) → contains (numbers_in (with_appended channel buffer n box)) m ≡ true
     → (m ≡ n) ⊎ (contains (numbers_in box) m ≡ true)
 contains_in_appended channel buffer n box m h =
     ⊎_elim (λ new. ⊎_elim (λ old. inr (contains_waiting_in channel box m old)) (λ same. inl same) (contains_in_pushed channel buffer n box m new))
     (λ old. inr old) (contains_in_waiting_in channel (pushed channel buffer n box) box m h)
 
 -- what is borrowed stays when a number is appended
-pub borrowed-appended : (channel buffer n : ℕ) (box : Mailbox) → (with_appended_in channel buffer n box).borrowed ≡ box.borrowed
+pub borrowed-appended : (channel buffer n : ℕ) (box : Mailbox) → (with_appended channel buffer n box).borrowed ≡ box.borrowed
 borrowed-appended channel buffer n box = borrowed-waiting_in channel (pushed channel buffer n box) box
 
 -- so something is borrowed then where something was
-pub has_borrows-appended : (channel buffer n : ℕ) (box : Mailbox) → has_borrows (with_appended_in channel buffer n box) ≡ has_borrows box
+pub has_borrows-appended : (channel buffer n : ℕ) (box : Mailbox) → has_borrows (with_appended channel buffer n box) ≡ has_borrows box
 has_borrows-appended channel buffer n box = ap (λ bs. not (is_nil bs)) (borrowed-waiting_in channel (pushed channel buffer n box) box)
 
 -- a mailbox keeps its bounds when what waits is lost

@@ -4,9 +4,9 @@ use Rattle.std.specs.Prelude.{◌||◌}
 use Rattle.std.specs.declared.time.Duration.{Duration}
 use Rattle.iox2_machine.specs.machine.Numbers.{put_at, last_n}
 use Rattle.iox2_machine.specs.machine.Places.{occupant}
-use Rattle.iox2_machine.specs.machine.Mailbox.{Mailbox, with_waiting, waiting_dropped, with_appended_in, has_room_in}
+use Rattle.iox2_machine.specs.machine.Mailbox.{Mailbox, with_waiting, waiting_dropped, with_appended, has_room}
 use Rattle.iox2_machine.specs.machine.Records.{Handler, Environment, BlockedSend}
-use Rattle.iox2_machine.specs.machine.Delivery.{PutResult, DeliveryEnd, Complete, Suspended, no_time, is_blocking, accepted_count, is_failed, PutIn, PutAtEndIn, DeliverIn}
+use Rattle.iox2_machine.specs.machine.Delivery.{PutResult, DeliveryEnd, Complete, Suspended, no_time, is_blocking, accepted_count, is_failed, Put, PutAtEnd, Deliver}
 use Rattle.iox2_machine.specs.machine.Connections.{ForEachPlace}
 use Rattle.iox2_machine.specs.machine.PublisherUpdate.{SenderSide, SenderAction, Keep_end, Drop_waiting, Disconnect, Connect, sender_action, disconnected, Performs, UpdateSenderPlace}
 use Rattle.iox2_machine.specs.machine.SubscriberUpdate.{ReceiverSide, Retirement, Keep_expired, Evict, Discard_data, Refuse, retirement_of, is_refused, after_retirement, with_end, ConnectReceiver, Retire, ConnectAtPlace, DisconnectAtPlace, UpdateReceiverSide}
@@ -120,17 +120,17 @@ module _ (Good : ℕ → Mailbox → Type 0) (dropped : (i : ℕ) (box : Mailbox
 
   module _ (environment : Environment) (c : ServiceConfig) (p : ℕ) (strategy : BackpressureStrategy) (handler : Option (Handler BackpressureAction))
       (buffers : ℕ → Option ℕ) (n channel : ℕ)
-      (appended : (i buffer : ℕ) (box : Mailbox) → Good i box → Good i (with_appended_in channel buffer n box)) where
+      (appended : (i buffer : ℕ) (box : Mailbox) → Good i box → Good i (with_appended channel buffer n box)) where
     put_is_good : (q retries : ℕ) (elapsed : Duration) (buffer : Option ℕ) (box : Mailbox) (result : PutResult) (box' : Mailbox) → Good q box
-        → PutIn environment c p strategy handler buffers n channel q retries elapsed buffer box result box' → Good q box'
+        → Put environment c p strategy handler buffers n channel q retries elapsed buffer box result box' → Good q box'
     put_is_good q retries elapsed None box result box' is h = subst (Good q) (sym h.1) is
     put_is_good q retries elapsed (Some buffer) box result box' is h =
-        by_bool (Good q box') (has_room_in channel buffer box || c.enable_safe_overflow) _ _ h
+        by_bool (Good q box') (has_room channel buffer box || c.enable_safe_overflow) _ _ h
         (λ _ k. subst (Good q) (sym k.1) (appended q buffer box is))
         (λ _ k. subst (Good q) (sym k.1) is)
 
     end_good : (retries : ℕ) (elapsed : Duration) (end : Option ℕ) (boxes : ℕ → Mailbox) (result : PutResult) (boxes' : ℕ → Mailbox) → AreGood boxes
-        → PutAtEndIn environment c p strategy handler buffers n channel retries elapsed end boxes result boxes' → AreGood boxes'
+        → PutAtEnd environment c p strategy handler buffers n channel retries elapsed end boxes result boxes' → AreGood boxes'
     end_good retries elapsed None boxes result boxes' are h = subst AreGood (sym h.1) are
     end_good retries elapsed (Some q) boxes result boxes' are h =
         subst AreGood (sym h.2) (put_good boxes q h.0 are (put_is_good q retries elapsed (buffers q) (boxes q) result h.0 (are q) h.1))
@@ -138,7 +138,7 @@ module _ (Good : ℕ → Mailbox → Type 0) (dropped : (i : ℕ) (box : Mailbox
     -- A delivery keeps good what its message leaves so; where it is suspended, it is with that message.
     pub deliver_keeps : (retries : ℕ) (elapsed : Duration) (place : ℕ) (ends : List (Option ℕ)) (count : ℕ) (has_failed : Bool) (boxes : ℕ → Mailbox)
         (how : DeliveryEnd) (boxes' : ℕ → Mailbox)
-        → AreGood boxes → DeliverIn environment c p strategy handler buffers n channel retries elapsed place ends count has_failed boxes how boxes'
+        → AreGood boxes → Deliver environment c p strategy handler buffers n channel retries elapsed place ends count has_failed boxes how boxes'
         → AreGood boxes' × ((b : BlockedSend) → how ≡ Suspended b → b.message ≡ n)
     deliver_keeps retries elapsed place [] count has_failed boxes how boxes' are h =
         (subst AreGood (sym h.1) are, λ b e. let clash : Complete count has_failed ≡ Suspended b = sym h.0 ∙ e in absurd (cc))

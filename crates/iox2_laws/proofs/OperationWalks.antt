@@ -7,7 +7,7 @@ use Rattle.iox2_machine.specs.machine.Records.{Loan, Publisher, Subscriber, Envi
 use Rattle.iox2_machine.specs.machine.Limits.{expired_limit}
 use Rattle.iox2_machine.specs.machine.State.{State, receiving_buffer, channel_buffer, has_sender_end, has_receiver_end, with_loan, with_mailbox, with_warning, sender_channels_reset, receiver_channels_reset}
 use Rattle.iox2_machine.specs.machine.Connections.{ForEachPlace}
-use Rattle.iox2_machine.specs.machine.Delivery.{DeliverIn, DeliveryEnd, Complete, Suspended, no_time}
+use Rattle.iox2_machine.specs.machine.Delivery.{Deliver, DeliveryEnd, Complete, Suspended, no_time}
 use Rattle.iox2_machine.specs.machine.PublisherUpdate.{SenderSide, sender_side, with_sender_side, history_for, UpdateSenderPlace, UpdatePublisher}
 use Rattle.iox2_machine.specs.machine.SubscriberUpdate.{ReceiverSide, receiver_side, with_receiver_side, UpdateReceiverSide, UpdateSubscriber}
 use Rattle.iox2_machine.specs.machine.Loans.{GrantLoan, loan_granted, loan_discarded}
@@ -49,7 +49,7 @@ module _ {T U : Type 0} (environment : Environment) (p n : ℕ) where
   abbrev pub Delivers : State T U → (ℕ → Mailbox) → Type 0
   Delivers s boxes =
       (x : Publisher) × (at : DeliveryPoint) × (how : DeliveryEnd)
-      × DeliverIn environment s.config p x.backpressure_strategy x.backpressure_handler (channel_buffer s p at.channel) n
+      × Deliver environment s.config p x.backpressure_strategy x.backpressure_handler (channel_buffer s p at.channel) n
       at.channel at.retries at.elapsed at.place at.ends at.count at.has_failed (s.mailboxes p) how boxes
 
   -- `Before` holds of a delivery, and `Whole` of the step in which the send ends or is blocked.

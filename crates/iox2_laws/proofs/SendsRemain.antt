@@ -15,7 +15,7 @@ use Rattle.iox2_machine.specs.declared.warning.Warning.TheVariants.{PublisherPar
 use Rattle.iox2_laws.proofs.PublisherUpdates.{update_publisher_leaves}
 use Rattle.iox2_laws.proofs.Waits.{update_publisher_waits}
 use Rattle.iox2_machine.specs.machine.State.{State, channel_buffer, with_loan, publisher_changed}
-use Rattle.iox2_machine.specs.machine.Delivery.{DeliveryEnd, Complete, Suspended, accepted_count, is_failed, is_blocking, no_time, DeliverIn}
+use Rattle.iox2_machine.specs.machine.Delivery.{DeliveryEnd, Complete, Suspended, accepted_count, is_failed, is_blocking, no_time, Deliver}
 use Rattle.iox2_machine.specs.machine.Sends.{Send, Retry, GiveUp, DeliverAndConclude, ConcludeSend, SendResult, Blocked_send, Send_error, with_mailboxes, published, more_retries}
 use Rattle.iox2_machine.specs.machine.SingleCalls.{HoldsBlocked}
 use Rattle.iox2_machine.specs.declared.backpressure.BackpressureStrategy.{BackpressureStrategy}
@@ -99,7 +99,7 @@ module _ {T U : Type 0} where
 
 module _ (e : Environment) (c : ServiceConfig) (p : ℕ) (strategy : BackpressureStrategy) (handler : Option (Handler BackpressureAction)) (buffers : ℕ → Option ℕ) (n channel : ℕ) where
   suspended_message : (retries : ℕ) (elapsed : Duration) (place : ℕ) (ends : List (Option ℕ)) (count : ℕ) (has_failed : Bool) (boxes : ℕ → Mailbox) (b : BlockedSend) (boxes' : ℕ → Mailbox)
-      → DeliverIn e c p strategy handler buffers n channel retries elapsed place ends count has_failed boxes (Suspended b) boxes' → b.message ≡ n
+      → Deliver e c p strategy handler buffers n channel retries elapsed place ends count has_failed boxes (Suspended b) boxes' → b.message ≡ n
   suspended_message retries elapsed place [] count has_failed boxes b boxes' h = absurd (let no : Suspended b ≡ Complete count has_failed = h.0 in cc)
   suspended_message retries elapsed place (end ∷ rest) count has_failed boxes b boxes' h =
       by_bool (b.message ≡ n) (is_blocking h.0) _ _ h.3
@@ -130,7 +130,7 @@ module _ {T U : Type 0} where
       by_option (HoldsBlocked s' p n) (s.publishers p) _ _ h (λ _ v. absurd v) (λ x present h.
       concluded_waits_with (with_mailboxes s p h.1) p n x present h.0 s' result
       (λ b e. suspended_message environment s.config p x.backpressure_strategy x.backpressure_handler (channel_buffer s p channel) n channel retries elapsed place ends count has_failed (s.mailboxes p) b h.1
-      (subst (λ (how : DeliveryEnd). DeliverIn environment s.config p x.backpressure_strategy x.backpressure_handler (channel_buffer s p channel) n channel retries elapsed place ends count has_failed (s.mailboxes p) how h.1) e h.2))
+      (subst (λ (how : DeliveryEnd). Deliver environment s.config p x.backpressure_strategy x.backpressure_handler (channel_buffer s p channel) n channel retries elapsed place ends count has_failed (s.mailboxes p) how h.1) e h.2))
       h.3 is)
 
   pub send_waits_with : (environment : Environment) (s : State T U) (n : ℕ) (l : Loan T U) (s' : State T U) (result : SendResult) → Send environment s n l s' result → result ≡ Blocked_send

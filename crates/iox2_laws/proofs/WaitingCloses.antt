@@ -11,14 +11,14 @@ use Rattle.iox2_machine.specs.machine.Ports.{publisher_gone, mailbox_after_publi
 use Rattle.iox2_machine.specs.machine.Records.{Publisher, Subscriber}
 use Rattle.iox2_machine.specs.machine.Releases.{subscriber_pruned, pruned}
 use Rattle.iox2_machine.specs.machine.State.{State, connected_publishers}
-use Rattle.iox2_machine.specs.machine.Waiting.{waiting_from, waiting_for}
+use Rattle.iox2_machine.specs.machine.Waiting.{waiting_from}
 use Rattle.iox2_machine.specs.machine.WellFormed.{IsWellFormed}
 use Rattle.iox2_laws.proofs.NumberLemmas.{contains_in_append}
 use Rattle.iox2_laws.proofs.PlaceLemmas.{is_port-false, leads_to}
 use Rattle.iox2_laws.proofs.PortsClose.{subscriber_closed_shut, subscriber_closed_others, either}
 use Rattle.iox2_laws.proofs.Puts.{put_at-other, at_each}
 use Rattle.iox2_laws.proofs.UpToDate.{IsUpdated}
-use Rattle.iox2_laws.proofs.WaitingCounts.{by_record, same_from, cond_le, sum_le}
+use Rattle.iox2_laws.proofs.WaitingCounts.{by_record, same_from, cond_le, sum_le, waiting_for}
 
 -- who receives, of a subscriber that isn't due
 open_receives : (is_open due known : Bool) → is_open ≡ true → due ≡ false → (is_open && (due || known)) ≡ known

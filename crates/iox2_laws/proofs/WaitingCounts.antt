@@ -5,9 +5,14 @@ use Rattle.std.specs.Option.{option_map_or}
 use Rattle.iox2_machine.specs.machine.Numbers.{contains}
 use Rattle.iox2_machine.specs.machine.Records.{Subscriber}
 use Rattle.iox2_machine.specs.machine.State.{State}
-use Rattle.iox2_machine.specs.machine.Waiting.{sum_below, receives_from, waiting_from, waiting_for}
+use Rattle.iox2_machine.specs.machine.Waiting.{receives_from, waiting_from}
 
 -- ---- sums
+
+-- The sum of f over all numbers below n.
+abbrev pub sum_below : (ℕ → ℕ) → (n : ℕ) → ℕ
+sum_below f zero = 0
+sum_below f (suc n) = sum_below f n + f n
 
 pub sum_same : (f g : ℕ → ℕ) (n : ℕ) → ((p : ℕ) → p < n → f p ≡ g p) → sum_below f n ≡ sum_below g n
 sum_same f g zero each = refl
@@ -127,6 +132,10 @@ cond_same false false [] same = refl
 cond_same b b' (n ∷ ns) same = ap (λ c. cond c (n ∷ ns) []) (same (λ e. let clash : (n ∷ ns) ≡ [] = e in absurd cc))
 
 module _ {T U : Type 0} where
+  -- How many messages wait for q, of all publishers together.
+  abbrev pub waiting_for : State T U → (q : ℕ) → ℕ
+  waiting_for s q = sum_below (λ p. length (waiting_from s p q)) s.next_port
+
   pub by_record : (s : State T U) (p q : ℕ) (o : Option Subscriber) → s.subscribers q ≡ o
       → waiting_from s p q ≡ cond (option_map_or (λ (y : Subscriber). receives_from y p) o false) (s.mailboxes p q).waiting []
   by_record s p q o here = ap (λ (v : Option Subscriber). cond (option_map_or (λ (y : Subscriber). receives_from y p) v false) (s.mailboxes p q).waiting []) here

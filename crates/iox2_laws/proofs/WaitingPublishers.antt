@@ -10,14 +10,14 @@ use Rattle.iox2_machine.specs.machine.Records.{Subscriber, Environment, Publishe
 use Rattle.iox2_machine.specs.machine.State.{State, connected_publishers}
 use Rattle.iox2_machine.specs.machine.PublisherUpdate.{UpdatePublisher}
 use Rattle.iox2_machine.specs.machine.Ports.{CreatePublisher, FirstPublisherUpdate, with_new_publisher, with_failure_warning}
-use Rattle.iox2_machine.specs.machine.Waiting.{sum_below, receives_from, waiting_from, waiting_for}
+use Rattle.iox2_machine.specs.machine.Waiting.{receives_from, waiting_from}
 use Rattle.iox2_machine.specs.declared.errors.ConnectionFailure.{ConnectionFailure}
 use Rattle.iox2_machine.specs.declared.errors.PublisherCreateError.{PublisherCreateError}
 use Rattle.iox2_machine.specs.declared.warning.Warning.TheVariants.{PublisherPartlyConnected}
 use Rattle.iox2_laws.proofs.Cases.{by_option, by_bool}
 use Rattle.iox2_laws.proofs.CallCases.{publisher_cases}
 use Rattle.iox2_laws.proofs.Puts.{put_at-other}
-use Rattle.iox2_laws.proofs.WaitingCounts.{SameWaits, same_itself}
+use Rattle.iox2_laws.proofs.WaitingCounts.{SameWaits, same_itself, sum_below, waiting_for}
 use Rattle.iox2_laws.proofs.UpToDate.{update_publisher_subscribers}
 
 -- each part below n that is no more makes a sum that is no more

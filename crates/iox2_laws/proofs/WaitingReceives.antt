@@ -15,7 +15,7 @@ use Rattle.iox2_machine.specs.machine.Connections.{ForEachPlace, first_failure, 
 use Rattle.iox2_machine.specs.machine.SubscriberUpdate.{ReceiverSide, Retirement, Keep_expired, Evict, Discard_data, Refuse, retirement_of, is_refused, after_retirement, with_end, ConnectReceiver, Retire, ConnectAtPlace, DisconnectAtPlace, UpdateReceiverSide, receiver_side, UpdateSubscriber, with_receiver_side}
 use Rattle.iox2_machine.specs.machine.Receives.{ReceiveResult, Got_sample, No_sample, Receive_error, has_any_data, can_receive_of, MayReceiveFrom, TakeSample, Receive, HasSamples}
 use Rattle.iox2_machine.specs.machine.Releases.{is_connected, pruned, is_unused, place_freed, freed_if_unused, unborrowed, subscriber_pruned, released}
-use Rattle.iox2_machine.specs.machine.Waiting.{sum_below, receives_from, waiting_from, waiting_for}
+use Rattle.iox2_machine.specs.machine.Waiting.{receives_from, waiting_from}
 use Rattle.iox2_machine.specs.machine.WellFormed.{IsWellFormed}
 use Rattle.iox2_machine.specs.declared.degradation.DegradationAction.{DegradationAction}
 use Rattle.iox2_machine.specs.declared.errors.ConnectionFailure.{ConnectionFailure}
@@ -29,7 +29,7 @@ use Rattle.iox2_laws.proofs.PlaceLemmas.{contains-occupants, leads_to, occupant-
 use Rattle.iox2_laws.proofs.PortsStay.{PortsStay, update_subscriber_stays}
 use Rattle.iox2_laws.proofs.ReleaseLaws.{at_each_mailbox}
 use Rattle.iox2_laws.proofs.SubscriberUpdates.{update_subscriber_keeps}
-use Rattle.iox2_laws.proofs.WaitingCounts.{SameWaits, sum_le, sum_zero, sum_one_less, sum_some, due_le, due_among, cond_same, by_record, same_from, same_count}
+use Rattle.iox2_laws.proofs.WaitingCounts.{SameWaits, sum_le, sum_zero, sum_one_less, sum_some, due_le, due_among, cond_same, by_record, same_from, same_count, sum_below, waiting_for}
 
 -- ---- walks that don't fail
 

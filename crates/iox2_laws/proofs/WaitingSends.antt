@@ -6,14 +6,14 @@ use Rattle.std.specs.declared.time.Duration.{Duration}
 use Rattle.std.specs.Option.{option_map, option_map_or}
 use Rattle.iox2_machine.specs.machine.Numbers.{put_at, contains, without, last_n, IsOnce}
 use Rattle.iox2_machine.specs.machine.Places.{occupants}
-use Rattle.iox2_machine.specs.machine.Mailbox.{Mailbox, has_room, waiting_count, with_appended_in, has_room_in}
+use Rattle.iox2_machine.specs.machine.Mailbox.{Mailbox, waiting_count, with_appended, has_room}
 use Rattle.iox2_machine.specs.machine.Records.{Loan, Publisher, Subscriber, BlockedSend, Handler, Environment}
 use Rattle.iox2_machine.specs.machine.State.{State, receiving_buffer, channel_buffer, has_receiver_end, with_loan}
-use Rattle.iox2_machine.specs.machine.Delivery.{PutResult, DeliveryEnd, Complete, Suspended, no_time, is_blocking, accepted_count, is_failed, PutIn, DeliverIn}
+use Rattle.iox2_machine.specs.machine.Delivery.{PutResult, DeliveryEnd, Complete, Suspended, no_time, is_blocking, accepted_count, is_failed, Put, Deliver}
 use Rattle.iox2_machine.specs.machine.Connections.{ForEachPlace}
 use Rattle.iox2_machine.specs.machine.PublisherUpdate.{SenderSide, sender_side, history_for, UpdateSenderPlace, UpdatePublisher}
 use Rattle.iox2_machine.specs.machine.Sends.{Send, SendToConnection, Retry, GiveUp, Publish, DeliverAndConclude, ConcludeSend, SendResult, more_retries, with_mailboxes, published}
-use Rattle.iox2_machine.specs.machine.Waiting.{receives_from, waiting_from, waiting_for}
+use Rattle.iox2_machine.specs.machine.Waiting.{receives_from, waiting_from}
 use Rattle.iox2_machine.specs.machine.WellFormed.{IsWellFormed}
 use Rattle.iox2_machine.specs.declared.service_config.ServiceConfig.{ServiceConfig}
 use Rattle.iox2_machine.specs.declared.backpressure.BackpressureStrategy.{BackpressureStrategy}
@@ -25,7 +25,7 @@ use Rattle.iox2_laws.proofs.Puts.{put_at-same, put_at-other, at_each}
 use Rattle.iox2_laws.proofs.MailboxWalks.{sender_side_keeps, deliver_keeps}
 use Rattle.iox2_laws.proofs.NumberLemmas.{length-last_n_le, contains_in_append, contains_one, contains_in_drop, contains_in_last_n}
 use Rattle.iox2_laws.proofs.PlaceLemmas.{IsOnce-occupants, once-behind}
-use Rattle.iox2_laws.proofs.WaitingCounts.{sum_more, cond_more, cond_both_among}
+use Rattle.iox2_laws.proofs.WaitingCounts.{sum_more, cond_more, cond_both_among, waiting_for}
 use Rattle.iox2_laws.proofs.SendLaws.{injective_take, injective_drop}
 
 -- ---- one publisher's mailboxes change
@@ -76,10 +76,10 @@ module _ {T U : Type 0} where
 -- ---- a delivery
 
 -- a message that is put makes one more, or takes the oldest one's place
-appended_more : (channel buffer n : ℕ) (box : Mailbox) → waiting_count (with_appended_in channel buffer n box) ≤ waiting_count box + 1
+appended_more : (channel buffer n : ℕ) (box : Mailbox) → waiting_count (with_appended channel buffer n box) ≤ waiting_count box + 1
 appended_more (suc k) buffer n box = omega arith
 appended_more zero buffer n box =
-    cond_both (has_room buffer box) box.waiting (drop 1 box.waiting) (λ ns. length (ns ++ n ∷ []) ≤ length box.waiting + 1)
+    cond_both (has_room 0 buffer box) box.waiting (drop 1 box.waiting) (λ ns. length (ns ++ n ∷ []) ≤ length box.waiting + 1)
     (λ _. omega (arith, length-append box.waiting (n ∷ [])))
     (λ _. omega (arith, length-append (drop 1 box.waiting) (n ∷ []), length-drop 1 box.waiting))
 
@@ -93,16 +93,16 @@ once_more false false a b c apart one other = omega arith
 module _ (environment : Environment) (c : ServiceConfig) (p : ℕ) (strategy : BackpressureStrategy) (handler : Option (Handler BackpressureAction))
     (buffers : ℕ → Option ℕ) (n channel : ℕ) where
   put_more : (q retries : ℕ) (elapsed : Duration) (buffer : Option ℕ) (box : Mailbox) (result : PutResult) (box' : Mailbox)
-      → PutIn environment c p strategy handler buffers n channel q retries elapsed buffer box result box' → waiting_count box' ≤ waiting_count box + 1
+      → Put environment c p strategy handler buffers n channel q retries elapsed buffer box result box' → waiting_count box' ≤ waiting_count box + 1
   put_more q retries elapsed None box result box' h = subst (λ (b : Mailbox). waiting_count b ≤ waiting_count box + 1) (sym h.1) (omega arith)
   put_more q retries elapsed (Some buffer) box result box' h =
-      by_bool (waiting_count box' ≤ waiting_count box + 1) (has_room_in channel buffer box || c.enable_safe_overflow) _ _ h
+      by_bool (waiting_count box' ≤ waiting_count box + 1) (has_room channel buffer box || c.enable_safe_overflow) _ _ h
       (λ _ k. subst (λ (b : Mailbox). waiting_count b ≤ waiting_count box + 1) (sym k.1) (appended_more channel buffer n box))
       (λ _ k. subst (λ (b : Mailbox). waiting_count b ≤ waiting_count box + 1) (sym k.1) (omega arith))
 
   deliver_more : (retries : ℕ) (elapsed : Duration) (place : ℕ) (ends : List (Option ℕ)) (count : ℕ) (has_failed : Bool) (boxes : ℕ → Mailbox)
       (how : DeliveryEnd) (boxes' : ℕ → Mailbox) → IsOnce (occupants ends)
-      → DeliverIn environment c p strategy handler buffers n channel retries elapsed place ends count has_failed boxes how boxes'
+      → Deliver environment c p strategy handler buffers n channel retries elapsed place ends count has_failed boxes how boxes'
       → (q : ℕ) → waiting_count (boxes' q) ≤ waiting_count (boxes q) + cond (contains (occupants ends) q) 1 0
   deliver_more retries elapsed place [] count has_failed boxes how boxes' once h q =
       subst (λ (bs : ℕ → Mailbox). waiting_count (bs q) ≤ waiting_count (boxes q) + 0) (sym h.1) (omega arith)

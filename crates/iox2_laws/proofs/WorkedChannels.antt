@@ -1,7 +1,7 @@
 -- Numbers in channels other than 0, worked out by computing: subscriber 1 and publisher 2, which are connected.
 use Rattle.std.proofs.Common.{◌≡◌, ℕ, true, false, [], ◌∷◌, take, drop, refl, None, Some}
 use Rattle.iox2_machine.specs.machine.Numbers.{put_at}
-use Rattle.iox2_machine.specs.machine.Mailbox.{Mailbox, ChannelNumber, empty_mailbox, with_appended_in, can_receive, has_numbers, waiting_dropped}
+use Rattle.iox2_machine.specs.machine.Mailbox.{Mailbox, ChannelNumber, empty_mailbox, with_appended, can_receive, has_numbers, waiting_dropped}
 use Rattle.iox2_machine.specs.machine.Delivery.{Complete, Accepted, Skipped, no_time}
 use Rattle.iox2_machine.specs.machine.Sends.{DeliverAndConclude, Delivered_to, send_ended, with_mailboxes}
 use Rattle.iox2_machine.specs.machine.Environments.{ample_memory}
@@ -49,18 +49,18 @@ tagged channel number = record { channel = channel; number = number }
 
 -- of two channels a message waits in each
 abbrev two : Mailbox
-two = with_appended_in 1 1 8 (with_appended_in 2 1 9 empty_mailbox)
+two = with_appended 1 1 8 (with_appended 2 1 9 empty_mailbox)
 
 -- numbers stand by rising channel
 rising : two ≡ record { waiting = []; borrowed = []; others = tagged 1 8 ∷ tagged 2 9 ∷ [] }
 rising = refl
 
 -- where a channel is full its first leaves, and the other channels stay
-overflown : with_appended_in 1 1 10 two ≡ record { waiting = []; borrowed = []; others = tagged 1 10 ∷ tagged 2 9 ∷ [] }
+overflown : with_appended 1 1 10 two ≡ record { waiting = []; borrowed = []; others = tagged 1 10 ∷ tagged 2 9 ∷ [] }
 overflown = refl
 
 -- where it has room nothing leaves
-filled : with_appended_in 1 2 10 two ≡ record { waiting = []; borrowed = []; others = tagged 1 8 ∷ tagged 1 10 ∷ tagged 2 9 ∷ [] }
+filled : with_appended 1 2 10 two ≡ record { waiting = []; borrowed = []; others = tagged 1 8 ∷ tagged 1 10 ∷ tagged 2 9 ∷ [] }
 filled = refl
 
 -- what waits there isn't received, but it counts, and it is lost with all that waits
@@ -73,11 +73,11 @@ holding box s = with_mailboxes s 2 (put_at (s.mailboxes 2) 1 box)
 
 -- the message 8 goes into channel 1 of the connection at place 0
 sent : DeliverAndConclude ample_memory joined 2 8 1 0 no_time 0 (take 1 (drop 0 (Some 1 ∷ []))) 0 false
-    (send_ended (holding (with_appended_in 1 1 8 empty_mailbox) joined) 2 8) (Delivered_to 1)
+    (send_ended (holding (with_appended 1 1 8 empty_mailbox) joined) 2 8) (Delivered_to 1)
 sent = (
   Complete 1 false,
-  put_at (joined.mailboxes 2) 1 (with_appended_in 1 1 8 empty_mailbox),
-  (Accepted, put_at (joined.mailboxes 2) 1 (with_appended_in 1 1 8 empty_mailbox), (with_appended_in 1 1 8 empty_mailbox, (refl, refl), refl), (refl, refl)),
+  put_at (joined.mailboxes 2) 1 (with_appended 1 1 8 empty_mailbox),
+  (Accepted, put_at (joined.mailboxes 2) 1 (with_appended 1 1 8 empty_mailbox), (with_appended 1 1 8 empty_mailbox, (refl, refl), refl), (refl, refl)),
   (refl, refl),
 )
 
@@ -94,7 +94,7 @@ strict = record joined { config = record (default_config 1) { enable_safe_overfl
 discarded : DeliverAndConclude ample_memory (holding two strict) 2 11 1 0 no_time 0 (take 1 (drop 0 (Some 1 ∷ []))) 0 false
     (send_ended (holding two (holding two strict)) 2 11) (Delivered_to 0)
     × DeliverAndConclude ample_memory (holding two strict) 2 11 3 0 no_time 0 (take 1 (drop 0 (Some 1 ∷ []))) 0 false
-    (send_ended (holding (with_appended_in 3 1 11 two) (holding two strict)) 2 11) (Delivered_to 1)
+    (send_ended (holding (with_appended 3 1 11 two) (holding two strict)) 2 11) (Delivered_to 1)
 discarded = (
   (
     Complete 0 false,
@@ -104,11 +104,11 @@ discarded = (
   ),
   (
     Complete 1 false,
-    put_at ((holding two strict).mailboxes 2) 1 (with_appended_in 3 1 11 two),
+    put_at ((holding two strict).mailboxes 2) 1 (with_appended 3 1 11 two),
     (
       Accepted,
-      put_at ((holding two strict).mailboxes 2) 1 (with_appended_in 3 1 11 two),
-      (with_appended_in 3 1 11 two, (refl, refl), refl),
+      put_at ((holding two strict).mailboxes 2) 1 (with_appended 3 1 11 two),
+      (with_appended 3 1 11 two, (refl, refl), refl),
       (refl, refl),
     ),
     (refl, refl),

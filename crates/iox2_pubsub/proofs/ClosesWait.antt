@@ -3,11 +3,11 @@ use Rattle.std.proofs.Common.{◌≡◌, ℕ, ◌≤◌, length, sym, ap, ◌∙
 use Rattle.iox2_machine.specs.machine.Ports.{publisher_closed, subscriber_closed}
 use Rattle.iox2_machine.specs.machine.Records.{Publisher, Subscriber as MachineSubscriber}
 use Rattle.iox2_machine.specs.machine.State.{State, Messages}
-use Rattle.iox2_machine.specs.machine.Waiting.{waiting_from, waiting_for}
+use Rattle.iox2_machine.specs.machine.Waiting.{waiting_from}
 use Rattle.iox2_domain.specs.Kept.{Kept}
 use Rattle.iox2_domain.specs.Shows.{Shows}
 use Rattle.iox2_laws.proofs.WaitingCloses.{publisher_closed_no_fewer, subscriber_closed_ports, subscriber_closed_none, subscriber_closed_from, subscriber_closed_updated}
-use Rattle.iox2_laws.proofs.WaitingCounts.{sum_zero}
+use Rattle.iox2_laws.proofs.WaitingCounts.{sum_zero, waiting_for}
 use Rattle.iox2_pubsub.specs.Live.{IsUpToDate, OthersStayUpToDate, OthersWait, waiting}
 use Rattle.iox2_pubsub.specs.declared.subscriber.Subscriber.{Subscriber}
 use Rattle.iox2_pubsub.proofs.UpToDateShown.{up-to-date, up-to-date-in}

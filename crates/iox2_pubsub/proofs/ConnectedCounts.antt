@@ -14,7 +14,7 @@ use Rattle.iox2_machine.specs.machine.PublisherUpdate.{UpdatePublisher}
 use Rattle.iox2_machine.specs.machine.Records.{Publisher, Subscriber, Loan, Environment}
 use Rattle.iox2_machine.specs.machine.Sends.{SendResult, Send, ConcludeSend, published, with_mailboxes}
 use Rattle.iox2_machine.specs.machine.State.{State, connected_publishers}
-use Rattle.iox2_machine.specs.machine.Waiting.{sum_below, receives_from, waiting_from, waiting_for}
+use Rattle.iox2_machine.specs.machine.Waiting.{receives_from, waiting_from}
 use Rattle.iox2_machine.specs.machine.WellFormed.{IsWellFormed}
 use Rattle.iox2_machine.specs.declared.errors.ConnectionFailure.{ConnectionFailure}
 use Rattle.iox2_laws.proofs.Cases.{by_option, by_bool}
@@ -22,7 +22,7 @@ use Rattle.iox2_laws.proofs.NumberLemmas.{contains_in_append}
 use Rattle.iox2_laws.proofs.PlaceLemmas.{leads_to}
 use Rattle.iox2_laws.proofs.Puts.{put_at-same, put_at-other}
 use Rattle.iox2_laws.proofs.UpToDate.{send_subscribers}
-use Rattle.iox2_laws.proofs.WaitingCounts.{by_record, same_from, sum_same, sum_one_less}
+use Rattle.iox2_laws.proofs.WaitingCounts.{by_record, same_from, sum_same, sum_one_less, sum_below, waiting_for}
 use Rattle.iox2_pubsub.specs.ConnectedPorts.{Connects}
 use Rattle.iox2_pubsub.proofs.SendsServe.{connected-waits}
 use Rattle.iox2_pubsub.proofs.ConnectionsStay.{opened-of}

@@ -204,7 +204,7 @@ module _ {T U : Type 0} where
 module _ (environment : Environment) (c : ServiceConfig) (p : ℕ) (strategy : BackpressureStrategy) (handler : Option (Handler BackpressureAction)) (buffers : ℕ → Option ℕ) (n q : ℕ) where
   -- a subscriber to which none of the ends leads keeps its mailbox
   deliver-misses : (retries : ℕ) (elapsed : Duration) (place : ℕ) (ends : List (Option ℕ)) (count : ℕ) (has_failed : Bool) (boxes : ℕ → Mailbox) (how : DeliveryEnd) (boxes' : ℕ → Mailbox)
-      → contains (occupants ends) q ≡ false → Deliver environment c p strategy handler buffers n retries elapsed place ends count has_failed boxes how boxes' → boxes' q ≡ boxes q
+      → contains (occupants ends) q ≡ false → Deliver environment c p strategy handler buffers n 0 retries elapsed place ends count has_failed boxes how boxes' → boxes' q ≡ boxes q
   deliver-misses retries elapsed place [] count has_failed boxes how boxes' absent h = ap (λ (f : ℕ → Mailbox). f q) h.1
   deliver-misses retries elapsed place (None ∷ rest) count has_failed boxes how boxes' absent h =
       by_bool (boxes' q ≡ boxes q) (is_blocking h.0) _ _ h.3
@@ -220,19 +220,19 @@ module _ (environment : Environment) (c : ServiceConfig) (p : ℕ) (strategy : B
 
   -- The mailbox of an open subscriber with that buffer, once the message was put there or went past.
   abbrev pub served : (buffer : ℕ) → Mailbox → Mailbox
-  served buffer box = cond (has_room buffer box || c.enable_safe_overflow) (with_appended buffer n box) box
+  served buffer box = cond (has_room 0 buffer box || c.enable_safe_overflow) (with_appended 0 buffer n box) box
 
   put-serves : (retries : ℕ) (elapsed : Duration) (buffer : ℕ) (box : Mailbox) (result : PutResult) (box' : Mailbox)
-      → Put environment c p strategy handler buffers n q retries elapsed (Some buffer) box result box' → box' ≡ served buffer box
+      → Put environment c p strategy handler buffers n 0 q retries elapsed (Some buffer) box result box' → box' ≡ served buffer box
   put-serves retries elapsed buffer box result box' h =
-      by_bool (box' ≡ served buffer box) (has_room buffer box || c.enable_safe_overflow) _ _ h
-      (λ yes k. k.1 ∙ sym (ap (λ (b : Bool). cond b (with_appended buffer n box) box) yes))
-      (λ no k. k.1 ∙ sym (ap (λ (b : Bool). cond b (with_appended buffer n box) box) no))
+      by_bool (box' ≡ served buffer box) (has_room 0 buffer box || c.enable_safe_overflow) _ _ h
+      (λ yes k. k.1 ∙ sym (ap (λ (b : Bool). cond b (with_appended 0 buffer n box) box) yes))
+      (λ no k. k.1 ∙ sym (ap (λ (b : Bool). cond b (with_appended 0 buffer n box) box) no))
 
   -- one to which an end leads is served by a delivery that reached all
   pub deliver-serves : (retries : ℕ) (elapsed : Duration) (place : ℕ) (ends : List (Option ℕ)) (count : ℕ) (has_failed : Bool) (boxes : ℕ → Mailbox) (all : ℕ) (some_failed : Bool) (boxes' : ℕ → Mailbox) (buffer : ℕ)
       → buffers q ≡ Some buffer → contains (occupants ends) q ≡ true → IsOnce (occupants ends)
-      → Deliver environment c p strategy handler buffers n retries elapsed place ends count has_failed boxes (Complete all some_failed) boxes' → boxes' q ≡ served buffer (boxes q)
+      → Deliver environment c p strategy handler buffers n 0 retries elapsed place ends count has_failed boxes (Complete all some_failed) boxes' → boxes' q ≡ served buffer (boxes q)
   deliver-serves retries elapsed place [] count has_failed boxes all some_failed boxes' buffer opened at once h = absurd (true≢false (sym at))
   deliver-serves retries elapsed place (None ∷ rest) count has_failed boxes all some_failed boxes' buffer opened at once h =
       by_bool (boxes' q ≡ served buffer (boxes q)) (is_blocking h.0) _ _ h.3
@@ -244,13 +244,13 @@ module _ (environment : Environment) (c : ServiceConfig) (p : ℕ) (strategy : B
       (λ _ k. let clash : Complete all some_failed ≡ Suspended _ = k.0 in absurd cc)
       (λ _ k. elim (cases_eq r q) [
         | inl here ↦
-            let put : Put environment c p strategy handler buffers n q retries elapsed (buffers q) (boxes q) h.0 (h.2).0 =
-            subst (λ i. Put environment c p strategy handler buffers n i retries elapsed (buffers i) (boxes i) h.0 (h.2).0) here ((h.2).1) in
+            let put : Put environment c p strategy handler buffers n 0 q retries elapsed (buffers q) (boxes q) h.0 (h.2).0 =
+            subst (λ i. Put environment c p strategy handler buffers n 0 i retries elapsed (buffers i) (boxes i) h.0 (h.2).0) here ((h.2).1) in
             deliver-misses 0 no_time (place + 1) rest (count + accepted_count h.0) (has_failed || is_failed h.0) h.1 (Complete all some_failed) boxes'
             (subst (λ i. contains (occupants rest) i ≡ false) here once.0) k
             ∙ ap (λ (f : ℕ → Mailbox). f q) ((h.2).2 ∙ ap (λ i. put_at boxes i (h.2).0) here) ∙ put_at-same boxes q (h.2).0
             ∙ put-serves retries elapsed buffer (boxes q) h.0 (h.2).0
-            (subst (λ (o : Option ℕ). Put environment c p strategy handler buffers n q retries elapsed o (boxes q) h.0 (h.2).0) opened put)
+            (subst (λ (o : Option ℕ). Put environment c p strategy handler buffers n 0 q retries elapsed o (boxes q) h.0 (h.2).0) opened put)
         | inr away ↦
             deliver-serves 0 no_time (place + 1) rest (count + accepted_count h.0) (has_failed || is_failed h.0) h.1 all some_failed boxes' buffer opened
             (⊎_elim (λ same. absurd (away same)) (λ later. later) (contains_in_cons r q (occupants rest) at)) once.1 k

@@ -2,7 +2,7 @@
 use Rattle.std.proofs.Common.{◌≡◌, ◌≢◌, ◌⊎◌, ℕ, List, [], Bool, true, false, drop, take, refl, ap, sym, subst, ◌∙◌, inl, inr, Option, None, Some, Result, Ok, Err}
 use Rattle.std.specs.Prelude.{IsOk, IfErr}
 use Rattle.std.proofs.lemmas.Bool.{cases_eq, ne_eqb}
-use Rattle.iox2_machine.specs.machine.Delivery.{DeliverIn, DeliveryEnd, Complete, Suspended, no_time}
+use Rattle.iox2_machine.specs.machine.Delivery.{Deliver, DeliveryEnd, Complete, Suspended, no_time}
 use Rattle.iox2_machine.specs.machine.Mailbox.{Mailbox, is_borrowed}
 use Rattle.iox2_machine.specs.machine.Numbers.{put_at}
 use Rattle.iox2_machine.specs.machine.Records.{Entry, Environment, Loan, Publisher, Subscriber as MachineSubscriber}
@@ -100,7 +100,7 @@ module _ {T U : Type 0} (environment : Environment) (s : State T U) (n : ℕ) (l
     where
       ends : (y : Publisher) → may_wait y.backpressure_strategy y.backpressure_handler ≡ false → (whole : List (Option ℕ)) (how : DeliveryEnd) (boxes : ℕ → Mailbox)
           → ConcludeSend (with_mailboxes before l.publisher boxes) l.publisher n how s' result
-          → DeliverIn environment s.config l.publisher y.backpressure_strategy y.backpressure_handler (channel_buffer before l.publisher channel) n channel 0 no_time place whole 0 false (s.mailboxes l.publisher) how boxes → ⊥
+          → Deliver environment s.config l.publisher y.backpressure_strategy y.backpressure_handler (channel_buffer before l.publisher channel) n channel 0 no_time place whole 0 false (s.mailboxes l.publisher) how boxes → ⊥
       ends y none whole (Complete count true) boxes c delivers = absurd (let clash : Send_error UnableToDeliver ≡ Blocked_send = sym c.1 ∙ is in cc)
       ends y none whole (Complete count false) boxes c delivers = absurd (let clash : Delivered_to count ≡ Blocked_send = sym c.1 ∙ is in cc)
       ends y none whole (Suspended b) boxes c delivers =

@@ -10,7 +10,7 @@ use Rattle.iox2_machine.specs.machine.Receives.{Got_sample, No_sample, Receive_e
 use Rattle.iox2_machine.specs.machine.Records.{Entry, Environment, Loan, Subscriber as MachineSubscriber}
 use Rattle.iox2_machine.specs.machine.State.{State, Messages, with_mailbox}
 use Rattle.iox2_machine.specs.machine.SubscriberUpdate.{UpdateSubscriber}
-use Rattle.iox2_machine.specs.machine.Waiting.{waiting_from, waiting_for}
+use Rattle.iox2_machine.specs.machine.Waiting.{waiting_from}
 use Rattle.iox2_machine.specs.machine.WellFormed.{IsWellFormed}
 use Rattle.iox2_machine.specs.declared.errors.ConnectionFailure.{ConnectionFailure}
 use Rattle.iox2_machine.specs.declared.errors.SendError.{SendError}
@@ -21,7 +21,7 @@ use Rattle.iox2_laws.proofs.PortsStay.{update_subscriber_stays}
 use Rattle.iox2_laws.proofs.Puts.{put_at-other}
 use Rattle.iox2_laws.proofs.SubscriberUpdates.{update_subscriber_keeps}
 use Rattle.iox2_laws.proofs.UpToDate.{IsUpdated}
-use Rattle.iox2_laws.proofs.WaitingCounts.{SameWaits, same_count, same_from, same_itself}
+use Rattle.iox2_laws.proofs.WaitingCounts.{SameWaits, same_count, same_from, same_itself, waiting_for}
 use Rattle.iox2_laws.proofs.WaitingReceives.{receive_none, take_waits}
 use Rattle.iox2_pubsub.specs.DepartedPorts.{HasRoom}
 use Rattle.iox2_pubsub.specs.Live.{IsLiveSubscriber, KeepsAll, OthersSend, WaitingStays, payloads_from, waiting}

@@ -1,10 +1,10 @@
 -- With safe overflow each open receiver takes a message, so that no send waits, and no handler is asked.
 use Rattle.std.proofs.Common.{◌≡◌, ℕ, ◌+◌, ◌||◌, Bool, true, false, List, [], ◌∷◌, refl, sym, ap, subst, ◌∙◌, Option, None, Some}
 use Rattle.std.specs.declared.time.Duration.{Duration}
-use Rattle.iox2_machine.specs.machine.Mailbox.{Mailbox, has_room_in}
+use Rattle.iox2_machine.specs.machine.Mailbox.{Mailbox, has_room}
 use Rattle.iox2_machine.specs.machine.Records.{Environment, Handler, Loan}
 use Rattle.iox2_machine.specs.machine.State.{State, channel_buffer}
-use Rattle.iox2_machine.specs.machine.Delivery.{DeliverIn, DeliveryEnd, Complete, PutResult, PutIn, PutAtEndIn, accepted_count, is_blocking, is_failed, no_time}
+use Rattle.iox2_machine.specs.machine.Delivery.{Deliver, DeliveryEnd, Complete, PutResult, Put, PutAtEnd, accepted_count, is_blocking, is_failed, no_time}
 use Rattle.iox2_machine.specs.machine.Sends.{Send, SendResult, Delivered_to, Blocked_send, Send_error, ConcludeSend, with_mailboxes, published}
 use Rattle.iox2_machine.specs.declared.backpressure.BackpressureAction.{BackpressureAction}
 use Rattle.iox2_machine.specs.declared.backpressure.BackpressureStrategy.{BackpressureStrategy}
@@ -20,25 +20,25 @@ HasPassed result = (is_blocking result ≡ false) × (is_failed result ≡ false
 module _ (environment : Environment) (c : ServiceConfig) (p : ℕ) (strategy : BackpressureStrategy) (handler : Option (Handler BackpressureAction)) (buffers : ℕ → Option ℕ) (n channel : ℕ)
     (over : c.enable_safe_overflow ≡ true) where
   put-passes : (q retries : ℕ) (elapsed : Duration) (buffer : Option ℕ) (box : Mailbox) (result : PutResult) (box' : Mailbox)
-      → PutIn environment c p strategy handler buffers n channel q retries elapsed buffer box result box' → HasPassed result
+      → Put environment c p strategy handler buffers n channel q retries elapsed buffer box result box' → HasPassed result
   put-passes q retries elapsed None box result box' h = (ap is_blocking h.0, ap is_failed h.0)
   put-passes q retries elapsed (Some buffer) box result box' h =
-      by_bool (HasPassed result) (has_room_in channel buffer box || c.enable_safe_overflow) _ _ h
+      by_bool (HasPassed result) (has_room channel buffer box || c.enable_safe_overflow) _ _ h
       (λ _ k. (ap is_blocking k.0, ap is_failed k.0))
-      (λ full _. absurd (let no : true ≡ false = sym (any (has_room_in channel buffer box)) ∙ ap (λ b. has_room_in channel buffer box || b) (sym over) ∙ full in cc))
+      (λ full _. absurd (let no : true ≡ false = sym (any (has_room channel buffer box)) ∙ ap (λ b. has_room channel buffer box || b) (sym over) ∙ full in cc))
     where
       any : (b : Bool) → (b || true) ≡ true
       any true = refl
       any false = refl
 
   pub end-passes : (retries : ℕ) (elapsed : Duration) (end : Option ℕ) (boxes : ℕ → Mailbox) (result : PutResult) (boxes' : ℕ → Mailbox)
-      → PutAtEndIn environment c p strategy handler buffers n channel retries elapsed end boxes result boxes' → HasPassed result
+      → PutAtEnd environment c p strategy handler buffers n channel retries elapsed end boxes result boxes' → HasPassed result
   end-passes retries elapsed None boxes result boxes' h = (ap is_blocking h.0, ap is_failed h.0)
   end-passes retries elapsed (Some q) boxes result boxes' h = put-passes q retries elapsed (buffers q) (boxes q) result h.0 h.1
 
   -- a delivery that had not failed reaches all receivers, and fails at none
   pub delivery-ends : (retries : ℕ) (elapsed : Duration) (place : ℕ) (ends : List (Option ℕ)) (count : ℕ) (has_failed : Bool) (boxes : ℕ → Mailbox) (how : DeliveryEnd) (boxes' : ℕ → Mailbox)
-      → has_failed ≡ false → DeliverIn environment c p strategy handler buffers n channel retries elapsed place ends count has_failed boxes how boxes' → (took : ℕ) × (how ≡ Complete took false)
+      → has_failed ≡ false → Deliver environment c p strategy handler buffers n channel retries elapsed place ends count has_failed boxes how boxes' → (took : ℕ) × (how ≡ Complete took false)
   delivery-ends retries elapsed place [] count has_failed boxes how boxes' so_far h = (count, h.0 ∙ ap (Complete count) so_far)
   delivery-ends retries elapsed place (end ∷ rest) count has_failed boxes how boxes' so_far h =
       let passed = end-passes retries elapsed end boxes h.0 h.1 h.2 in

@@ -7,9 +7,9 @@ use Rattle.std.proofs.lemmas.Bool.{cases_eq}
 use Rattle.std.proofs.lemmas.List.{append-nil, length-append, length-map}
 use Rattle.iox2_machine.specs.machine.Numbers.{contains}
 use Rattle.iox2_machine.specs.machine.State.{State, Messages}
-use Rattle.iox2_machine.specs.machine.Waiting.{sum_below, waiting_from, waiting_for}
+use Rattle.iox2_machine.specs.machine.Waiting.{waiting_from}
 use Rattle.iox2_laws.proofs.NumberLemmas.{contains_first, contains_later, contains_in_cons}
-use Rattle.iox2_laws.proofs.WaitingCounts.{sum_same, sum_part}
+use Rattle.iox2_laws.proofs.WaitingCounts.{sum_same, sum_part, sum_below, waiting_for}
 use Rattle.iox2_pubsub.specs.Payloads.{all_below, payload_of, payloads_for}
 
 -- ---- lists one after the other

@@ -6,14 +6,14 @@ use Rattle.std.proofs.lemmas.Bool.{cases_eq}
 use Rattle.std.proofs.lemmas.List.{length-append}
 use Rattle.iox2_machine.specs.machine.Numbers.{contains}
 use Rattle.iox2_machine.specs.machine.State.{State, Messages}
-use Rattle.iox2_machine.specs.machine.Waiting.{sum_below, waiting_from}
+use Rattle.iox2_machine.specs.machine.Waiting.{waiting_from}
 use Rattle.iox2_machine.specs.machine.WellFormed.{IsWellFormed}
 use Rattle.iox2_machine.specs.declared.errors.SendError.{SendError}
 use Rattle.iox2_domain.specs.Kept.{Kept, state_of, entries_of}
 use Rattle.iox2_domain.specs.Shows.{Shows}
 use Rattle.iox2_laws.proofs.MailboxLemmas.{has_numbers-contains, contains_waiting_in}
 use Rattle.iox2_laws.proofs.NumberLemmas.{contains_first}
-use Rattle.iox2_laws.proofs.WaitingCounts.{cond_among, sum_part}
+use Rattle.iox2_laws.proofs.WaitingCounts.{cond_among, sum_part, sum_below}
 use Rattle.iox2_pubsub.specs.Live.{AllFrom, AreAllSlices, HasItsBuffer, IsServed, LeavesLater, TakesFirst, TakesOldest, payloads, payloads_from, waiting, sample_key}
 use Rattle.iox2_pubsub.specs.Payloads.{payload_of}
 use Rattle.iox2_pubsub.specs.SendCalls.{IsDelivered}

@@ -8,7 +8,7 @@ use Rattle.std.specs.declared.time.Duration.{Duration}
 use Rattle.iox2_machine.specs.machine.Mailbox.{Mailbox}
 use Rattle.iox2_machine.specs.machine.Records.{Environment, Handler, Publisher, BlockedSend}
 use Rattle.iox2_machine.specs.machine.State.{State, channel_buffer}
-use Rattle.iox2_machine.specs.machine.Delivery.{DeliverIn, DeliveryEnd, Complete, Suspended, accepted_count, is_blocking, is_failed, no_time}
+use Rattle.iox2_machine.specs.machine.Delivery.{Deliver, DeliveryEnd, Complete, Suspended, accepted_count, is_blocking, is_failed, no_time}
 use Rattle.iox2_machine.specs.machine.Sends.{Retry, GiveUp, SendResult, Delivered_to, Blocked_send, Send_error, DeliverAndConclude, ConcludeSend, with_mailboxes, more_retries}
 use Rattle.iox2_machine.specs.machine.SingleCalls.{HoldsBlocked}
 use Rattle.iox2_machine.specs.declared.backpressure.BackpressureAction.{BackpressureAction}
@@ -30,7 +30,7 @@ use Rattle.iox2_pubsub.specs.declared.send_outcome.SendOutcome.TheVariants.{Deli
 module _ (e : Environment) (c : ServiceConfig) (p : ℕ) (strategy : BackpressureStrategy) (handler : Option (Handler BackpressureAction)) (buffers : ℕ → Option ℕ) (n channel : ℕ) where
   -- a suspended delivery waits at one of its ends
   suspended-at : (retries : ℕ) (elapsed : Duration) (place : ℕ) (ends : List (Option ℕ)) (count : ℕ) (has_failed : Bool) (boxes : ℕ → Mailbox) (b : BlockedSend) (boxes' : ℕ → Mailbox)
-      → DeliverIn e c p strategy handler buffers n channel retries elapsed place ends count has_failed boxes (Suspended b) boxes' → (0 < length b.ends) × (length b.ends ≤ length ends)
+      → Deliver e c p strategy handler buffers n channel retries elapsed place ends count has_failed boxes (Suspended b) boxes' → (0 < length b.ends) × (length b.ends ≤ length ends)
   suspended-at retries elapsed place [] count has_failed boxes b boxes' h = absurd (let no : Suspended b ≡ Complete count has_failed = h.0 in cc)
   suspended-at retries elapsed place (end ∷ rest) count has_failed boxes b boxes' h =
       by_bool ((0 < length b.ends) × (length b.ends ≤ length (end ∷ rest))) (is_blocking h.0) _ _ h.3
@@ -76,7 +76,7 @@ module _ {T U : Type 0} where
       by_option (IsAhead s' p (length ends)) (s.publishers p) _ _ h (λ _ v. absurd v) (λ x present h.
       concluded-ahead (with_mailboxes s p h.1) p n x present (length ends) h.0 s' result
       (λ b e. suspended-at environment s.config p x.backpressure_strategy x.backpressure_handler (channel_buffer s p channel) n channel retries elapsed place ends count has_failed (s.mailboxes p) b h.1
-      (subst (λ (how : DeliveryEnd). DeliverIn environment s.config p x.backpressure_strategy x.backpressure_handler (channel_buffer s p channel) n channel retries elapsed place ends count has_failed (s.mailboxes p) how h.1) e h.2))
+      (subst (λ (how : DeliveryEnd). Deliver environment s.config p x.backpressure_strategy x.backpressure_handler (channel_buffer s p channel) n channel retries elapsed place ends count has_failed (s.mailboxes p) how h.1) e h.2))
       h.3 is)
 
   -- ---- seen from outside

@@ -233,7 +233,7 @@ never-blocked {T} {U} environment s n l s' low past h =
   where
     ends : (mid : State T U) (x : Publisher) → may_wait x.backpressure_strategy x.backpressure_handler ≡ false → (whole : List (Option ℕ)) (how : DeliveryEnd) (boxes : ℕ → Mailbox)
         → ConcludeSend (with_mailboxes mid l.publisher boxes) l.publisher n how s' Blocked_send
-        → Deliver environment mid.config l.publisher x.backpressure_strategy x.backpressure_handler (channel_buffer mid l.publisher 0) n 0 no_time 0 whole 0 false (mid.mailboxes l.publisher) how boxes → ⊥
+        → Deliver environment mid.config l.publisher x.backpressure_strategy x.backpressure_handler (channel_buffer mid l.publisher 0) n 0 0 no_time 0 whole 0 false (mid.mailboxes l.publisher) how boxes → ⊥
     ends mid x past whole (Complete count true) boxes concludes delivers = absurd (let no : Blocked_send ≡ Send_error UnableToDeliver = concludes.1 in cc)
     ends mid x past whole (Complete count false) boxes concludes delivers = absurd (let no : Blocked_send ≡ Delivered_to count = concludes.1 in cc)
     ends mid x past whole (Suspended b) boxes concludes delivers =

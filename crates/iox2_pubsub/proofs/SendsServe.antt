@@ -79,7 +79,7 @@ module _ {T U : Type 0} where
   module _ (environment : Environment) (s : State T U) (w : IsWellFormed s) (p q : ℕ) (c : Connects s p q) where
     -- The mailbox with q, once the message n was put there or went past.
     abbrev pub after : (n : ℕ) → Mailbox
-    after n = cond (has_room (c.subscriber).buffer (s.mailboxes p q) || (s.config).enable_safe_overflow) (with_appended (c.subscriber).buffer n (s.mailboxes p q)) (s.mailboxes p q)
+    after n = cond (has_room 0 (c.subscriber).buffer (s.mailboxes p q) || (s.config).enable_safe_overflow) (with_appended 0 (c.subscriber).buffer n (s.mailboxes p q)) (s.mailboxes p q)
 
     pub publish-serves : (n count : ℕ) (s' : State T U) → Publish environment s p n s' (Delivered_to count) → s'.mailboxes p q ≡ after n
     publish-serves n count s' h =
@@ -87,7 +87,7 @@ module _ {T U : Type 0} where
         by_option (s'.mailboxes p q ≡ after n) ((published s p n).publishers p) _ _ h (λ _ v. absurd v) (λ z _ h. concluded x present z h.0 h.1 h.2 h.3))
       where
         concluded : (x : Publisher) → s.publishers p ≡ Some x → (z : Publisher) (how : DeliveryEnd) (boxes : ℕ → Mailbox)
-            → Deliver environment s.config p z.backpressure_strategy z.backpressure_handler (channel_buffer s p 0) n 0 no_time 0 x.ends 0 false (s.mailboxes p) how boxes
+            → Deliver environment s.config p z.backpressure_strategy z.backpressure_handler (channel_buffer s p 0) n 0 0 no_time 0 x.ends 0 false (s.mailboxes p) how boxes
             → ConcludeSend (with_mailboxes (published s p n) p boxes) p n how s' (Delivered_to count) → s'.mailboxes p q ≡ after n
         concluded x present z (Complete all some_failed) boxes delivers h =
             let same : c.publisher ≡ x = same_Some c.publisher x (sym c.stands ∙ present) in
@@ -121,9 +121,9 @@ module _ {T U : Type 0} where
           let there : mid.subscribers q ≡ Some c.subscriber = ap (λ (f : ℕ → Option Subscriber). f q) (update_publisher_subscribers environment s l.publisher mid failure updates) ∙ c.there in
           let same : (kept.0).subscriber ≡ c.subscriber = same_Some (kept.0).subscriber c.subscriber (sym (kept.0).there ∙ there) in
           publish-serves environment mid v l.publisher q kept.0 n count s' publishes
-          ∙ ap (λ (y : Subscriber). cond (has_room y.buffer (mid.mailboxes l.publisher q) || (mid.config).enable_safe_overflow) (with_appended y.buffer n (mid.mailboxes l.publisher q)) (mid.mailboxes l.publisher q)) same
-          ∙ ap (λ (box : Mailbox). cond (has_room (c.subscriber).buffer box || (mid.config).enable_safe_overflow) (with_appended (c.subscriber).buffer n box) box) kept.1
-          ∙ ap (λ (b : Bool). cond (has_room (c.subscriber).buffer (s.mailboxes l.publisher q) || b) (with_appended (c.subscriber).buffer n (s.mailboxes l.publisher q)) (s.mailboxes l.publisher q)) (settings mid failure updates)
+          ∙ ap (λ (y : Subscriber). cond (has_room 0 y.buffer (mid.mailboxes l.publisher q) || (mid.config).enable_safe_overflow) (with_appended 0 y.buffer n (mid.mailboxes l.publisher q)) (mid.mailboxes l.publisher q)) same
+          ∙ ap (λ (box : Mailbox). cond (has_room 0 (c.subscriber).buffer box || (mid.config).enable_safe_overflow) (with_appended 0 (c.subscriber).buffer n box) box) kept.1
+          ∙ ap (λ (b : Bool). cond (has_room 0 (c.subscriber).buffer (s.mailboxes l.publisher q) || b) (with_appended 0 (c.subscriber).buffer n (s.mailboxes l.publisher q)) (s.mailboxes l.publisher q)) (settings mid failure updates)
 
   -- connections stay through a send
   pub send-connections : (environment : Environment) (s : State T U) (n : ℕ) (l : Loan T U) (s' : State T U) (result : SendResult) → IsWellFormed s

@@ -7,7 +7,8 @@ use Rattle.iox2_machine.specs.machine.Mailbox.{Mailbox, has_room, with_appended}
 use Rattle.iox2_machine.specs.machine.Records.{Loan, Environment}
 use Rattle.iox2_machine.specs.machine.Sends.{Delivered_to, Send}
 use Rattle.iox2_machine.specs.machine.State.{State, is_blocked}
-use Rattle.iox2_machine.specs.machine.Waiting.{waiting_from, waiting_for}
+use Rattle.iox2_machine.specs.machine.Waiting.{waiting_from}
+use Rattle.iox2_laws.proofs.WaitingCounts.{waiting_for}
 use Rattle.iox2_machine.specs.machine.WellFormed.{IsWellFormed}
 use Rattle.iox2_pubsub.specs.ConnectedPorts.{Connects}
 use Rattle.iox2_pubsub.proofs.SendsServe.{connected-waits, send-serves, send-connections}
@@ -19,10 +20,10 @@ abbrev pub ServedLists : (before now : List ℕ) → (n buffer : ℕ) → (overf
 ServedLists before now n buffer overflow =
     (now ≡ before ++ n ∷ []) ⊎ (((0 < length before) × (buffer ≤ length before)) × MatchBool overflow (now ≡ drop 1 before ++ n ∷ []) (now ≡ before))
 
-served-lists : (box : Mailbox) (n buffer : ℕ) (overflow : Bool) (now : List ℕ) → 0 < buffer → now ≡ (cond (has_room buffer box || overflow) (with_appended buffer n box) box).waiting
+served-lists : (box : Mailbox) (n buffer : ℕ) (overflow : Bool) (now : List ℕ) → 0 < buffer → now ≡ (cond (has_room 0 buffer box || overflow) (with_appended 0 buffer n box) box).waiting
     → ServedLists box.waiting now n buffer overflow
-served-lists box n buffer overflow now some is = by (has_room buffer box) refl overflow is where
-  by : (room : Bool) → has_room buffer box ≡ room → (overflow : Bool) → now ≡ (cond (has_room buffer box || overflow) (with_appended buffer n box) box).waiting
+served-lists box n buffer overflow now some is = by (has_room 0 buffer box) refl overflow is where
+  by : (room : Bool) → has_room 0 buffer box ≡ room → (overflow : Bool) → now ≡ (cond (has_room 0 buffer box || overflow) (with_appended 0 buffer n box) box).waiting
       → ServedLists box.waiting now n buffer overflow
   by true e overflow is = inl (is ∙ ap (λ (b : Bool). (cond (b || overflow) (record box { waiting = cond b box.waiting (drop 1 box.waiting) ++ n ∷ [] }) box).waiting) e)
   by false e true is =

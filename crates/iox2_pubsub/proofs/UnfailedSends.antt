@@ -3,11 +3,11 @@ use Rattle.std.proofs.Common.{◌≡◌, ◌⊎◌, inl, inr, ℕ, ◌<◌, ◌+
 use Rattle.std.proofs.lemmas.Option.{same_Some}
 use Rattle.std.specs.Option.{option_map}
 use Rattle.std.specs.declared.time.Duration.{Duration}
-use Rattle.iox2_machine.specs.machine.Mailbox.{Mailbox, has_room_in}
+use Rattle.iox2_machine.specs.machine.Mailbox.{Mailbox, has_room}
 use Rattle.iox2_machine.specs.machine.Numbers.{without}
 use Rattle.iox2_machine.specs.machine.Records.{BlockedSend, Environment, Handler, Loan, Publisher}
 use Rattle.iox2_machine.specs.machine.State.{State, channel_buffer}
-use Rattle.iox2_machine.specs.machine.Delivery.{DeliverIn, DeliveryEnd, Complete, Suspended, PutResult, PutIn, PutAtEndIn, accepted_count, is_blocking, is_failed, no_time}
+use Rattle.iox2_machine.specs.machine.Delivery.{Deliver, DeliveryEnd, Complete, Suspended, PutResult, Put, PutAtEnd, accepted_count, is_blocking, is_failed, no_time}
 use Rattle.iox2_machine.specs.machine.Sends.{Send, Retry, GiveUp, SendResult, Delivered_to, Blocked_send, Send_error, ConcludeSend, DeliverAndConclude, more_retries, with_mailboxes, published}
 use Rattle.iox2_machine.specs.declared.backpressure.BackpressureAction.{BackpressureAction}
 use Rattle.iox2_machine.specs.declared.backpressure.BackpressureStrategy.{BackpressureStrategy}
@@ -29,13 +29,13 @@ FailedAt (Suspended b) = b.has_failed
 module _ (e : Environment) (c : ServiceConfig) (p : ℕ) (strategy : BackpressureStrategy) (handler : Option (Handler BackpressureAction)) (buffers : ℕ → Option ℕ) (n channel : ℕ)
     (mild : (c.enable_safe_overflow ≡ true) ⊎ (may_fail handler ≡ false)) where
   put-unfailed : may_fail handler ≡ false → (q retries : ℕ) (elapsed : Duration) (buffer : Option ℕ) (box : Mailbox) (result : PutResult) (box' : Mailbox)
-      → PutIn e c p strategy handler buffers n channel q retries elapsed buffer box result box' → is_failed result ≡ false
+      → Put e c p strategy handler buffers n channel q retries elapsed buffer box result box' → is_failed result ≡ false
   put-unfailed none q retries elapsed None box result box' h = ap is_failed h.0
   put-unfailed none q retries elapsed (Some buffer) box result box' h =
-      by_bool (is_failed result ≡ false) (has_room_in channel buffer box || c.enable_safe_overflow) _ _ h (λ _ k. ap is_failed k.0) (λ _ k. decides-passes e p strategy handler none _ result k.0)
+      by_bool (is_failed result ≡ false) (has_room channel buffer box || c.enable_safe_overflow) _ _ h (λ _ k. ap is_failed k.0) (λ _ k. decides-passes e p strategy handler none _ result k.0)
 
   delivery-unfailed : (retries : ℕ) (elapsed : Duration) (place : ℕ) (ends : List (Option ℕ)) (count : ℕ) (has_failed : Bool) (boxes : ℕ → Mailbox) (how : DeliveryEnd) (boxes' : ℕ → Mailbox)
-      → has_failed ≡ false → DeliverIn e c p strategy handler buffers n channel retries elapsed place ends count has_failed boxes how boxes' → FailedAt how ≡ false
+      → has_failed ≡ false → Deliver e c p strategy handler buffers n channel retries elapsed place ends count has_failed boxes how boxes' → FailedAt how ≡ false
   delivery-unfailed retries elapsed place [] count has_failed boxes how boxes' none h = ap FailedAt h.0 ∙ none
   delivery-unfailed retries elapsed place (end ∷ rest) count has_failed boxes how boxes' none h =
       by_bool (FailedAt how ≡ false) (is_blocking h.0) _ _ h.3
@@ -43,7 +43,7 @@ module _ (e : Environment) (c : ServiceConfig) (p : ℕ) (strategy : Backpressur
       (λ _ k. delivery-unfailed 0 no_time (place + 1) rest (count + accepted_count h.0) (has_failed || is_failed h.0) h.1 how boxes'
       (neither has_failed (is_failed h.0) none (unfailed end h.2)) k)
     where
-      unfailed : (at : Option ℕ) → PutAtEndIn e c p strategy handler buffers n channel retries elapsed at boxes h.0 h.1 → is_failed h.0 ≡ false
+      unfailed : (at : Option ℕ) → PutAtEnd e c p strategy handler buffers n channel retries elapsed at boxes h.0 h.1 → is_failed h.0 ≡ false
       unfailed None put = ap is_failed put.0
       unfailed (Some q) put = elim mild [
         | inl over ↦ (end-passes e c p strategy handler buffers n channel over retries elapsed (Some q) boxes h.0 h.1 put).1

@@ -18,7 +18,7 @@ use Rattle.iox2_machine.specs.machine.Releases.{released}
 use Rattle.iox2_machine.specs.machine.Sends.{SendToConnection, SendResult, Send, Retry, GiveUp}
 use Rattle.iox2_machine.specs.machine.State.{State, Messages, with_loan}
 use Rattle.iox2_machine.specs.machine.SubscriberUpdate.{UpdateSubscriber}
-use Rattle.iox2_machine.specs.machine.Waiting.{waiting_from, waiting_for}
+use Rattle.iox2_machine.specs.machine.Waiting.{waiting_from}
 use Rattle.iox2_machine.specs.Stored.{In_mailbox}
 use Rattle.iox2_machine.specs.declared.errors.ConnectionFailure.{ConnectionFailure}
 use Rattle.iox2_machine.specs.declared.errors.LoanError.{LoanError}
@@ -31,7 +31,7 @@ use Rattle.iox2_domain.specs.Shows.{Shows}
 use Rattle.iox2_laws.proofs.MailboxLemmas.{has_numbers-contains, contains_borrowed, contains_waiting_in}
 use Rattle.iox2_laws.proofs.NumberLemmas.{contains_later}
 use Rattle.iox2_laws.proofs.SamplesStay.{received_one}
-use Rattle.iox2_laws.proofs.WaitingCounts.{SameWaits, same_itself, sum_zero, sum_part, cond_among}
+use Rattle.iox2_laws.proofs.WaitingCounts.{SameWaits, same_itself, sum_zero, sum_part, cond_among, waiting_for}
 use Rattle.iox2_laws.proofs.WaitingLoans.{grant_loan_waits, loan_set_waits, loan_discarded_waits}
 use Rattle.iox2_laws.proofs.WaitingReceives.{UpdateWaits, update_subscriber_waits, update_subscriber_counts, update_subscriber_others, receive_fewer, receive_none, receive_no_more, receive_waited, receive_others, has_samples_says, released_waits}
 use Rattle.iox2_laws.proofs.WaitingPorts.{NewWaits, create_subscriber_waits}

@@ -35,7 +35,7 @@ pub record IsOpening (c : ServiceConfig) (box : Mailbox) (least lent bound : ℕ
 
 -- a full subscriber has no room
 pub no_room : (c : ServiceConfig) (boxes : ℕ → Mailbox) (made bound : ℕ) → AreFull c boxes made bound → (q : ℕ) → 2 ≤ q → q < 2 + made
-    → has_room (buffer_limit c) (boxes q) ≡ false
+    → has_room 0 (buffer_limit c) (boxes q) ≡ false
 no_room c boxes made bound f q low high = le-ltb (length (boxes q).waiting) (buffer_limit c) (omega (arith, f.waits q low high))
 
 -- none is full where there is none
@@ -94,11 +94,11 @@ one_more_full c boxes made bound next later f last once low = record {
 pub opening_taken : (c : ServiceConfig) (box : Mailbox) (least more lent bound n : ℕ) → more ≡ suc least → more ≤ buffer_limit c → bound ≤ n
     → IsOpening c box least lent bound → IsOpening c (taken (buffer_limit c) n box) more lent bound
 opening_taken c box least more lent bound n e some later h =
-    elim (has_room (buffer_limit c) box) as (λ b. has_room (buffer_limit c) box ≡ b → IsOpening c (cond b (with_appended (buffer_limit c) n box) box) more lent
+    elim (has_room 0 (buffer_limit c) box) as (λ b. has_room 0 (buffer_limit c) box ≡ b → IsOpening c (cond b (with_appended 0 (buffer_limit c) n box) box) more lent
     bound) [
       | true ↦ λ room.
           let low : length box.waiting < buffer_limit c = ltb-true (length box.waiting) (buffer_limit c) room in
-          let count : length (with_appended (buffer_limit c) n box).waiting ≡ suc (length box.waiting) =
+          let count : length (with_appended 0 (buffer_limit c) n box).waiting ≡ suc (length box.waiting) =
           ap (λ b. length (cond b box.waiting (drop 1 box.waiting) ++ n ∷ [])) room ∙ longer box.waiting n in
           record {
             at_least = omega (arith, h.at_least, count);

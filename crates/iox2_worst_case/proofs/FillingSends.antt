@@ -73,7 +73,7 @@ module _ {T U : Type 0} (c : ServiceConfig) (most available : ℕ) (s : State T 
 
   -- its delivery
   delivered_so : (how : DeliveryEnd) (boxes' : ℕ → Mailbox)
-      → Deliver ample_memory s.config 1 DiscardData None (channel_buffer now 1 0) (suc sent) 0 no_time 0 (ports_from 2 made) 0 false (s.mailboxes 1) how boxes'
+      → Deliver ample_memory s.config 1 DiscardData None (channel_buffer now 1 0) (suc sent) 0 0 no_time 0 (ports_from 2 made) 0 false (s.mailboxes 1) how boxes'
       → (count : ℕ) × (how ≡ Complete count false) × (boxes' ≡ wanted)
   delivered_so how boxes' h =
       delivers (channel_buffer now 1 0)
@@ -81,9 +81,9 @@ module _ {T U : Type 0} (c : ServiceConfig) (most available : ℕ) (s : State T 
       ap (λ (channels : ℕ → Channel). cond (is_closed (channels 0)) None (receiving_buffer s q)) (f.channels q)
       ∙ ap (λ (v : Option Subscriber). option_and_then (λ (y : Subscriber). cond y.is_open (Some y.buffer) None) v) (f.subscribers q low high))
       how boxes'
-      (subst (λ (b : ℕ → Mailbox). Deliver ample_memory c 1 DiscardData None (channel_buffer now 1 0) (suc sent) 0 no_time 0 (ports_from 2 made) 0 false b how
+      (subst (λ (b : ℕ → Mailbox). Deliver ample_memory c 1 DiscardData None (channel_buffer now 1 0) (suc sent) 0 0 no_time 0 (ports_from 2 made) 0 false b how
       boxes') f.mailboxes
-      (subst (λ (v : ServiceConfig). Deliver ample_memory v 1 DiscardData None (channel_buffer now 1 0) (suc sent) 0 no_time 0 (ports_from 2 made) 0 false
+      (subst (λ (v : ServiceConfig). Deliver ample_memory v 1 DiscardData None (channel_buffer now 1 0) (suc sent) 0 0 no_time 0 (ports_from 2 made) 0 false
       (s.mailboxes 1) how boxes')
       f.config h))
 
@@ -105,7 +105,7 @@ module _ {T U : Type 0} (c : ServiceConfig) (most available : ℕ) (s : State T 
       ap (λ (v : Option Publisher). option_map (λ (x : Publisher). record x { history = last_n (s.config).history_size (x.history ++ suc sent ∷ []) }) v)
       f.publisher in
       let k : (how : DeliveryEnd) × (boxes' : ℕ → Mailbox)
-      × Deliver ample_memory s.config 1 DiscardData None (channel_buffer now 1 0) (suc sent) 0 no_time 0 (ports_from 2 made) 0 false (s.mailboxes 1) how boxes'
+      × Deliver ample_memory s.config 1 DiscardData None (channel_buffer now 1 0) (suc sent) 0 0 no_time 0 (ports_from 2 made) 0 false (s.mailboxes 1) how boxes'
       × ConcludeSend (with_mailboxes now 1 boxes') 1 (suc sent) how s' result =
       at_some (now.publishers 1) x _ _ present there in
       let ends : (count : ℕ) × (k.0 ≡ Complete count false) × (k.1 ≡ wanted) = delivered_so k.0 k.1 k.2 in

@@ -5,7 +5,7 @@ use Rattle.std.specs.declared.option.Option.{Option}
 use Rattle.std.specs.declared.option.Option.TheVariants.{None, Some}
 use Rattle.std.specs.declared.time.Duration.{Duration}
 use Rattle.iox2_machine.specs.machine.Numbers.{put_at}
-use Rattle.iox2_machine.specs.machine.Mailbox.{Mailbox, has_room_in, with_appended_in}
+use Rattle.iox2_machine.specs.machine.Mailbox.{Mailbox, has_room, with_appended}
 use Rattle.iox2_machine.specs.machine.Records.{Handler, Fixed, Custom, Environment, BlockedSend}
 use Rattle.iox2_machine.specs.declared.service_config.ServiceConfig.{ServiceConfig}
 use Rattle.iox2_machine.specs.declared.backpressure.BackpressureStrategy.{BackpressureStrategy}
@@ -86,36 +86,28 @@ module _ (environment : Environment) (c : ServiceConfig) (p : ℕ) (strategy : B
 
   -- A receiver that takes nothing is skipped. Any other takes the message into the channel where it has room, or where safe
   -- overflow is on. Else the handler decides, or the strategy where there is no handler.
-  abbrev pub PutIn : (channel q retries : ℕ) → Duration → (buffer : Option ℕ) → Mailbox → PutResult → Mailbox → Type 0
-  PutIn channel q retries elapsed None box result box' = (result ≡ Skipped) × (box' ≡ box)
-  PutIn channel q retries elapsed (Some buffer) box result box' =
-      MatchBool (has_room_in channel buffer box || c.enable_safe_overflow)
-      ((result ≡ Accepted) × (box' ≡ with_appended_in channel buffer n box))
+  abbrev pub Put : (channel q retries : ℕ) → Duration → (buffer : Option ℕ) → Mailbox → PutResult → Mailbox → Type 0
+  Put channel q retries elapsed None box result box' = (result ≡ Skipped) × (box' ≡ box)
+  Put channel q retries elapsed (Some buffer) box result box' =
+      MatchBool (has_room channel buffer box || c.enable_safe_overflow)
+      ((result ≡ Accepted) × (box' ≡ with_appended channel buffer n box))
       (Decides environment p handler strategy (info_of q retries elapsed) result × (box' ≡ box))
 
   -- The message is put into the channel of the mailbox to which the end leads; where there is none nothing happens.
-  abbrev pub PutAtEndIn : (channel retries : ℕ) → Duration → (end : Option ℕ) → (ℕ → Mailbox) → PutResult → (ℕ → Mailbox) → Type 0
-  PutAtEndIn channel retries elapsed end boxes result boxes' =
+  abbrev pub PutAtEnd : (channel retries : ℕ) → Duration → (end : Option ℕ) → (ℕ → Mailbox) → PutResult → (ℕ → Mailbox) → Type 0
+  PutAtEnd channel retries elapsed end boxes result boxes' =
       MatchOption end
       ((result ≡ Skipped) × (boxes' ≡ boxes))
-      (λ q. (box : Mailbox) × PutIn channel q retries elapsed (buffers q) (boxes q) result box × (boxes' ≡ put_at boxes q box))
+      (λ q. (box : Mailbox) × Put channel q retries elapsed (buffers q) (boxes q) result box × (boxes' ≡ put_at boxes q box))
 
   -- The message is put into that channel at each of these ends in turn, which stand from that place on, until a receiver
   -- blocks it. The first is asked with these retries and this elapsed time, the others anew.
   -- (iceoryx2: `port/details/sender.rs`, `deliver_offset`.)
-  abbrev pub DeliverIn : (channel retries : ℕ) → Duration → (place : ℕ) → List (Option ℕ) → (count : ℕ) → (has_failed : Bool) → (ℕ → Mailbox) → DeliveryEnd → (ℕ → Mailbox) → Type 0
-  DeliverIn channel retries elapsed place [] count has_failed boxes how boxes' = (how ≡ Complete count has_failed) × (boxes' ≡ boxes)
-  DeliverIn channel retries elapsed place (end ∷ rest) count has_failed boxes how boxes' =
-      (result : PutResult) × (mid : ℕ → Mailbox) × PutAtEndIn channel retries elapsed end boxes result mid
+  abbrev pub Deliver : (channel retries : ℕ) → Duration → (place : ℕ) → List (Option ℕ) → (count : ℕ) → (has_failed : Bool) → (ℕ → Mailbox) → DeliveryEnd → (ℕ → Mailbox) → Type 0
+  Deliver channel retries elapsed place [] count has_failed boxes how boxes' = (how ≡ Complete count has_failed) × (boxes' ≡ boxes)
+  Deliver channel retries elapsed place (end ∷ rest) count has_failed boxes how boxes' =
+      (result : PutResult) × (mid : ℕ → Mailbox) × PutAtEnd channel retries elapsed end boxes result mid
       × MatchBool (is_blocking result)
       ((how ≡ Suspended (record { message = n; channel = channel; place = place; ends = end ∷ rest; retries = retries; count = count; has_failed = has_failed }))
       × (boxes' ≡ mid))
-      (DeliverIn channel 0 no_time (place + 1) rest (count + accepted_count result) (has_failed || is_failed result) mid how boxes')
-
-  -- `PutIn` at channel 0.
-  abbrev pub Put : (q retries : ℕ) → Duration → (buffer : Option ℕ) → Mailbox → PutResult → Mailbox → Type 0
-  Put q retries elapsed buffer box result box' = PutIn 0 q retries elapsed buffer box result box'
-
-  -- `DeliverIn` at channel 0.
-  abbrev pub Deliver : (retries : ℕ) → Duration → (place : ℕ) → List (Option ℕ) → (count : ℕ) → (has_failed : Bool) → (ℕ → Mailbox) → DeliveryEnd → (ℕ → Mailbox) → Type 0
-  Deliver retries elapsed place ends count has_failed boxes how boxes' = DeliverIn 0 retries elapsed place ends count has_failed boxes how boxes'
+      (Deliver channel 0 no_time (place + 1) rest (count + accepted_count result) (has_failed || is_failed result) mid how boxes')

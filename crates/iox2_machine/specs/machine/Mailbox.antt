@@ -75,12 +75,8 @@ abbrev pub waiting_count : Mailbox → ℕ
 waiting_count box = length box.waiting
 
 -- Fewer messages wait in the channel than the buffer holds.
-abbrev pub has_room_in : (channel buffer : ℕ) → Mailbox → Bool
-has_room_in channel buffer box = nat_lt (length (waiting_in channel box)) buffer
-
--- The same of channel 0.
-abbrev pub has_room : (buffer : ℕ) → Mailbox → Bool
-has_room buffer box = has_room_in 0 buffer box
+abbrev pub has_room : (channel buffer : ℕ) → Mailbox → Bool
+has_room channel buffer box = nat_lt (length (waiting_in channel box)) buffer
 
 -- ---- changing
 
@@ -90,13 +86,9 @@ with_waiting_in zero ns box = record box { waiting = ns }
 with_waiting_in (suc k) ns box = record box { others = with_numbers_of (suc k) ns box.others }
 
 -- The number waits as the last in the channel; where there was no room the first leaves.
-abbrev pub with_appended_in : (channel buffer n : ℕ) → Mailbox → Mailbox
-with_appended_in channel buffer n box =
-    with_waiting_in channel (cond (has_room_in channel buffer box) (waiting_in channel box) (drop 1 (waiting_in channel box)) ++ n ∷ []) box
-
--- The same in channel 0.
-abbrev pub with_appended : (buffer n : ℕ) → Mailbox → Mailbox
-with_appended buffer n box = with_appended_in 0 buffer n box
+abbrev pub with_appended : (channel buffer n : ℕ) → Mailbox → Mailbox
+with_appended channel buffer n box =
+    with_waiting_in channel (cond (has_room channel buffer box) (waiting_in channel box) (drop 1 (waiting_in channel box)) ++ n ∷ []) box
 
 -- These numbers wait in channel 0, and no others.
 abbrev pub with_waiting : List ℕ → Mailbox → Mailbox

@@ -7,7 +7,7 @@ use Rattle.iox2_machine.specs.machine.Numbers.{put_at, without, last_n}
 use Rattle.iox2_machine.specs.machine.Mailbox.{Mailbox}
 use Rattle.iox2_machine.specs.machine.Records.{Loan, Environment, BlockedSend}
 use Rattle.iox2_machine.specs.machine.State.{State, channel_buffer, with_loan, publisher_changed}
-use Rattle.iox2_machine.specs.machine.Delivery.{DeliverIn, DeliveryEnd, Complete, Suspended, no_time}
+use Rattle.iox2_machine.specs.machine.Delivery.{Deliver, DeliveryEnd, Complete, Suspended, no_time}
 use Rattle.iox2_machine.specs.machine.PublisherUpdate.{UpdatePublisher}
 use Rattle.iox2_machine.specs.machine.Loans.{loan_discarded}
 use Rattle.iox2_machine.specs.declared.errors.ConnectionFailure.{ConnectionFailure}
@@ -59,7 +59,7 @@ module _ {T U : Type 0} (environment : Environment) where
   DeliverAndConclude s p n channel retries elapsed place ends count has_failed s' result =
       MatchOption (s.publishers p) ⊥ (λ x.
       (how : DeliveryEnd) × (boxes : ℕ → Mailbox)
-      × DeliverIn environment s.config p x.backpressure_strategy x.backpressure_handler (channel_buffer s p channel) n
+      × Deliver environment s.config p x.backpressure_strategy x.backpressure_handler (channel_buffer s p channel) n
       channel retries elapsed place ends count has_failed (s.mailboxes p) how boxes
       × ConcludeSend (with_mailboxes s p boxes) p n how s' result)
 

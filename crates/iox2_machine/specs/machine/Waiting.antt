@@ -1,14 +1,9 @@
--- What waits for a subscriber, and how many messages that are.
-use Rattle.std.specs.Prelude.{ℕ, zero, suc, Bool, false, cond, ◌&&◌, ◌||◌, ◌+◌, List, [], length}
+-- What waits for a subscriber.
+use Rattle.std.specs.Prelude.{ℕ, Bool, false, cond, ◌&&◌, ◌||◌, List, []}
 use Rattle.std.specs.Option.{option_map_or}
 use Rattle.iox2_machine.specs.machine.Numbers.{contains}
 use Rattle.iox2_machine.specs.machine.Records.{Subscriber}
 use Rattle.iox2_machine.specs.machine.State.{State, connected_publishers}
-
--- The sum of f over all numbers below n.
-abbrev pub sum_below : (ℕ → ℕ) → (n : ℕ) → ℕ
-sum_below f zero = 0
-sum_below f (suc n) = sum_below f n + f n
 
 -- The subscriber is open, and is connected with p or due: its next update connects it with each publisher that has sent
 -- it anything.
@@ -19,7 +14,3 @@ module _ {T U : Type 0} where
   -- The messages of p that wait for q, oldest first: none where q doesn't receive from p.
   abbrev pub waiting_from : State T U → (p q : ℕ) → List ℕ
   waiting_from s p q = cond (option_map_or (λ (y : Subscriber). receives_from y p) (s.subscribers q) false) (s.mailboxes p q).waiting []
-
-  -- How many messages wait for q, of all publishers together.
-  abbrev pub waiting_for : State T U → (q : ℕ) → ℕ
-  waiting_for s q = sum_below (λ p. length (waiting_from s p q)) s.next_port

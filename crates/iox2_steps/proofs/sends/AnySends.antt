@@ -5,7 +5,7 @@ use Rattle.std.specs.Option.{option_map}
 use Rattle.std.specs.declared.option.Option.{Option}
 use Rattle.std.specs.declared.option.Option.TheVariants.{None, Some}
 use Rattle.std.specs.declared.time.Duration.{Duration}
-use Rattle.iox2_machine.specs.machine.Delivery.{DeliverIn, DeliveryEnd, no_time}
+use Rattle.iox2_machine.specs.machine.Delivery.{Deliver, DeliveryEnd, no_time}
 use Rattle.iox2_machine.specs.machine.Loans.{loan_discarded}
 use Rattle.iox2_machine.specs.machine.Mailbox.{Mailbox}
 use Rattle.iox2_machine.specs.machine.Numbers.{last_n}
@@ -28,7 +28,7 @@ module _ {T U : Type 0} (e e' : Environment) where
     -- what is delivered and concluded of the publisher x
     abbrev Concludes : Environment → Publisher → Type 0
     Concludes environment x = (how : DeliveryEnd) × (boxes : ℕ → Mailbox)
-        × DeliverIn environment s.config p x.backpressure_strategy x.backpressure_handler (channel_buffer s p channel) n
+        × Deliver environment s.config p x.backpressure_strategy x.backpressure_handler (channel_buffer s p channel) n
         channel retries elapsed place ends count has_failed (s.mailboxes p) how boxes
         × ConcludeSend (with_mailboxes s p boxes) p n how s' result
 

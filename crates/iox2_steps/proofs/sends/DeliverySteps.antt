@@ -6,9 +6,9 @@ use Rattle.std.specs.declared.time.Duration.{Duration}
 use Rattle.std.specs.Option.{option_map}
 use Rattle.std.specs.Prelude.{slice_get, nat_lt}
 use Rattle.slab.specs.Slab.{Slab, get, with_value}
-use Rattle.iox2_machine.specs.machine.Delivery.{PutResult, Complete, Suspended, Decides, PutIn, PutAtEndIn, DeliverIn, by_strategy, by_action, is_blocking, is_failed, accepted_count, no_time}
+use Rattle.iox2_machine.specs.machine.Delivery.{PutResult, Complete, Suspended, Decides, Put, PutAtEnd, Deliver, by_strategy, by_action, is_blocking, is_failed, accepted_count, no_time}
 use Rattle.iox2_connections.specs.Link.{Link}
-use Rattle.iox2_machine.specs.machine.Mailbox.{Mailbox, has_room_in}
+use Rattle.iox2_machine.specs.machine.Mailbox.{Mailbox, has_room}
 use Rattle.iox2_machine.specs.machine.Records.{Environment, Handler, Fixed, Custom}
 use Rattle.iox2_slots.specs.SlotBook.{Book, holders_at, IsInUse}
 use Rattle.iox2_machine.specs.declared.backpressure.BackpressureAction.{BackpressureAction}
@@ -73,19 +73,19 @@ decides-passes e p strategy (Some Custom) none info result d = absurd (let no : 
 module _ (e : Environment) (c : ServiceConfig) (p : ℕ) (strategy : BackpressureStrategy) (handler : Option (Handler BackpressureAction)) (passes : may_fail handler ≡ false)
     (buffers : ℕ → Option ℕ) (n channel : ℕ) where
   put-passes : (q retries : ℕ) (elapsed : Duration) (buffer : Option ℕ) (box : Mailbox) (result : PutResult) (box' : Mailbox)
-      → PutIn e c p strategy handler buffers n channel q retries elapsed buffer box result box' → is_failed result ≡ false
+      → Put e c p strategy handler buffers n channel q retries elapsed buffer box result box' → is_failed result ≡ false
   put-passes q retries elapsed None box result box' h = ap is_failed h.0
   put-passes q retries elapsed (Some buffer) box result box' h =
-      by_bool (is_failed result ≡ false) (has_room_in channel buffer box || c.enable_safe_overflow) _ _ h (λ _ k. ap is_failed k.0) (λ _ k. decides-passes e p strategy handler passes _ result k.0)
+      by_bool (is_failed result ≡ false) (has_room channel buffer box || c.enable_safe_overflow) _ _ h (λ _ k. ap is_failed k.0) (λ _ k. decides-passes e p strategy handler passes _ result k.0)
 
   put_at_end-passes : (retries : ℕ) (elapsed : Duration) (end : Option ℕ) (boxes : ℕ → Mailbox) (result : PutResult) (boxes' : ℕ → Mailbox)
-      → PutAtEndIn e c p strategy handler buffers n channel retries elapsed end boxes result boxes' → is_failed result ≡ false
+      → PutAtEnd e c p strategy handler buffers n channel retries elapsed end boxes result boxes' → is_failed result ≡ false
   put_at_end-passes retries elapsed None boxes result boxes' h = ap is_failed h.0
   put_at_end-passes retries elapsed (Some q) boxes result boxes' h = put-passes q retries elapsed (buffers q) (boxes q) result h.0 h.1
 
   -- where the handler fails no send, no receiver fails the delivery
   pub delivery-passes : (retries : ℕ) (elapsed : Duration) (place : ℕ) (ends : List (Option ℕ)) (count : ℕ) (has_failed : Bool) (boxes : ℕ → Mailbox) (boxes' : ℕ → Mailbox)
-      → has_failed ≡ false → (took : ℕ) (failed : Bool) → DeliverIn e c p strategy handler buffers n channel retries elapsed place ends count has_failed boxes (Complete took failed) boxes' → failed ≡ false
+      → has_failed ≡ false → (took : ℕ) (failed : Bool) → Deliver e c p strategy handler buffers n channel retries elapsed place ends count has_failed boxes (Complete took failed) boxes' → failed ≡ false
   delivery-passes retries elapsed place [] count has_failed boxes boxes' none took failed h =
       let same : Complete took failed ≡ Complete count has_failed = h.0 in
       let is : failed ≡ has_failed = cc in
@@ -104,7 +104,7 @@ never-fails environment f x channel keys slot start elapsed outcome new d none s
     delivery-passes environment f.config x.id x.strategy x.backpressure_handler none (taking_buffers f.connections x.id channel (map (option_map details_of) f.subscribers)) 0 channel
     start.retries elapsed start.place (drop start.place (sender_ends f.connections keys)) start.count start.has_failed (mailboxes_of number f.connections x.id) (mailboxes_of number d.connections x.id)
     so_far count has_failed
-    (subst (λ (o : DeliveryOutcome). DeliverIn environment f.config x.id x.strategy x.backpressure_handler (taking_buffers f.connections x.id channel (map (option_map details_of) f.subscribers)) 0
+    (subst (λ (o : DeliveryOutcome). Deliver environment f.config x.id x.strategy x.backpressure_handler (taking_buffers f.connections x.id channel (map (option_map details_of) f.subscribers)) 0
     channel start.retries elapsed start.place (drop start.place (sender_ends f.connections keys)) start.count start.has_failed (mailboxes_of number f.connections x.id)
     (end_of 0 channel (sender_ends f.connections keys) o) (mailboxes_of number d.connections x.id)) is (d.delivers number))
   where
@@ -166,7 +166,7 @@ module _ {T U : Type 0} (f : Fields T U) (y : PublisherFields) (channel : ℕ) (
   -- the publisher's slot is delivered where this handler answers for it
   abbrev pub DeliversWith : Environment → Option (Handler BackpressureAction) → Type 0
   DeliversWith environment h = (number : ℕ → ℕ → ℕ)
-      → DeliverIn environment f.config y.id y.strategy h (taking_buffers f.connections y.id channel (map (option_map details_of) f.subscribers)) (number y.id slot)
+      → Deliver environment f.config y.id y.strategy h (taking_buffers f.connections y.id channel (map (option_map details_of) f.subscribers)) (number y.id slot)
       channel start.retries elapsed start.place (drop start.place (sender_ends f.connections keys)) start.count start.has_failed (mailboxes_of number f.connections y.id)
       (end_of (number y.id slot) channel (sender_ends f.connections keys) outcome) (mailboxes_of number new y.id)
 
@@ -212,7 +212,7 @@ module _ {T U : Type 0} (environment : Environment) (before f : Fields T U) (sam
   module _ (b book : Book) (at : get f.books y.book ≡ Some b) (new : Slab Link) (is : book ≡ with_counters b book.holders) (r : Recounts y.id b.holders f.connections book.holders new)
       (channel : ℕ) (keys : List (Option ℕ)) (slot : ℕ) (start : Progress) (elapsed : Duration) (outcome : DeliveryOutcome) (alone : GrowsAlone slot b.holders book.holders)
       (delivers : (number : ℕ → ℕ → ℕ)
-      → DeliverIn environment f.config y.id y.strategy y.backpressure_handler (taking_buffers f.connections y.id channel (map (option_map details_of) f.subscribers)) (number y.id slot)
+      → Deliver environment f.config y.id y.strategy y.backpressure_handler (taking_buffers f.connections y.id channel (map (option_map details_of) f.subscribers)) (number y.id slot)
       channel start.retries elapsed start.place (drop start.place (sender_ends f.connections keys)) start.count start.has_failed (mailboxes_of number f.connections y.id)
       (end_of (number y.id slot) channel (sender_ends f.connections keys) outcome) (mailboxes_of number new y.id)) where
     abbrev delivered : Fields T U
@@ -268,7 +268,7 @@ module _ {T U : Type 0} (environment : Environment) (before f : Fields T U) (sam
   module _ (b book : Book) (at : get f.books y.book ≡ Some b) (new : Slab Link) (is : book ≡ with_counters b book.holders) (r : Recounts y.id b.holders f.connections book.holders new)
       (slot : ℕ) (outcome : DeliveryOutcome) (alone : GrowsAlone slot b.holders book.holders)
       (delivers : (number : ℕ → ℕ → ℕ)
-      → DeliverIn environment f.config y.id y.strategy y.backpressure_handler (taking_buffers f.connections y.id 0 (map (option_map details_of) f.subscribers)) (number y.id slot)
+      → Deliver environment f.config y.id y.strategy y.backpressure_handler (taking_buffers f.connections y.id 0 (map (option_map details_of) f.subscribers)) (number y.id slot)
       0 0 no_time 0 (sender_ends f.connections y.keys) 0 false (mailboxes_of number f.connections y.id)
       (end_of (number y.id slot) 0 (sender_ends f.connections y.keys) outcome) (mailboxes_of number new y.id)) where
     pub sends-slot : (out : PublisherFields) → out ≡ sender_after outcome slot y → (sent : Book) → sent ≡ book_after outcome slot y book

@@ -8,7 +8,7 @@ use Rattle.std.specs.declared.option.Option.TheVariants.{None, Some}
 use Rattle.std.specs.declared.time.Duration.{Duration}
 use Rattle.std.specs.Option.{option_map, option_map_or}
 use Rattle.slab.specs.Slab.{get, Slab, with_value}
-use Rattle.iox2_machine.specs.machine.Delivery.{DeliveryEnd, Complete, Suspended, DeliverIn}
+use Rattle.iox2_machine.specs.machine.Delivery.{DeliveryEnd, Complete, Suspended, Deliver}
 use Rattle.iox2_slots.specs.SlotBook.{Book, holders_at}
 use Rattle.iox2_slots.specs.declared.slots.mark.SlotMark.{SlotMark}
 use Rattle.iox2_slots.specs.declared.slots.mark.SlotMark.TheVariants.{Unwritten, Written, Sent}
@@ -308,7 +308,7 @@ module _ {T U : Type 0} (environment : Environment) (f : Fields T U) (sound : Is
     -- the delivery, in these mailboxes, at these ends and with these buffers
     abbrev DeliversSo : Type 0
     DeliversSo =
-        DeliverIn environment f.config x.id x.strategy x.backpressure_handler buffers n w.channel start.retries elapsed start.place (drop start.place ends) start.count start.has_failed row (end_of n w.channel ends outcome) (boxes x.id)
+        Deliver environment f.config x.id x.strategy x.backpressure_handler buffers n w.channel start.retries elapsed start.place (drop start.place ends) start.count start.has_failed row (end_of n w.channel ends outcome) (boxes x.id)
 
   delivers : DeliversSo (s.mailboxes x.id) reach (channel_buffer s x.id w.channel)
   delivers =

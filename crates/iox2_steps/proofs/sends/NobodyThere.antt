@@ -4,7 +4,7 @@ use Rattle.std.proofs.lemmas.Option.{same_Some}
 use Rattle.std.specs.Option.{option_map}
 use Rattle.std.specs.Prelude.{MatchOption}
 use Rattle.std.specs.declared.time.Duration.{Duration}
-use Rattle.iox2_machine.specs.machine.Delivery.{DeliverIn, Complete, Skipped, no_time}
+use Rattle.iox2_machine.specs.machine.Delivery.{Deliver, Complete, Skipped, no_time}
 use Rattle.iox2_machine.specs.machine.Loans.{loan_discarded}
 use Rattle.iox2_machine.specs.machine.Mailbox.{Mailbox}
 use Rattle.iox2_machine.specs.machine.Numbers.{put_at, without}
@@ -34,7 +34,7 @@ use Rattle.iox2_domain.proofs.lemmas.slots.LeftConnections.{unknown, stands-nowh
 module _ (environment : Environment) (c : ServiceConfig) (p : ℕ) (strategy : BackpressureStrategy) (handler : Option (Handler BackpressureAction)) (buffers : ℕ → Option ℕ) (n channel : ℕ) where
   -- nobody gets the message
   delivers-nowhere : (retries : ℕ) (elapsed : Duration) (at : ℕ) (whole : List (Option ℕ)) (place count : ℕ) (has_failed : Bool) (boxes : ℕ → Mailbox) → occupant whole place ≡ None
-      → DeliverIn environment c p strategy handler buffers n channel retries elapsed at (take 1 (drop place whole)) 0 false boxes (Complete 0 false) boxes
+      → Deliver environment c p strategy handler buffers n channel retries elapsed at (take 1 (drop place whole)) 0 false boxes (Complete 0 false) boxes
   delivers-nowhere retries elapsed at [] zero count has_failed boxes none = (refl, refl)
   delivers-nowhere retries elapsed at [] (suc place) count has_failed boxes none = (refl, refl)
   delivers-nowhere retries elapsed at (None ∷ rest) zero count has_failed boxes none = (Skipped, boxes, (refl, refl), (refl, refl))

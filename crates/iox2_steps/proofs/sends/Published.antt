@@ -364,13 +364,13 @@ module _ {T U : Type 0} (environment : Environment) (f : Fields T U) (sound : Is
   abbrev how : DeliveryEnd
   how = end_of n 0 port.ends outcome
 
-  delivers : Deliver environment f.config x.id x.strategy x.backpressure_handler (channel_buffer s x.id 0) n 0 no_time 0 port.ends 0 false (s.mailboxes x.id) how (boxes x.id)
+  delivers : Deliver environment f.config x.id x.strategy x.backpressure_handler (channel_buffer s x.id 0) n 0 0 no_time 0 port.ends 0 false (s.mailboxes x.id) how (boxes x.id)
   delivers =
-      subst (λ (row : ℕ → Mailbox). Deliver environment f.config x.id x.strategy x.backpressure_handler (channel_buffer s x.id 0) n 0 no_time 0 port.ends 0 false row how (boxes x.id))
+      subst (λ (row : ℕ → Mailbox). Deliver environment f.config x.id x.strategy x.backpressure_handler (channel_buffer s x.id 0) n 0 0 no_time 0 port.ends 0 false row how (boxes x.id))
       (fun_ext (λ r. sym (mailboxes-are f x.id r)))
-      (subst (λ (m : ℕ). Deliver environment f.config x.id x.strategy x.backpressure_handler (channel_buffer s x.id 0) m 0 no_time 0 port.ends 0 false
+      (subst (λ (m : ℕ). Deliver environment f.config x.id x.strategy x.backpressure_handler (channel_buffer s x.id 0) m 0 0 no_time 0 port.ends 0 false
       (mailboxes_of (numbers_of f.books) f.connections x.id) (end_of m 0 port.ends outcome) (boxes x.id)) (loan-number f sound i x here slot n l lies)
-      (subst (λ (buffers : ℕ → Option ℕ). Deliver environment f.config x.id x.strategy x.backpressure_handler buffers (numbers_of f.books x.id slot) 0 no_time 0 port.ends 0 false
+      (subst (λ (buffers : ℕ → Option ℕ). Deliver environment f.config x.id x.strategy x.backpressure_handler buffers (numbers_of f.books x.id slot) 0 0 no_time 0 port.ends 0 false
       (mailboxes_of (numbers_of f.books) f.connections x.id) (end_of (numbers_of f.books x.id slot) 0 port.ends outcome) (boxes x.id)) (taking-are f x.id 0) (d.delivers (numbers_of f.books))))
 
   -- what the send concludes is published

@@ -4,7 +4,7 @@ use Rattle.std.proofs.lemmas.List.{drop-take, take-map, length-drop, length-take
 use Rattle.std.specs.declared.time.Duration.{Duration}
 use Rattle.slab.specs.Slab.{Slab}
 use Rattle.iox2_connections.specs.Link.{Link}
-use Rattle.iox2_machine.specs.machine.Delivery.{DeliverIn, DeliveryEnd, Complete, Suspended, is_blocking, is_failed, accepted_count, no_time}
+use Rattle.iox2_machine.specs.machine.Delivery.{Deliver, DeliveryEnd, Complete, Suspended, is_blocking, is_failed, accepted_count, no_time}
 use Rattle.iox2_machine.specs.machine.Mailbox.{Mailbox}
 use Rattle.iox2_machine.specs.machine.Records.{BlockedSend, Environment, Handler}
 use Rattle.iox2_machine.specs.declared.backpressure.BackpressureAction.{BackpressureAction}
@@ -60,7 +60,7 @@ reach-short b keys = by b.is_alone where
 module _ (environment : Environment) (c : ServiceConfig) (p : ℕ) (strategy : BackpressureStrategy) (handler : Option (Handler BackpressureAction)) (buffers : ℕ → Option ℕ) (n channel : ℕ) where
   -- a delivery stops at one of its places
   pub stops-within : (retries : ℕ) (elapsed : Duration) (place : ℕ) (ends : List (Option ℕ)) (count : ℕ) (has_failed : Bool) (boxes : ℕ → Mailbox) (how : DeliveryEnd) (boxes' : ℕ → Mailbox)
-      → DeliverIn environment c p strategy handler buffers n channel retries elapsed place ends count has_failed boxes how boxes'
+      → Deliver environment c p strategy handler buffers n channel retries elapsed place ends count has_failed boxes how boxes'
       → (b : BlockedSend) → how ≡ Suspended b → (place ≤ b.place) × (b.place < place + length ends)
   stops-within retries elapsed place [] count has_failed boxes how boxes' h b stops = absurd (let no : Complete count has_failed ≡ Suspended b = sym h.0 ∙ stops in cc)
   stops-within retries elapsed place (end ∷ rest) count has_failed boxes how boxes' h b stops =
