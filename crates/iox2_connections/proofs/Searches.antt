@@ -1,7 +1,7 @@
 -- A subscriber's search, seen from the machine.
 use Rattle.std.proofs.Common.{◌≡◌, ℕ, zero, suc, ◌+◌, ◌<◌, ◌≤◌, Bool, true, false, cond, not, ◌&&◌, ◌||◌, List, [], ◌∷◌, length, map, drop, Option, None, Some, get_or, refl, sym, ap, subst, ◌∙◌, arith, eqb, ⊎_elim}
 use Rattle.std.proofs.lemmas.Bool.{eqb-true, eq-eqb, true≢false, or_cases, or_left, or_right, or_parts}
-use Rattle.std.proofs.lemmas.List.{length-map, drop_all, drop_more}
+use Rattle.std.proofs.lemmas.List.{get_or-map, length-map, drop_all, drop_more}
 use Rattle.std.proofs.lemmas.List.Folds.{list_any-append}
 use Rattle.std.specs.Prelude.{IsTrue, IsSomeAnd, slice_index_or}
 use Rattle.std.specs.Bool.{MatchBool}
@@ -102,6 +102,17 @@ pub key-at : (keys : List ℕ) (i : ℕ) → i < length keys → get_or (map Som
 key-at [] i below = absurd (omega arith)
 key-at (key ∷ keys) zero below = refl
 key-at (key ∷ keys) (suc i) below = key-at keys i (omega arith)
+
+-- the key at a place of a list whose elements have keys, where this is the element there and its key
+pub listed-at : {A : Type 0} (key_of : A → Option ℕ) (xs : List A) (i : ℕ) (x : A) (key : Option ℕ) → i < length xs → x ≡ get_or xs i x → key ≡ key_of x → get_or (map key_of xs) i None ≡ key
+listed-at key_of xs i x key below there its = get_or-map key_of xs i x None below ∙ ap key_of (sym there) ∙ sym its
+
+-- the search goes on behind the place i of such a list
+pub listed-step : {A : Type 0} (key_of : A → Option ℕ) (connections : Slab Link) (xs : List A) (i : ℕ) (x : A) (key : Option ℕ) (found offer next all : Found) → i < length xs
+    → all ≡ first_found found (search connections (drop i (map key_of xs))) → x ≡ get_or xs i x → key ≡ key_of x → offer ≡ offer_at connections key → next ≡ first_found found offer
+    → all ≡ first_found next (search connections (drop (i + 1) (map key_of xs)))
+listed-step key_of connections xs i x key found offer next all below so_far there its is joins =
+    search-step connections (map key_of xs) i key found offer next all (omega (arith, length-map xs key_of)) so_far (listed-at key_of xs i x key below there its) is joins
 
 -- ---- what is found may be taken
 

@@ -7,6 +7,7 @@ mod connection;
 pub mod drops;
 mod further_channel;
 pub mod leaving;
+mod listed_key;
 pub mod receiver;
 pub mod retirement;
 pub mod sender;
@@ -14,4 +15,5 @@ mod slot_list;
 
 pub use channel_status::{CHANNEL_STATE_CLOSED, CHANNEL_STATE_OPEN};
 pub use connection::{Connection, Home, PutOutcome};
+pub use listed_key::ListedKey;
 pub use slot_list::take_slot;

@@ -13,6 +13,7 @@ ghost use Rattle.iox2_connections.specs.declared.receiver.Found.{Found};
 ghost use Rattle.iox2_connections.specs.Takes.{KeepsOtherKeys, KeepsReturned, SameStands, BorrowsSlot, ReceivesSlot, ReleasesSlot};
 
 use crate::connection::{Connection, Home};
+use crate::listed_key::ListedKey;
 use iox2_machine::ReceiveError;
 use iox2_slots::SlotBook;
 use slab::Slab;
@@ -85,13 +86,14 @@ fn look_to_take(connections: &mut Slab<Connection>, key: Option<usize>) -> Found
     }
 }
 
-fn search_expired(connections: &Slab<Connection>, expired: &[usize]) -> Found
-    requires { HasConnections connections.now (map Some expired.now) }
-    ensures { result ≡ search connections.now (map Some expired.now) }
+// What the connections at these keys offer.
+fn search_keys<K: ListedKey>(connections: &Slab<Connection>, keys: &[K]) -> Found
+    requires { HasConnections connections.now (map K.key_of keys.now) }
+    ensures { result ≡ search connections.now (map K.key_of keys.now) }
 {
     let mut found = Found::Nothing;
-    for index in 0..expired.len() {
-        match look(connections, Some(expired[index])) {
+    for index in 0..keys.len() {
+        match look(connections, keys[index].key()) {
             Found::Ready(key) => return Found::Ready(key),
             Found::AtLimit => found = Found::AtLimit,
             Found::Nothing => {}
@@ -153,7 +155,7 @@ pub fn receive(
     requires apart { IsApart connections.old }
     ensures { ReceivesSlot connections.old expired.now keys.now result connections.new }
 {
-    let mut found = search_expired(connections, expired);
+    let mut found = search_keys(connections, expired);
     if let Found::Ready(key) = found {
         return Ok(Some(take(connections, key)));
     }
@@ -176,22 +178,6 @@ pub fn receive(
     }
 }
 
-// What the connections at these keys offer.
-fn search_keys(connections: &Slab<Connection>, keys: &[Option<usize>]) -> Found
-    requires { HasConnections connections.now keys.now }
-    ensures { result ≡ search connections.now keys.now }
-{
-    let mut found = Found::Nothing;
-    for index in 0..keys.len() {
-        match look(connections, keys[index]) {
-            Found::Ready(key) => return Found::Ready(key),
-            Found::AtLimit => found = Found::AtLimit,
-            Found::Nothing => {}
-        }
-    }
-    found
-}
-
 /// Whether a message waits in one of these connections, also one that may not be borrowed yet.
 ///
 /// iceoryx2's `Receiver::has_samples` (`src/port/details/receiver.rs`).
@@ -204,7 +190,7 @@ pub fn has_samples(
     requires keys { HasConnections connections.now keys.now }
     ensures { (found : Found) × Finds connections.now expired.now keys.now found × (result ≡ is_something found) }
 {
-    search_expired(connections, expired).is_something()
+    search_keys(connections, expired).is_something()
         || search_keys(connections, keys).is_something()
 }
 

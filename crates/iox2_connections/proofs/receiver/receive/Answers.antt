@@ -10,12 +10,12 @@ use Rattle.iox2_connections.proofs.receiver.receive.Goals as goal
 
 pub take-requires-clause-ready : goal.take-requires-clause-ready
 take-requires-clause-ready c =
-    (expired-ready c.args.connections.now c.args.expired.now c.args.keys.now c.search_expired-found.result c.in-Ready.key c.search_expired-found.ensures c.in-Ready.is).0
+    (expired-ready c.args.connections.now c.args.expired.now c.args.keys.now c.search_keys-found.result c.in-Ready.key c.search_keys-found.ensures c.in-Ready.is).0
 
 pub returns-in-Ready : goal.returns-in-Ready
 returns-in-Ready c = (
   subst (λ (key : ℕ). Finds c.args.connections.now c.args.expired.now c.args.keys.now (Found.Ready key)) (sym c.take.ensures.from)
-      (expired-ready c.args.connections.now c.args.expired.now c.args.keys.now c.search_expired-found.result c.in-Ready.key c.search_expired-found.ensures c.in-Ready.is).1,
+      (expired-ready c.args.connections.now c.args.expired.now c.args.keys.now c.search_keys-found.result c.in-Ready.key c.search_keys-found.ensures c.in-Ready.is).1,
   takes-slot c.args.connections.now c.take.new.connections c.take.result c.in-Ready.key c.take.ensures.from c.take.ensures.home
       c.take.ensures.waited c.take.ensures.takes c.take.ensures.homes c.take.ensures.others c.take.ensures.returned c.take.ensures.stands,
 )
@@ -26,8 +26,8 @@ look_to_take-requires c = λ key at. c.requires.keys.at c.args.last_place.now ke
 pub returns-in-Ready-look_to_take : goal.returns-in-Ready-look_to_take
 returns-in-Ready-look_to_take c = (
   subst (λ (key : ℕ). Finds c.args.connections.now c.args.expired.now c.args.keys.now (Found.Ready key)) (sym c.take-in-Ready-look_to_take.ensures.from)
-      (offer-ready c.args.connections.now c.args.expired.now c.args.keys.now c.search_expired-found.result c.look_to_take.result c.key_in.result c.in-Ready-look_to_take.key
-      c.search_expired-found.ensures c.in_default.not-Ready (λ key at. (c.args.last_place.now, sym c.key_in.ensures ∙ at)) c.look_to_take.ensures.offers c.in-Ready-look_to_take.is),
+      (offer-ready c.args.connections.now c.args.expired.now c.args.keys.now c.search_keys-found.result c.look_to_take.result c.key_in.result c.in-Ready-look_to_take.key
+      c.search_keys-found.ensures c.in_default.not-Ready (λ key at. (c.args.last_place.now, sym c.key_in.ensures ∙ at)) c.look_to_take.ensures.offers c.in-Ready-look_to_take.is),
   subst (λ (s : Slab Link). TakesSlot s c.take-in-Ready-look_to_take.result c.take-in-Ready-look_to_take.new.connections) c.look_to_take.ensures.same
       (takes-slot c.look_to_take.new.connections c.take-in-Ready-look_to_take.new.connections c.take-in-Ready-look_to_take.result c.in-Ready-look_to_take.key c.take-in-Ready-look_to_take.ensures.from c.take-in-Ready-look_to_take.ensures.home
       c.take-in-Ready-look_to_take.ensures.waited c.take-in-Ready-look_to_take.ensures.takes c.take-in-Ready-look_to_take.ensures.homes c.take-in-Ready-look_to_take.ensures.others c.take-in-Ready-look_to_take.ensures.returned c.take-in-Ready-look_to_take.ensures.stands),
