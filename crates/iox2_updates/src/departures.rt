@@ -12,7 +12,7 @@ ghost use Rattle.iox2_domain.specs.Reaches.{Reaches};
 ghost use Rattle.iox2_domain.specs.Midway.{ChangesBooks, IsMidway};
 ghost use Rattle.iox2_domain.specs.Ports.{SubscriberFields};
 
-use iox2_connections::{Connection, Home};
+use iox2_connections::{Connection, Home, ListedKey};
 use iox2_domain::{
     DomainState, PublisherState, SubscriberState, forget_at, key_at, make_all_due, stands_at,
 };
@@ -62,31 +62,17 @@ fn remove_if_unshared(
     }
 }
 
-// The connections at the keys of places go that are the subscriber's alone.
-fn remove_at_places(
+// The connections at these keys go that are the subscriber's alone.
+fn remove_at_keys<K: ListedKey>(
     connections: &mut Slab<Connection>,
     publishers: &[Option<PublisherState>],
     subscriber: u128,
-    keys: &[Option<usize>],
+    keys: &[K],
 )
-    ensures { DropsUnshared publishers.now subscriber (HasKey keys.now) connections.old connections.new }
-{
-    for place in 0..keys.len() {
-        remove_if_unshared(connections, publishers, subscriber, keys[place]);
-    }
-}
-
-// The connections at the expired keys go that are the subscriber's alone.
-fn remove_expired(
-    connections: &mut Slab<Connection>,
-    publishers: &[Option<PublisherState>],
-    subscriber: u128,
-    keys: &[usize],
-)
-    ensures { DropsUnshared publishers.now subscriber (HasKey (map Some keys.now)) connections.old connections.new }
+    ensures { DropsUnshared publishers.now subscriber (HasKey (map K.key_of keys.now)) connections.old connections.new }
 {
     for index in 0..keys.len() {
-        remove_if_unshared(connections, publishers, subscriber, Some(keys[index]));
+        remove_if_unshared(connections, publishers, subscriber, keys[index].key());
     }
 }
 
@@ -99,8 +85,8 @@ fn remove_unshared(
     ensures { DropsUnshared publishers.now subscriber.now.id (KnowsKey subscriber.now) connections.old connections.new }
 {
     let id = subscriber.id.value();
-    remove_at_places(connections, publishers, id, &subscriber.keys);
-    remove_expired(connections, publishers, id, &subscriber.expired);
+    remove_at_keys(connections, publishers, id, &subscriber.keys);
+    remove_at_keys(connections, publishers, id, &subscriber.expired);
 }
 
 // The subscriber has borrowed something in the connection at a key.
@@ -126,30 +112,17 @@ fn borrows_if_any(connections: &Slab<Connection>, subscriber: u128, key: Option<
     }
 }
 
-// The subscriber has borrowed something in a connection at the keys of places.
-fn borrows_at_places(
+// The subscriber has borrowed something in a connection at these keys.
+fn borrows_at_keys<K: ListedKey>(
     connections: &Slab<Connection>,
     subscriber: u128,
-    keys: &[Option<usize>],
+    keys: &[K],
 ) -> bool
     ensures some { IsTrue result → BorrowsSome connections.now subscriber }
-    ensures nothing { result ≡ false → BorrowsNothing connections.now subscriber (HasKey keys.now) }
-{
-    for place in 0..keys.len() {
-        if borrows_if_any(connections, subscriber, keys[place]) {
-            return true;
-        }
-    }
-    false
-}
-
-// The subscriber has borrowed something in a connection at the expired keys.
-fn borrows_expired(connections: &Slab<Connection>, subscriber: u128, keys: &[usize]) -> bool
-    ensures some { IsTrue result → BorrowsSome connections.now subscriber }
-    ensures nothing { result ≡ false → BorrowsNothing connections.now subscriber (HasKey (map Some keys.now)) }
+    ensures nothing { result ≡ false → BorrowsNothing connections.now subscriber (HasKey (map K.key_of keys.now)) }
 {
     for index in 0..keys.len() {
-        if borrows_if_any(connections, subscriber, Some(keys[index])) {
+        if borrows_if_any(connections, subscriber, keys[index].key()) {
             return true;
         }
     }
@@ -162,8 +135,8 @@ fn has_borrowed(connections: &Slab<Connection>, subscriber: &SubscriberState) ->
     ensures nothing { result ≡ false → BorrowsNothing connections.now subscriber.now.id (KnowsKey subscriber.now) }
 {
     let id = subscriber.id.value();
-    borrows_expired(connections, id, &subscriber.expired)
-        || borrows_at_places(connections, id, &subscriber.keys)
+    borrows_at_keys(connections, id, &subscriber.expired)
+        || borrows_at_keys(connections, id, &subscriber.keys)
 }
 
 /// The subscriber at a place leaves where it was closed and has borrowed nothing any more. Then

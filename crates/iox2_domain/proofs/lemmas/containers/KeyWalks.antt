@@ -1,11 +1,11 @@
 -- Keys in a list, gone over from the first.
-use Rattle.std.proofs.Common.{◌≡◌, ℕ, zero, suc, ◌+◌, ◌<◌, ◌≤◌, List, [], ◌∷◌, map, length, get_or, refl, ap, sym, ◌∙◌, inl, inr, ◌⊎◌, arith}
+use Rattle.std.proofs.Common.{◌≡◌, ℕ, ◌+◌, ◌<◌, ◌≤◌, List, map, length, get_or, ap, sym, ◌∙◌, inl, inr, ◌⊎◌, arith}
 use Rattle.std.proofs.lemmas.Bool.{cases_eq}
 use Rattle.std.proofs.lemmas.List.{length-map}
-use Rattle.std.specs.Prelude.{slice_index}
 use Rattle.std.specs.declared.option.Option.{Option}
 use Rattle.std.specs.declared.option.Option.TheVariants.{None, Some}
 use Rattle.iox2_connections.proofs.MailboxChanges.{within_if_some}
+use Rattle.iox2_connections.proofs.Searches.{listed-at}
 use Rattle.iox2_domain.specs.Departures.{HasKey}
 
 -- the key stands in the list below the place
@@ -23,14 +23,13 @@ next-key keys place key has = elim (cases_eq has.0 place) [
 pub all-keys : (keys : List (Option ℕ)) (place key : ℕ) → length keys ≤ place → HasKey keys key → HasKeyBelow keys place key
 all-keys keys place key all has = let low = within_if_some keys has.0 key has.1 in (has.0, omega (arith, low, all), has.1)
 
--- the same for a list of numbers
-listed : (xs : List ℕ) (i x : ℕ) → i < length xs → get_or (map Some xs) i None ≡ Some (get_or xs i x)
-listed [] i x low = absurd (omega (arith, low))
-listed (y ∷ ys) zero x low = refl
-listed (y ∷ ys) (suc i) x low = listed ys i x (omega (arith, low))
+-- the same for a list whose elements have keys, where this is the element at the place and its key
+pub next-listed : {A : Type 0} (key_of : A → Option ℕ) (xs : List A) (place : ℕ) (x : A) (key : Option ℕ) → place < length xs → x ≡ get_or xs place x → key ≡ key_of x
+    → (k : ℕ) → HasKeyBelow (map key_of xs) (place + 1) k → HasKeyBelow (map key_of xs) place k ⊎ (key ≡ Some k)
+next-listed key_of xs place x key low there its k has = elim (next-key (map key_of xs) place k has) [
+  | inl below ↦ inl below
+  | inr here ↦ inr (sym (listed-at key_of xs place x key low there its) ∙ here)
+]
 
-pub next-listed : (xs : List ℕ) (index : ℕ) → index < length xs → (key : ℕ) → HasKeyBelow (map Some xs) (index + 1) key → HasKeyBelow (map Some xs) index key ⊎ (Some (slice_index xs index) ≡ Some key)
-next-listed xs index low key has = elim (next-key (map Some xs) index key has) [ inl below ↦ inl below | inr here ↦ inr (sym (listed xs index 0 low) ∙ here) ]
-
-pub all-listed : (xs : List ℕ) (index key : ℕ) → length xs ≤ index → HasKey (map Some xs) key → HasKeyBelow (map Some xs) index key
-all-listed xs index key all has = all-keys (map Some xs) index key (omega (arith, all, length-map xs Some)) has
+pub all-listed : {A : Type 0} (key_of : A → Option ℕ) (xs : List A) (place key : ℕ) → length xs ≤ place → HasKey (map key_of xs) key → HasKeyBelow (map key_of xs) place key
+all-listed key_of xs place key all has = all-keys (map key_of xs) place key (omega (arith, all, length-map xs key_of)) has
