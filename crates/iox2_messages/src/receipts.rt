@@ -14,8 +14,10 @@ ghost use Rattle.iox2_domain.specs.Midway.{IsMidway};
 ghost use Rattle.iox2_domain.specs.Receipts.{IsReceiptFor, TakesAs, ReceivesAs};
 ghost use Rattle.iox2_domain.specs.Updates.{is_subscriber_due};
 
-use crate::hinted_samples::{find_live_sample, is_last_at_hint};
-use iox2_connections::receiver::{Taken, let_go, receive, release};
+use crate::hinted_samples::find_live_sample;
+use iox2_connections::receiver::{
+    BorrowedMessage, Taken, let_go, receive, release, release_if_last,
+};
 use iox2_connections::{Connection, Home};
 use iox2_domain::{Boxes, DomainState, Receipt, SampleAt, SampleSlot, stands_at};
 use iox2_machine::{
@@ -150,8 +152,18 @@ pub fn give_back<T: Drop, U: Default + Drop>(state: &mut DomainState<T, U>, samp
     ensures released { (publisher : ℕ) → IsTrue (is_borrowed sample.number ((state_of (kept_of state.old)).mailboxes publisher sample.subscriber))
         → Reaches state.old state.new (released (state_of (kept_of state.old)) publisher sample.subscriber sample.number) }
 {
-    if is_last_at_hint(state, &sample) {
-        release(&mut state.connections, sample.connection, sample.slot);
+    let message = BorrowedMessage {
+        subscriber: sample.subscriber.value(),
+        book: sample.book,
+        slot: sample.slot,
+        number: sample.number,
+    };
+    if release_if_last(
+        &mut state.connections,
+        &mut state.books,
+        sample.connection,
+        message,
+    ) {
         return;
     }
     search_and_give_back(state, sample);
