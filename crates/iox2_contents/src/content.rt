@@ -105,8 +105,8 @@ impl<T: Drop, U: Default + Drop> Content<T, U> {
         self.user_header = U::default();
         match &mut self.payload {
             Payload::Elements(elements) => {
-                elements.cells.give_up(alloc);
-                elements.values.give_up(alloc);
+                elements.cells.free_memory(alloc);
+                elements.values.free_memory(alloc);
             }
             _ => self.payload = Payload::Empty,
         }

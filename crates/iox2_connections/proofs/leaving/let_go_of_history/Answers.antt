@@ -5,8 +5,8 @@ use Rattle.iox2_connections.specs.Counters.{one_holder_less, with_counters}
 use Rattle.iox2_connections.proofs.Counts.{in_range}
 use Rattle.iox2_connections.proofs.Histories.{stands-below}
 use Rattle.iox2_connections.proofs.Leaves.{next-held, next-given}
-use Rattle.iox2_connections.proofs.leaving.give_up_history.Goals as goal
-use Rattle.iox2_connections.proofs.leaving.give_up_history.Goals.{in-Some, in_default}
+use Rattle.iox2_connections.proofs.leaving.let_go_of_history.Goals as goal
+use Rattle.iox2_connections.proofs.leaving.let_go_of_history.Goals.{in-Some, in_default}
 
 pub release-requires : goal.release-requires
 release-requires c =

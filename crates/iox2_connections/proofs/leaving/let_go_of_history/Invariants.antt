@@ -1,7 +1,7 @@
 use Rattle.std.proofs.Common.{◌≡◌}
 use Rattle.iox2_connections.specs.Counters.{with_counters}
 use Rattle.iox2_connections.proofs.Leaves.{GivesUpTo}
-use Rattle.iox2_connections.proofs.leaving.give_up_history.Given as goal
+use Rattle.iox2_connections.proofs.leaving.let_go_of_history.Given as goal
 
 abbrev pub invariant-loop-index : goal.invariant-loop-index
 invariant-loop-index l = record {

@@ -7,8 +7,8 @@ use Rattle.iox2_domain.specs.Fields.{Fields}
 use Rattle.iox2_domain.specs.Invariant.{is_publisher}
 use Rattle.iox2_domain.specs.Reaches.{Reaches}
 use Rattle.iox2_steps.proofs.releases.BookFreed.{attains, contents-within, found-none, found-some, frees, kept-found, kept-used, only-books, unused-book, used-book}
-use Rattle.iox2_updates.proofs.departures.free_book_if_unused.Goals.{else-is_unused-via-then-is_unused+else-is_none, else-is_unused-via-else-is_unused}
-use Rattle.iox2_updates.proofs.departures.free_book_if_unused.Goals as goal
+use Rattle.iox2_updates.proofs.departures.settle_book_if_left.Goals.{else-is_unused-via-then-is_unused+else-is_none, else-is_unused-via-else-is_unused}
+use Rattle.iox2_updates.proofs.departures.settle_book_if_left.Goals as goal
 
 pub remove_book-requires : goal.remove_book-requires
 remove_book-requires g c =

@@ -3,7 +3,7 @@ use Rattle.slab.specs.Slab.{get, ContainsKey}
 use Rattle.iox2_connections.specs.declared.connection.Home.{Home}
 use Rattle.iox2_domain.specs.Fields.{Fields}
 use Rattle.iox2_domain.proofs.lemmas.slots.PublisherBooks.{book-stands, link-held}
-use Rattle.iox2_updates.proofs.retirements.lose_connection.Goals as goal
+use Rattle.iox2_updates.proofs.retirements.drop_connection.Goals as goal
 
 pub index_mut-requires : goal.index_mut-requires
 index_mut-requires g c =

@@ -1,7 +1,7 @@
 use Rattle.std.proofs.Common.{ap}
 use Rattle.iox2_connections.specs.declared.connection.Home.{Home}
 use Rattle.iox2_steps.proofs.subscriber_closes.CloseSteps.{book-stands, book-holds, loses-in}
-use Rattle.iox2_ports.proofs.subscriber_closes.lose_waiting.Goals as goal
+use Rattle.iox2_ports.proofs.subscriber_closes.drop_waiting.Goals as goal
 
 pub index_mut-requires : goal.index_mut-requires
 index_mut-requires g c =

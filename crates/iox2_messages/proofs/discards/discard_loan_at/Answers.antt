@@ -10,12 +10,12 @@ use Rattle.iox2_connections.proofs.MailboxChanges.{within_if_some}
 use denote.Param.{param}
 use Rattle.iox2_domain.specs.contracts.state.DomainState.{the_view}
 use Rattle.iox2_domain.specs.Deliveries.{with_loan_out}
-use Rattle.iox2_domain.specs.Discards.{with_holder_gone, with_loan_returned}
+use Rattle.iox2_domain.specs.Discards.{with_holder_gone, with_loan_discarded}
 use Rattle.iox2_domain.specs.Fields.{Fields, contents_at, contents_in}
 use Rattle.iox2_domain.specs.Ports.{PublisherFields}
 use Rattle.iox2_domain.proofs.lemmas.slots.PublisherBooks.{read-there}
-use Rattle.iox2_messages.proofs.discards.return_loan.Goals.{After-publisher, In-Some}
-use Rattle.iox2_messages.proofs.discards.return_loan.Goals as goal
+use Rattle.iox2_messages.proofs.discards.discard_loan_at.Goals.{After-publisher, In-Some}
+use Rattle.iox2_messages.proofs.discards.discard_loan_at.Goals as goal
 
 -- the publisher that was looked up is the one that stands at the place
 there : (g : _) (c : In-Some g) (x : PublisherFields) → slice_index_or c.args.state.now.publishers c.args.place None ≡ Some x → c.in-Some.publisher ≡ x
@@ -90,4 +90,4 @@ returns g c = λ x b at has.
     let ended : c.end_cells.new.contents ≡ Some (with_changed (contents_at c.state.inside.contents.items x.book) c.args.slot ended_content) =
     c.end_cells.ensures cs.0 (sym (read-there c.state.inside.contents.items c.publisher.inside.book _ _ at_key c.index_mut-2.ensures.value) ∙ at_key)
     ∙ ap (λ (o : Option (List (ContentState g.row.T.Denot g.row.U.Denot))). Some (with_changed (contents_in o) c.args.slot ended_content)) (sym had) in
-    (λ i. record (the_view (param 0 g.row.T) (param 1 g.row.U) c.state.inside) { publishers = slice_set c.state.inside.publishers.items c.args.place (Some (out i)); books = with_value c.state.inside.books (key i) (given i); contents = slice_set c.state.inside.contents.items (key i) (ended i) }) ∙ ap (λ (f : Fields g.row.T.Denot g.row.U.Denot). with_loan_returned f c.args.place x c.args.slot b) c.state.view_is
+    (λ i. record (the_view (param 0 g.row.T) (param 1 g.row.U) c.state.inside) { publishers = slice_set c.state.inside.publishers.items c.args.place (Some (out i)); books = with_value c.state.inside.books (key i) (given i); contents = slice_set c.state.inside.contents.items (key i) (ended i) }) ∙ ap (λ (f : Fields g.row.T.Denot g.row.U.Denot). with_loan_discarded f c.args.place x c.args.slot b) c.state.view_is

@@ -9,8 +9,8 @@ use Rattle.iox2_domain.specs.Fields.{Fields}
 use Rattle.iox2_domain.specs.contracts.state.DomainState.{the_view}
 use Rattle.iox2_steps.proofs.releases.Forgets.{ItsSubscriber, its-place, prunes}
 use Rattle.iox2_steps.proofs.releases.HandedBack.{IsLetGo, book-there, borrowed-there, is-given-back, is-let-go, once-there, slot-in_use, subscriber-here}
-use Rattle.iox2_messages.proofs.receipts.hand_back.Goals.{After-let_go, After-stands_at}
-use Rattle.iox2_messages.proofs.receipts.hand_back.Goals as goal
+use Rattle.iox2_messages.proofs.receipts.release_borrowed_slot.Goals.{After-let_go, After-stands_at}
+use Rattle.iox2_messages.proofs.receipts.release_borrowed_slot.Goals as goal
 
 -- the slot is borrowed in the connection, and once
 borrowed : (g : _) (c : After-stands_at g) → IsSomeAnd (get c.state.inside.connections c.args.at.connection) (λ (l : Link). Contains l.borrowed c.args.at.slot)
