@@ -27,7 +27,7 @@ pub fn leave(connection: &mut Connection, book: &mut SlotBook, awaited: bool)
     }
 }
 
-/// Gives up the slots of a publisher's history. Each of them has one holder less.
+/// Lets go of the slots of a publisher's history. Each of them has one holder less.
 ///
 /// iceoryx2's `PublisherSharedState` drops its history (`src/port/publisher.rs`).
 pub fn let_go_of_history(history: &HeapCircularBuffer<usize>, book: &mut SlotBook)

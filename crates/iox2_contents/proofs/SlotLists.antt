@@ -283,7 +283,7 @@ module _ {T U : Type 0} where
       written = same ∙ changed-contents contents (written_content values) t are is refl;
     }
 
-    -- a slot without cells gives up its room
+    -- a slot without cells frees its room
     pub cleared-lists : HasLists most spare number xs → (t : SlotState T U) → s.content.cells ≡ [] → t.content.cells ≡ [] → t.content.lists ≡ s.content.lists → t.content.is_in_place ≡ s.content.is_in_place
         → t.content.room ≤ s.content.room → has_list t ≡ false → HasLists most spare number (slice_set xs i t)
     cleared-lists has t none gone lists place room no-list =

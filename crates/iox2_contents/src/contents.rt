@@ -100,7 +100,7 @@ impl<T: Drop, U: Default + Drop> Contents<T, U> {
         Ok(())
     }
 
-    /// Drops what lies in the slot, which is of no loan or message any more, and gives up its room.
+    /// Drops what lies in the slot, which is of no loan or message any more, and frees its room.
     pub fn clear(&mut self, alloc: Global, slot: usize)
         requires { slot < length self.old }
         ensures { ClearsSlot self.old self.new slot }
