@@ -241,7 +241,6 @@ pub fn has_number(book: &SlotBook, slot: usize, number: u128) -> bool
 /// [`release`] does the same with a slot that is known to be borrowed. A look-up in books that may be
 /// written tests less, and nothing is written there (docs/decisions/cost.md, "Look-ups that can't fail go
 /// through `&mut`").
-#[inline(always)]
 pub fn release_if_last(
     connections: &mut Slab<Connection>,
     books: &mut Slab<SlotBook>,
