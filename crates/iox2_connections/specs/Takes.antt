@@ -66,17 +66,21 @@ pub record ReleasesSlot (old : Slab Link) (key slot : ℕ) (new : Slab Link) : T
 abbrev pub HasItsSlots : Slab Book → Link → Type 0
 HasItsSlots books c = IsSomeAnd (get books c.home.book) (λ b. (slot : ℕ) → Contains c.borrowed slot → slot < length b.holders)
 
--- The message was borrowed in the connection at the key, which is marked as open, and is given back there, and nothing else changes.
-pub record ReturnsMessage (old : Slab Link) (books : Slab Book) (key : ℕ) (message : BorrowedMessage) (new : Slab Link) : Type 0 where
+-- The message was borrowed in the connection at the key, which is marked as open, and its slot has its number.
+pub record IsLastAt (connections : Slab Link) (books : Slab Book) (key : ℕ) (message : BorrowedMessage) : Type 0 where
   pub link : Link
-  pub stands : get old key ≡ Some link
+  pub stands : get connections key ≡ Some link
   pub subscriber_is : link.home.subscriber ≡ message.subscriber
   pub book_is : link.home.book ≡ message.book
   pub borrowed : Contains link.borrowed message.slot
   pub marked : link.is_open ≡ true
   pub number_is : IsSomeAnd (get books message.book) (λ b. slice_index b.numbers message.slot ≡ message.number)
+
+-- Such a message is given back, and nothing else changes.
+pub record ReturnsMessage (old : Slab Link) (books : Slab Book) (key : ℕ) (message : BorrowedMessage) (new : Slab Link) : Type 0 where
+  pub is_last : IsLastAt old books key message
   pub releases : ReleasesSlot old key message.slot new
-  pub returned : get new key ≡ Some (with_returned message.slot link)
+  pub returned : IsSomeAnd (get old key) (λ c. get new key ≡ Some (with_returned message.slot c))
   pub homes : SameHomes old new
   pub others : KeepsOtherKeys key old new
   pub stay : SameStands old new

@@ -10,7 +10,7 @@ ghost use Rattle.iox2_connections.specs.Recounts.{Recounts};
 ghost use Rattle.iox2_connections.specs.Homes.{IsApart, SameHomes};
 ghost use Rattle.iox2_connections.specs.Finds.{offer_at, offer_of, search, is_something, Finds, HasConnections};
 ghost use Rattle.iox2_connections.specs.declared.receiver.Found.{Found};
-ghost use Rattle.iox2_connections.specs.Takes.{HasItsSlots, KeepsOtherKeys, KeepsReturned, SameStands, BorrowsSlot, ReceivesSlot, ReleasesIfLast, ReleasesSlot};
+ghost use Rattle.iox2_connections.specs.Takes.{HasItsSlots, KeepsOtherKeys, KeepsReturned, SameStands, BorrowsSlot, IsLastAt, ReceivesSlot, ReleasesIfLast, ReleasesSlot};
 
 use crate::connection::{Connection, Home};
 use crate::listed_key::ListedKey;
@@ -207,9 +207,9 @@ pub fn has_samples(
         || search_keys(connections, keys).is_something()
 }
 
-/// Whether the slot may be given back at once: the connection is this subscriber's, for slots of the book
-/// at the key, and is marked as open, and the slot is the one that was borrowed last of it.
-pub fn is_last_borrowed(connection: &Connection, subscriber: u128, book: usize, slot: usize) -> bool
+// Whether the slot may be given back at once: the connection is this subscriber's, for slots of the book
+// at the key, and is marked as open, and the slot is the one that was borrowed last of it.
+fn is_last_borrowed(connection: &Connection, subscriber: u128, book: usize, slot: usize) -> bool
     ensures subscriber { IsTrue result → connection.now.home.subscriber ≡ subscriber }
     ensures book { IsTrue result → connection.now.home.book ≡ book }
     ensures borrowed { IsTrue result → Contains connection.now.borrowed slot }
@@ -225,22 +225,43 @@ pub fn is_last_borrowed(connection: &Connection, subscriber: u128, book: usize, 
         && connection.is_open()
 }
 
-/// Whether a slot of the book has the number.
-pub fn has_number(book: &SlotBook, slot: usize, number: u128) -> bool
+// Whether a slot of the book has the number.
+fn has_number(book: &SlotBook, slot: usize, number: u128) -> bool
     requires { slot < length book.now.holders }
     ensures { IsTrue result → slice_index book.now.numbers slot ≡ number }
 {
     book.number(slot) == number
 }
 
-/// Gives a message back to its publisher, where it lies as it says: the connection at the key is this
-/// subscriber's, for slots of this book, and is marked as open, the slot is the one that was borrowed last
-/// of it, and has this number. Returns whether all that is so; else nothing changes. The slot keeps its
-/// holder until the publisher reclaims it.
+/// Whether a message lies as it says: the connection at the key is this subscriber's, for slots of this
+/// book, and is marked as open, the slot is the one that was borrowed last of it, and has this number.
+/// It is mostly so. No holders are counted for that. A look-up in books that may be written tests less,
+/// and nothing is written (docs/decisions/cost.md, "Look-ups that can't fail go through `&mut`").
+#[inline(always)]
+pub fn is_last_at(
+    connections: &Slab<Connection>,
+    books: &mut Slab<SlotBook>,
+    key: usize,
+    message: BorrowedMessage,
+) -> bool
+    requires slots { ForSome (get connections.now key) (HasItsSlots books.old) }
+    ensures last { IsTrue result → IsLastAt connections.now books.old key message }
+    ensures same_books { books.new ≡ books.old }
+{
+    match connections.get(key) {
+        Some(connection) => {
+            is_last_borrowed(connection, message.subscriber, message.book, message.slot)
+                && has_number(&mut books[message.book], message.slot, message.number)
+        }
+        None => false,
+    }
+}
+
+/// Gives a message back to its publisher where it lies as it says ([`is_last_at`]), and returns whether it
+/// does. Else nothing changes. The slot keeps its holder until the publisher reclaims it.
 ///
-/// [`release`] does the same with a slot that is known to be borrowed. A look-up in books that may be
-/// written tests less, and nothing is written there (docs/decisions/cost.md, "Look-ups that can't fail go
-/// through `&mut`").
+/// [`release`] does the same with a slot that is known to be borrowed.
+#[inline(always)]
 pub fn release_if_last(
     connections: &mut Slab<Connection>,
     books: &mut Slab<SlotBook>,
@@ -253,16 +274,10 @@ pub fn release_if_last(
     ensures releases { ReleasesIfLast connections.old books.old key message result connections.new }
     ensures same_books { books.new ≡ books.old }
 {
-    let Some(connection) = connections.get_mut(key) else {
-        return false;
-    };
-    if !is_last_borrowed(connection, message.subscriber, message.book, message.slot) {
+    if !is_last_at(connections, books, key, message) {
         return false;
     }
-    if !has_number(&mut books[message.book], message.slot, message.number) {
-        return false;
-    }
-    connection.release(message.slot);
+    release(connections, key, message.slot);
     true
 }
 

@@ -3,7 +3,7 @@ use Rattle.std.proofs.Common.{◌≡◌, ℕ, Option, None, Some, Contains, IsTr
 use Rattle.std.proofs.lemmas.Bool.{true≢false}
 use Rattle.slab.specs.Slab.{Slab, get, ContainsKey}
 use Rattle.iox2_connections.specs.Link.{Link}
-use Rattle.iox2_connections.specs.Takes.{HasItsSlots, ReturnsMessage}
+use Rattle.iox2_connections.specs.Takes.{HasItsSlots, IsLastAt, ReleasesSlot, ReturnsMessage}
 use Rattle.iox2_connections.specs.declared.receiver.BorrowedMessage.{BorrowedMessage}
 use Rattle.iox2_connections.proofs.MailboxChanges.{mailbox-there}
 use Rattle.iox2_connections.proofs.Releases.{IsOnce-map}
@@ -44,42 +44,52 @@ module _ {T U : Type 0} (f v : Fields T U) (view : v ≡ f) (sound : IsDomain f)
       by None e has = absurd (true≢false (sym (rw e at has)))
       by (Some b) e has = its-slots-within f sound key c.home.book c b (has-its-book v f key c.home c view sound at refl b e)
 
-module _ {T U : Type 0} (f v : Fields T U) (view : v ≡ f) (new : Slab Link) (books : Slab Book) (same : books ≡ v.books) where
-  -- the fields with what the end left
-  abbrev left : Slab Book → Fields T U
-  left these = record v { connections = new; books = these }
+-- the fields with what the end left
+abbrev left_by : {T U : Type 0} → Fields T U → Slab Link → Slab Book → Fields T U
+left_by v new these = record v { connections = new; books = these }
 
-  -- nothing was given back
-  pub same-fields : new ≡ v.connections → left books ≡ f
-  same-fields stays =
-      ap left same ∙ ap (λ (slab : Slab Link). let g : Fields T U = record v { connections = slab } in g) stays ∙ view
+-- the sample's message, as the end names it
+abbrev message_named : SampleAt → BorrowedMessage
+message_named sample = record { subscriber = sample.subscriber; book = sample.book; slot = sample.slot; number = sample.number }
 
-  module _ (sound : IsDomain f) (sample : SampleAt) (subscriber : ℕ) (its : subscriber ≡ sample.subscriber) where
-    -- the message that the sample names
-    abbrev message : BorrowedMessage
-    message = record { subscriber = subscriber; book = sample.book; slot = sample.slot; number = sample.number }
+-- nothing was given back
+pub same-fields : {T U : Type 0} (f v : Fields T U) → v ≡ f → (new : Slab Link) (books : Slab Book) → books ≡ v.books → new ≡ v.connections → left_by v new books ≡ f
+same-fields {T} {U} f v view new books same stays =
+    ap (left_by v new) same ∙ ap (λ (slab : Slab Link). let g : Fields T U = record v { connections = slab } in g) stays ∙ view
 
-    module _ (returns : ReturnsMessage v.connections v.books sample.connection message new) where
-      there : (b : Book) × (get v.books sample.book ≡ Some b) × (slice_index b.numbers sample.slot ≡ sample.number)
-      there = some_is (λ (b : Book). slice_index b.numbers sample.slot ≡ sample.number) (get v.books sample.book) returns.number_is
+module _ {T U : Type 0} (f v : Fields T U) (view : v ≡ f) (sound : IsDomain f) (sample : SampleAt) (message : BorrowedMessage) (named : message ≡ message_named sample) where
+  -- what the end says of the message is so of the sample
+  module _ (last : IsLastAt v.connections v.books sample.connection message) where
+    its : IsLastAt v.connections v.books sample.connection (message_named sample)
+    its = subst (IsLastAt v.connections v.books sample.connection) named last
 
-      has : HasItsBook f sample.connection sample.book returns.link there.0
-      has =
-          subst (λ (book : ℕ). HasItsBook f sample.connection book returns.link there.0) returns.book_is
-          (has-its-book v f sample.connection (returns.link).home returns.link view sound returns.stands refl there.0
-          (subst (λ (book : ℕ). get v.books book ≡ Some there.0) (sym returns.book_is) there.1))
+    there : (b : Book) × (get v.books sample.book ≡ Some b) × (slice_index b.numbers sample.slot ≡ sample.number)
+    there = some_is (λ (b : Book). slice_index b.numbers sample.slot ≡ sample.number) (get v.books sample.book) its.number_is
 
-      lies : LiesAtHint f sample
-      lies = lies-there f sound sample.connection sample.book returns.link there.0 has sample.subscriber sample.number sample.slot (returns.subscriber_is ∙ its) (record { borrowed = returns.borrowed; number_is = there.2 })
+    has : HasItsBook f sample.connection sample.book its.link there.0
+    has =
+        subst (λ (book : ℕ). HasItsBook f sample.connection book its.link there.0) its.book_is
+        (has-its-book v f sample.connection (its.link).home its.link view sound its.stands refl there.0
+        (subst (λ (book : ℕ). get v.books book ≡ Some there.0) (sym its.book_is) there.1))
 
-      may : IsReturnable f sample
-      may = is-returnable f sample lies v view returns.link returns.stands returns.marked
+    lies : LiesAtHint f sample
+    lies = lies-there f sound sample.connection sample.book its.link there.0 has sample.subscriber sample.number sample.slot its.subscriber_is (record { borrowed = its.borrowed; number_is = there.2 })
 
-      -- the message was given back
-      pub gives-back : (p : ℕ) → IsTrue (is_borrowed sample.number ((state_of (kept_of f)).mailboxes p sample.subscriber)) → Reaches f (left books) (released (state_of (kept_of f)) p sample.subscriber sample.number)
-      gives-back p borrowed =
-          subst (λ (slab : Slab Book). Reaches f (left slab) (released (state_of (kept_of f)) p sample.subscriber sample.number)) (sym same)
-          (returns-here f sound sample may v view new returns.releases returns.homes returns.others returns.stay p borrowed)
+    pub returnable : IsReturnable f sample
+    returnable = is-returnable f sample lies v view its.link its.stands its.marked
 
-      pub gives-back-soundly : IsDomain (left books)
-      gives-back-soundly = (gives-back _ (its-lender f sound sample may)).agrees
+  module _ (new : Slab Link) (books : Slab Book) (same : books ≡ v.books) (returns : ReturnsMessage v.connections v.books sample.connection message new) where
+    may : IsReturnable f sample
+    may = returnable returns.is_last
+
+    releases : ReleasesSlot v.connections sample.connection sample.slot new
+    releases = subst (λ (m : BorrowedMessage). ReleasesSlot v.connections sample.connection m.slot new) named returns.releases
+
+    -- the message was given back
+    pub gives-back : (p : ℕ) → IsTrue (is_borrowed sample.number ((state_of (kept_of f)).mailboxes p sample.subscriber)) → Reaches f (left_by v new books) (released (state_of (kept_of f)) p sample.subscriber sample.number)
+    gives-back p borrowed =
+        subst (λ (slab : Slab Book). Reaches f (left_by v new slab) (released (state_of (kept_of f)) p sample.subscriber sample.number)) (sym same)
+        (returns-here f sound sample may v view new releases returns.homes returns.others returns.stay p borrowed)
+
+    pub gives-back-soundly : IsDomain (left_by v new books)
+    gives-back-soundly = (gives-back _ (its-lender f sound sample may)).agrees

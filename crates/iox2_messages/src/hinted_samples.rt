@@ -7,7 +7,7 @@ ghost use Rattle.iox2_domain.specs.Invariant.{HasNumber, IsDomain};
 ghost use Rattle.iox2_domain.specs.SampleSlots.{IsReturnable, LiesAtHint, LiesBorrowed, LiesBorrowedInSlot};
 
 use iox2_connections::Connection;
-use iox2_connections::receiver::{has_number, is_last_borrowed};
+use iox2_connections::receiver::{BorrowedMessage, is_last_at};
 use iox2_domain::{DomainState, MessageSlot, SampleAt, SampleSlot};
 
 /// The slot that the sample names is in use and has its number. No other slot in use has it.
@@ -54,10 +54,21 @@ fn is_named(connection: &Connection, sample: &SampleAt) -> bool
     home.subscriber == sample.subscriber.value() && home.book == sample.book
 }
 
+/// The message of a sample, as the subscriber's end names it.
+pub(crate) fn message_of(sample: &SampleAt) -> BorrowedMessage
+    ensures { result ≡ record { subscriber = sample.now.subscriber; book = sample.now.book; slot = sample.now.slot; number = sample.now.number } }
+{
+    BorrowedMessage {
+        subscriber: sample.subscriber.value(),
+        book: sample.book,
+        slot: sample.slot,
+        number: sample.number,
+    }
+}
+
 /// Whether a sample lies in the connection and the slot that it names, and was borrowed last there, and
 /// both ports of that connection stay: the publisher is there, and the subscriber is open. It is mostly
-/// so. No holders are counted for that. A look-up in books that may be written tests less, and nothing is
-/// written (docs/decisions/cost.md, "Look-ups that can't fail go through `&mut`").
+/// so.
 pub fn is_last_at_hint<T: Drop, U: Default + Drop>(
     state: &mut DomainState<T, U>,
     sample: &SampleAt,
@@ -66,17 +77,12 @@ pub fn is_last_at_hint<T: Drop, U: Default + Drop>(
     ensures returnable { IsTrue result → IsReturnable state.old sample.now }
     ensures same { state.new ≡ state.old }
 {
-    match state.connections.get(sample.connection) {
-        Some(connection) => {
-            is_last_borrowed(
-                connection,
-                sample.subscriber.value(),
-                sample.book,
-                sample.slot,
-            ) && has_number(&mut state.books[sample.book], sample.slot, sample.number)
-        }
-        None => false,
-    }
+    is_last_at(
+        &state.connections,
+        &mut state.books,
+        sample.connection,
+        message_of(sample),
+    )
 }
 
 // Whether a live sample lies in the connection and the slot that it names.

@@ -14,10 +14,8 @@ ghost use Rattle.iox2_domain.specs.Midway.{IsMidway};
 ghost use Rattle.iox2_domain.specs.Receipts.{IsReceiptFor, TakesAs, ReceivesAs};
 ghost use Rattle.iox2_domain.specs.Updates.{is_subscriber_due};
 
-use crate::hinted_samples::find_live_sample;
-use iox2_connections::receiver::{
-    BorrowedMessage, Taken, let_go, receive, release, release_if_last,
-};
+use crate::hinted_samples::{find_live_sample, message_of};
+use iox2_connections::receiver::{Taken, let_go, receive, release, release_if_last};
 use iox2_connections::{Connection, Home};
 use iox2_domain::{Boxes, DomainState, Receipt, SampleAt, SampleSlot, stands_at};
 use iox2_machine::{
@@ -156,17 +154,11 @@ pub fn release_sample<T: Drop, U: Default + Drop>(state: &mut DomainState<T, U>,
     ensures released { (publisher : ℕ) → IsTrue (is_borrowed sample.number ((state_of (kept_of state.old)).mailboxes publisher sample.subscriber))
         → Reaches state.old state.new (released (state_of (kept_of state.old)) publisher sample.subscriber sample.number) }
 {
-    let message = BorrowedMessage {
-        subscriber: sample.subscriber.value(),
-        book: sample.book,
-        slot: sample.slot,
-        number: sample.number,
-    };
     if release_if_last(
         &mut state.connections,
         &mut state.books,
         sample.connection,
-        message,
+        message_of(&sample),
     ) {
         return;
     }

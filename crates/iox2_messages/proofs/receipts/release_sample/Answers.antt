@@ -29,13 +29,13 @@ search_and_release-requires-clause-live g c =
 
 pub returns-then-release_if_last-clause-released : goal.returns-then-release_if_last-clause-released
 returns-then-release_if_last-clause-released g c =
-    gives-back c.args.state.now _ c.state.view_is c.release_if_last.new.connections c.release_if_last.new.books c.release_if_last.ensures.same_books c.requires.agrees c.args.sample c.value.result c.value.ensures
-    c.if-release_if_last.ensures.releases
+    gives-back c.args.state.now _ c.state.view_is c.requires.agrees c.args.sample c.message_of.result c.message_of.ensures
+    c.release_if_last.new.connections c.release_if_last.new.books c.release_if_last.ensures.same_books c.if-release_if_last.ensures.releases
 
 pub returns-then-release_if_last-clause-stays : goal.returns-then-release_if_last-clause-stays
 returns-then-release_if_last-clause-stays g c =
-    gives-back-soundly c.args.state.now _ c.state.view_is c.release_if_last.new.connections c.release_if_last.new.books c.release_if_last.ensures.same_books c.requires.agrees c.args.sample c.value.result c.value.ensures
-    c.if-release_if_last.ensures.releases
+    gives-back-soundly c.args.state.now _ c.state.view_is c.requires.agrees c.args.sample c.message_of.result c.message_of.ensures
+    c.release_if_last.new.connections c.release_if_last.new.books c.release_if_last.ensures.same_books c.if-release_if_last.ensures.releases
 
 pub returns-clause-released : goal.returns-clause-released
 returns-clause-released g c =
