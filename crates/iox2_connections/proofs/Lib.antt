@@ -13,6 +13,7 @@ pub mod DeliverySteps
 pub mod Releases
 pub mod TakeSteps
 pub mod LetGo
+pub mod ReturnedMessages
 pub mod Searches
 pub mod Histories
 pub mod Recounts

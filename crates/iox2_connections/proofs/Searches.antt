@@ -97,12 +97,6 @@ joins-at_limit Found.Nothing e = refl
 pub search-ready : (found a b : Found) → found ≡ a → is_ready found ≡ true → first_found a b ≡ found
 search-ready found a b is ready = ap (λ (x : Found). first_found x b) (sym is) ∙ first_found-ready found b ready
 
--- the key at a place of a list without empty ones
-pub key-at : (keys : List ℕ) (i : ℕ) → i < length keys → get_or (map Some keys) i None ≡ Some (get_or keys i 0)
-key-at [] i below = absurd (omega arith)
-key-at (key ∷ keys) zero below = refl
-key-at (key ∷ keys) (suc i) below = key-at keys i (omega arith)
-
 -- the key at a place of a list whose elements have keys, where this is the element there and its key
 pub listed-at : {A : Type 0} (key_of : A → Option ℕ) (xs : List A) (i : ℕ) (x : A) (key : Option ℕ) → i < length xs → x ≡ get_or xs i x → key ≡ key_of x → get_or (map key_of xs) i None ≡ key
 listed-at key_of xs i x key below there its = get_or-map key_of xs i x None below ∙ ap key_of (sym there) ∙ sym its

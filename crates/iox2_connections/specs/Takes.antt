@@ -1,19 +1,21 @@
 -- A subscriber's work on one connection of a slab, in the machine's words.
-use Rattle.std.specs.Prelude.{◌≡◌, ◌≢◌, ℕ, List, Contains}
+use Rattle.std.specs.Prelude.{◌≡◌, ◌≢◌, ◌<◌, ℕ, Bool, true, false, List, length, slice_index, Contains, IsSomeAnd}
 use Rattle.std.specs.declared.option.Option.{Option}
 use Rattle.std.specs.declared.option.Option.TheVariants.{None, Some}
 use Rattle.std.specs.declared.result.Result.{Result}
 use Rattle.std.specs.declared.result.Result.TheVariants.{Ok, Err}
 use Rattle.slab.specs.Slab.{Slab, get}
-use Rattle.iox2_connections.specs.Link.{Link}
+use Rattle.iox2_connections.specs.Link.{Link, with_returned}
 use Rattle.iox2_machine.specs.machine.Numbers.{IsOnce}
 use Rattle.iox2_machine.specs.machine.Mailbox.{Mailbox, BorrowsFirst, with_released}
 use Rattle.iox2_machine.specs.declared.errors.ReceiveError.{ReceiveError}
 use Rattle.iox2_machine.specs.declared.errors.ReceiveError.TheVariants.{ExceedsMaxBorrows}
+use Rattle.iox2_slots.specs.SlotBook.{Book}
 use Rattle.iox2_connections.specs.Mailboxes.{mailboxes_of, with_box}
 use Rattle.iox2_connections.specs.Counters.{CountersFollow}
 use Rattle.iox2_connections.specs.Homes.{SameHomes}
 use Rattle.iox2_connections.specs.Finds.{Finds}
+use Rattle.iox2_connections.specs.declared.receiver.BorrowedMessage.{BorrowedMessage}
 use Rattle.iox2_connections.specs.declared.receiver.Found.{Found}
 use Rattle.iox2_connections.specs.declared.receiver.Taken.{Taken}
 
@@ -59,3 +61,27 @@ pub record ReleasesSlot (old : Slab Link) (key slot : ℕ) (new : Slab Link) : T
       → IsOnce (mailboxes_of number old c.home.publisher c.home.subscriber).borrowed
       → mailboxes_of number new ≡ with_box (mailboxes_of number old) c.home.publisher c.home.subscriber
       (with_released (number c.home.publisher slot) (mailboxes_of number old c.home.publisher c.home.subscriber))
+
+-- The book for whose slots the connection is stands at its key, and has each slot that is borrowed there.
+abbrev pub HasItsSlots : Slab Book → Link → Type 0
+HasItsSlots books c = IsSomeAnd (get books c.home.book) (λ b. (slot : ℕ) → Contains c.borrowed slot → slot < length b.holders)
+
+-- The message was borrowed in the connection at the key, which is marked as open, and is given back there, and nothing else changes.
+pub record ReturnsMessage (old : Slab Link) (books : Slab Book) (key : ℕ) (message : BorrowedMessage) (new : Slab Link) : Type 0 where
+  pub link : Link
+  pub stands : get old key ≡ Some link
+  pub subscriber_is : link.home.subscriber ≡ message.subscriber
+  pub book_is : link.home.book ≡ message.book
+  pub borrowed : Contains link.borrowed message.slot
+  pub marked : link.is_open ≡ true
+  pub number_is : IsSomeAnd (get books message.book) (λ b. slice_index b.numbers message.slot ≡ message.number)
+  pub releases : ReleasesSlot old key message.slot new
+  pub returned : get new key ≡ Some (with_returned message.slot link)
+  pub homes : SameHomes old new
+  pub others : KeepsOtherKeys key old new
+  pub stay : SameStands old new
+
+-- The message is given back where the answer is yes, and else nothing changes.
+abbrev pub ReleasesIfLast : (old : Slab Link) (books : Slab Book) (key : ℕ) → BorrowedMessage → Bool → (new : Slab Link) → Type 0
+ReleasesIfLast old books key message true new = ReturnsMessage old books key message new
+ReleasesIfLast old books key message false new = new ≡ old

@@ -27,10 +27,10 @@ pub fn leave(connection: &mut Connection, book: &mut SlotBook, awaited: bool)
     }
 }
 
-/// Gives up the slots of a publisher's history. Each of them has one holder less.
+/// Lets go of the slots of a publisher's history. Each of them has one holder less.
 ///
 /// iceoryx2's `PublisherSharedState` drops its history (`src/port/publisher.rs`).
-pub fn give_up_history(history: &HeapCircularBuffer<usize>, book: &mut SlotBook)
+pub fn let_go_of_history(history: &HeapCircularBuffer<usize>, book: &mut SlotBook)
     requires { (slot : ℕ) → times slot history.now.items ≤ holders_at book.old slot }
     ensures book { book.new ≡ with_counters book.old book.new.holders }
     ensures releases { Releases history.now.items book.old.holders book.new.holders }

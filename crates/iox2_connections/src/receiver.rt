@@ -1,5 +1,5 @@
 //! A subscriber's end: it takes messages from connections and gives them back.
-ghost use Rattle.std.specs.Prelude.{◌≡◌, None, Some, true, map, slice_index_or, Contains, IsTrue, IsSomeAnd};
+ghost use Rattle.std.specs.Prelude.{◌≡◌, ◌<◌, None, Some, true, map, length, slice_index, slice_index_or, Contains, IsTrue, IsSomeAnd};
 ghost use Rattle.std.specs.Option.{ForSome};
 ghost use Rattle.slab.specs.Slab.{get, ContainsKey};
 ghost use Rattle.iox2_connections.specs.Link.{can_borrow, with_returned, without_borrowed};
@@ -10,7 +10,7 @@ ghost use Rattle.iox2_connections.specs.Recounts.{Recounts};
 ghost use Rattle.iox2_connections.specs.Homes.{IsApart, SameHomes};
 ghost use Rattle.iox2_connections.specs.Finds.{offer_at, offer_of, search, is_something, Finds, HasConnections};
 ghost use Rattle.iox2_connections.specs.declared.receiver.Found.{Found};
-ghost use Rattle.iox2_connections.specs.Takes.{KeepsOtherKeys, KeepsReturned, SameStands, BorrowsSlot, ReceivesSlot, ReleasesSlot};
+ghost use Rattle.iox2_connections.specs.Takes.{HasItsSlots, KeepsOtherKeys, KeepsReturned, SameStands, BorrowsSlot, ReceivesSlot, ReleasesIfLast, ReleasesSlot};
 
 use crate::connection::{Connection, Home};
 use crate::listed_key::ListedKey;
@@ -27,6 +27,19 @@ pub struct Taken {
     pub home: Home,
     /// The slot of the message.
     pub slot: usize,
+}
+
+/// Names a message that a subscriber has borrowed, and says in which slot it is looked for.
+#[derive(Clone, Copy)]
+pub struct BorrowedMessage {
+    /// The subscriber.
+    pub subscriber: u128,
+    /// The key of its publisher's book.
+    pub book: usize,
+    /// Its slot in that book.
+    pub slot: usize,
+    /// Its number.
+    pub number: u128,
 }
 
 /// What one connection offers, or several.
@@ -210,6 +223,47 @@ pub fn is_last_borrowed(connection: &Connection, subscriber: u128, book: usize, 
             .last()
             .is_some_and(|last| *last == slot)
         && connection.is_open()
+}
+
+/// Whether a slot of the book has the number.
+pub fn has_number(book: &SlotBook, slot: usize, number: u128) -> bool
+    requires { slot < length book.now.holders }
+    ensures { IsTrue result → slice_index book.now.numbers slot ≡ number }
+{
+    book.number(slot) == number
+}
+
+/// Gives a message back to its publisher, where it lies as it says: the connection at the key is this
+/// subscriber's, for slots of this book, and is marked as open, the slot is the one that was borrowed last
+/// of it, and has this number. Returns whether all that is so; else nothing changes. The slot keeps its
+/// holder until the publisher reclaims it.
+///
+/// [`release`] does the same with a slot that is known to be borrowed. A look-up in books that may be
+/// written tests less, and nothing is written there (docs/decisions/cost.md, "Look-ups that can't fail go
+/// through `&mut`").
+pub fn release_if_last(
+    connections: &mut Slab<Connection>,
+    books: &mut Slab<SlotBook>,
+    key: usize,
+    message: BorrowedMessage,
+) -> bool
+    requires once { ForSome (get connections.old key) (λ c. IsOnce c.borrowed) }
+    requires slots { ForSome (get connections.old key) (HasItsSlots books.old) }
+    requires apart { IsApart connections.old }
+    ensures releases { ReleasesIfLast connections.old books.old key message result connections.new }
+    ensures same_books { books.new ≡ books.old }
+{
+    let Some(connection) = connections.get_mut(key) else {
+        return false;
+    };
+    if !is_last_borrowed(connection, message.subscriber, message.book, message.slot) {
+        return false;
+    }
+    if !has_number(&mut books[message.book], message.slot, message.number) {
+        return false;
+    }
+    connection.release(message.slot);
+    true
 }
 
 /// Gives the message in a slot, which is borrowed from the connection at a key, back to its

@@ -111,8 +111,8 @@ module _ {T U : Type 0} where
           absurd (omega (arith, some, gone))
 
     -- where the slot without cells has no list either, all is well
-    pub settled : HasListsBut i most spare number xs → has_list s ≡ false → HasLists most spare number xs
-    settled but none = record {
+    pub recycled : HasListsBut i most spare number xs → has_list s ≡ false → HasLists most spare number xs
+    recycled but none = record {
       shown = but.shown;
       listed = λ k d low. by k d low (cases_eq k i);
       some = but.some;
@@ -283,7 +283,7 @@ module _ {T U : Type 0} where
       written = same ∙ changed-contents contents (written_content values) t are is refl;
     }
 
-    -- a slot without cells gives up its room
+    -- a slot without cells frees its room
     pub cleared-lists : HasLists most spare number xs → (t : SlotState T U) → s.content.cells ≡ [] → t.content.cells ≡ [] → t.content.lists ≡ s.content.lists → t.content.is_in_place ≡ s.content.is_in_place
         → t.content.room ≤ s.content.room → has_list t ≡ false → HasLists most spare number (slice_set xs i t)
     cleared-lists has t none gone lists place room no-list =
@@ -326,10 +326,10 @@ module _ {T U : Type 0} (old mid : List (ContentState T U)) (slot : ℕ) (was : 
 
 module _ {T U : Type 0} (most spare number : ℕ) (xs : List (SlotState T U)) (i : ℕ) (s : SlotState T U) (at : slice_get xs i ≡ Some s) where
   -- a write leaves all well where the slot has no list
-  pub written-settled : HasLists most spare number xs → (y : SlotState T U) → y ≡ get_or xs i y → (had : Bool) → had ≡ has_list y → had ≡ false → (values : List T) (t : SlotState T U)
+  pub written-recycled : HasLists most spare number xs → (y : SlotState T U) → y ≡ get_or xs i y → (had : Bool) → had ≡ has_list y → had ≡ false → (values : List T) (t : SlotState T U)
       → t ≡ with_content (written_content values) s → HasLists most spare number (slice_set xs i t)
-  written-settled has y read had known none values t is =
+  written-recycled has y read had known none values t is =
       let there : y ≡ s = read ∙ reads xs i s y at in
       let kept : has_list t ≡ has_list s = ap has_list is in
-      settled most spare number (slice_set xs i t) i t (set-here xs i s t at) (written-lists most spare number xs i s at has values t is)
+      recycled most spare number (slice_set xs i t) i t (set-here xs i s t at) (written-lists most spare number xs i s at has values t is)
       (kept ∙ ap has_list (sym there) ∙ sym known ∙ none)

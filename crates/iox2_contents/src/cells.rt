@@ -75,7 +75,7 @@ impl<T: Drop> Cells<T> {
     }
 
     /// Drops the cells, with the memory of a list of their publisher's. The room for one cell stays.
-    pub(crate) fn give_up(&mut self, alloc: Global)
+    pub(crate) fn free_memory(&mut self, alloc: Global)
         ensures items { self.new.items ≡ [] }
         ensures none { 0 < self.old.lists → self.new.room ≡ 0 }
         ensures lists { self.new.lists ≡ self.old.lists }

@@ -94,7 +94,7 @@ impl<T: Drop, U: Default + Drop> Content<T, U> {
         }
     }
 
-    /// Drops what the slot had, and gives up its room, but for the room for one cell.
+    /// Drops what the slot had, and frees its room, but for the room for one cell.
     pub(crate) fn clear(&mut self, alloc: Global)
         ensures in_place { self.new.content.is_in_place ≡ self.old.content.is_in_place }
         ensures lists { self.new.content.lists ≡ self.old.content.lists }
@@ -105,8 +105,8 @@ impl<T: Drop, U: Default + Drop> Content<T, U> {
         self.user_header = U::default();
         match &mut self.payload {
             Payload::Elements(elements) => {
-                elements.cells.give_up(alloc);
-                elements.values.give_up(alloc);
+                elements.cells.free_memory(alloc);
+                elements.values.free_memory(alloc);
             }
             _ => self.payload = Payload::Empty,
         }

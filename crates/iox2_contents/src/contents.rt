@@ -9,7 +9,7 @@ ghost use Rattle.iox2_contents.specs.SlotContents.{SomeAt, AddsSlots, ClearsSlot
 
 use crate::cell_lists::CellLists;
 use crate::content::Content;
-use crate::lists::{ready, settle};
+use crate::lists::{ready, recycle_list};
 use std::alloc::{AllocError, Global};
 use std::marker::Model;
 
@@ -100,7 +100,7 @@ impl<T: Drop, U: Default + Drop> Contents<T, U> {
         Ok(())
     }
 
-    /// Drops what lies in the slot, which is of no loan or message any more, and gives up its room.
+    /// Drops what lies in the slot, which is of no loan or message any more, and frees its room.
     pub fn clear(&mut self, alloc: Global, slot: usize)
         requires { slot < length self.old }
         ensures { ClearsSlot self.old self.new slot }
@@ -129,7 +129,7 @@ impl<T: Drop, U: Default + Drop> Contents<T, U> {
     {
         let had_list = self.slots[slot].has_list();
         self.slots[slot].end();
-        settle(&mut self.slots, &mut self.lists, slot, had_list);
+        recycle_list(&mut self.slots, &mut self.lists, slot, had_list);
     }
 
     /// Writes the value of a loan of one element, which then counts as written.
@@ -139,7 +139,7 @@ impl<T: Drop, U: Default + Drop> Contents<T, U> {
     {
         let had_list = self.slots[slot].has_list();
         self.slots[slot].write_payload(value);
-        settle(&mut self.slots, &mut self.lists, slot, had_list);
+        recycle_list(&mut self.slots, &mut self.lists, slot, had_list);
     }
 
     /// Writes into each cell of the slot's loan what the function returns for its index. It is
@@ -168,7 +168,7 @@ impl<T: Drop, U: Default + Drop> Contents<T, U> {
     {
         let had_list = self.slots[slot].has_list();
         self.slots[slot].write_from_fn(f);
-        settle(&mut self.slots, &mut self.lists, slot, had_list);
+        recycle_list(&mut self.slots, &mut self.lists, slot, had_list);
     }
 
     /// Takes the cells of the slot's loan as its values, where each is written. Returns whether it
@@ -181,7 +181,7 @@ impl<T: Drop, U: Default + Drop> Contents<T, U> {
         if !self.slots[slot].assume_init() {
             return false;
         }
-        settle(&mut self.slots, &mut self.lists, slot, had_list);
+        recycle_list(&mut self.slots, &mut self.lists, slot, had_list);
         true
     }
 }
@@ -195,7 +195,7 @@ impl<T: Copy + Drop, U: Default + Drop> Contents<T, U> {
     {
         let had_list = self.slots[slot].has_list();
         self.slots[slot].write_from_slice(values);
-        settle(&mut self.slots, &mut self.lists, slot, had_list);
+        recycle_list(&mut self.slots, &mut self.lists, slot, had_list);
     }
 }
 
@@ -209,7 +209,7 @@ impl<T: Copy + Default + Drop, U: Default + Drop> Contents<T, U> {
     {
         let had_list = self.slots[slot].has_list();
         self.slots[slot].write_unspecified();
-        settle(&mut self.slots, &mut self.lists, slot, had_list);
+        recycle_list(&mut self.slots, &mut self.lists, slot, had_list);
     }
 }
 

@@ -6,10 +6,10 @@ ghost use Rattle.iox2_contents.specs.SlotRooms.{HasLists, HasListsBut};
 use crate::cell_lists::CellLists;
 use crate::content::Content;
 
-/// Gives back the list that a slot may have, whose cells are gone. Whether it has one is asked before
-/// they go, while what says so is at hand.
+/// Takes back the list that a slot may have, whose cells are gone, for another loan. Whether it has one
+/// is asked before they go, while what says so is at hand.
 #[inline(always)]
-pub(crate) fn settle<T: Drop, U>(
+pub(crate) fn recycle_list<T: Drop, U>(
     slots: &mut Vec<Content<T, U>>,
     lists: &mut CellLists<T>,
     slot: usize,

@@ -52,7 +52,7 @@ impl<T: Drop> Values<T> {
     }
 
     /// Drops the values, with their memory.
-    pub(crate) fn give_up(&mut self, alloc: Global)
+    pub(crate) fn free_memory(&mut self, alloc: Global)
         ensures items { self.new.items ≡ [] }
         ensures room { self.new.room ≡ 0 }
     {

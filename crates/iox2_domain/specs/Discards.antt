@@ -18,8 +18,8 @@ with_holder_gone slot book = with_holders book slot (holders_at book slot - 1)
 
 -- The fields after the publisher x, which stands at that place, has taken back the loan in the slot of its book. The slot has
 -- no cells any more.
-abbrev pub with_loan_returned : {T U : Type 0} → Fields T U → (place : ℕ) → PublisherFields → (slot : ℕ) → Book → Fields T U
-with_loan_returned f place x slot book = record f {
+abbrev pub with_loan_discarded : {T U : Type 0} → Fields T U → (place : ℕ) → PublisherFields → (slot : ℕ) → Book → Fields T U
+with_loan_discarded f place x slot book = record f {
   publishers = slice_set f.publishers place (Some (with_loan_out slot x));
   books = with_value f.books x.book (with_holder_gone slot book);
   contents = slice_set f.contents x.book (Some (with_changed (contents_at f.contents x.book) slot ended_content));

@@ -146,7 +146,7 @@ module _ (books : Slab Book) (connections : Slab Link) where
 
   -- What lies in a connection.
   abbrev pub between_of : Link → Between
-  between_of c = record { publisher = c.home.publisher; subscriber = c.home.subscriber; box = mailbox_of (numbers_of books c.home.publisher) c; channels = c.channels }
+  between_of c = record { publisher = c.home.publisher; subscriber = c.home.subscriber; mailbox = mailbox_of (numbers_of books c.home.publisher) c; channels = c.channels }
 
 -- What the fields keep, beside these boxes.
 abbrev pub keeping : {T U F G : Type 0} → DomainBoxes F G → Fields T U → Kept T U F G

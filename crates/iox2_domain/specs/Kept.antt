@@ -22,7 +22,7 @@ pub record Named (A : Type 0) : Type 0 where
 pub record Between : Type 0 where
   pub publisher : ℕ
   pub subscriber : ℕ
-  pub box : Mailbox
+  pub mailbox : Mailbox
   pub channels : List Channel  -- by number
 
 -- What lies in a slot, with its number: a loan, or a message that was sent.
@@ -66,9 +66,9 @@ abbrev pub stands_between : (p q : ℕ) → Between → Bool
 stands_between p q c = (c.publisher == p) && (c.subscriber == q)
 
 -- The mailbox, or an empty one.
-abbrev pub box_if_any : Option Between → Mailbox
-box_if_any None = empty_mailbox
-box_if_any (Some c) = c.box
+abbrev pub mailbox_if_between : Option Between → Mailbox
+mailbox_if_between None = empty_mailbox
+mailbox_if_between (Some c) = c.mailbox
 
 -- The channels, or new ones.
 abbrev pub channels_if_between : Option Between → ℕ → Channel
@@ -131,7 +131,7 @@ module _ {T U F G : Type 0} where
     loans = λ n. option_and_then loan_in (message_numbered n kept.books);
     publishers = λ p. port_named p kept.publishers;
     subscribers = λ q. port_named q kept.subscribers;
-    mailboxes = λ p q. box_if_any (look_up (stands_between p q) kept.connections);
+    mailboxes = λ p q. mailbox_if_between (look_up (stands_between p q) kept.connections);
     channels = λ p q. channels_if_between (look_up (stands_between p q) kept.connections);
     publisher_places = ids kept.publishers;
     subscriber_places = ids kept.subscribers;

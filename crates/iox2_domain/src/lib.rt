@@ -32,8 +32,8 @@ pub use message_slots::MessageSlot;
 pub use options::{PublisherOptions, SubscriberOptions};
 pub use places::{free_place, put_at_place, reserve_place, stands_at};
 pub use ports::{
-    Port, PortAt, clear_key_at, degradation_at, is_due_at, key_at, make_all_due, make_due,
-    reserve_key_at, set_key_at, settle,
+    Port, PortAt, clear_due, clear_key_at, degradation_at, is_due_at, key_at, make_all_due,
+    make_due, reserve_key_at, set_key_at,
 };
 pub use publisher_state::{BlockedDelivery, PublisherState};
 pub use sample_slots::{Receipt, SampleAt, SampleSlot};

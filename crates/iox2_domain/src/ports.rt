@@ -150,7 +150,7 @@ pub fn degradation_at<P: Port>(ports: &[Option<P>], place: usize) -> HandlerMark
 }
 
 /// The port at the place is due no more.
-pub fn settle<P: Port>(ports: &mut [Option<P>], place: usize)
+pub fn clear_due<P: Port>(ports: &mut [Option<P>], place: usize)
     requires { place < length ports.old }
     ensures { ports.new ≡ changed_at (P.with_due false) ports.old place }
 {

@@ -1,6 +1,5 @@
 //! What a domain has of a subscriber.
-ghost use Rattle.std.specs.Prelude.{◌≡◌, ◌<◌, ◌≤◌, ℕ, None, Some, length, slice_index_or, vec_capacity, OnOk};
-ghost use Rattle.iox2_machine.specs.machine.Numbers.{without};
+ghost use Rattle.std.specs.Prelude.{◌≡◌, ◌<◌, ◌≤◌, ℕ, None, Some, length, slice_index_or, OnOk};
 ghost use Rattle.iox2_machine.specs.machine.Places.{vacated};
 ghost use Rattle.iox2_domain.specs.Departures.{key_forgotten};
 ghost use Rattle.iox2_domain.specs.Ports.{SubscriberFields};
@@ -125,7 +124,7 @@ impl SubscriberState {
         ensures { self.new ≡ key_forgotten key self.old }
     {
         clear_key(&mut self.keys, place, key);
-        remove_key(&mut self.expired, key);
+        self.forget_expired(key);
     }
 }
 
@@ -137,14 +136,6 @@ fn clear_key(keys: &mut [Option<usize>], place: usize, key: usize)
     if key_in(keys, place) == Some(key) {
         keys[place] = None;
     }
-}
-
-// The key goes from a list.
-fn remove_key(keys: &mut Vec<usize>, key: usize)
-    ensures items { keys.new.items ≡ without key keys.old.items }
-    ensures capacity { vec_capacity keys.new ≡ vec_capacity keys.old }
-{
-    keys.retain(|other| *other != key);
 }
 
 /// The subscriber at a place forgets the connection at a key, which it has for a publisher's place

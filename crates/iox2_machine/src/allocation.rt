@@ -16,16 +16,29 @@
 /// iceoryx2's `iceoryx2_cal::shm_allocator::AllocationStrategy`.
 #[derive(Debug, Clone, Copy, PartialEq, Eq)]
 pub enum AllocationStrategy {
-    /// It doesn't grow: such a loan is refused.
+    /// It doesn't grow: such a loan is refused, with `LoanError::OutOfMemory` where no slot is free, and
+    /// with `ExceedsMaxLoanSize` where it is longer than its factory's `initial_max_slice_len`.
     Static,
     /// By a segment of as many slots as the first, each with room for slices of the length that is
-    /// asked for, or of the length that fits so far if that is longer. There are at most 255 segments.
+    /// asked for, or of the length that fits so far if that is longer. Lengths count elements. There
+    /// are at most 255 segments, the first included: a loan that needs one more is refused with
+    /// `LoanError::OutOfMemory`.
     BestFit,
     /// As `BestFit`, with that length rounded up to a power of two.
     PowerOfTwo,
 }
 
-/// Whether a publisher's memory can grow. No call takes or returns one.
+/// Whether a publisher's memory can grow. No call takes or returns one: the publisher's
+/// `AllocationStrategy` decides it.
+///
+/// Example (`crates/iox2_machine_tests/src/tests/plain_types.rt`):
+///
+/// ```rust
+/// match strategy {
+///     AllocationStrategy::Static => DataSegmentType::Static,
+///     AllocationStrategy::BestFit | AllocationStrategy::PowerOfTwo => DataSegmentType::Dynamic,
+/// }
+/// ```
 ///
 /// iceoryx2's `DataSegmentType` (`src/port/details/data_segment.rs`).
 #[derive(Debug, Clone, Copy, PartialEq, Eq)]

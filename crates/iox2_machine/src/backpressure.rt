@@ -20,13 +20,25 @@ use std::time::Duration;
 /// (`src/port/backpressure_strategy.rs`).
 #[derive(Debug, Clone, Copy, PartialEq, Eq)]
 pub enum BackpressureStrategy {
-    /// The send blocks: it is handed back, to be tried again or given up.
+    /// The send blocks: it is handed back as `SendOutcome::Blocked`, to be tried again or given up.
     RetryUntilDelivered,
-    /// The receiver is skipped, and the send goes on.
+    /// The receiver doesn't get the message, and the send goes on to the others.
     DiscardData,
 }
 
 /// A handler's answer to a full buffer.
+///
+/// Example (`crates/iox2_tests/src/tests/connection_sends.rt`): a handler that fails a send at a
+/// full buffer.
+///
+/// ```rust
+/// let handler = BackpressureHandler::Fixed(BackpressureAction::DiscardDataAndFail);
+/// let factory = domain.publisher_builder().set_backpressure_handler(handler);
+/// let publisher = factory.create(&mut domain).expect(&rt, "a publisher");
+/// let message = message_of(&rt, &mut domain, &publisher, 2);
+/// let failed = send_there(&rt, &mut domain, message, 1, 0);
+/// let is_failed = matches!(failed, Err(SendError::UnableToDeliver));
+/// ```
 ///
 /// iceoryx2's `port::BackpressureAction` (`src/port/mod.rs`).
 #[derive(Debug, Clone, Copy, PartialEq, Eq)]
@@ -43,7 +55,20 @@ pub enum BackpressureAction {
     DiscardDataAndFail,
 }
 
-/// A handler's answer, as the connection to one receiver takes it.
+/// A handler's answer, as the connection to one receiver takes it. `from` makes it of a
+/// `BackpressureAction`; no other call takes or returns one.
+///
+/// Example (`crates/iox2_machine_tests/src/tests/errors.rt`):
+///
+/// ```rust
+/// let answers = [
+///     BackpressureAction::FollowBackpressureyStrategy,
+///     BackpressureAction::Retry,
+///     BackpressureAction::DiscardData,
+///     BackpressureAction::DiscardDataAndFail,
+/// ]
+/// .map(BackpressureToReceiverAction::from);
+/// ```
 ///
 /// iceoryx2's `port::BackpressureToReceiverAction` (exported by `src/port/mod.rs`, from
 /// `iceoryx2_cal::zero_copy_connection`). It has one variant for each of `BackpressureAction`, in
@@ -82,14 +107,27 @@ impl From<BackpressureAction> for BackpressureToReceiverAction {
 
 /// What a handler is told of a full buffer.
 ///
+/// Example (`crates/iox2_machine_tests/src/tests/handlers.rt`): a handler that waits so many
+/// milliseconds.
+///
+/// ```rust
+/// fn call(&self, info: &BackpressureInfo) -> BackpressureAction {
+///     if info.elapsed_time.as_millis() < self.milliseconds {
+///         BackpressureAction::Retry
+///     } else {
+///         BackpressureAction::DiscardData
+///     }
+/// }
+/// ```
+///
 /// iceoryx2's `port::BackpressureInfo` (`src/port/mod.rs`).
 #[derive(Drop)]
 pub struct BackpressureInfo {
     /// The number of the service that both ports belong to.
     pub service_id: u128,
-    /// The id of the publisher that sends.
+    /// The number of the id of the publisher that sends.
     pub sender_port_id: u128,
-    /// The id of the subscriber whose buffer is full.
+    /// The number of the id of the subscriber whose buffer is full.
     pub receiver_port_id: u128,
     /// How often this delivery was tried again: 0 when the handler is first asked, then one more
     /// each time. It stays at the greatest `u64`.

@@ -3,42 +3,78 @@ ghost use Rattle.iox2_machine.specs.declared.degradation.DegradationAction.{Degr
 ghost use Rattle.iox2_machine.specs.declared.degradation.DegradationCause.{DegradationCause};
 ghost use Rattle.iox2_machine.specs.declared.degradation.DegradationInfo.{DegradationInfo};
 
-/// A handler's answer to a degradation.
+/// A handler's answer where a connection can't be made.
+///
+/// Example (`crates/iox2_slice_tests/src/tests/slices.rt`): a publisher whose calls
+/// fail where a connection finds no memory.
+///
+/// ```rust
+/// let handler = DegradationHandler::new_with(DegradationAction::DegradeAndFail);
+/// let factory = slice_factory(&domain).set_degradation_handler(handler);
+/// let publisher = factory.create(&mut domain).expect(&rt, "a publisher");
+/// ```
 ///
 /// iceoryx2's `port::DegradationAction` (`src/port/mod.rs`).
 #[derive(Debug, Clone, Copy, PartialEq, Eq)]
 pub enum DegradationAction {
-    /// Go on without the connection, which is counted and nothing more.
+    /// Go on without the connection, which `Domain::refused_connections` counts, and nothing more. It
+    /// is tried again when ports come or go.
     Ignore,
-    /// Go on without the connection, and add `Warning::ConnectionNotMade` to the domain's
-    /// warnings.
+    /// The same, and add `Warning::ConnectionNotMade` to the domain's warnings. So does a port that has
+    /// no handler.
     Warn,
-    /// Let the call fail.
+    /// Let the call fail, with `ConnectionFailure::FailedToEstablishConnection`. The creation of a port
+    /// doesn't fail: the port is made, and the domain has `Warning::PublisherPartlyConnected` or
+    /// `Warning::SubscriberPartlyConnected`.
     DegradeAndFail,
 }
 
-/// Why a handler is asked.
+/// Why a handler is asked about a connection.
+///
+/// Example (`crates/iox2_machine_tests/src/tests/handlers.rt`):
+///
+/// ```rust
+/// fn call(&self, cause: DegradationCause, _: &DegradationInfo) -> DegradationAction {
+///     match cause {
+///         DegradationCause::FailedToEstablishConnection => DegradationAction::Warn,
+///         DegradationCause::ConnectionCorrupted => DegradationAction::DegradeAndFail,
+///     }
+/// }
+/// ```
 ///
 /// iceoryx2's `port::DegradationCause` (`src/port/mod.rs`).
 #[derive(Drop)]
 pub enum DegradationCause {
-    /// There is no memory for the connection.
+    /// There is no memory for the connection, or its size doesn't fit `usize`.
     FailedToEstablishConnection,
     /// No handler of this library is ever asked with it: its connections lie in memory that
     /// nobody else writes.
     ConnectionCorrupted,
 }
 
-/// What a handler is told of a degradation.
+/// What a handler is told of a connection that can't be made.
+///
+/// Example (`crates/iox2_tests/src/tests/degradation_boxes.rt`): a handler that does without
+/// connections from a port to one that was made later.
+///
+/// ```rust
+/// fn call(&self, _: DegradationCause, info: &DegradationInfo) -> DegradationAction {
+///     if info.sender_port_id < info.receiver_port_id {
+///         DegradationAction::Ignore
+///     } else {
+///         DegradationAction::DegradeAndFail
+///     }
+/// }
+/// ```
 ///
 /// iceoryx2's `port::DegradationInfo` (`src/port/mod.rs`).
 #[derive(Drop)]
 pub struct DegradationInfo {
     /// The number of the service that both ports belong to.
     pub service_id: u128,
-    /// The id of the publisher at one end of the connection.
+    /// The number of the id of the publisher at one end of the connection.
     pub sender_port_id: u128,
-    /// The id of the subscriber at its other end.
+    /// The number of the id of the subscriber at its other end.
     pub receiver_port_id: u128,
 }
 

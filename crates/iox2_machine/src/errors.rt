@@ -4,15 +4,28 @@ mod texts;
 
 /// Why a publisher lends no message.
 ///
+/// Example (`crates/iox2_machine_tests/src/tests/refusals.rt`): `None` where a loan may be granted
+/// later.
+///
+/// ```rust
+/// match lent {
+///     Ok(loan) => Ok(Some(loan)),
+///     Err(LoanError::ExceedsMaxLoans | LoanError::OutOfMemory) => Ok(None),
+///     Err(error) => Err(error),
+/// }
+/// ```
+///
 /// iceoryx2's `port::LoanError` (`src/port/mod.rs`).
 #[derive(Debug, Clone, Copy, PartialEq, Eq, Hash)]
 pub enum LoanError {
     /// Every slot that could hold the message is taken, or a publisher whose memory grows would need
-    /// one segment more than it may make.
+    /// one segment more than it may make. It may pass when a sample is released.
     OutOfMemory,
-    /// As many loans are out as the publisher may have at a time.
+    /// As many loans are out as the publisher may have at a time. It passes when one is sent or
+    /// discarded.
     ExceedsMaxLoans,
-    /// The slice is longer than the publisher's greatest length, and its memory doesn't grow.
+    /// The slice has more elements than the publisher's slots have room for
+    /// (`initial_max_slice_len` of its factory), and its memory doesn't grow.
     ExceedsMaxLoanSize,
     /// Memory for a new segment was refused, its size doesn't fit `usize`, or the domain has no
     /// message numbers left.
@@ -21,17 +34,28 @@ pub enum LoanError {
 
 /// Why a message wasn't sent, or not to everybody.
 ///
+/// Example (`crates/iox2_machine_tests/src/tests/refusals.rt`): whether nobody got the value, so
+/// that it may be sent again.
+///
+/// ```rust
+/// match sent {
+///     Ok(_) | Err(SendError::UnableToDeliver) => false,
+///     Err(SendError::LoanError(_) | SendError::ConnectionError(_)) => true,
+///     Err(_) => false,
+/// }
+/// ```
+///
 /// iceoryx2's `port::SendError` (`src/port/mod.rs`).
 #[derive(Debug, Clone, Copy, PartialEq, Eq)]
 pub enum SendError {
-    /// The publisher that lent the message is closed.
+    /// The publisher that lent the message is closed. The message is lost.
     ConnectionBrokenSinceSenderNoLongerExists,
     /// Never returned: the connections lie in memory that nobody else writes.
     ConnectionCorrupted,
     /// A call that lends and sends in one got no loan, for this reason.
     LoanError(LoanError),
     /// The update of the connections before the delivery failed, for this reason. Nobody got the
-    /// message.
+    /// message, whose loan is given back.
     ConnectionError(ConnectionFailure),
     /// A handler answered `BackpressureAction::DiscardDataAndFail` for some receiver. The others
     /// may have got the message.
@@ -64,6 +88,17 @@ impl From<ConnectionFailure> for SendError {
 
 /// Why a subscriber receives nothing though something may wait.
 ///
+/// Example (`crates/iox2_machine_tests/src/tests/refusals.rt`): whether a sample has to be released
+/// first.
+///
+/// ```rust
+/// match received {
+///     Ok(_) => Ok(false),
+///     Err(ReceiveError::ExceedsMaxBorrows) => Ok(true),
+///     Err(ReceiveError::ConnectionFailure(failure)) => Err(failure),
+/// }
+/// ```
+///
 /// iceoryx2's `port::ReceiveError` (`src/port/mod.rs`).
 #[derive(Debug, Clone, Copy, PartialEq, Eq)]
 pub enum ReceiveError {
@@ -85,12 +120,24 @@ impl From<ConnectionFailure> for ReceiveError {
     }
 }
 
-/// Why an update of the connections failed.
+/// Why an update of the connections failed. The rest of it is done.
+///
+/// Example (`crates/iox2_machine_tests/src/tests/refusals.rt`): whether the update is done.
+///
+/// ```rust
+/// match updated {
+///     Ok(()) => Ok(true),
+///     Err(ConnectionFailure::FailedToEstablishConnection(ZeroCopyCreationError::OutOfMemory)) =>
+///         Ok(false),
+///     Err(failure) => Err(failure),
+/// }
+/// ```
 ///
 /// iceoryx2's `port::update_connections::ConnectionFailure` (`src/port/update_connections.rs`).
 #[derive(Debug, Clone, Copy, PartialEq, Eq, Hash)]
 pub enum ConnectionFailure {
-    /// A connection could not be made, or that of a departed publisher could not be put aside.
+    /// A connection could not be made, or that of a departed publisher could not be put aside, for
+    /// this reason, which also says when it is tried again.
     FailedToEstablishConnection(ZeroCopyCreationError),
     /// Never returned: there is no shared memory to map.
     UnableToMapSendersDataSegment(SharedMemoryOpenError),
@@ -120,6 +167,17 @@ impl From<SharedMemoryOpenError> for ConnectionFailure {
 
 /// Why a connection could not be made or put aside.
 ///
+/// Example (`crates/iox2_machine_tests/src/tests/refusals.rt`): what helps where a connection isn't
+/// made.
+///
+/// ```rust
+/// match cause {
+///     ZeroCopyCreationError::OutOfMemory => "it is tried again when ports come or go",
+///     ZeroCopyCreationError::ExpiredConnectionBufferFull => "release a closed publisher's sample",
+///     ZeroCopyCreationError::IncompatibleBufferSize => "no call returns it",
+/// }
+/// ```
+///
 /// Named as iceoryx2's `iceoryx2_cal::zero_copy_connection::ZeroCopyCreationError`, which has
 /// `IncompatibleBufferSize`; the other variants are this library's own.
 #[derive(Debug, Clone, Copy, PartialEq, Eq, Hash)]
@@ -127,14 +185,27 @@ pub enum ZeroCopyCreationError {
     /// Never returned.
     IncompatibleBufferSize,
     /// Memory for the connection was refused, or its size doesn't fit `usize`, and the handler
-    /// answered `DegradationAction::DegradeAndFail`.
+    /// answered `DegradationAction::DegradeAndFail`. It is tried again when ports come or go.
     OutOfMemory,
     /// The subscriber holds samples of a departed publisher, and of all the departed publishers
-    /// whose connections fill the room for such.
+    /// whose connections fill the room for such (`subscriber_expired_connection_buffer`). The next
+    /// update tries again, and finds room once all samples of one of them are released.
     ExpiredConnectionBufferFull,
 }
 
 /// Why shared memory could not be opened.
+///
+/// Example (`crates/iox2_machine_tests/src/tests/errors.rt`): why a connection isn't made, and none
+/// where memory isn't opened.
+///
+/// ```rust
+/// match failure {
+///     ConnectionFailure::FailedToEstablishConnection(cause) => Some(cause),
+///     ConnectionFailure::UnableToMapSendersDataSegment(SharedMemoryOpenError::InternalError) => {
+///         None
+///     }
+/// }
+/// ```
 ///
 /// Named as iceoryx2's `iceoryx2_cal::shared_memory::SharedMemoryOpenError`; its variant is this
 /// library's own.
@@ -144,14 +215,23 @@ pub enum SharedMemoryOpenError {
     InternalError,
 }
 
-/// Why a publisher was not created.
+/// Why a publisher was not created. The domain is as it was.
+///
+/// Example (`crates/iox2_machine_tests/src/tests/refusals.rt`): with how many loans to try again.
+///
+/// ```rust
+/// match created {
+///     Err(PublisherCreateError::UnableToCreateDataSegment) if loans > 1 => Some(loans / 2),
+///     _ => None,
+/// }
+/// ```
 ///
 /// iceoryx2's `port::publisher::PublisherCreateError` (`src/port/publisher.rs`).
 #[derive(Debug, Clone, Copy, PartialEq, Eq)]
 pub enum PublisherCreateError {
-    /// As many publishers are open as the service allows.
+    /// As many publishers are open as the service allows (`max_publishers`).
     ExceedsMaxSupportedPublishers,
-    /// Memory for the messages was refused, or its size doesn't fit `usize`.
+    /// Memory for the messages was refused, or the number of slots or their size doesn't fit `usize`.
     UnableToCreateDataSegment,
     /// Memory for the publisher's own state was refused. (There are no threads; the name is the
     /// original's.)
@@ -160,15 +240,26 @@ pub enum PublisherCreateError {
     UnableToCreatePortTag,
 }
 
-/// Why a subscriber was not created.
+/// Why a subscriber was not created. The domain is as it was.
+///
+/// Example (`crates/iox2_machine_tests/src/tests/refusals.rt`): with which buffer to try again.
+///
+/// ```rust
+/// match created {
+///     Err(SubscriberCreateError::BufferSizeExceedsMaxSupportedBufferSizeOfService) => {
+///         Some(config.subscriber_max_buffer_size)
+///     }
+///     _ => None,
+/// }
+/// ```
 ///
 /// iceoryx2's `port::subscriber::SubscriberCreateError` (`src/port/subscriber.rs`).
 #[derive(Debug, Clone, Copy, PartialEq, Eq)]
 pub enum SubscriberCreateError {
-    /// There are as many subscribers as the service allows. A closed one counts until its last
-    /// sample is released.
+    /// There are as many subscribers as the service allows (`max_subscribers`). A closed one counts
+    /// until its last sample is released.
     ExceedsMaxSupportedSubscribers,
-    /// The buffer asked for is larger than the service allows.
+    /// The buffer asked for is larger than the service allows (`subscriber_max_buffer_size`).
     BufferSizeExceedsMaxSupportedBufferSizeOfService,
     /// Memory for the subscriber's own state was refused. (There are no threads; the name is the
     /// original's.)
@@ -177,7 +268,17 @@ pub enum SubscriberCreateError {
     UnableToCreatePortTag,
 }
 
-/// Why a domain was not made. This library's own.
+/// Why a domain was not made. There is one reason, so a caller may ask only whether there is a domain.
+///
+/// Example (`crates/list_runner/src/lists.rt`):
+///
+/// ```rust
+/// let Ok(mut domain) = Domain::<u64, ()>::new(alloc, sizes.config) else {
+///     return Err(Failure::OutOfMemory(AllocError));
+/// };
+/// ```
+///
+/// This library's own.
 #[derive(Debug, Clone, Copy, PartialEq, Eq)]
 pub enum DomainCreateError {
     /// Memory for its lists was refused.

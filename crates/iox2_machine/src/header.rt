@@ -2,7 +2,15 @@ ghost use Rattle.std.specs.Prelude.{◌≡◌};
 
 use crate::ids::{UniqueNodeId, UniquePublisherId};
 
-/// What travels with each message beside its payload: where it comes from and how long it is.
+/// What travels with each message beside its payload: where it comes from and how long it is. `header`
+/// of a loan or a sample returns it.
+///
+/// Example (`crates/iox2_tests/src/tests/payloads.rt`):
+///
+/// ```rust
+/// let header = *loan.header(&domain);
+/// assert!(rt; header.publisher_id.value() == 1 && header.number_of_elements == 1);
+/// ```
 ///
 /// iceoryx2's `service::header::publish_subscribe::Header`
 /// (`src/service/header/publish_subscribe.rs`).

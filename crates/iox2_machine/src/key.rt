@@ -1,4 +1,18 @@
-/// Names a port, loan, sample or blocked send without being its handle. This library's own.
+/// Names a port, loan, sample or blocked send without being its handle. A domain says by it whether
+/// that is still live: by `holds_publisher`, `holds_subscriber`, `holds_loan`, `holds_sample` and
+/// `holds_blocked`.
+///
+/// Example (`crates/iox2_tests/src/tests/samples.rt`):
+///
+/// ```rust
+/// let key = sample.key();
+/// let before = domain.holds_sample(key);
+/// release(&rt, &mut domain, sample);
+/// let after = domain.holds_sample(key);
+/// assert!(rt; [before, after] == [true, false]);
+/// ```
+///
+/// This library's own.
 #[derive(Debug, Clone, Copy, PartialEq, Eq)]
 pub struct Key {
     /// The number of the service.

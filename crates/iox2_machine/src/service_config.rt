@@ -7,12 +7,23 @@ use crate::backpressure::BackpressureStrategy;
 
 /// What the payload of each message is.
 ///
+/// Example (`crates/thermometer/src/series.rt`):
+///
+/// ```rust
+/// let config = ServiceConfig {
+///     variant: TypeVariant::Dynamic,
+///     ..ServiceConfig::new(2)
+/// };
+/// let mut domain = Domain::<u64, ()>::new(alloc, config)?;
+/// let subscriber = domain.slice_subscriber_builder().create(&mut domain)?;
+/// ```
+///
 /// iceoryx2's `service::static_config::message_type_details::TypeVariant`.
 #[derive(Debug, Clone, Copy, PartialEq, Eq)]
 pub enum TypeVariant {
-    /// One value.
+    /// One value, as by default.
     FixedSize,
-    /// A slice, whose length each loan sets.
+    /// A slice, whose length each loan sets. The ports are those of module `slice`.
     Dynamic,
 }
 

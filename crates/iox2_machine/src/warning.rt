@@ -1,7 +1,23 @@
 use crate::errors::ConnectionFailure;
 use crate::ids::{UniquePublisherId, UniqueSubscriberId};
 
-/// Something that a domain did or left undone without failing the call.
+/// Something that a domain did or left undone without failing the call. `Domain::warnings` returns the
+/// last of them.
+///
+/// Example (`crates/refused_rows/src/warnings.rt`):
+///
+/// ```rust
+/// if let Some(&warning) = domain.warnings().get(at) {
+///     print_warning(rt, warning)?;
+/// }
+///
+/// match warning {
+///     Warning::ConnectionNotMade { sender, receiver } => {
+///         println!(rt; "no connection {} {}", sender.value(), receiver.value())?;
+///     }
+///     _ => println!(rt; "another warning")?,
+/// }
+/// ```
 ///
 /// This library's own: a domain keeps the last of these values, where iceoryx2 writes to its log.
 #[derive(Debug, Clone, Copy, PartialEq, Eq)]

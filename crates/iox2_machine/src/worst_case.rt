@@ -6,11 +6,20 @@ use crate::service_config::ServiceConfig;
 
 /// How many slots a publisher needs in a service with these settings if so many of its loans may be
 /// out at a time, whatever its subscribers hold: for each channel of each subscriber that there may
-/// be, its buffer and what it may borrow; then the history; then the loans. This library's own.
+/// be, its buffer and what it may borrow; then the history; then the loans.
+///
+/// Example (`crates/list_runner/src/lists.rt`):
+///
+/// ```rust
+/// let slots = worst_case_slots(&sizes.config, sizes.loans).ok_or(Failure::TooManySlots)?;
+/// println!(rt; "{slots} slots")?;
+/// ```
 ///
 /// With so many slots the publisher is never refused a loan for want of one; with fewer it can be,
 /// without overflow and where a connection has one channel. `None` where the number doesn't fit
 /// `usize`, and only there: no part of the sum is formed that is larger than the sum.
+///
+/// This library's own.
 pub fn worst_case_slots(config: &ServiceConfig, loans: usize) -> Option<usize>
     ensures { SomeIff result (IsTrue (fits (worst_case config.now loans))) (worst_case config.now loans) }
 {

@@ -5,6 +5,7 @@ mod error_texts;
 mod errors;
 mod handlers;
 mod plain_types;
+mod refusals;
 mod settings;
 mod slot_lists;
 mod slots;

@@ -3,7 +3,7 @@ use Rattle.std.proofs.Common.{◌≡◌, ℕ, zero, suc, ◌+◌, ◌<◌, Bool,
 use Rattle.std.specs.List.{list_all}
 use Rattle.std.specs.Option.{option_map, option_map_or}
 use Rattle.std.specs.Prelude.{IsSomeAnd}
-use Rattle.std.proofs.lemmas.List.{drop_more}
+use Rattle.std.proofs.lemmas.List.{map-id}
 use Rattle.std.proofs.lemmas.List.Folds.{list_all-append}
 use Rattle.slab.specs.Slab.{Slab, get}
 use Rattle.iox2_connections.specs.Link.{Link, channel_at}
@@ -24,21 +24,23 @@ use Rattle.iox2_domain.proofs.lemmas.fields.ConnectionEnds.{subscriber-stands}
 use Rattle.iox2_domain.proofs.lemmas.fields.KeptChannels.{channels-are}
 use Rattle.iox2_domain.proofs.lemmas.receives.ReceiptSteps.{HasKeys, same-one}
 use Rattle.iox2_messages.specs.KeyChannels.{all_in_state, key_in_no_other}
+use Rattle.iox2_messages.proofs.AskedChannels.{listed-drop}
 
 -- ---- walks over keys
 
-module _ (connections : Slab Link) (number state : ℕ) where
+module _ (connections : Slab Link) (number state : ℕ) {A : Type 0} (key_of : A → Option ℕ) (xs : List A) (i : ℕ) (x : A) (key : Option ℕ) (b : Bool)
+    (below : i < length xs) (there : x ≡ get_or xs i x) (its : key ≡ key_of x) (is : b ≡ key_in_no_other connections number state key) where
   -- a key that is so says nothing of the others
-  pub all-behind : (keys : List (Option ℕ)) (i : ℕ) (b : Bool) → i < length keys → b ≡ key_in_no_other connections number state (get_or keys i None) → b ≡ true
-      → all_in_state connections number state (drop i keys) ≡ all_in_state connections number state (drop (i + 1) keys)
-  all-behind keys i b below is holds =
-      ap (all_in_state connections number state) (drop_more keys i None below) ∙ ap (λ (c : Bool). c && all_in_state connections number state (drop (i + 1) keys)) (sym is ∙ holds)
+  pub all-behind : b ≡ true → all_in_state connections number state (drop i (map key_of xs)) ≡ all_in_state connections number state (drop (i + 1) (map key_of xs))
+  all-behind holds =
+      ap (all_in_state connections number state) (listed-drop key_of xs i x key below there its)
+      ∙ ap (λ (c : Bool). c && all_in_state connections number state (drop (i + 1) (map key_of xs))) (sym is ∙ holds)
 
   -- one that isn't tells all
-  pub not-here : (keys : List (Option ℕ)) (i : ℕ) (b : Bool) → i < length keys → b ≡ key_in_no_other connections number state (get_or keys i None) → b ≡ false
-      → all_in_state connections number state (drop i keys) ≡ false
-  not-here keys i b below is fails =
-      ap (all_in_state connections number state) (drop_more keys i None below) ∙ ap (λ (c : Bool). c && all_in_state connections number state (drop (i + 1) keys)) (sym is ∙ fails)
+  pub not-here : b ≡ false → all_in_state connections number state (drop i (map key_of xs)) ≡ false
+  not-here fails =
+      ap (all_in_state connections number state) (listed-drop key_of xs i x key below there its)
+      ∙ ap (λ (c : Bool). c && all_in_state connections number state (drop (i + 1) (map key_of xs))) (sym is ∙ fails)
 
 -- ---- one answer after another
 
@@ -94,9 +96,10 @@ module _ {T U : Type 0} (f : Fields T U) (sound : IsDomain f) (i : ℕ) (y : Sub
 module _ {T U : Type 0} (f now : Fields T U) (place : ℕ) (z : SubscriberFields) (keys : List ℕ) (places : List (Option ℕ)) (has : HasKeys f now place z keys places) (number state : ℕ) where
   -- the same as the code reads it
   pub asked-all : (y : SubscriberFields) → get_or now.subscribers place None ≡ Some y
-      → (all_in_state f.connections number state (map Some keys) && all_in_state f.connections number state places) ≡ list_all (λ p. is_in_state state ((state_of (kept_of now)).channels p y.id number)) (senders_of (state_of (kept_of now)) y.id)
+      → (all_in_state f.connections number state (map Some keys) && all_in_state f.connections number state (map (λ (key : Option ℕ). key) places)) ≡ list_all (λ p. is_in_state state ((state_of (kept_of now)).channels p y.id number)) (senders_of (state_of (kept_of now)) y.id)
   asked-all y at =
-      ap (λ (xs : List ℕ). all_in_state f.connections number state (map Some xs) && all_in_state f.connections number state places) has.expired_is
+      ap (λ (xs : List (Option ℕ)). all_in_state f.connections number state (map Some keys) && all_in_state f.connections number state xs) (map-id places)
+      ∙ ap (λ (xs : List ℕ). all_in_state f.connections number state (map Some xs) && all_in_state f.connections number state places) has.expired_is
       ∙ ap (λ (xs : List (Option ℕ)). all_in_state f.connections number state (map Some z.expired) && all_in_state f.connections number state xs) has.places_is
       ∙ ap (λ (h : Fields T U). all_in_state h.connections number state (map Some z.expired) && all_in_state h.connections number state z.keys) has.same
       ∙ received-all now has.sound place z has.stands number state

@@ -1,9 +1,9 @@
 -- What ports are told of their channels is what the machine says.
-use Rattle.std.proofs.Common.{◌≡◌, ℕ, zero, suc, ◌+◌, ◌<◌, Bool, true, false, ◌||◌, List, [], ◌∷◌, ◌++◌, length, map, drop, Option, None, Some, get_or, refl, sym, ap, ◌∙◌}
+use Rattle.std.proofs.Common.{◌≡◌, ℕ, zero, suc, ◌+◌, ◌<◌, Bool, true, false, ◌||◌, List, [], ◌∷◌, ◌++◌, length, map, drop, Option, None, Some, get_or, refl, sym, ap, ◌∙◌, arith}
 use Rattle.std.specs.List.{list_any}
 use Rattle.std.specs.Option.{option_and_then, option_map, option_map_or}
 use Rattle.std.specs.Prelude.{IsSomeAnd}
-use Rattle.std.proofs.lemmas.List.{drop_more, get_or_read}
+use Rattle.std.proofs.lemmas.List.{drop_more, get_or_read, length-map, map-id}
 use Rattle.std.proofs.lemmas.List.Folds.{list_any-append}
 use Rattle.slab.specs.Slab.{Slab, get}
 use Rattle.iox2_connections.specs.Link.{Link, channel_at}
@@ -16,6 +16,7 @@ use Rattle.iox2_connections.specs.Finds.{IsReceivers, IsReceiverLinked}
 use Rattle.iox2_connections.specs.Homes.{IsApart, IsSenders}
 use Rattle.iox2_connections.specs.Mailboxes.{channels_in, receiver_ends, sender_ends, subscriber_of_key}
 use Rattle.iox2_connections.proofs.MailboxChanges.{channels-there, within_if_some}
+use Rattle.iox2_connections.proofs.Searches.{listed-at}
 use Rattle.iox2_domain.specs.Fields.{Fields, kept_of}
 use Rattle.iox2_domain.specs.Invariant.{IsDomain}
 use Rattle.iox2_domain.specs.Kept.{state_of}
@@ -28,18 +29,25 @@ use Rattle.iox2_messages.specs.KeyChannels.{key_in_state, some_in_state}
 
 -- ---- walks over keys
 
-module _ (connections : Slab Link) (number state : ℕ) where
+-- what is left of the keys in a list begins with this one, where this is the element there and its key
+pub listed-drop : {A : Type 0} (key_of : A → Option ℕ) (xs : List A) (i : ℕ) (x : A) (key : Option ℕ) → i < length xs → x ≡ get_or xs i x → key ≡ key_of x
+    → drop i (map key_of xs) ≡ (key ∷ drop (i + 1) (map key_of xs))
+listed-drop key_of xs i x key below there its =
+    drop_more (map key_of xs) i None (omega (arith, below, length-map xs key_of)) ∙ ap (λ (first : Option ℕ). first ∷ drop (i + 1) (map key_of xs)) (listed-at key_of xs i x key below there its)
+
+module _ (connections : Slab Link) (number state : ℕ) {A : Type 0} (key_of : A → Option ℕ) (xs : List A) (i : ℕ) (x : A) (key : Option ℕ) (b : Bool)
+    (below : i < length xs) (there : x ≡ get_or xs i x) (its : key ≡ key_of x) (is : b ≡ key_in_state connections number state key) where
   -- a key that isn't in the state says nothing of the others
-  pub some-behind : (keys : List (Option ℕ)) (i : ℕ) (b : Bool) → i < length keys → b ≡ key_in_state connections number state (get_or keys i None) → b ≡ false
-      → some_in_state connections number state (drop i keys) ≡ some_in_state connections number state (drop (i + 1) keys)
-  some-behind keys i b below is fails =
-      ap (some_in_state connections number state) (drop_more keys i None below) ∙ ap (λ (c : Bool). c || some_in_state connections number state (drop (i + 1) keys)) (sym is ∙ fails)
+  pub some-behind : b ≡ false → some_in_state connections number state (drop i (map key_of xs)) ≡ some_in_state connections number state (drop (i + 1) (map key_of xs))
+  some-behind fails =
+      ap (some_in_state connections number state) (listed-drop key_of xs i x key below there its)
+      ∙ ap (λ (c : Bool). c || some_in_state connections number state (drop (i + 1) (map key_of xs))) (sym is ∙ fails)
 
   -- one that is tells all
-  pub some-here : (keys : List (Option ℕ)) (i : ℕ) (b : Bool) → i < length keys → b ≡ key_in_state connections number state (get_or keys i None) → b ≡ true
-      → some_in_state connections number state (drop i keys) ≡ true
-  some-here keys i b below is holds =
-      ap (some_in_state connections number state) (drop_more keys i None below) ∙ ap (λ (c : Bool). c || some_in_state connections number state (drop (i + 1) keys)) (sym is ∙ holds)
+  pub some-here : b ≡ true → some_in_state connections number state (drop i (map key_of xs)) ≡ true
+  some-here holds =
+      ap (some_in_state connections number state) (listed-drop key_of xs i x key below there its)
+      ∙ ap (λ (c : Bool). c || some_in_state connections number state (drop (i + 1) (map key_of xs))) (sym is ∙ holds)
 
 -- ---- one answer after another
 
@@ -91,9 +99,10 @@ module _ {T U : Type 0} (f : Fields T U) (sound : IsDomain f) (i : ℕ) (y : Sub
 module _ {T U : Type 0} (f now : Fields T U) (place : ℕ) (z : SubscriberFields) (keys : List ℕ) (places : List (Option ℕ)) (has : HasKeys f now place z keys places) (number state : ℕ) where
   -- the same as the code reads it
   pub asked-received : (y : SubscriberFields) → get_or now.subscribers place None ≡ Some y
-      → (some_in_state f.connections number state (map Some keys) || some_in_state f.connections number state places) ≡ some_channel_has_state (state_of (kept_of now)) y.id number state
+      → (some_in_state f.connections number state (map Some keys) || some_in_state f.connections number state (map (λ (key : Option ℕ). key) places)) ≡ some_channel_has_state (state_of (kept_of now)) y.id number state
   asked-received y at =
-      ap (λ (xs : List ℕ). some_in_state f.connections number state (map Some xs) || some_in_state f.connections number state places) has.expired_is
+      ap (λ (xs : List (Option ℕ)). some_in_state f.connections number state (map Some keys) || some_in_state f.connections number state xs) (map-id places)
+      ∙ ap (λ (xs : List ℕ). some_in_state f.connections number state (map Some xs) || some_in_state f.connections number state places) has.expired_is
       ∙ ap (λ (xs : List (Option ℕ)). some_in_state f.connections number state (map Some z.expired) || some_in_state f.connections number state xs) has.places_is
       ∙ ap (λ (h : Fields T U). some_in_state h.connections number state (map Some z.expired) || some_in_state h.connections number state z.keys) has.same
       ∙ received-in now has.sound place z has.stands number state

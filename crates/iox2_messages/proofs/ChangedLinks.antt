@@ -1,5 +1,5 @@
 -- Connections whose channels are changed, one after the other.
-use Rattle.std.proofs.Common.{◌≡◌, ℕ, ◌+◌, ◌≤◌, Bool, true, false, cond, not, ◌&&◌, eqb, List, length, ◌⊎◌, inl, inr, Option, None, Some, is_some, get_or, refl, ap, sym, ◌∙◌, arith}
+use Rattle.std.proofs.Common.{◌≡◌, ℕ, ◌+◌, ◌<◌, ◌≤◌, Bool, true, false, cond, not, ◌&&◌, eqb, List, map, length, ◌⊎◌, inl, inr, Option, None, Some, is_some, get_or, refl, ap, sym, ◌∙◌, arith}
 use Rattle.std.proofs.lemmas.Bool.{cases_eq, eqb-true, eq-eqb}
 use Rattle.std.specs.Option.{option_map}
 use Rattle.slab.specs.Slab.{Slab, Updates, ContainsKey, get, with_value}
@@ -8,9 +8,10 @@ use Rattle.iox2_connections.proofs.ChannelLists.{changed-length, channels-twice}
 use Rattle.iox2_machine.specs.machine.Channel.{Channel, is_closed, with_state}
 use Rattle.iox2_connections.specs.Finds.{HasConnections}
 use Rattle.iox2_connections.proofs.MailboxChanges.{Updates-with_value, both-true}
+use Rattle.iox2_connections.proofs.Searches.{listed-at}
 use Rattle.iox2_domain.specs.ChannelChanges.{ChangesLinks}
 use Rattle.iox2_domain.specs.Departures.{HasKey}
-use Rattle.iox2_domain.proofs.lemmas.containers.KeyWalks.{HasKeyBelow, next-key, all-keys}
+use Rattle.iox2_domain.proofs.lemmas.containers.KeyWalks.{HasKeyBelow, next-listed, all-listed}
 use Rattle.iox2_domain.proofs.lemmas.fields.Rechanneled.{plain_link}
 use Rattle.iox2_messages.specs.ChannelChanges.{changed_channel, changed_link}
 use Rattle.iox2_messages.specs.declared.changed_channels.ChannelChange.{ChannelChange}
@@ -138,13 +139,16 @@ module _ (change : ChannelChange) (number expected : ℕ) where
   pub walk-begins : (keys : List (Option ℕ)) (slab : Slab Link) → ChangesLinks changed (HasKeyBelow keys 0) slab slab
   walk-begins keys slab = none-changed (HasKeyBelow keys 0) slab (λ k has. omega (arith, has.1))
 
-  -- the next key
-  pub walk-goes : (keys : List (Option ℕ)) (place : ℕ) (old now new : Slab Link) → ChangesLinks changed (HasKeyBelow keys place) old now → ChangesLinks changed (λ k. get_or keys place None ≡ Some k) now new
-      → ChangesLinks changed (HasKeyBelow keys (place + 1)) old new
-  walk-goes keys place old now new so_far one =
-      both-changed (HasKeyBelow keys place) (λ k. get_or keys place None ≡ Some k) (HasKeyBelow keys (place + 1)) old now new so_far one
-      (next-key keys place) (λ k has. (has.0, omega (arith, has.1), has.2)) (λ k is. (place, omega arith, is))
+  -- the next key, of the element at the place
+  pub walk-goes : {A : Type 0} (key_of : A → Option ℕ) (xs : List A) (place : ℕ) (x : A) (key : Option ℕ) → place < length xs → x ≡ get_or xs place x → key ≡ key_of x
+      → (old now new : Slab Link) → ChangesLinks changed (HasKeyBelow (map key_of xs) place) old now → ChangesLinks changed (λ k. key ≡ Some k) now new → ChangesLinks changed (HasKeyBelow (map key_of xs) (place + 1)) old new
+  walk-goes key_of xs place x key low there its old now new so_far one =
+      both-changed (HasKeyBelow (map key_of xs) place) (λ k. key ≡ Some k) (HasKeyBelow (map key_of xs) (place + 1)) old now new so_far one
+      (next-listed key_of xs place x key low there its) (λ k has. (has.0, omega (arith, has.1), has.2))
+      (λ k is. (place, omega arith, listed-at key_of xs place x key low there its ∙ is))
 
   -- all keys
-  pub walk-ends : (keys : List (Option ℕ)) (place : ℕ) (old new : Slab Link) → ChangesLinks changed (HasKeyBelow keys place) old new → length keys ≤ place → ChangesLinks changed (HasKey keys) old new
-  walk-ends keys place old new so_far all = same-changed (HasKeyBelow keys place) (HasKey keys) old new so_far (λ k has. all-keys keys place k all has) (λ k has. (has.0, has.2))
+  pub walk-ends : {A : Type 0} (key_of : A → Option ℕ) (xs : List A) (place : ℕ) (old new : Slab Link) → ChangesLinks changed (HasKeyBelow (map key_of xs) place) old new → length xs ≤ place
+      → ChangesLinks changed (HasKey (map key_of xs)) old new
+  walk-ends key_of xs place old new so_far all =
+      same-changed (HasKeyBelow (map key_of xs) place) (HasKey (map key_of xs)) old new so_far (λ k has. all-listed key_of xs place k all has) (λ k has. (has.0, has.2))

@@ -5,6 +5,7 @@ pub mod ChangedLinks
 pub mod ReceivedChannels
 pub mod SentChannels
 pub mod StandingPlaces
+mod ReturnedAtHint
 mod StaticPass
 mod LoanPass
 mod ClearedSlots

@@ -8,9 +8,8 @@ use Rattle.iox2_machine.specs.machine.Limits.{channel_count}
 use Rattle.iox2_connections.specs.Mailboxes.{sender_ends}
 use Rattle.iox2_connections.specs.Receivers.{HaveChannel}
 use Rattle.iox2_domain.specs.BlockedSends.{waiting_send}
-use Rattle.iox2_domain.specs.Fields.{Fields, kept_of, numbers_of, publisher_of, blocked_send}
+use Rattle.iox2_domain.specs.Fields.{Fields, numbers_of, publisher_of, blocked_send}
 use Rattle.iox2_domain.specs.Invariant.{IsDomain}
-use Rattle.iox2_domain.specs.Kept.{state_of}
 use Rattle.iox2_domain.specs.Ports.{PublisherFields}
 use Rattle.iox2_domain.specs.declared.publisher_state.BlockedDelivery.{BlockedDelivery}
 use Rattle.iox2_domain.proofs.lemmas.fields.ConnectionEnds.{publisher-stands}

@@ -16,7 +16,7 @@ ghost use Rattle.iox2_domain.specs.Ports.{PublisherFields, SubscriberFields};
 ghost use Rattle.iox2_domain.specs.Reaches.{Reaches};
 ghost use Rattle.iox2_messages.specs.ChannelChanges.{changed_channel, changed_link};
 
-use iox2_connections::{CHANNEL_STATE_CLOSED, Connection};
+use iox2_connections::{CHANNEL_STATE_CLOSED, Connection, ListedKey};
 use iox2_domain::{DomainState, SubscriberState, key_at};
 use iox2_updates::mark_end;
 use slab::Slab;
@@ -57,35 +57,19 @@ fn change_at(
     }
 }
 
-// The same, at the connections to which the keys of places lead.
-fn change_at_places(
+// The same, at the connections to which these keys lead.
+fn change_at_keys<K: ListedKey>(
     connections: &mut Slab<Connection>,
-    keys: &[Option<usize>],
+    keys: &[K],
     channel: usize,
     expected: u64,
     change: ChannelChange,
 )
-    requires { HasConnections connections.old keys.now }
-    ensures { ChangesLinks (changed_link change channel expected) (HasKey keys.now) connections.old connections.new }
-{
-    for place in 0..keys.len() {
-        change_at(connections, keys[place], channel, expected, change);
-    }
-}
-
-// The same, at the connections to which the expired keys lead.
-fn change_expired(
-    connections: &mut Slab<Connection>,
-    keys: &[usize],
-    channel: usize,
-    expected: u64,
-    change: ChannelChange,
-)
-    requires { HasConnections connections.old (map Some keys.now) }
-    ensures { ChangesLinks (changed_link change channel expected) (HasKey (map Some keys.now)) connections.old connections.new }
+    requires { HasConnections connections.old (map K.key_of keys.now) }
+    ensures { ChangesLinks (changed_link change channel expected) (HasKey (map K.key_of keys.now)) connections.old connections.new }
 {
     for index in 0..keys.len() {
-        change_at(connections, Some(keys[index]), channel, expected, change);
+        change_at(connections, keys[index].key(), channel, expected, change);
     }
 }
 
@@ -101,8 +85,8 @@ fn change_known(
     requires expired { HasConnections connections.old (map Some subscriber.now.expired) }
     ensures { ChangesLinks (changed_link change channel expected) (KnowsKey subscriber.now) connections.old connections.new }
 {
-    change_at_places(connections, &subscriber.keys, channel, expected, change);
-    change_expired(connections, &subscriber.expired, channel, expected, change);
+    change_at_keys(connections, &subscriber.keys, channel, expected, change);
+    change_at_keys(connections, &subscriber.expired, channel, expected, change);
 }
 
 // The connections of the subscriber at a place are marked as open where they are, as those are whose

@@ -11,7 +11,7 @@ ghost use Rattle.iox2_domain.specs.Kept.{state_of};
 ghost use Rattle.iox2_domain.specs.Ports.{PublisherFields, SubscriberFields};
 ghost use Rattle.iox2_messages.specs.KeyChannels.{all_in_state, key_hinted, key_in_no_other, key_in_state, some_in_state};
 
-use iox2_connections::Connection;
+use iox2_connections::{Connection, ListedKey};
 use iox2_domain::{DomainState, key_at};
 use slab::Slab;
 
@@ -63,23 +63,11 @@ fn is_in_no_other(connections: &Slab<Connection>, key: Option<usize>, asked: Ask
 }
 
 // Whether one of these keys leads to a connection whose channel with that number is in that state.
-fn some_at_places(connections: &Slab<Connection>, keys: &[Option<usize>], asked: Asked) -> bool
-    ensures { result ≡ some_in_state connections.now asked.channel asked.state keys.now }
-{
-    for place in 0..keys.len() {
-        if is_in_state(connections, keys[place], asked) {
-            return true;
-        }
-    }
-    false
-}
-
-// The same, for keys of which each leads to a connection.
-fn some_expired(connections: &Slab<Connection>, keys: &[usize], asked: Asked) -> bool
-    ensures { result ≡ some_in_state connections.now asked.channel asked.state (map Some keys.now) }
+fn some_at_keys<K: ListedKey>(connections: &Slab<Connection>, keys: &[K], asked: Asked) -> bool
+    ensures { result ≡ some_in_state connections.now asked.channel asked.state (map K.key_of keys.now) }
 {
     for index in 0..keys.len() {
-        if is_in_state(connections, Some(keys[index]), asked) {
+        if is_in_state(connections, keys[index].key(), asked) {
             return true;
         }
     }
@@ -87,23 +75,11 @@ fn some_expired(connections: &Slab<Connection>, keys: &[usize], asked: Asked) ->
 }
 
 // Whether none of these keys leads to a connection whose channel with that number is in another state.
-fn all_at_places(connections: &Slab<Connection>, keys: &[Option<usize>], asked: Asked) -> bool
-    ensures { result ≡ all_in_state connections.now asked.channel asked.state keys.now }
-{
-    for place in 0..keys.len() {
-        if !is_in_no_other(connections, keys[place], asked) {
-            return false;
-        }
-    }
-    true
-}
-
-// The same, for keys of which each leads to a connection.
-fn all_expired(connections: &Slab<Connection>, keys: &[usize], asked: Asked) -> bool
-    ensures { result ≡ all_in_state connections.now asked.channel asked.state (map Some keys.now) }
+fn all_at_keys<K: ListedKey>(connections: &Slab<Connection>, keys: &[K], asked: Asked) -> bool
+    ensures { result ≡ all_in_state connections.now asked.channel asked.state (map K.key_of keys.now) }
 {
     for index in 0..keys.len() {
-        if !is_in_no_other(connections, Some(keys[index]), asked) {
+        if !is_in_no_other(connections, keys[index].key(), asked) {
             return false;
         }
     }
@@ -131,8 +107,8 @@ pub fn some_received_in<T: Drop, U: Default + Drop>(
         channel,
         state: channel_state,
     };
-    some_expired(&state.connections, &subscriber.expired, asked)
-        || some_at_places(&state.connections, &subscriber.keys, asked)
+    some_at_keys(&state.connections, &subscriber.expired, asked)
+        || some_at_keys(&state.connections, &subscriber.keys, asked)
 }
 
 /// Whether a channel of each connection of the subscriber at a place is in that state. So it is where
@@ -157,8 +133,8 @@ pub fn all_received_in<T: Drop, U: Default + Drop>(
         channel,
         state: channel_state,
     };
-    all_expired(&state.connections, &subscriber.expired, asked)
-        && all_at_places(&state.connections, &subscriber.keys, asked)
+    all_at_keys(&state.connections, &subscriber.expired, asked)
+        && all_at_keys(&state.connections, &subscriber.keys, asked)
 }
 
 // Whether a key leads to a connection with that subscriber.

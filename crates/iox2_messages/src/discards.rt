@@ -5,7 +5,7 @@ ghost use Rattle.iox2_slots.specs.SlotBook.{Book, IsInUse};
 ghost use Rattle.iox2_contents.specs.SlotContents.{ContentState, with_changed, ended_content};
 ghost use Rattle.iox2_machine.specs.machine.SingleCalls.{HoldsLoan};
 ghost use Rattle.iox2_connections.specs.Counters.{times};
-ghost use Rattle.iox2_domain.specs.Discards.{with_loan_returned, DiscardsLoan};
+ghost use Rattle.iox2_domain.specs.Discards.{with_loan_discarded, DiscardsLoan};
 ghost use Rattle.iox2_domain.specs.Fields.{kept_of};
 ghost use Rattle.iox2_domain.specs.Invariant.{IsDomain};
 ghost use Rattle.iox2_domain.specs.Kept.{state_of};
@@ -25,7 +25,7 @@ pub fn discard_loan<T: Drop, U: Default + Drop>(state: &mut DomainState<T, U>, l
 {
     let at = find_live_loan(state, &loan);
     match state.find_publisher(loan.publisher, loan.place) {
-        Some(place) => return_loan(state, place, at.slot),
+        Some(place) => discard_loan_at(state, place, at.slot),
         None => state.let_go(at.book, at.slot),
     }
 }
@@ -34,11 +34,15 @@ pub fn discard_loan<T: Drop, U: Default + Drop>(state: &mut DomainState<T, U>, l
 // cells.
 //
 // iceoryx2's `Sender::return_loaned_sample` (`src/port/details/sender.rs`).
-fn return_loan<T: Drop, U: Default + Drop>(state: &mut DomainState<T, U>, place: usize, slot: usize)
+fn discard_loan_at<T: Drop, U: Default + Drop>(
+    state: &mut DomainState<T, U>,
+    place: usize,
+    slot: usize,
+)
     requires stands { (x : PublisherFields) × (b : Book) × (slice_index_or state.old.publishers place None ≡ Some x) × (get state.old.books x.book ≡ Some b) × IsInUse b slot }
     requires once { (x : PublisherFields) → slice_index_or state.old.publishers place None ≡ Some x → times slot x.loans ≤ 1 }
     requires contents { (x : PublisherFields) → slice_index_or state.old.publishers place None ≡ Some x → (cs : List (ContentState T U)) × (slice_index_or state.old.contents x.book None ≡ Some cs) × (slot < length cs) }
-    ensures { (x : PublisherFields) (b : Book) → slice_index_or state.old.publishers place None ≡ Some x → get state.old.books x.book ≡ Some b → state.new ≡ with_loan_returned state.old place x slot b }
+    ensures { (x : PublisherFields) (b : Book) → slice_index_or state.old.publishers place None ≡ Some x → get state.old.books x.book ≡ Some b → state.new ≡ with_loan_discarded state.old place x slot b }
 {
     let Some(publisher) = &mut state.publishers[place] else {
         unreachable!();

@@ -1,5 +1,5 @@
 //! Where a sample lies. The slot that its handle names is tested first.
-ghost use Rattle.std.specs.Prelude.{◌≡◌, ◌<◌, ◌↔◌, length, slice_index, IsTrue};
+ghost use Rattle.std.specs.Prelude.{◌≡◌, ◌↔◌, IsTrue};
 ghost use Rattle.iox2_machine.specs.machine.SingleCalls.{HoldsSample};
 ghost use Rattle.iox2_domain.specs.Kept.{state_of};
 ghost use Rattle.iox2_domain.specs.Fields.{kept_of};
@@ -7,9 +7,8 @@ ghost use Rattle.iox2_domain.specs.Invariant.{HasNumber, IsDomain};
 ghost use Rattle.iox2_domain.specs.SampleSlots.{IsReturnable, LiesAtHint, LiesBorrowed, LiesBorrowedInSlot};
 
 use iox2_connections::Connection;
-use iox2_connections::receiver::is_last_borrowed;
+use iox2_connections::receiver::{has_number, is_last_borrowed};
 use iox2_domain::{DomainState, MessageSlot, SampleAt, SampleSlot};
-use iox2_slots::SlotBook;
 
 /// The slot that the sample names is in use and has its number. No other slot in use has it.
 pub(crate) fn is_at_slot<T: Drop, U: Default + Drop>(
@@ -53,14 +52,6 @@ fn is_named(connection: &Connection, sample: &SampleAt) -> bool
 {
     let home = connection.home();
     home.subscriber == sample.subscriber.value() && home.book == sample.book
-}
-
-// Whether a slot of the book has the number.
-fn has_number(book: &SlotBook, slot: usize, number: u128) -> bool
-    requires { slot < length book.now.holders }
-    ensures { IsTrue result → slice_index book.now.numbers slot ≡ number }
-{
-    book.number(slot) == number
 }
 
 /// Whether a sample lies in the connection and the slot that it names, and was borrowed last there, and

@@ -42,7 +42,7 @@ pub use loan_calls::{
 };
 pub use loans::loan;
 pub use questions::has_samples_at;
-pub use receipts::{give_back, receive_at};
+pub use receipts::{receive_at, release_sample};
 pub use sample_reads::{
     sample_header, sample_payload, sample_payloads, sample_user_header, sample_values_at_hint,
 };

@@ -14,15 +14,17 @@ ghost use Rattle.iox2_domain.specs.Midway.{IsMidway};
 ghost use Rattle.iox2_domain.specs.Receipts.{IsReceiptFor, TakesAs, ReceivesAs};
 ghost use Rattle.iox2_domain.specs.Updates.{is_subscriber_due};
 
-use crate::hinted_samples::{find_live_sample, is_last_at_hint};
-use iox2_connections::receiver::{Taken, let_go, receive, release};
+use crate::hinted_samples::find_live_sample;
+use iox2_connections::receiver::{
+    BorrowedMessage, Taken, let_go, receive, release, release_if_last,
+};
 use iox2_connections::{Connection, Home};
 use iox2_domain::{Boxes, DomainState, Receipt, SampleAt, SampleSlot, stands_at};
 use iox2_machine::{
     BackpressureFn, DegradationFn, ReceiveError, UniquePublisherId, UniqueSubscriberId,
 };
 use iox2_slots::SlotBook;
-use iox2_updates::{forget_if_empty, free_book_if_unused, leave_if_unused, update_subscriber};
+use iox2_updates::{forget_if_empty, leave_if_unused, settle_book_if_left, update_subscriber};
 use slab::Slab;
 
 // The receipt of a message that was taken. Where the connection stands is read from it as it is now,
@@ -118,7 +120,11 @@ pub fn receive_at<T: Drop, U: Default + Drop, F: BackpressureFn, G: DegradationF
 
 // The slot that is borrowed in a connection is given back to its publisher. Where that is gone, it
 // has one holder less at once, and the subscriber forgets the publisher with its last message.
-fn hand_back<T: Drop, U: Default + Drop>(state: &mut DomainState<T, U>, at: SampleSlot, home: Home)
+fn release_borrowed_slot<T: Drop, U: Default + Drop>(
+    state: &mut DomainState<T, U>,
+    at: SampleSlot,
+    home: Home,
+)
     requires agrees { IsDomain state.old }
     requires borrowed { IsSomeAnd (get state.old.connections at.connection) (λ c. (c.home ≡ home) × Contains c.borrowed at.slot) }
     ensures midway { IsMidway state.old state.new (subscriber_pruned (unborrowed (state_of (kept_of state.old)) home.publisher home.subscriber (numbers_of state.old.books home.publisher at.slot)) home.subscriber) home.book }
@@ -143,25 +149,35 @@ fn hand_back<T: Drop, U: Default + Drop>(state: &mut DomainState<T, U>, at: Samp
 ///
 /// iceoryx2's `Sample`'s drop (`src/sample.rs`).
 #[inline(always)]
-pub fn give_back<T: Drop, U: Default + Drop>(state: &mut DomainState<T, U>, sample: SampleAt)
+pub fn release_sample<T: Drop, U: Default + Drop>(state: &mut DomainState<T, U>, sample: SampleAt)
     requires agrees { IsDomain state.old }
     requires live { HoldsSample (state_of (kept_of state.old)) sample.subscriber sample.number }
     ensures stays { IsDomain state.new }
     ensures released { (publisher : ℕ) → IsTrue (is_borrowed sample.number ((state_of (kept_of state.old)).mailboxes publisher sample.subscriber))
         → Reaches state.old state.new (released (state_of (kept_of state.old)) publisher sample.subscriber sample.number) }
 {
-    if is_last_at_hint(state, &sample) {
-        release(&mut state.connections, sample.connection, sample.slot);
+    let message = BorrowedMessage {
+        subscriber: sample.subscriber.value(),
+        book: sample.book,
+        slot: sample.slot,
+        number: sample.number,
+    };
+    if release_if_last(
+        &mut state.connections,
+        &mut state.books,
+        sample.connection,
+        message,
+    ) {
         return;
     }
-    search_and_give_back(state, sample);
+    search_and_release(state, sample);
 }
 
 // The same, wherever the sample lies and whichever of its ports is gone. It takes the sample itself: a
 // reference would have the usual release keep it in memory.
 #[cold]
 #[inline(never)]
-fn search_and_give_back<T: Drop, U: Default + Drop>(state: &mut DomainState<T, U>, sample: SampleAt)
+fn search_and_release<T: Drop, U: Default + Drop>(state: &mut DomainState<T, U>, sample: SampleAt)
     requires agrees { IsDomain state.old }
     requires live { HoldsSample (state_of (kept_of state.old)) sample.subscriber sample.number }
     ensures stays { IsDomain state.new }
@@ -170,7 +186,7 @@ fn search_and_give_back<T: Drop, U: Default + Drop>(state: &mut DomainState<T, U
 {
     let at = find_live_sample(state, &sample);
     let home = state.connections[at.connection].home();
-    hand_back(state, at, home);
+    release_borrowed_slot(state, at, home);
     leave_if_unused(state, home.subscriber_place);
-    free_book_if_unused(state, home.book);
+    settle_book_if_left(state, home.book);
 }

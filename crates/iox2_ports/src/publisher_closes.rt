@@ -17,10 +17,10 @@ ghost use Rattle.iox2_ports.specs.Leaves.{LeavesCounted};
 ghost use Rattle.iox2_domain.specs.Closes.{is_awaited, after_close, left_subscriber, FindsAll, LeavesConnections, SomeHasKey};
 
 use iox2_connections::Connection;
-use iox2_connections::leaving::{give_up_history, leave};
+use iox2_connections::leaving::{leave, let_go_of_history};
 use iox2_domain::{DomainState, Port, PublisherState, SubscriberState, key_at};
 use iox2_slots::SlotBook;
-use iox2_updates::free_book_if_unused;
+use iox2_updates::settle_book_if_left;
 use slab::Slab;
 
 // Whether the subscriber of a connection, which stands at a key, is open and has it there.
@@ -212,7 +212,7 @@ fn leave_domain<T: Drop, U: Default + Drop>(state: &mut DomainState<T, U>, place
         &mut state.connections,
         book,
     );
-    give_up_history(&publisher.history, book);
+    let_go_of_history(&publisher.history, book);
     forget_everywhere(&mut state.subscribers, &state.connections, place);
     publisher.book
 }
@@ -232,5 +232,5 @@ pub(crate) fn close_publisher<T: Drop, U: Default + Drop>(
         (publisher_closed (state_of (kept_of state.old)) x.id (publisher_of (state.old).books (state.old).connections x).port) }
 {
     let key = leave_domain(state, place);
-    free_book_if_unused(state, key);
+    settle_book_if_left(state, key);
 }

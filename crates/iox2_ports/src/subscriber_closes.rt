@@ -19,7 +19,7 @@ use iox2_domain::{DomainState, SubscriberState, key_at, make_all_due, stands_at}
 use iox2_updates::{forget_if_empty, leave_if_unused};
 
 // The subscriber at a place takes no messages any more.
-fn shut(subscribers: &mut [Option<SubscriberState>], place: usize)
+fn set_closed(subscribers: &mut [Option<SubscriberState>], place: usize)
     requires { IsSome (slice_index_or subscribers.old place None) }
     ensures { subscribers.new ≡ changed_at shut_subscriber subscribers.old place }
 {
@@ -72,7 +72,7 @@ fn is_left<T: Drop, U: Default + Drop>(state: &DomainState<T, U>, key: usize) ->
 }
 
 // What waits in the connection at a key, whose publisher is gone, is lost.
-fn lose_waiting<T: Drop, U: Default + Drop>(state: &mut DomainState<T, U>, key: usize)
+fn drop_waiting<T: Drop, U: Default + Drop>(state: &mut DomainState<T, U>, key: usize)
     requires parts { HasOwnedParts state.old }
     requires departed { IsSomeAnd (get state.old.connections key) (HasNoPublisher state.old.publishers) }
     ensures { (c : Link) → get state.old.connections key ≡ Some c → LosesWaiting state.old key c state.new }
@@ -83,7 +83,7 @@ fn lose_waiting<T: Drop, U: Default + Drop>(state: &mut DomainState<T, U>, key: 
 
 // What waits for the subscriber at a place in its connection at a key is lost, if the publisher is
 // gone. It forgets the connection then, if it has borrowed nothing from it.
-fn lose_if_left<T: Drop, U: Default + Drop>(
+fn drop_waiting_if_left<T: Drop, U: Default + Drop>(
     state: &mut DomainState<T, U>,
     place: usize,
     key: Option<usize>,
@@ -98,7 +98,7 @@ fn lose_if_left<T: Drop, U: Default + Drop>(
     };
     if is_left(state, key) {
         let home = state.connections[key].home();
-        lose_waiting(state, key);
+        drop_waiting(state, key);
         forget_if_empty(state, key, home);
         state.settle_book(home.book);
     }
@@ -115,14 +115,14 @@ pub(crate) fn close_subscriber<T: Drop, U: Default + Drop>(
     ensures { (y : SubscriberFields) → slice_index_or state.old.subscribers place None ≡ Some y
         → Reaches state.old state.new (subscriber_closed (state_of (kept_of state.old)) y.id ((subscriber_of state.old.books state.old.connections y).port)) }
 {
-    shut(&mut state.subscribers, place);
+    set_closed(&mut state.subscribers, place);
     for index in (0..expired_count(&state.subscribers, place)).rev() {
         let key = expired_at(&state.subscribers, place, index);
-        lose_if_left(state, place, key);
+        drop_waiting_if_left(state, place, key);
     }
     for publisher_place in 0..key_count(&state.subscribers, place) {
         let key = key_at(&state.subscribers, place, publisher_place);
-        lose_if_left(state, place, key);
+        drop_waiting_if_left(state, place, key);
     }
     make_all_due(&mut state.publishers);
     leave_if_unused(state, place);

@@ -17,7 +17,7 @@ use Rattle.iox2_runs.specs.CarriesOut.{CarriesOut}
 use Rattle.iox2_runs.specs.Leaves.{Leaves, item_of}
 use Rattle.iox2_runs.specs.Placed.{IsPlacedMade}
 use Rattle.iox2_runs.specs.Tables.{IsUnblocked}
-use Rattle.iox2_runs.specs.Turns.{IsHeld, IsUnready, Turns, Makes, IsTaken, IsSettled}
+use Rattle.iox2_runs.specs.Turns.{IsHeld, IsUnready, Turns, Makes, IsTaken, IsPutBack}
 use Rattle.iox2_runs.specs.declared.runs.made.Made.{Made}
 use Rattle.iox2_runs.specs.declared.runs.made.Made.TheVariants.{Nothing, Publisher as MadePublisher, Subscriber as MadeSubscriber, Unwritten, Written, Blocked, Sample as MadeSample}
 use Rattle.iox2_runs.proofs.LeavingSteps.{leaves-all, leaves-making, leaves-spending}
@@ -95,13 +95,13 @@ module _ {A : Type 0} {table taken : Vec Made A} {of : ℕ} {held : Made} (is_ta
 
   -- the command is carried out
   pub carried : {T U F G : Type 0} {environment : Environment} {defaults : Defaults T U} {old new : Domain T U F G} {command : ℕ → Command T U} {turn : Reply T U × Made × Made}
-      {settled : Vec Made A} {result : Reply T U × Made} → Turns environment defaults old new held command turn → IsSettled taken settled of turn result
-      → CarriesOut environment defaults old new table settled (command of) result.0 result.1
-  carried {turn = turn} {settled = settled} turns is_settled =
-      let items : settled.items ≡ slice_set table.items of turn.1 =
-      is_settled.items ∙ ap (λ (t : List Made). slice_set t of turn.1) is_taken.items ∙ set_again table.items of Nothing turn.1 in
-      rw (is_settled.reply, is_settled.made) (record {
+      {after : Vec Made A} {result : Reply T U × Made} → Turns environment defaults old new held command turn → IsPutBack taken after of turn result
+      → CarriesOut environment defaults old new table after (command of) result.0 result.1
+  carried {turn = turn} {after = after} turns is_put_back =
+      let items : after.items ≡ slice_set table.items of turn.1 =
+      is_put_back.items ∙ ap (λ (t : List Made). slice_set t of turn.1) is_taken.items ∙ set_again table.items of Nothing turn.1 in
+      rw (is_put_back.reply, is_put_back.made) (record {
         carries = rw items (turns.carries table.items of (sym is_taken.stood));
         leaves = rw items (turns.leaves table.items of (sym is_taken.stood));
-        room = same-room-twice is_taken.room is_settled.room;
+        room = same-room-twice is_taken.room is_put_back.room;
       })

@@ -48,7 +48,7 @@ pub record IsTaken {A : Type 0} (old new : Vec Made A) (of : ℕ) (taken : Made)
   pub stood : taken ≡ slice_index_or old.items of Nothing
 
 -- What a command left stands at the table's position.
-pub record IsSettled {T U A : Type 0} (old new : Vec Made A) (of : ℕ) (turn : Reply T U × Made × Made) (result : Reply T U × Made) : Type 0 where
+pub record IsPutBack {T U A : Type 0} (old new : Vec Made A) (of : ℕ) (turn : Reply T U × Made × Made) (result : Reply T U × Made) : Type 0 where
   pub items : new.items ≡ slice_set old.items of turn.1
   pub room : SameRoom old new
   pub reply : result.0 ≡ turn.0

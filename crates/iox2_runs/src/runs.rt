@@ -34,7 +34,7 @@ use iox2_machine::{BackpressureFn, DegradationFn};
 use iox2_pubsub::Domain;
 use lends::{loan, loan_slice, loan_uninit, send_copy};
 pub use made::{Made, disown_all};
-use made::{settle, take};
+use made::{put_back, take};
 use ports::{create_publisher, create_subscriber};
 use reads::{read, read_header, read_user_header};
 use receives::{has_samples, receive};
@@ -83,59 +83,59 @@ pub fn carry_out<
             buffer,
             degradation,
         } => create_subscriber(domain, buffer, degradation),
-        Command::LoanUninit { of } => settle(loan_uninit(domain, take(table, of)), table, of),
-        Command::Loan { of } => settle(loan(domain, take(table, of)), table, of),
-        Command::LoanSlice { of, len } => settle(
+        Command::LoanUninit { of } => put_back(loan_uninit(domain, take(table, of)), table, of),
+        Command::Loan { of } => put_back(loan(domain, take(table, of)), table, of),
+        Command::LoanSlice { of, len } => put_back(
             loan_slice(domain, take(table, of), len),
             table,
             of,
         ),
-        Command::WriteCell { of, at, value } => settle(
+        Command::WriteCell { of, at, value } => put_back(
             write_cell(domain, take(table, of), at, value),
             table,
             of,
         ),
-        Command::WriteAll { of, value } => settle(
+        Command::WriteAll { of, value } => put_back(
             write_all(domain, take(table, of), value),
             table,
             of,
         ),
-        Command::AssumeInit { of } => settle(assume_init(domain, take(table, of)), table, of),
-        Command::WriteHeader { of, value } => settle(
+        Command::AssumeInit { of } => put_back(assume_init(domain, take(table, of)), table, of),
+        Command::WriteHeader { of, value } => put_back(
             write_header(domain, take(table, of), value),
             table,
             of,
         ),
-        Command::SetPayload { of, at, value } => settle(
+        Command::SetPayload { of, at, value } => put_back(
             set_payload(domain, take(table, of), at, value),
             table,
             of,
         ),
-        Command::Send { of } => settle(send(domain, take(table, of)), table, of),
-        Command::SendCopy { of, value } => settle(
+        Command::Send { of } => put_back(send(domain, take(table, of)), table, of),
+        Command::SendCopy { of, value } => put_back(
             send_copy(domain, take(table, of), value),
             table,
             of,
         ),
-        Command::Discard { of } => settle(discard(domain, take(table, of)), table, of),
-        Command::Retry { of, elapsed } => settle(
+        Command::Discard { of } => put_back(discard(domain, take(table, of)), table, of),
+        Command::Retry { of, elapsed } => put_back(
             retry(domain, take(table, of), elapsed),
             table,
             of,
         ),
-        Command::GiveUp { of } => settle(give_up(domain, take(table, of)), table, of),
-        Command::Update { of } => settle(update(domain, take(table, of)), table, of),
-        Command::Receive { of } => settle(receive(domain, take(table, of)), table, of),
-        Command::HasSamples { of } => settle(has_samples(domain, take(table, of)), table, of),
-        Command::Read { of, at } => settle(read(domain, take(table, of), at), table, of),
-        Command::ReadHeader { of } => settle(read_header(domain, take(table, of)), table, of),
-        Command::ReadUserHeader { of } => settle(
+        Command::GiveUp { of } => put_back(give_up(domain, take(table, of)), table, of),
+        Command::Update { of } => put_back(update(domain, take(table, of)), table, of),
+        Command::Receive { of } => put_back(receive(domain, take(table, of)), table, of),
+        Command::HasSamples { of } => put_back(has_samples(domain, take(table, of)), table, of),
+        Command::Read { of, at } => put_back(read(domain, take(table, of), at), table, of),
+        Command::ReadHeader { of } => put_back(read_header(domain, take(table, of)), table, of),
+        Command::ReadUserHeader { of } => put_back(
             read_user_header(domain, take(table, of)),
             table,
             of,
         ),
-        Command::Release { of } => settle(release(domain, take(table, of)), table, of),
-        Command::Close { of } => settle(close(domain, take(table, of)), table, of),
+        Command::Release { of } => put_back(release(domain, take(table, of)), table, of),
+        Command::Close { of } => put_back(close(domain, take(table, of)), table, of),
         Command::Nothing => (Reply::Done, Made::Nothing),
     }
 }

@@ -188,7 +188,7 @@ pub fn forget_if_empty<T: Drop, U: Default + Drop>(
 
 /// The book at a key goes, with its contents, where its publisher is gone and no slot of it has a
 /// holder any more.
-pub fn free_book_if_unused<T: Drop, U: Default + Drop>(state: &mut DomainState<T, U>, key: usize)
+pub fn settle_book_if_left<T: Drop, U: Default + Drop>(state: &mut DomainState<T, U>, key: usize)
     requires { HasParts state.old }
     ensures kept { (before : _) (s : _) → IsMidway before state.old s key → state_of (kept_of state.old) ≡ s → IsWellFormed s → Reaches before state.new s }
     ensures books { ChangesBooks state.old state.new }

@@ -12,7 +12,7 @@ mod receiver_updates;
 mod retirements;
 mod updates;
 
-pub use departures::{forget_if_empty, free_book_if_unused, leave_if_unused};
+pub use departures::{forget_if_empty, leave_if_unused, settle_book_if_left};
 pub use marks::{mark_end, unmark_publisher, unmark_subscriber};
 pub use receiver_updates::update_subscriber;
 pub use updates::update_publisher;

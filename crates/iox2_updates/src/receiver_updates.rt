@@ -16,7 +16,7 @@ use crate::failures::{ask, degrade, first_of};
 use crate::places::Places;
 use crate::retirements::retire;
 use iox2_domain::{
-    Boxes, DomainState, PublisherState, degradation_at, is_due_at, key_at, set_key_at, settle,
+    Boxes, DomainState, PublisherState, clear_due, degradation_at, is_due_at, key_at, set_key_at,
 };
 use iox2_machine::{BackpressureFn, ConnectionFailure, DegradationFn, ZeroCopyCreationError};
 
@@ -199,7 +199,7 @@ fn walk_places<T: Drop, U: Default + Drop, F: BackpressureFn, G: DegradationFn>(
     requires { IsReceiverDue state.old place }
     ensures { (due : IsReceiverDue state.old place) → UpdatesReceiver (answers_of F.allows G.allows (boxes.now).boxes) state.old place due.subscriber state.new result }
 {
-    settle(&mut state.subscribers, place);
+    clear_due(&mut state.subscribers, place);
     let mut first = None;
     for other in 0..state.publishers.len() {
         let at = Places {

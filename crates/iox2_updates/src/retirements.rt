@@ -12,7 +12,7 @@ ghost use Rattle.iox2_domain.specs.Invariant.{IsDomain};
 ghost use Rattle.iox2_domain.specs.ReceiverSteps.{LosesConnection, RetiresReceiver};
 ghost use Rattle.iox2_updates.specs.Ends.{DepartedAt, RetiresAt};
 
-use crate::departures::free_book_if_unused;
+use crate::departures::settle_book_if_left;
 use crate::places::Places;
 use iox2_connections::Home;
 use iox2_connections::drops::drop_waiting_at;
@@ -21,7 +21,7 @@ use iox2_domain::{DomainState, clear_key_at, expire_at, make_due, replace_expire
 use iox2_machine::{ServiceConfig, UniquePublisherId, UniqueSubscriberId, Warning};
 
 // That what waited in the connection was lost.
-fn data_discarded(home: Home) -> Warning
+fn data_dropped(home: Home) -> Warning
     ensures { result ≡ ExpiredDataDiscarded home.publisher home.subscriber }
 {
     Warning::ExpiredDataDiscarded {
@@ -41,7 +41,7 @@ fn expired_limit(config: &ServiceConfig) -> usize
 
 // The connection at a key goes, and with it what waits there, of which there is a warning. Returns
 // the key of its publisher's book.
-fn lose_connection<T: Drop, U: Default + Drop>(state: &mut DomainState<T, U>, key: usize) -> usize
+fn drop_connection<T: Drop, U: Default + Drop>(state: &mut DomainState<T, U>, key: usize) -> usize
     requires agrees { IsDomain state.old }
     requires stands { ContainsKey (state.old).connections key }
     ensures { (c : Link) (b : Book) → get (state.old).connections key ≡ Some c → get (state.old).books c.home.book ≡ Some b
@@ -50,7 +50,7 @@ fn lose_connection<T: Drop, U: Default + Drop>(state: &mut DomainState<T, U>, ke
     let home = state.connections[key].home();
     drop_waiting_at(&mut state.connections, key, &mut state.books[home.book]);
     state.connections.remove(key);
-    state.warnings.warn(data_discarded(home));
+    state.warnings.warn(data_dropped(home));
     home.book
 }
 
@@ -76,7 +76,7 @@ fn replace_expired<T: Drop, U: Default + Drop>(
     ensures { (departed : DepartedAt state.old at key) (d : Link) → get (state.old).connections first ≡ Some d
         → RetiresAt departed (Evict d.home.publisher) state.new }
 {
-    let book = lose_connection(state, first);
+    let book = drop_connection(state, first);
     replace_expired_at(
         &mut state.subscribers,
         at.subscriber,
@@ -84,18 +84,18 @@ fn replace_expired<T: Drop, U: Default + Drop>(
         key,
         first,
     );
-    free_book_if_unused(state, book);
+    settle_book_if_left(state, book);
 }
 
 // The end at a publisher's place goes, and what waits there is lost.
-fn discard_end<T: Drop, U: Default + Drop>(state: &mut DomainState<T, U>, at: Places, key: usize)
+fn drop_end<T: Drop, U: Default + Drop>(state: &mut DomainState<T, U>, at: Places, key: usize)
     requires departed { DepartedAt state.old at key }
     requires unborrowed { has_borrowed (get (state.old).connections key) ≡ false }
     ensures { (departed : DepartedAt state.old at key) → RetiresAt departed Discard_data state.new }
 {
-    let book = lose_connection(state, key);
+    let book = drop_connection(state, key);
     clear_key_at(&mut state.subscribers, at.subscriber, at.publisher);
-    free_book_if_unused(state, book);
+    settle_book_if_left(state, book);
 }
 
 // What becomes of the end that the subscriber at a place has at a key.
@@ -134,7 +134,7 @@ pub(crate) fn retire<T: Drop, U: Default + Drop>(
     match choose(state, at, key) {
         Retirement::KeepExpired => keep_expired(state, at, key),
         Retirement::Evict(first) => replace_expired(state, at, key, first),
-        Retirement::DiscardData => discard_end(state, at, key),
+        Retirement::DiscardData => drop_end(state, at, key),
         Retirement::Refuse => {
             make_due(&mut state.subscribers, at.subscriber);
             return false;

@@ -10,7 +10,7 @@ ghost use Rattle.iox2_updates.specs.Ends.{IsSenderDue};
 use crate::connects::update_sender_place;
 use crate::failures::first_of;
 use crate::places::Places;
-use iox2_domain::{Boxes, DomainState, is_due_at, settle};
+use iox2_domain::{Boxes, DomainState, clear_due, is_due_at};
 use iox2_machine::{BackpressureFn, ConnectionFailure, DegradationFn};
 
 /// Updates the publisher at a place, where it is due: it goes over the subscribers' places. An end to
@@ -47,7 +47,7 @@ fn connect_publisher<T: Drop, U: Default + Drop, F: BackpressureFn, G: Degradati
     requires { IsSenderDue state.old place }
     ensures { (due : IsSenderDue state.old place) → UpdatesPublisher (answers_of F.allows G.allows (boxes.now).boxes) state.old place due.publisher state.new result }
 {
-    settle(&mut state.publishers, place);
+    clear_due(&mut state.publishers, place);
     let mut first = None;
     for other in 0..state.subscribers.len() {
         let at = Places {

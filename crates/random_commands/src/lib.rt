@@ -2,6 +2,7 @@
 //! something fitting.
 #![tactic(auto)]
 
+mod budget;
 mod chance;
 mod commands;
 mod fewer;
@@ -10,5 +11,6 @@ mod positions;
 mod scripts;
 mod sizes;
 
+pub use budget::Budget;
 pub use fewer::{COUNTS, MOST_PHASES, without};
 pub use scripts::{Script, draw_script};

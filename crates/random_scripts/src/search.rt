@@ -2,20 +2,23 @@
 use crate::comparison::first_difference;
 use crate::failure::Failure;
 use iox2_model::ModelError;
-use random_commands::{Script, without};
+use random_commands::{Budget, Script, without};
 use std::alloc::Global;
 
 /// Tries scripts, until so many commands were carried out.
 #[derive(Drop)]
 pub(crate) struct Search {
     alloc: Global,
-    left: usize,
+    budget: Budget,
 }
 
 impl Search {
     /// A search that carries out at most `most` commands.
     pub(crate) fn new(alloc: Global, most: usize) -> Search {
-        Search { alloc, left: most }
+        Search {
+            alloc,
+            budget: Budget::new(most),
+        }
     }
 
     pub(crate) fn alloc(&self) -> Global {
@@ -24,7 +27,7 @@ impl Search {
 
     /// Whether a script wasn't tried, since too few commands were left for it.
     pub(crate) fn is_over(&self) -> bool {
-        self.left == 0
+        self.budget.is_over()
     }
 
     /// The script where it fails, up to the first reply that isn't the model's. None where it doesn't,
@@ -62,11 +65,9 @@ impl Search {
     // fits only now that limits are smaller, it counts as one that passes.
     fn commands_to_fail(&mut self, script: &Script) -> Result<Option<usize>, Failure> {
         let commands = script.commands.as_slice();
-        if self.left <= commands.len() {
-            self.left = 0;
+        if !self.budget.takes(commands.len()) {
             return Ok(None);
         }
-        self.left = self.left.saturating_sub(commands.len());
         match first_difference(self.alloc, script.config, commands) {
             Ok(None) => Ok(None),
             Ok(Some(difference)) => Ok(Some(difference.rank(commands.len()).saturating_add(1))),

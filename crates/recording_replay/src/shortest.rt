@@ -1,7 +1,7 @@
 //! The fewest commands that show a difference from what was recorded.
 use crate::failure::Failure;
 use crate::record::recorded;
-use random_commands::{COUNTS, MOST_PHASES, without};
+use random_commands::{Budget, COUNTS, MOST_PHASES, without};
 use recordings::Recording;
 use std::alloc::Global;
 
@@ -22,7 +22,7 @@ pub(crate) struct Found {
 #[derive(Drop)]
 struct Search {
     after: String,
-    left: usize,
+    budget: Budget,
 }
 
 /// The recording up to the command at the position, with as many commands before it left out as can be:
@@ -39,10 +39,12 @@ pub(crate) fn shortest(
     if let Some(last) = again.replies.last() {
         let mut search = Search {
             after: copy(alloc, last.as_str())?,
-            left: MOST_COMMANDS_TRIED.max(MOST_FOR_EACH.saturating_mul(found.commands.len())),
+            budget: Budget::new(MOST_COMMANDS_TRIED.max(MOST_FOR_EACH.saturating_mul(
+                found.commands.len(),
+            ))),
         };
         found = with_fewer(alloc, &mut search, found)?;
-        is_cut_short = search.left == 0;
+        is_cut_short = search.budget.is_over();
     }
     Ok(Found {
         recording: found,
@@ -107,7 +109,7 @@ fn without_so_many(
     let mut found = recording;
     let mut end = found.commands.len().saturating_sub(phase).saturating_sub(1);
     for _ in 0..end {
-        if end == 0 || search.left == 0 {
+        if end == 0 || search.budget.is_over() {
             break;
         }
         let from = end.saturating_sub(count);
@@ -141,11 +143,9 @@ fn without_some(
 // Whether all commands but the last reply as they did, and the last doesn't, but as is said. None does
 // when the search is over.
 fn shows(alloc: Global, search: &mut Search, recording: &Recording) -> Result<bool, Failure> {
-    if search.left <= recording.commands.len() {
-        search.left = 0;
+    if !search.budget.takes(recording.commands.len()) {
         return Ok(false);
     }
-    search.left = search.left.saturating_sub(recording.commands.len());
     let again = recorded(alloc, recording.config, recording.commands.as_slice())?;
     let first = recording
         .replies

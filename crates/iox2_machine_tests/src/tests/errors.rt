@@ -1,3 +1,7 @@
+ghost use Rattle.std.specs.Prelude.{◌≡◌, MatchOption};
+ghost use Rattle.iox2_machine.specs.declared.errors.ConnectionFailure.TheVariants.{FailedToEstablishConnection, UnableToMapSendersDataSegment};
+ghost use Rattle.iox2_machine.specs.declared.errors.SharedMemoryOpenError.TheVariants.{InternalError};
+
 use iox2_machine::{
     BackpressureAction, BackpressureToReceiverAction, ConnectionFailure, LoanError, ReceiveError,
     SendError, SharedMemoryOpenError, ZeroCopyCreationError,
@@ -25,6 +29,18 @@ fn a_connection_takes_a_handlers_answer(rt: HostRuntime) {
     assert!(rt; answers == expected);
 }
 
+// Why the connection could not be made, and none where the other end's memory could not be opened.
+fn cause_of(failure: ConnectionFailure) -> Option<ZeroCopyCreationError>
+    ensures { MatchOption result (failure ≡ UnableToMapSendersDataSegment InternalError) (λ cause. failure ≡ FailedToEstablishConnection cause) }
+{
+    match failure {
+        ConnectionFailure::FailedToEstablishConnection(cause) => Some(cause),
+        ConnectionFailure::UnableToMapSendersDataSegment(SharedMemoryOpenError::InternalError) => {
+            None
+        }
+    }
+}
+
 #[test]
 fn a_failed_connection_or_call_holds_its_cause(rt: HostRuntime) {
     let full = ZeroCopyCreationError::ExpiredConnectionBufferFull;
@@ -38,6 +54,7 @@ fn a_failed_connection_or_call_holds_its_cause(rt: HostRuntime) {
         ConnectionFailure::UnableToMapSendersDataSegment(unmapped),
     ];
     assert!(rt; failures == expected);
+    assert!(rt; failures.map(cause_of) == [Some(full), None]);
     let failure = failures[0];
     assert!(rt; ReceiveError::from(failure) == ReceiveError::ConnectionFailure(failure));
     assert!(rt; SendError::from(failure) == SendError::ConnectionError(failure));

@@ -1,3 +1,9 @@
+ghost use Rattle.std.specs.Prelude.{◌≡◌, ◌/◌, cond, nat_lt};
+ghost use Rattle.std.specs.Duration.{as_nanos};
+ghost use Rattle.iox2_machine.specs.declared.backpressure.BackpressureAction.TheVariants.{DiscardData, Retry};
+ghost use Rattle.iox2_machine.specs.declared.degradation.DegradationAction.TheVariants.{DegradeAndFail, Warn};
+ghost use Rattle.iox2_machine.specs.declared.degradation.DegradationCause.TheVariants.{ConnectionCorrupted, FailedToEstablishConnection};
+
 use iox2_handler_fixtures::{Patience, SameAnswer};
 use iox2_machine::{
     BackpressureAction, BackpressureFn, BackpressureInfo, DegradationAction, DegradationCause,
@@ -66,4 +72,64 @@ fn a_handler_of_refused_connections_answers(rt: HostRuntime) {
     drop(indifferent);
     assert!(rt; first == DegradationAction::DegradeAndFail);
     assert!(rt; second == DegradationAction::Ignore);
+}
+
+// Waits so many milliseconds for a full subscriber, and passes it over then.
+#[derive(Drop)]
+struct Deadline {
+    milliseconds: u128,
+}
+
+impl BackpressureFn for Deadline {
+    ghost allows = { λ deadline info action. action ≡ cond (nat_lt (as_nanos info.elapsed_time / 1_000_000) deadline.milliseconds) Retry DiscardData };
+
+    fn call(&self, info: &BackpressureInfo) -> BackpressureAction {
+        if info.elapsed_time.as_millis() < self.milliseconds {
+            BackpressureAction::Retry
+        } else {
+            BackpressureAction::DiscardData
+        }
+    }
+}
+
+#[test]
+fn a_handler_waits_until_its_deadline(rt: HostRuntime) {
+    let deadline = Deadline { milliseconds: 2 };
+    let early = BackpressureInfo {
+        service_id: 7,
+        sender_port_id: 2,
+        receiver_port_id: 1,
+        retries: 9,
+        elapsed_time: Duration::from_micros(1999),
+    };
+    let late = BackpressureInfo {
+        elapsed_time: Duration::from_millis(2),
+        ..early
+    };
+    let answers = [deadline.call(&early), deadline.call(&late)];
+    assert!(rt; answers == [BackpressureAction::Retry, BackpressureAction::DiscardData]);
+}
+
+// Has the domain warn of a connection that finds no memory, and fails with any other.
+#[derive(Drop)]
+struct Lenient;
+
+impl DegradationFn for Lenient {
+    ghost allows = { λ _ cause _ action. (cause ≡ FailedToEstablishConnection → action ≡ Warn) × (cause ≡ ConnectionCorrupted → action ≡ DegradeAndFail) };
+
+    fn call(&self, cause: DegradationCause, _: &DegradationInfo) -> DegradationAction {
+        match cause {
+            DegradationCause::FailedToEstablishConnection => DegradationAction::Warn,
+            DegradationCause::ConnectionCorrupted => DegradationAction::DegradeAndFail,
+        }
+    }
+}
+
+#[test]
+fn a_handler_is_told_the_cause(rt: HostRuntime) {
+    let answers = [
+        Lenient.call(DegradationCause::FailedToEstablishConnection, &REFUSED),
+        Lenient.call(DegradationCause::ConnectionCorrupted, &REFUSED),
+    ];
+    assert!(rt; answers == [DegradationAction::Warn, DegradationAction::DegradeAndFail]);
 }

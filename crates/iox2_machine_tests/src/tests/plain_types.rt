@@ -1,6 +1,8 @@
+ghost use Rattle.std.specs.Prelude.{◌≡◌, ◌↔◌, IsTrue};
+
 use iox2_machine::{
-    BackpressureInfo, DegradationCause, DegradationInfo, Header, Key, UniqueNodeId,
-    UniquePublisherId, UniqueSubscriberId, Warning,
+    AllocationStrategy, BackpressureInfo, DataSegmentType, DegradationCause, DegradationInfo,
+    Header, Key, UniqueNodeId, UniquePublisherId, UniqueSubscriberId, Warning,
 };
 use std::time::Duration;
 
@@ -30,6 +32,24 @@ fn a_header_answers_its_fields(rt: HostRuntime) {
     let ids = [header.node_id().value(), header.publisher_id().value()];
     let is_alike = longer == header;
     assert!(rt; ids == [9, 2] && header.number_of_elements() == 3 && !is_alike);
+}
+
+// Whether a message with this header comes from the node with this number.
+fn is_from_node(header: &Header, node: u128) -> bool
+    ensures { IsTrue result ↔ (header.now.node_id ≡ node) }
+{
+    header.node_id() == UniqueNodeId::new(node)
+}
+
+#[test]
+fn a_header_names_the_node(rt: HostRuntime) {
+    let header = Header {
+        node_id: UniqueNodeId::new(1 << 64),
+        publisher_id: UniquePublisherId::new(2),
+        number_of_elements: 1,
+    };
+    assert!(rt; is_from_node(&header, 1 << 64));
+    assert!(rt; !is_from_node(&header, 1));
 }
 
 #[test]
@@ -81,4 +101,30 @@ fn what_a_handler_is_told_may_be_let_go(rt: HostRuntime) {
     let is_other = !matches!(cause, DegradationCause::ConnectionCorrupted);
     assert!(rt; waits.elapsed_time == Duration::from_micros(5000));
     assert!(rt; fails.receiver_port_id == 3 && is_other);
+}
+
+// What kind of memory a publisher with this strategy has.
+fn segment_type(strategy: AllocationStrategy) -> DataSegmentType
+    ensures { (result ≡ DataSegmentType.Static) ↔ (strategy ≡ AllocationStrategy.Static) }
+{
+    match strategy {
+        AllocationStrategy::Static => DataSegmentType::Static,
+        AllocationStrategy::BestFit | AllocationStrategy::PowerOfTwo => DataSegmentType::Dynamic,
+    }
+}
+
+#[test]
+fn a_strategy_says_whether_memory_grows(rt: HostRuntime) {
+    let types = [
+        AllocationStrategy::Static,
+        AllocationStrategy::BestFit,
+        AllocationStrategy::PowerOfTwo,
+    ]
+    .map(segment_type);
+    let expected = [
+        DataSegmentType::Static,
+        DataSegmentType::Dynamic,
+        DataSegmentType::Dynamic,
+    ];
+    assert!(rt; types == expected);
 }

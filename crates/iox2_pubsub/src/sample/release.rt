@@ -4,7 +4,7 @@ ghost use Rattle.std.specs.Prelude.{◌≡◌};
 use crate::domain::Domain;
 use crate::sample::Sample;
 use iox2_machine::{BackpressureFn, DegradationFn};
-use iox2_messages::give_back;
+use iox2_messages::release_sample;
 
 impl Sample {
     ghost use Rattle.std.specs.Prelude.{ℕ, IsTrue};
@@ -37,6 +37,6 @@ impl Sample {
             origin: _,
             sample,
         } = self;
-        give_back(&mut domain.state, sample);
+        release_sample(&mut domain.state, sample);
     }
 }

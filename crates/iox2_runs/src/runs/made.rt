@@ -1,5 +1,5 @@
 //! What a run's commands made.
-ghost use Rattle.iox2_runs.specs.Turns.{IsTaken, IsSettled};
+ghost use Rattle.iox2_runs.specs.Turns.{IsTaken, IsPutBack};
 
 use iox2_commands::Reply;
 use iox2_pubsub::{BlockedSend, Publisher, Sample, SampleMut, SampleMutUninit, Subscriber};
@@ -62,12 +62,12 @@ pub(crate) fn take(table: &mut Vec<Made>, of: usize) -> Made
 
 /// Puts what a command left of what was taken for it back into the table, at the position of the
 /// command that made it, and returns the reply and what is made. Past the end it is spent.
-pub(crate) fn settle<T, U>(
+pub(crate) fn put_back<T, U>(
     turn: Turn<T, U>,
     table: &mut Vec<Made>,
     of: usize,
 ) -> (Reply<T, U>, Made)
-    ensures { IsSettled table.old table.new of turn result }
+    ensures { IsPutBack table.old table.new of turn result }
 {
     let (reply, kept, made) = turn;
     if of < table.len() {

@@ -17,7 +17,7 @@ use Rattle.iox2_machine.specs.machine.Mailbox.{Mailbox}
 use Rattle.iox2_connections.specs.LookUp.{look_up, IsOnly}
 use Rattle.iox2_laws.proofs.PortLaws.{no_publisher_yet}
 use Rattle.iox2_domain.specs.Ports.{PublisherFields, slot_length}
-use Rattle.iox2_domain.specs.Kept.{Named, Between, state_of, port_named, ids, is_named, loan_in, stands_between, box_if_any, channels_if_between}
+use Rattle.iox2_domain.specs.Kept.{Named, Between, state_of, port_named, ids, is_named, loan_in, stands_between, mailbox_if_between, channels_if_between}
 use Rattle.iox2_machine.specs.machine.Channel.{Channel}
 use Rattle.iox2_domain.specs.Fields.{Fields, kept_of, publisher_of}
 use Rattle.iox2_domain.specs.Invariant.{IsDomain, HasForms, cell_lists, is_publisher}
@@ -125,7 +125,7 @@ module _ {T U : Type 0} (f : Fields T U) (place : ℕ) (given : PublisherSetting
         (messages-same f enters.sound (slots_for f.config given) (slot_length given.initial_max_slice_len * (f.config).units_per_element) key books contents enters.book n))
 
     boxes : (state_of (kept_of with_entered_publisher)).mailboxes ≡ (state_of (kept_of f)).mailboxes
-    boxes = ap {B = ℕ → ℕ → Mailbox} (λ (cs : List (Option Between)) (p q : ℕ). box_if_any (look_up (stands_between p q) cs))
+    boxes = ap {B = ℕ → ℕ → Mailbox} (λ (cs : List (Option Between)) (p q : ℕ). mailbox_if_between (look_up (stands_between p q) cs))
         (connections-shown f enters.sound (slots_for f.config given) (slot_length given.initial_max_slice_len * (f.config).units_per_element) key books contents enters.book)
 
     channels : (state_of (kept_of with_entered_publisher)).channels ≡ (state_of (kept_of f)).channels

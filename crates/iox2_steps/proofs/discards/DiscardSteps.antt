@@ -11,7 +11,7 @@ use Rattle.iox2_slots.specs.SlotBook.{Book, IsInUse, holders_at}
 use Rattle.iox2_contents.specs.SlotContents.{ContentState}
 use Rattle.iox2_connections.specs.Counters.{times}
 use Rattle.iox2_domain.specs.Invariant.{IsDomain}
-use Rattle.iox2_domain.specs.Discards.{with_loan_returned, DiscardsLoan}
+use Rattle.iox2_domain.specs.Discards.{with_loan_discarded, DiscardsLoan}
 use Rattle.iox2_domain.specs.Fields.{Fields, kept_of, message_in, contents_at}
 use Rattle.iox2_domain.specs.Kept.{KeptMessage, Lent_message, state_of}
 use Rattle.iox2_domain.specs.LoanSlots.{LiesInSlot}
@@ -65,10 +65,10 @@ module _ {T U : Type 0} (f : Fields T U) (sound : IsDomain f) (p n place : ℕ) 
 
   -- the whole discard
   pub discards-loan : (h : Fields T U)
-      → ((x : PublisherFields) (b : Book) → get_or f.publishers place None ≡ Some x → get f.books x.book ≡ Some b → h ≡ with_loan_returned f place x slot b)
+      → ((x : PublisherFields) (b : Book) → get_or f.publishers place None ≡ Some x → get f.books x.book ≡ Some b → h ≡ with_loan_discarded f place x slot b)
       → DiscardsLoan f h n
   discards-loan h returns =
       let alone : holders_at at.book slot ≡ 1 = loan-alone f sound place found.0 found.1 slot n holds.0 lies at.book stands in
       let step = returned-reaches f sound place found.0 found.1 at.book stands slot n holds.0 lies alone in
-      let is : h ≡ with_loan_returned f place found.0 slot at.book = returns found.0 at.book found.1 stands in
+      let is : h ≡ with_loan_discarded f place found.0 slot at.book = returns found.0 at.book found.1 stands in
       (holds.0, holds.1, subst (λ (k : Fields T U). Reaches f k (loan_discarded (state_of (kept_of f)) n holds.0)) (sym is) step)

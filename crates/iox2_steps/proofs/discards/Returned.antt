@@ -18,7 +18,7 @@ use Rattle.iox2_connections.specs.Counters.{times}
 use Rattle.iox2_connections.proofs.Counts.{one_if, one_if_other}
 use Rattle.iox2_laws.proofs.LoanLaws.{loan_discarded_keeps}
 use Rattle.iox2_laws.proofs.Puts.{found_put}
-use Rattle.iox2_domain.specs.Discards.{with_holder_gone, with_loan_returned}
+use Rattle.iox2_domain.specs.Discards.{with_holder_gone, with_loan_discarded}
 use Rattle.iox2_domain.specs.Deliveries.{with_loan_out}
 use Rattle.iox2_domain.specs.Ports.{PublisherFields}
 use Rattle.iox2_domain.specs.Kept.{Kept, Lent_message, state_of, entries_of, entry_in}
@@ -59,7 +59,7 @@ module _ {T U : Type 0} (f : Fields T U) (sound : IsDomain f) (i : ℕ) (x : Pub
 
   -- the fields afterwards
   abbrev pub returned : Fields T U
-  returned = with_loan_returned f i x slot b
+  returned = with_loan_discarded f i x slot b
 
   abbrev was : State T U
   was = state_of (kept_of f)

@@ -17,7 +17,7 @@ use Rattle.iox2_connections.specs.Mailboxes.{is_between, mailboxes_of, mailbox_i
 use Rattle.iox2_connections.proofs.LookUps.{look_up-there}
 use Rattle.iox2_domain.specs.Ports.{PublisherFields}
 use Rattle.iox2_domain.specs.declared.publisher_state.BlockedDelivery.{BlockedDelivery}
-use Rattle.iox2_domain.specs.Kept.{Kept, state_of, entries_of, stands_between, box_if_any}
+use Rattle.iox2_domain.specs.Kept.{Kept, state_of, entries_of, stands_between, mailbox_if_between}
 use Rattle.iox2_domain.specs.Fields.{Fields, kept_of, numbers_of, between_of, blocked_send, publisher_of}
 use Rattle.iox2_machine.specs.Stored.{IsHeldMessage, In_history, In_mailbox, In_blocked_send}
 use Rattle.iox2_domain.specs.Shows.{Shows, KeepsEntries}
@@ -27,7 +27,7 @@ module _ {T U : Type 0} (f : Fields T U) where
   -- the mailboxes are those of the connections, at the numbers in the books
   pub mailboxes-are : (p q : ℕ) → (state_of (kept_of f)).mailboxes p q ≡ mailboxes_of (numbers_of f.books) f.connections p q
   mailboxes-are p q =
-      ap box_if_any (look_up-map (stands_between p q) (between_of f.books f.connections) f.connections.slots)
+      ap mailbox_if_between (look_up-map (stands_between p q) (between_of f.books f.connections) f.connections.slots)
       ∙ by (look_up (is_between p q) f.connections.slots) refl
     where
       both : (a b : Bool) → (a && b) ≡ true → a ≡ true
@@ -35,7 +35,7 @@ module _ {T U : Type 0} (f : Fields T U) where
       both false b e = absurd cc
 
       by : (o : Option Link) → look_up (is_between p q) f.connections.slots ≡ o
-          → box_if_any (option_map (between_of f.books f.connections) o) ≡ mailbox_if_any (numbers_of f.books p) o
+          → mailbox_if_between (option_map (between_of f.books f.connections) o) ≡ mailbox_if_any (numbers_of f.books p) o
       by None e = refl
       by (Some c) e =
           let there = look_up-there (is_between p q) f.connections.slots c e in

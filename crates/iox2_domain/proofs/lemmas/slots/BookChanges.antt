@@ -14,7 +14,7 @@ use Rattle.iox2_connections.specs.Mailboxes.{mailbox_of, sender_ends}
 use Rattle.iox2_connections.proofs.LookUps.{look_up-changed, look_up-found}
 use Rattle.iox2_connections.proofs.MailboxChanges.{within_if_some}
 use Rattle.iox2_domain.specs.Ports.{PublisherFields}
-use Rattle.iox2_domain.specs.Kept.{state_of, port_named, ids, stands_between, box_if_any, channels_if_between}
+use Rattle.iox2_domain.specs.Kept.{state_of, port_named, ids, stands_between, mailbox_if_between, channels_if_between}
 use Rattle.iox2_domain.specs.Fields.{Fields, kept_of, publisher_of, between_of, is_book_of, numbers_of, blocked_send}
 use Rattle.iox2_domain.specs.Invariant.{IsLinked, HasBook, HasBooks, holders_of}
 use Rattle.iox2_domain.proofs.lemmas.fields.SameLinks.{linked-same}
@@ -108,7 +108,7 @@ module _ {T U : Type 0} (f : Fields T U) (key : ℕ) (b d : Book) (at : get f.bo
     pub book-state : state_of (kept_of (with_book f key d)) ≡ record (state_of (kept_of f)) { loans = (state_of (kept_of (with_book f key d))).loans }
     book-state = λ i. record (state_of (kept_of f)) {
       publishers = λ p. port_named p (map (option_map (senders i)) f.publishers);
-      mailboxes = λ p q. box_if_any (look_up (stands_between p q) (map (option_map (boxes i)) f.connections.slots));
+      mailboxes = λ p q. mailbox_if_between (look_up (stands_between p q) (map (option_map (boxes i)) f.connections.slots));
       channels = λ p q. channels_if_between (look_up (stands_between p q) (map (option_map (boxes i)) f.connections.slots));
       publisher_places = ids (map (option_map (senders i)) f.publishers);
       loans = (state_of (kept_of (with_book f key d))).loans;
@@ -124,7 +124,7 @@ module _ {T U : Type 0} (f : Fields T U) (key : ℕ) (b d : Book) (at : get f.bo
         }
 
         boxes : between_of changed f.connections ≡ between_of f.books f.connections
-        boxes = λ i c. record (between_of f.books f.connections c) { box = mailbox_of (numbers-same i c.home.publisher) c }
+        boxes = λ i c. record (between_of f.books f.connections c) { mailbox = mailbox_of (numbers-same i c.home.publisher) c }
 
   -- ---- what holds still, part by part
 

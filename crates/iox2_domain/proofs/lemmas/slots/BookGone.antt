@@ -18,7 +18,7 @@ use Rattle.iox2_connections.specs.Mailboxes.{sender_ends, mailbox_of}
 use Rattle.iox2_connections.proofs.LookUps.{look_up-found, look_up-nothing}
 use Rattle.iox2_connections.proofs.MailboxChanges.{within_if_some}
 use Rattle.iox2_domain.specs.Ports.{PublisherFields}
-use Rattle.iox2_domain.specs.Kept.{state_of, loan_in, message_numbered, port_named, ids, stands_between, box_if_any, channels_if_between}
+use Rattle.iox2_domain.specs.Kept.{state_of, loan_in, message_numbered, port_named, ids, stands_between, mailbox_if_between, channels_if_between}
 use Rattle.iox2_domain.specs.Fields.{Fields, kept_of, kept_book, map_from, is_book_of, numbers_of, message_in, messages_in, contents_at, publisher_of, between_of, blocked_send}
 use Rattle.iox2_domain.specs.Invariant.{HasLoneLoans, HasNumber, HasBook, HasBooks, IsBook, NamesBooks, IsNumbered, IsCounted, HasShapes, HasForms, IsOwned, IsLeft, KeepsBooks, holders_of, own_holders, is_publisher, is_loan_in, cell_count, mark_at, HasParts}
 use Rattle.iox2_domain.specs.LeftBooks.{with_book_gone}
@@ -126,7 +126,7 @@ module _ {T U : Type 0} (f : Fields T U) (parts : HasParts f) (key : ℕ) (b : B
 
   connections-shown : map (option_map (between_of after.books f.connections)) f.connections.slots ≡ map (option_map (between_of f.books f.connections)) f.connections.slots
   connections-shown = map-alike (between_of after.books f.connections) (between_of f.books f.connections) f.connections.slots (λ k c there.
-      ap (λ (number : ℕ → ℕ). record (between_of f.books f.connections c) { box = mailbox_of number c })
+      ap (λ (number : ℕ → ℕ). record (between_of f.books f.connections c) { mailbox = mailbox_of number c })
       (numbers-same c.home.publisher (unnamed k c there)))
 
   -- the machine sees nothing of it
@@ -134,7 +134,7 @@ module _ {T U : Type 0} (f : Fields T U) (parts : HasParts f) (key : ℕ) (b : B
   gone-state = λ i. record (state_of (kept_of f)) {
     loans = fun_ext (λ n. ap (option_and_then loan_in) (messages-same n)) i;
     publishers = λ p. port_named p (publishers-shown i);
-    mailboxes = λ p q. box_if_any (look_up (stands_between p q) (connections-shown i));
+    mailboxes = λ p q. mailbox_if_between (look_up (stands_between p q) (connections-shown i));
     channels = λ p q. channels_if_between (look_up (stands_between p q) (connections-shown i));
     publisher_places = ids (publishers-shown i);
   }

@@ -189,5 +189,5 @@ module _ {T U : Type 0} (f : Fields T U) (sound : IsDomain f) (slots room key : 
 
   pub connections-shown : map (option_map (between_of books f.connections)) f.connections.slots ≡ map (option_map (between_of f.books f.connections)) f.connections.slots
   connections-shown = map-alike (between_of books f.connections) (between_of f.books f.connections) f.connections.slots (λ k c at.
-      ap (λ (number : ℕ → ℕ). record (between_of f.books f.connections c) { box = mailbox_of number c })
+      ap (λ (number : ℕ → ℕ). record (between_of f.books f.connections c) { mailbox = mailbox_of number c })
       (numbers-same c.home.publisher (sender_before k c at)))

@@ -15,7 +15,7 @@ use Rattle.iox2_connections.specs.Mailboxes.{sender_ends, numbered}
 use Rattle.iox2_laws.proofs.NumberLemmas.{contains_first, contains_later}
 use Rattle.iox2_domain.specs.Ports.{PublisherFields}
 use Rattle.iox2_domain.specs.declared.publisher_state.BlockedDelivery.{BlockedDelivery}
-use Rattle.iox2_domain.specs.Kept.{state_of, port_named, ids, box_if_any, channels_if_between, stands_between}
+use Rattle.iox2_domain.specs.Kept.{state_of, port_named, ids, mailbox_if_between, channels_if_between, stands_between}
 use Rattle.iox2_domain.specs.Fields.{Fields, kept_of, publisher_of, between_of, numbers_of, blocked_send}
 use Rattle.iox2_domain.specs.Invariant.{IsDomain, holders_of}
 use Rattle.iox2_domain.proofs.lemmas.slots.HeldMessages.{own-in_use, standing-in_use}
@@ -73,7 +73,7 @@ module _ {T U : Type 0} (f : Fields T U) (sound : IsDomain f) (new : Slab Book)
 
   -- in a connection lies what lay there
   between-same : (key : ℕ) (c : Link) → get f.connections key ≡ Some c → between_of new f.connections c ≡ between_of f.books f.connections c
-  between-same key c at = λ t. record (between_of f.books f.connections c) { box = record { waiting = waiting t; borrowed = borrowed t; others = others t } } where
+  between-same key c at = λ t. record (between_of f.books f.connections c) { mailbox = record { waiting = waiting t; borrowed = borrowed t; others = others t } } where
     waiting : map (numbers_of new c.home.publisher) c.waiting ≡ map (numbers_of f.books c.home.publisher) c.waiting
     waiting = map-numbers c.home.publisher c.waiting (λ slot e. standing-in_use f sound.parts.counted sound.parts.publisher_ids key slot c at (omega (arith, times-there slot c.waiting e)))
 
@@ -97,7 +97,7 @@ module _ {T U : Type 0} (f : Fields T U) (sound : IsDomain f) (new : Slab Book)
       next_message = next;
       loans = (state_of (kept_of with_books)).loans;
       publishers = λ p. port_named p (publishers t);
-      mailboxes = λ p q. box_if_any (look_up (stands_between p q) (connections t));
+      mailboxes = λ p q. mailbox_if_between (look_up (stands_between p q) (connections t));
       channels = λ p q. channels_if_between (look_up (stands_between p q) (connections t));
       publisher_places = ids (publishers t);
     }

@@ -1,4 +1,4 @@
-use Rattle.std.proofs.Common.{◌≡◌, true, false, Bool, Option, None, Some, get_or, ap, sym, subst, ◌∙◌, refl, ℕ}
+use Rattle.std.proofs.Common.{◌≡◌, true, false, Option, None, Some, sym, ◌∙◌, refl, ℕ}
 use Rattle.std.specs.Option.{is_some}
 use Rattle.iox2_domain.specs.Boxes.{answers_of}
 use Rattle.iox2_domain.proofs.lemmas.fields.ConnectionEnds.{free-of}

@@ -1,9 +1,7 @@
-use Rattle.std.proofs.Common.{None, Some, ap, refl, slice_index_or, subst, sym, ◌≡◌, ◌∙◌}
+use Rattle.std.proofs.Common.{None, Some, refl, slice_index_or, subst, sym, ◌≡◌, ◌∙◌}
 use Rattle.iox2_domain.specs.Boxes.{answers_of}
-use Rattle.iox2_domain.specs.Fields.{Fields}
 use Rattle.iox2_domain.specs.Ports.{SubscriberFields}
 use Rattle.iox2_domain.specs.ReceiverSteps.{UpdatesReceiver}
-use Rattle.iox2_domain.specs.Updates.{is_subscriber_due}
 use Rattle.iox2_steps.proofs.receivers.Walks.{idle-at}
 use Rattle.iox2_domain.proofs.lemmas.receives.Reception.{updated-stands, receives-at, receives-failed}
 use Rattle.iox2_messages.proofs.receipts.receive_at.Goals.{Joined-is_due, then-is_due+in_default, else-is_due}

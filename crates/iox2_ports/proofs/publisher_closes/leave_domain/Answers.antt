@@ -21,8 +21,8 @@ leave_connections-requires g c =
       found = rw c.deref.ensures.value (closes-finds c.args.state.now _ c.state.view_is c.requires.agrees c.args.place _ here);
     })
 
-pub give_up_history-requires : goal.give_up_history-requires
-give_up_history-requires g c =
+pub let_go_of_history-requires : goal.let_go_of_history-requires
+let_go_of_history-requires g c =
     closes-history c.args.state.now _ c.state.view_is c.requires.agrees c.args.place _
     (read-there _ c.args.place _ _ (ap (λ (f : Fields g.row.T.Denot g.row.U.Denot). slice_index_or f.publishers c.args.place None) c.state.view_is ∙ c.requires.stands.1) c.index_mut.ensures.value ∙ sym c.take.ensures.value ∙ c.in-Some.is ∙ ap Some (sym c.publisher.view_is))
     _ c.index_mut-book.ensures.value c.leave_connections.new.book c.leave_connections.ensures.book c.leave_connections.new.connections (rw (sym c.publisher.view_is) at c.leave_connections.ensures.counters)
@@ -36,6 +36,6 @@ returns g c =
     ∙ read-there _ c.args.place _ _ (ap (λ (f : Fields g.row.T.Denot g.row.U.Denot). slice_index_or f.publishers c.args.place None) c.state.view_is ∙ c.requires.stands.1) c.index_mut.ensures.value ∙ sym c.take.ensures.value ∙ c.in-Some.is ∙ ap Some (sym c.publisher.view_is)))
     _ c.index_mut-book.ensures.value c.leave_connections.new.book c.leave_connections.ensures.book c.leave_connections.new.connections (rw (sym c.publisher.view_is) at c.leave_connections.ensures.counters)
     c.leave_connections.ensures.slots (rw (sym c.publisher.view_is, c.deref.ensures.value) at c.leave_connections.ensures.connections)
-    c.give_up_history.new.book c.give_up_history.ensures.book c.give_up_history.ensures.releases
+    c.let_go_of_history.new.book c.let_go_of_history.ensures.book c.let_go_of_history.ensures.releases
     _ (with_items_is c.state.inside.subscribers c.forget_everywhere.new.subscribers (c.forget_everywhere.auto.subscribers ∙ c.deref_mut.ensures.len)
     ∙ c.forget_everywhere.ensures ∙ ap (map (option_map (left_subscriber c.leave_connections.new.connections c.args.place))) c.deref_mut.ensures.value) c.take.new.self c.take.ensures.after

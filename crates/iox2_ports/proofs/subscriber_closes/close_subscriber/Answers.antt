@@ -22,26 +22,26 @@ use Rattle.iox2_ports.proofs.subscriber_closes.close_subscriber.Goals as goal
 pub loop-index-init : goal.loop-index-init
 loop-index-init g c = λ sound y at.
     closing-starts _ c.args.state.now c.state.view_is sound c.args.place y at c.requires.unmarked _
-    (with_items_is c.state.inside.subscribers c.shut.new.subscribers (c.shut.auto.subscribers ∙ c.deref_mut.ensures.len)
-    ∙ c.shut.ensures
+    (with_items_is c.state.inside.subscribers c.set_closed.new.subscribers (c.set_closed.auto.subscribers ∙ c.deref_mut.ensures.len)
+    ∙ c.set_closed.ensures
     ∙ ap (λ xs. changed_at shut_subscriber xs c.args.place) (c.deref_mut.ensures.value ∙ ap (λ (f : Fields g.row.T.Denot g.row.U.Denot). f.subscribers) c.state.view_is))
     c.expired_count-index.result (λ z there. c.expired_count-index.ensures z (ap (λ xs. slice_index_or xs c.args.place None) c.deref.ensures.value ∙ there))
 
 -- ---- the expired keys
 
-pub lose_if_left-requires-clause-parts : goal.lose_if_left-requires-clause-parts
-lose_if_left-requires-clause-parts g c =
+pub drop_waiting_if_left-requires-clause-parts : goal.drop_waiting_if_left-requires-clause-parts
+drop_waiting_if_left-requires-clause-parts g c =
     let y = some-of (slice_index_or c.args.state.now.subscribers c.args.place None) c.requires.stands in
     (c.loop-index.invariant c.requires.agrees y.0 y.1).parts
 
-pub lose_if_left-requires-clause-known : goal.lose_if_left-requires-clause-known
-lose_if_left-requires-clause-known g c =
+pub drop_waiting_if_left-requires-clause-known : goal.drop_waiting_if_left-requires-clause-known
+drop_waiting_if_left-requires-clause-known g c =
     let y = some-of (slice_index_or c.args.state.now.subscribers c.args.place None) c.requires.stands in
     expired-known c.args.state.now c.requires.agrees c.args.place y.0 y.1 c.loop-index.state c.expired_at-key.result c.loop-index.index c.loop-index-test.true (c.loop-index.invariant c.requires.agrees y.0 y.1)
     (λ z there. c.expired_at-key.ensures z (ap (λ xs. slice_index_or xs c.args.place None) (c.deref-in-loop-index.ensures.value ∙ ap (λ (f : Fields g.row.T.Denot g.row.U.Denot). f.subscribers) c.state-in-loop-index.view_is) ∙ there))
 
-pub lose_if_left-requires-clause-busy : goal.lose_if_left-requires-clause-busy
-lose_if_left-requires-clause-busy g c = λ k l at departed.
+pub drop_waiting_if_left-requires-clause-busy : goal.drop_waiting_if_left-requires-clause-busy
+drop_waiting_if_left-requires-clause-busy g c = λ k l at departed.
     let y = some-of (slice_index_or c.args.state.now.subscribers c.args.place None) c.requires.stands in
     let so_far = c.loop-index.invariant c.requires.agrees y.0 y.1 in
     so_far.busy k l at (subst (λ ps. HasNoPublisher ps l) so_far.publishers departed)
@@ -50,7 +50,7 @@ pub loop-index-preserved : goal.loop-index-preserved
 loop-index-preserved g c = λ sound y at.
     closing-expired c.args.state.now sound c.args.place y at c.loop-index.state c.expired_at-key.result c.loop-index.index c.loop-index-test.true (c.loop-index.invariant sound y at)
     (λ z there. c.expired_at-key.ensures z (ap (λ xs. slice_index_or xs c.args.place None) (c.deref-in-loop-index.ensures.value ∙ ap (λ (f : Fields g.row.T.Denot g.row.U.Denot). f.subscribers) c.state-in-loop-index.view_is) ∙ there))
-    c.lose_if_left.new.state c.lose_if_left.ensures
+    c.drop_waiting_if_left.new.state c.drop_waiting_if_left.ensures
 
 -- ---- those at places
 
@@ -59,13 +59,13 @@ loop-publisher_place-init g c = λ sound y at.
     closing-turns c.args.state.now sound c.args.place y at c.loop-index.state c.loop-index.index c.loop-index-test.false (c.loop-index.invariant sound y at) c.key_count-publisher_place-end.result
     (λ z there. c.key_count-publisher_place-end.ensures z (ap (λ xs. slice_index_or xs c.args.place None) (c.deref-2.ensures.value ∙ ap (λ (f : Fields g.row.T.Denot g.row.U.Denot). f.subscribers) c.state-2.view_is) ∙ there))
 
-pub lose_if_left-requires-in-loop-publisher_place-clause-parts : goal.lose_if_left-requires-in-loop-publisher_place-clause-parts
-lose_if_left-requires-in-loop-publisher_place-clause-parts g c =
+pub drop_waiting_if_left-requires-in-loop-publisher_place-clause-parts : goal.drop_waiting_if_left-requires-in-loop-publisher_place-clause-parts
+drop_waiting_if_left-requires-in-loop-publisher_place-clause-parts g c =
     let y = some-of (slice_index_or c.args.state.now.subscribers c.args.place None) c.requires.stands in
     (c.loop-publisher_place.invariant c.requires.agrees y.0 y.1).parts
 
-pub lose_if_left-requires-in-loop-publisher_place-clause-known : goal.lose_if_left-requires-in-loop-publisher_place-clause-known
-lose_if_left-requires-in-loop-publisher_place-clause-known g c =
+pub drop_waiting_if_left-requires-in-loop-publisher_place-clause-known : goal.drop_waiting_if_left-requires-in-loop-publisher_place-clause-known
+drop_waiting_if_left-requires-in-loop-publisher_place-clause-known g c =
     let y = some-of (slice_index_or c.args.state.now.subscribers c.args.place None) c.requires.stands in
     key-known c.args.state.now c.requires.agrees c.args.place y.0 y.1 c.loop-publisher_place.state c.key_at-key.result c.loop-publisher_place.publisher_place c.key_count-publisher_place-end.result
     (c.loop-publisher_place.invariant c.requires.agrees y.0 y.1)
@@ -73,8 +73,8 @@ lose_if_left-requires-in-loop-publisher_place-clause-known g c =
     ∙ ap (option_and_then (λ (v : SubscriberFields). slice_index_or v.keys c.loop-publisher_place.publisher_place None))
     (ap (λ xs. slice_index_or xs c.args.place None) (c.deref-in-loop-publisher_place.ensures.value ∙ ap (λ (f : Fields g.row.T.Denot g.row.U.Denot). f.subscribers) c.state-in-loop-publisher_place.view_is) ∙ there))
 
-pub lose_if_left-requires-in-loop-publisher_place-clause-busy : goal.lose_if_left-requires-in-loop-publisher_place-clause-busy
-lose_if_left-requires-in-loop-publisher_place-clause-busy g c = λ k l at departed.
+pub drop_waiting_if_left-requires-in-loop-publisher_place-clause-busy : goal.drop_waiting_if_left-requires-in-loop-publisher_place-clause-busy
+drop_waiting_if_left-requires-in-loop-publisher_place-clause-busy g c = λ k l at departed.
     let y = some-of (slice_index_or c.args.state.now.subscribers c.args.place None) c.requires.stands in
     let so_far = c.loop-publisher_place.invariant c.requires.agrees y.0 y.1 in
     so_far.busy k l at (subst (λ ps. HasNoPublisher ps l) so_far.publishers departed)
@@ -86,7 +86,7 @@ loop-publisher_place-preserved g c = λ sound y at.
     (λ z there. c.key_at-key.ensures
     ∙ ap (option_and_then (λ (v : SubscriberFields). slice_index_or v.keys c.loop-publisher_place.publisher_place None))
     (ap (λ xs. slice_index_or xs c.args.place None) (c.deref-in-loop-publisher_place.ensures.value ∙ ap (λ (f : Fields g.row.T.Denot g.row.U.Denot). f.subscribers) c.state-in-loop-publisher_place.view_is) ∙ there))
-    c.lose_if_left-in-loop-publisher_place.new.state c.lose_if_left-in-loop-publisher_place.ensures
+    c.drop_waiting_if_left-in-loop-publisher_place.new.state c.drop_waiting_if_left-in-loop-publisher_place.ensures
 
 -- ---- the publishers are due then
 

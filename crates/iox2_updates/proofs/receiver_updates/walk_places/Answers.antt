@@ -29,8 +29,8 @@ loop-other-init g c =
     let viewed = c.state.view_is in
     let subscribers = ap (λ (f : Fields g.row.T.Denot g.row.U.Denot). f.subscribers) viewed in
     let written : _ ≡ changed_at (λ (z : SubscriberFields). record z { is_due = false }) old.subscribers c.args.place =
-    with_items_is c.state.inside.subscribers c.settle.new.ports (c.settle.auto.ports ∙ c.deref_mut.ensures.len)
-    ∙ c.settle.ensures ∙ ap (λ xs. changed_at (λ (z : SubscriberFields). record z { is_due = false }) xs c.args.place) (c.deref_mut.ensures.value ∙ subscribers) in
+    with_items_is c.state.inside.subscribers c.clear_due.new.ports (c.clear_due.auto.ports ∙ c.deref_mut.ensures.len)
+    ∙ c.clear_due.ensures ∙ ap (λ xs. changed_at (λ (z : SubscriberFields). record z { is_due = false }) xs c.args.place) (c.deref_mut.ensures.value ∙ subscribers) in
     begins-first (answers_of g.F.BackpressureFn.allows g.G.DegradationFn.allows c.args.boxes.now.boxes) old c.requires.agrees c.args.place c.requires.subscriber c.requires.stands _ (λ k. record (viewed k) { subscribers = written k })
 
 pub connect_at-failure-requires-clause-subscriber : goal.connect_at-failure-requires-clause-subscriber

@@ -27,8 +27,8 @@ replace_expired-requires-clause-first g c = λ departed. (evicted g (goal.at.rep
 pub replace_expired-requires-clause-unborrowed : goal.replace_expired-requires-clause-unborrowed
 replace_expired-requires-clause-unborrowed g c = (evicted g (goal.at.replace_expired-requires-clause-unborrowed g c).In-Evict c.requires).1
 
-pub discard_end-requires-clause-unborrowed : goal.discard_end-requires-clause-unborrowed
-discard_end-requires-clause-unborrowed g c =
+pub drop_end-requires-clause-unborrowed : goal.drop_end-requires-clause-unborrowed
+drop_end-requires-clause-unborrowed g c =
     chosen-discards (c.args.state.now).connections (expired_limit (c.args.state.now).config) c.requires.subscriber.expired c.args.key (sym (c.choose.ensures c.requires) ∙ c.in-DiscardData.is)
 
 pub returns-in-Refuse : goal.returns-in-Refuse
@@ -57,4 +57,4 @@ returns-in-Evict g c = λ departed.
 pub returns-in-DiscardData : goal.returns-in-DiscardData
 returns-in-DiscardData g c = λ departed.
     retires-as c.args.state.now c.requires.agrees c.args.at.subscriber c.args.at.publisher departed.subscriber c.args.key departed.link departed.end DiscardData (sym (c.choose.ensures departed) ∙ c.in-DiscardData.is) Discard_data refl refl _
-    (c.discard_end.ensures departed)
+    (c.drop_end.ensures departed)

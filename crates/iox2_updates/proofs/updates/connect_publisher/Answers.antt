@@ -34,8 +34,8 @@ loop-other-init g c = λ due.
     let old = c.args.state.now in
     let viewed = c.state.view_is in
     let written : _ ≡ changed_at updated_publisher old.publishers c.args.place =
-    with_items_is c.state.inside.publishers c.settle.new.ports (c.settle.auto.ports ∙ c.deref_mut.ensures.len)
-    ∙ c.settle.ensures
+    with_items_is c.state.inside.publishers c.clear_due.new.ports (c.clear_due.auto.ports ∙ c.deref_mut.ensures.len)
+    ∙ c.clear_due.ensures
     ∙ ap (λ xs. changed_at updated_publisher xs c.args.place) (c.deref_mut.ensures.value ∙ ap (λ (f : Fields g.row.T.Denot g.row.U.Denot). f.publishers) viewed) in
     subst (λ (f : Fields g.row.T.Denot g.row.U.Denot). WalksSender (answers_of g.F.BackpressureFn.allows g.G.DegradationFn.allows c.args.boxes.now.boxes) old c.args.place due.publisher 0 f None)
     (sym ((λ k. record (viewed k) { publishers = written k }) ∙ ap (λ o. record old { publishers = slice_set old.publishers c.args.place (option_map updated_publisher o) }) due.stands))

@@ -1,6 +1,6 @@
 use Rattle.std.proofs.Common.{◌≡◌, false, refl}
 use Rattle.iox2_contents.proofs.SlotReads.{content_read, some_slot_within}
-use Rattle.iox2_contents.proofs.SlotLists.{writes, written-settled}
+use Rattle.iox2_contents.proofs.SlotLists.{writes, written-recycled}
 use Rattle.iox2_contents.proofs.contents.Contents.write_from_fn.Goals as goal
 
 pub index-requires : goal.index-requires
@@ -24,7 +24,7 @@ write_listed_from_fn-requires-clause-in_lists g c = c.requires.in_lists
 pub invariant_of-self : goal.invariant_of-self
 invariant_of-self g c =
     let read = content_read _ c.self.inside.slots.items _ c.args.slot (λ content. content.is_in_place ≡ false) _ c.self.view_is c.requires.in_lists c.index_mut.ensures.value in
-    written-settled _ _ _ c.self.inside.slots.items c.args.slot _ read.0 c.self.invariant c.index.result.now c.index.ensures _ c.has_list.ensures c.if-has_list.false _ _ c.write_from_fn.ensures.written
+    written-recycled _ _ _ c.self.inside.slots.items c.args.slot _ read.0 c.self.invariant c.index.result.now c.index.ensures _ c.has_list.ensures c.if-has_list.false _ _ c.write_from_fn.ensures.written
 
 pub returns : goal.returns
 returns g c =

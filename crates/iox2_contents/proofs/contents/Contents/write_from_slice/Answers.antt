@@ -16,19 +16,19 @@ pub write_from_slice-requires-clause-in_lists : goal.write_from_slice-requires-c
 write_from_slice-requires-clause-in_lists g c = (content_read _ c.self.inside.slots.items _ c.args.slot (λ content. (content.is_in_place ≡ false) × (length c.args.values.now ≡ length content.cells)) _ c.self.view_is c.requires c.index_mut.ensures.value).1.0
 
 pub invariant_of-self : goal.invariant_of-self
-invariant_of-self g c = c.settle.ensures.lists
+invariant_of-self g c = c.recycle_list.ensures.lists
 
-pub settle-requires-clause-lists : goal.settle-requires-clause-lists
-settle-requires-clause-lists g c =
+pub recycle_list-requires-clause-lists : goal.recycle_list-requires-clause-lists
+recycle_list-requires-clause-lists g c =
     let read = content_read _ c.self.inside.slots.items _ c.args.slot (λ content. (content.is_in_place ≡ false) × (length c.args.values.now ≡ length content.cells)) _ c.self.view_is c.requires c.index_mut.ensures.value in
     written-lists _ _ _ _ c.args.slot _ read.0 c.self.invariant _ _ c.write_from_slice.ensures
 
-pub settle-requires-clause-known : goal.settle-requires-clause-known
-settle-requires-clause-known g c =
+pub recycle_list-requires-clause-known : goal.recycle_list-requires-clause-known
+recycle_list-requires-clause-known g c =
     let read = content_read _ c.self.inside.slots.items _ c.args.slot (λ content. (content.is_in_place ≡ false) × (length c.args.values.now ≡ length content.cells)) _ c.self.view_is c.requires c.index_mut.ensures.value in
     written-has 0 0 0 c.self.inside.slots.items c.args.slot _ read.0 c.index.result.now c.index.ensures _ c.has_list-had_list.ensures _ _ c.write_from_slice.ensures
 
 pub returns : goal.returns
 returns g c =
     let read = content_read _ c.self.inside.slots.items _ c.args.slot (λ content. (content.is_in_place ≡ false) × (length c.args.values.now ≡ length content.cells)) _ c.self.view_is c.requires c.index_mut.ensures.value in
-    writes 0 0 _ _ c.args.slot _ read.0 _ _ c.args.values.now _ c.self.view_is read.1.1 c.write_from_slice.ensures c.settle.ensures.same
+    writes 0 0 _ _ c.args.slot _ read.0 _ _ c.args.values.now _ c.self.view_is read.1.1 c.write_from_slice.ensures c.recycle_list.ensures.same

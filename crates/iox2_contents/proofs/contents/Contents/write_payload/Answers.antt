@@ -14,19 +14,19 @@ pub write_payload-requires : goal.write_payload-requires
 write_payload-requires g c = (content_read _ c.self.inside.slots.items _ c.args.slot (λ content. length content.cells ≡ 1) _ c.self.view_is c.requires c.index_mut.ensures.value).1
 
 pub invariant_of-self : goal.invariant_of-self
-invariant_of-self g c = c.settle.ensures.lists
+invariant_of-self g c = c.recycle_list.ensures.lists
 
-pub settle-requires-clause-lists : goal.settle-requires-clause-lists
-settle-requires-clause-lists g c =
+pub recycle_list-requires-clause-lists : goal.recycle_list-requires-clause-lists
+recycle_list-requires-clause-lists g c =
     let read = content_read _ c.self.inside.slots.items _ c.args.slot (λ content. length content.cells ≡ 1) _ c.self.view_is c.requires c.index_mut.ensures.value in
     written-lists _ _ _ _ c.args.slot _ read.0 c.self.invariant _ _ c.write_payload.ensures
 
-pub settle-requires-clause-known : goal.settle-requires-clause-known
-settle-requires-clause-known g c =
+pub recycle_list-requires-clause-known : goal.recycle_list-requires-clause-known
+recycle_list-requires-clause-known g c =
     let read = content_read _ c.self.inside.slots.items _ c.args.slot (λ content. length content.cells ≡ 1) _ c.self.view_is c.requires c.index_mut.ensures.value in
     written-has 0 0 0 c.self.inside.slots.items c.args.slot _ read.0 c.index.result.now c.index.ensures _ c.has_list-had_list.ensures _ _ c.write_payload.ensures
 
 pub returns : goal.returns
 returns g c =
     let read = content_read _ c.self.inside.slots.items _ c.args.slot (λ content. length content.cells ≡ 1) _ c.self.view_is c.requires c.index_mut.ensures.value in
-    c.settle.ensures.same ∙ changed-contents 0 0 _ _ c.args.slot _ read.0 _ (written_content (c.args.value ∷ [])) _ c.self.view_is c.write_payload.ensures refl
+    c.recycle_list.ensures.same ∙ changed-contents 0 0 _ _ c.args.slot _ read.0 _ (written_content (c.args.value ∷ [])) _ c.self.view_is c.write_payload.ensures refl

@@ -1,7 +1,0 @@
-use Rattle.std.proofs.Common.{◌≡◌, drop, map, Some}
-use Rattle.iox2_messages.specs.KeyChannels.{all_in_state}
-use Rattle.iox2_messages.proofs.channels.all_expired.Given as goal
-
--- each of the keys so far tells of none in another state
-abbrev pub invariant-loop-index : goal.invariant-loop-index
-invariant-loop-index l = all_in_state l.connections l.asked.channel l.asked.state (map Some l.keys) ≡ all_in_state l.connections l.asked.channel l.asked.state (drop l.index (map Some l.keys))
