@@ -10,9 +10,9 @@
  * and for each domain of its own: a second one is refused. A gateway is to live as long as its domain: another one later
  * would send the history again.
  *
- * What a caller owes: pointers as iox2_pubsub.h says; a domain lives, at its place, until its gateway was closed; gateways
+ * What a caller has to do: pointers as iox2_pubsub.h says; a domain lives, at its place, until its gateway was closed; gateways
  * that were opened together (one iox2ps_dds_gateways_t) are used by one thread at a time, which is that of their domains,
- * but for iox2ps_dds_wake; and nothing is closed twice. Cyclone DDS has threads of its own, which never call a domain.
+ * except iox2ps_dds_wake; and nothing is closed twice. Cyclone DDS has threads of its own, which never call a domain.
  *
  * Each call returns IOX2PS_OK, a code of the domain, or one of those below. Where there is a why, it gets words for a
  * refusal, cut to its room and ended by a zero byte; it may be null with a room of 0. What opens or starts something
@@ -129,7 +129,7 @@ uint32_t iox2ps_dds_gateways_open(uint32_t dds_domain, size_t max_message_size, 
 /* Gives the group up. Gateways that are open in it stay, and keep what they need. */
 void iox2ps_dds_gateways_close(iox2ps_dds_gateways_t *gateways);
 
-/* Moves what is there, for each gateway at most so many messages each way, and never waits. */
+/* Moves what is there, for each gateway at most this number of messages each way, and never waits. */
 void iox2ps_dds_forward(iox2ps_dds_gateways_t *gateways, size_t most, iox2ps_dds_forwarded_t *forwarded);
 
 /* The same, and where nothing is there waits for the topics so many nanoseconds at most. It doesn't wait while a message of
@@ -144,7 +144,7 @@ uint32_t iox2ps_dds_flush(iox2ps_dds_gateways_t *gateways, uint64_t nanoseconds)
 
 /* ---- one gateway */
 
-/* The settings for messages of one value of so many bytes, or of slices of them. */
+/* The settings for messages of one value of this number of bytes, or of slices of them. */
 void iox2ps_dds_settings_defaults(iox2ps_dds_settings_t *settings, size_t element_size, uint32_t is_slice);
 
 /* Opens a gateway. Where a port is refused the code is the domain's; else IOX2PS_DDS_REFUSED: for settings that don't fit the
