@@ -359,7 +359,7 @@ private:
  * it is destroyed. */
 template <typename P, typename M> class Loan : public View<P, detail::Element<P>> {
 public:
-  using Element = detail::Element<P>; /**< a value, of which the message has one or more */
+  using Element = detail::Element<P>; /**< a value; the message has one or more */
 
   Loan(Loan &&) noexcept = default; /**< leaves the other empty */
   /** Discards what it was, and leaves the other empty. */
@@ -447,7 +447,7 @@ private:
  * destroyed, and until then counts against what its subscriber may borrow. */
 template <typename P, typename M> class Sample : public View<P, const detail::Element<P>> {
 public:
-  using Element = detail::Element<P>; /**< a value, of which the message has one or more */
+  using Element = detail::Element<P>; /**< a value; the message has one or more */
 
   Sample(Sample &&) noexcept = default; /**< leaves the other empty */
   /** Releases what it was, and leaves the other empty. */
@@ -502,7 +502,7 @@ private:
  * blocked closes when that send has ended. */
 template <typename P, typename M> class Publisher {
 public:
-  using Element = detail::Element<P>; /**< a value, of which a message has one or more */
+  using Element = detail::Element<P>; /**< a value; a message has one or more */
 
   Publisher(Publisher &&) noexcept = default; /**< leaves the other empty */
   /** Closes what it was, and leaves the other empty. */
@@ -752,7 +752,7 @@ private:
 /** Receives the messages of every publisher of its domain, until it is destroyed. */
 template <typename P, typename M> class Subscriber {
 public:
-  using Element = detail::Element<P>; /**< a value, of which a message has one or more */
+  using Element = detail::Element<P>; /**< a value; a message has one or more */
 
   Subscriber(Subscriber &&) noexcept = default; /**< leaves the other empty */
   /** Closes what it was, and leaves the other empty. */

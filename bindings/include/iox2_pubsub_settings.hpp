@@ -142,7 +142,7 @@ private:
  * iox2ps_config_defaults() says. */
 template <typename P> class Config : public ServiceConfig {
 public:
-  using Element = detail::Element<P>; /**< a value, of which a message has one or more */
+  using Element = detail::Element<P>; /**< a value; a message has one or more */
 
   /** The defaults of the domain with this number. The second number is how many values a slice may have, and counts for
    * nothing where a message is one value. */
