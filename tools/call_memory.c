@@ -105,8 +105,8 @@ static iox2ps_status_t send_to(iox2ps_domain_t *domain, const iox2ps_publisher_t
   return iox2ps_loan_deliver_offset_to_connection(domain, &loan, channel, connection, &receivers, blocked);
 }
 
-/* Messages are sent to one connection. One is received, one waits for that and is given up, and one goes into a channel of which
- * nothing is received, where from the second round on it finds no room. */
+/* Messages are sent to one connection. One is received, one waits for that and is given up. One goes into a channel from which
+ * nothing is received; from the second round on it finds no room there. */
 static void send_to_one(iox2ps_domain_t *domain, const iox2ps_publisher_t *publisher, const iox2ps_subscriber_t *subscriber) {
   iox2ps_blocked_t blocked;
   size_t receivers;
@@ -120,8 +120,8 @@ static void send_to_one(iox2ps_domain_t *domain, const iox2ps_publisher_t *publi
   OK(sent);
 }
 
-/* A channel is turned, loans are discarded, and messages sent, one of which waits twice and is given up. All are received, but for
- * what goes into the further channel. */
+/* A channel is turned, loans are discarded, and messages sent; one waits twice and is given up. All are received, except what goes
+ * into the further channel. */
 static void round_of_calls(iox2ps_domain_t *domain, const iox2ps_publisher_t *publisher, const iox2ps_subscriber_t *subscriber) {
   iox2ps_loan_t loan;
   iox2ps_blocked_t blocked;

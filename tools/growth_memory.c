@@ -2,7 +2,7 @@
  *
  *   growth_memory SLOTS GROWTHS LONGEST KEPT
  *
- * Each segment has so many slots. The first growth is for 2 elements, each later one for one more, and the last one for
+ * Each segment has this number of slots. The first growth is for 2 elements, each later one for one more, and the last one for
  * LONGEST. KEPT is 0, or the length of a message that a subscriber keeps. Its status is 0 where each call succeeds.
  *
  * It is linked with -Wl,--wrap=malloc -Wl,--wrap=realloc -Wl,--wrap=free. */

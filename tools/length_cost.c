@@ -18,7 +18,7 @@ COUNTED static void fill_memory(volatile size_t len) { memset(target, 0, len); }
 
 COUNTED static void copy_memory(volatile size_t len) { memcpy(target, source, len); }
 
-/* Sends a loan of the bytes, of which one is written. */
+/* Sends a loan of the bytes, after it has written one. */
 static int send_loan(uint32_t lent, iox2ps_loan_t *loan, unsigned char *bytes) {
   size_t receivers;
   iox2ps_blocked_t blocked;

@@ -2,7 +2,7 @@
  * Publish-subscribe inside one program: the calls of the proved library iox2_pubsub for C11 and C++11 or later.
  * Messages are bytes, as many as each loan says, up to a limit that the domain is made with.
  *
- * What a caller owes, and nothing else:
+ * What a caller has to do, and nothing else:
  *  - each pointer is valid for the call, aligned, not null and of its type; one that isn't const points
  *    to memory that the call alone uses; bytes that are read are initialised;
  *  - an iox2ps_domain_t starts as IOX2PS_DOMAIN_INIT, is changed by these functions alone, and isn't copied
@@ -176,7 +176,7 @@ typedef enum iox2ps_warning_e {
   /** A subscriber was made, and its first update of connections failed. */
   IOX2PS_WARNING_SUBSCRIBER_PARTLY_CONNECTED = 102,
   IOX2PS_WARNING_CONNECTION_NOT_MADE = 103, /**< memory for a connection was refused */
-  /** Messages of a closed publisher were lost before they were received, for want of room for its connection. */
+  /** Messages of a closed publisher were lost before they were received, since there was no room for its connection. */
   IOX2PS_WARNING_EXPIRED_DATA_DISCARDED = 104
 } iox2ps_warning_e;
 
@@ -200,7 +200,7 @@ typedef struct iox2ps_wide_t {
  *     max_subscribers * number_of_channels * (subscriber_max_buffer_size + subscriber_max_borrowed_samples) + history_size
  *         + its loans
  *
- * so that no loan of up to so many bytes is ever refused for want of a slot, where its options ask for no fewer. By
+ * So no loan of up to payload_size bytes is ever refused because no slot is free, unless its options ask for fewer. By
  * default these are 8 * 1 * (2 + 2) + 0 + 2 = 34. */
 typedef struct iox2ps_config_t {
   iox2ps_wide_t service_id; /**< names the domain */
@@ -226,7 +226,7 @@ typedef struct iox2ps_publisher_options_t {
   size_t max_loaned_samples;      /**< loans that may be out at a time */
   size_t initial_max_slice_len;   /**< how many bytes a message may have, as long as memory isn't to grow; a multiple
                                        of the domain's alignment, and not 0 where memory may grow */
-  size_t preallocated_samples;    /**< how many slots it asks for: it has so many, but no more than
+  size_t preallocated_samples;    /**< how many slots it asks for, and gets, but no more than
                                        iox2ps_worst_case_slots; 0 asks for nothing, and it has the worst case. With
                                        fewer a loan may be refused with IOX2PS_LOAN_ERROR_OUT_OF_MEMORY, or needs more
                                        memory where that may grow */
@@ -328,8 +328,8 @@ void iox2ps_publisher_options_of(const iox2ps_config_t *config, iox2ps_publisher
 /** What a subscriber has that is made without options in a domain with these settings. */
 void iox2ps_subscriber_options_of(const iox2ps_config_t *config, iox2ps_subscriber_options_t *options);
 
-/** How many slots a publisher with so many loans has, where its options ask for no fewer. IOX2PS_INVALID_SETTINGS
- * where that doesn't fit size_t. */
+/** How many slots a publisher with this number of loans has, unless its options ask for fewer. IOX2PS_INVALID_SETTINGS
+ * if that doesn't fit size_t. */
 IOX2PS_NODISCARD iox2ps_status_t iox2ps_worst_case_slots(const iox2ps_config_t *config, size_t loans, size_t *slots);
 
 /** The text of a code or of the kind of a warning, which ends in a zero byte and lies there for good; len
@@ -352,7 +352,7 @@ static inline const char *iox2ps_error_text(uint32_t code) {
  * none, a payload_size that is no multiple of it, or an unknown strategy; IOX2PS_OUT_OF_MEMORY. */
 IOX2PS_NODISCARD iox2ps_status_t iox2ps_domain_create(iox2ps_domain_t *domain, const iox2ps_config_t *config);
 
-/** The same, of which a recording is kept: of its first calls, as many as give this number of commands, with so many
+/** The same, and keeps a recording of the first calls, as many as give this number of commands, with this number of
  * bytes of each message; the others are 0 in the recording. Memory for the commands is taken here, some 150 bytes for
  * each. A call that makes, sends, receives, closes or updates is one command, and so is each byte of a message that has to
  * be written or is read; questions that change nothing are none. */
@@ -387,8 +387,8 @@ IOX2PS_NODISCARD iox2ps_status_t iox2ps_domain_refused_connections(iox2ps_domain
 /** How many of its last warnings the domain has, 32 at most. */
 IOX2PS_NODISCARD iox2ps_status_t iox2ps_domain_warning_count(iox2ps_domain_t *domain, size_t *count);
 
-/** One of the last warnings, of which 0 is the oldest. Reading forgets none. IOX2PS_NOT_LIVE where there are not so
- * many. */
+/** One of the last warnings; 0 is the oldest. Reading forgets none. IOX2PS_NOT_LIVE if there is none with this
+ * index. */
 IOX2PS_NODISCARD iox2ps_status_t iox2ps_domain_warning(iox2ps_domain_t *domain, size_t index, iox2ps_warning_t *warning);
 
 /** @}
@@ -417,7 +417,7 @@ IOX2PS_NODISCARD iox2ps_status_t iox2ps_publisher_is_blocked(iox2ps_domain_t *do
 IOX2PS_NODISCARD iox2ps_status_t iox2ps_publisher_update_connections(iox2ps_domain_t *domain,
                                                                      const iox2ps_publisher_t *publisher);
 
-/** Lends a message of so many bytes, each of which is 0, and says where they lie. They may be read and
+/** Lends a message of len bytes, which are all 0, and says where they are. They may be read and
  * written there until the loan is sent or discarded or the domain is destroyed, whatever else is called in
  * between. IOX2PS_NOT_LIVE, IOX2PS_PUBLISHER_IS_BLOCKED, IOX2PS_LOAN_ERROR_...: EXCEEDS_MAX_LOAN_SIZE of a static
  * publisher alone, INTERNAL_FAILURE where memory is to grow and can't, or no number is left for the message. */
@@ -540,7 +540,7 @@ IOX2PS_NODISCARD iox2ps_status_t iox2ps_sample_release(iox2ps_domain_t *domain, 
  * state is open, and the program says what it means. A channel may also have a hint that its subscriber is about to
  * disconnect, which goes with each change of the state. State and hint are the connection's, and go with it.
  *
- * A subscriber's calls go over all connections that it has, also those with closed publishers of which it has messages; a
+ * A subscriber's calls go over all connections that it has, also with closed publishers whose messages it has; a
  * publisher's are about one, which iox2ps_publisher_get_connection_id_of() names. A port has a connection once it was made
  * by an update of its own. A publisher may make these calls while a send of it waits; one that waits for a closed channel
  * goes past it when it is tried again. IOX2PS_NO_SUCH_CHANNEL comes for each channel from number_of_channels on, but

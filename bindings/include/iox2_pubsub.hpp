@@ -4,7 +4,7 @@
  *
  * A Domain<P> has messages of the type P alone: a trivially copyable T, or T[] for slices of such values.
  * So what is received was written as a P. Its ports, loans and samples keep it alive. Handles are moved and
- * not copied, but for a Domain; one that was moved from, or whose loan was sent, is empty: its calls return
+ * not copied, except a Domain; one that was moved from, or whose loan was sent, is empty: its calls return
  * Error::NotLive, and it isn't read.
  *
  * Nothing is thrown but std::bad_alloc by Domain::warnings() and Domain::recording(), which fill a vector and a string, and
@@ -128,7 +128,7 @@ template <typename M> struct Shared {
   }
 };
 
-/* A part in a domain, or none. */
+/* A counted reference to a domain; may be empty. */
 template <typename M> class Hold {
 public:
   Hold() = default;
@@ -359,7 +359,7 @@ private:
  * it is destroyed. */
 template <typename P, typename M> class Loan : public View<P, detail::Element<P>> {
 public:
-  using Element = detail::Element<P>; /**< a value, of which the message has one or more */
+  using Element = detail::Element<P>; /**< a value; the message has one or more */
 
   Loan(Loan &&) noexcept = default; /**< leaves the other empty */
   /** Discards what it was, and leaves the other empty. */
@@ -447,7 +447,7 @@ private:
  * destroyed, and until then counts against what its subscriber may borrow. */
 template <typename P, typename M> class Sample : public View<P, const detail::Element<P>> {
 public:
-  using Element = detail::Element<P>; /**< a value, of which the message has one or more */
+  using Element = detail::Element<P>; /**< a value; the message has one or more */
 
   Sample(Sample &&) noexcept = default; /**< leaves the other empty */
   /** Releases what it was, and leaves the other empty. */
@@ -502,7 +502,7 @@ private:
  * blocked closes when that send has ended. */
 template <typename P, typename M> class Publisher {
 public:
-  using Element = detail::Element<P>; /**< a value, of which a message has one or more */
+  using Element = detail::Element<P>; /**< a value; a message has one or more */
 
   Publisher(Publisher &&) noexcept = default; /**< leaves the other empty */
   /** Closes what it was, and leaves the other empty. */
@@ -538,7 +538,7 @@ public:
     return lend(1, begin_value(value), at_once());
   }
 
-  /** Lends a message of so many values, each with its default. */
+  /** Lends a message of this number of values, each with its default. */
   template <typename Q = P, std::enable_if_t<detail::is_slice<Q>, int> = 0> Result<Loan<P, M>> loan_slice(std::size_t len) {
     return lend(len, begin_values(len), at_once());
   }
@@ -548,7 +548,7 @@ public:
     return lend(1, begin_nothing(), at_once());
   }
 
-  /** Lends a message of so many unspecified values. It costs the same for any length that was lent before. */
+  /** Lends a message of this number of unspecified values. It costs the same for any length that was lent before. */
   template <typename Q = P, std::enable_if_t<detail::is_slice<Q>, int> = 0> Result<Loan<P, M>> loan_slice_uninit(std::size_t len) {
     return lend(len, begin_nothing(), at_once());
   }
@@ -575,12 +575,12 @@ public:
   template <typename Q = P, std::enable_if_t<!detail::is_slice<Q>, int> = 0> Result<Loan<P, M>> blocking_loan_uninit(Until until = {}) {
     return lend(1, begin_nothing(), waiting(until));
   }
-  /** The same, of so many values, each with its default. */
+  /** The same, of this number of values, each with its default. */
   template <typename Q = P, std::enable_if_t<detail::is_slice<Q>, int> = 0>
   Result<Loan<P, M>> blocking_loan_slice(std::size_t len, Until until = {}) {
     return lend(len, begin_values(len), waiting(until));
   }
-  /** The same, of so many unspecified values. */
+  /** The same, of this number of unspecified values. */
   template <typename Q = P, std::enable_if_t<detail::is_slice<Q>, int> = 0>
   Result<Loan<P, M>> blocking_loan_slice_uninit(std::size_t len, Until until = {}) {
     return lend(len, begin_nothing(), waiting(until));
@@ -752,7 +752,7 @@ private:
 /** Receives the messages of every publisher of its domain, until it is destroyed. */
 template <typename P, typename M> class Subscriber {
 public:
-  using Element = detail::Element<P>; /**< a value, of which a message has one or more */
+  using Element = detail::Element<P>; /**< a value; a message has one or more */
 
   Subscriber(Subscriber &&) noexcept = default; /**< leaves the other empty */
   /** Closes what it was, and leaves the other empty. */
@@ -994,7 +994,7 @@ public:
 
   explicit operator bool() const { return static_cast<bool>(hold_); } /**< whether there is a domain */
 
-  /** Makes a publisher, which has what the settings say but for these options. */
+  /** Makes a publisher with these options, and else with what the settings say. */
   Result<Publisher<P, M>> publisher(const PublisherOptions<P> &options = {}) {
     if (!hold_) return Error::NotLive;
     std::unique_ptr<detail::Orphan> made(new (std::nothrow) detail::Orphan);
@@ -1010,7 +1010,7 @@ public:
     return Publisher<P, M>(hold_, std::move(made));
   }
 
-  /** Makes a subscriber, which has what the settings say but for these options. */
+  /** Makes a subscriber with these options, and else with what the settings say. */
   Result<Subscriber<P, M>> subscriber(const SubscriberOptions &options = {}) {
     if (!hold_) return Error::NotLive;
     iox2ps_subscriber_t port;

@@ -69,7 +69,7 @@ template <typename P> constexpr void check() {
   static_assert(alignof(T) <= 16, "the alignment of a message is at most 16");
 }
 
-/* How many bytes so many values have, or as many as there can be. */
+/* How many bytes this number of values has, or the greatest number that there can be. */
 template <typename T> constexpr std::size_t bytes_of(std::size_t values) {
   constexpr std::size_t greatest = std::numeric_limits<std::size_t>::max();
   return values > greatest / sizeof(T) ? greatest - greatest % alignof(T) : values * sizeof(T);
@@ -122,7 +122,7 @@ public:
   /** How many slots a publisher has that is made without options, or none where the number doesn't fit. */
   std::optional<std::size_t> worst_case_slots() const { return worst_case_slots(raw_.publisher_max_loaned_samples); }
 
-  /** The same of one with so many loans. */
+  /** The same of one with this number of loans. */
   std::optional<std::size_t> worst_case_slots(std::size_t loans) const {
     std::size_t slots = 0;
     if (iox2ps_worst_case_slots(&raw_, loans, &slots) != IOX2PS_OK) return std::nullopt;
@@ -142,7 +142,7 @@ private:
  * iox2ps_config_defaults() says. */
 template <typename P> class Config : public ServiceConfig {
 public:
-  using Element = detail::Element<P>; /**< a value, of which a message has one or more */
+  using Element = detail::Element<P>; /**< a value; a message has one or more */
 
   /** The defaults of the domain with this number. The second number is how many values a slice may have, and counts for
    * nothing where a message is one value. */
@@ -195,7 +195,7 @@ public:
   Config &backpressure_strategy(BackpressureStrategy value) {
     return set(raw_.backpressure_strategy, static_cast<std::uint32_t>(value));
   }
-  /** Keeps a recording of the domain's first calls, of this number of commands, with so many bytes of each message:
+  /** Keeps a recording of the domain's first calls, of this number of commands, with this number of bytes of each message:
    * iox2ps_domain_create_recorded() says more. Domain::recording() gives it. */
   Config &record(std::size_t commands, std::size_t bytes) {
     recorded_ = {commands, bytes};
@@ -237,7 +237,7 @@ public:
   PublisherOptions &initial_max_slice_len(std::size_t values) {
     return set(initial_max_slice_len_, detail::bytes_of<detail::Element<P>>(values));
   }
-  /** For how many slots it asks: it has so many, but no more than Config::worst_case_slots(); 0 asks for nothing. */
+  /** How many slots it asks for, and gets, but no more than Config::worst_case_slots(); 0 asks for nothing. */
   PublisherOptions &preallocated_samples(std::size_t value) { return set(preallocated_samples_, value); }
   /** What it does at a full buffer where the domain doesn't overflow. */
   PublisherOptions &backpressure_strategy(BackpressureStrategy value) { return set(backpressure_strategy_, value); }
@@ -328,7 +328,7 @@ enum class WarningKind : std::uint32_t {
   SubscriberPartlyConnected = IOX2PS_WARNING_SUBSCRIBER_PARTLY_CONNECTED,
   /** Memory for a connection was refused. */
   ConnectionNotMade = IOX2PS_WARNING_CONNECTION_NOT_MADE,
-  /** Messages of a closed publisher were lost before they were received, for want of room for its connection. */
+  /** Messages of a closed publisher were lost before they were received, since there was no room for its connection. */
   ExpiredDataDiscarded = IOX2PS_WARNING_EXPIRED_DATA_DISCARDED
 };
 

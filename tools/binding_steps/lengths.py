@@ -82,7 +82,7 @@ def figure(number):
 
 
 def times(columns):
-    """By length and program, the times of all rounds, in each of which one program comes after the other."""
+    """By length and program, the times of all rounds. In each round one program comes after the other."""
     found = {(length, program): [] for length, _ in LENGTHS for _, program in columns}
     for _ in range(ROUNDS):
         for length, program in found:
@@ -100,8 +100,8 @@ def run_lengths(work):
         cells = (f"{figure(instructions(program, length))}, {figure(statistics.median(measured[length, program]))} ns" for _, program in columns)
         print(f"| {title} | {' | '.join(cells)} |", flush=True)
     print(f"\nInstructions and nanoseconds of one message, which is lent, one word of it written, sent, received, read and released by one"
-          f" thread. Instructions by callgrind, of {COUNTED} messages; nanoseconds on a processor, the median of {ROUNDS} runs of which each"
-          f" library's comes after the other's. {time.strftime('%-d %B %Y')}, {machine.processor()}, load of the machine {min(loads):.1f} to"
+          f" thread. Instructions by callgrind, of {COUNTED} messages; nanoseconds on a processor, the median of {ROUNDS} runs;"
+          f" in each the libraries come one after the other. {time.strftime('%-d %B %Y')}, {machine.processor()}, load of the machine {min(loads):.1f} to"
           f" {max(loads):.1f} on {os.cpu_count()} processors; iox2_pubsub {version()}, {machine.compilers()}.")
     for length, title in LENGTHS:
         for name, program in columns:

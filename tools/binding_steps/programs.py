@@ -12,7 +12,7 @@ RACES = ("-O1", "-g", "-fsanitize=thread")
 # The program's own function in place of the archive's.
 OTHER_VERSION = ("-O1", "-Wl,--wrap=iox2ps_version")
 NO_EXCEPTIONS = ("-O1", "-fno-exceptions", "-fno-rtti")
-# The program's own malloc and realloc, of which one call in a run is refused.
+# The program's own malloc and realloc, which refuse one call in a run.
 REFUSES = ("-Wl,--wrap=malloc", "-Wl,--wrap=realloc")
 GRIND = ("valgrind", "--quiet", "--leak-check=full", "--error-exitcode=9")
 NOTHING_LEFT = ("--show-leak-kinds=all", "--errors-for-leak-kinds=all")

@@ -8,9 +8,9 @@ from binding_steps.bench import where
 from .base import BINDINGS, STRESS, WORK, Count, env, sh, step
 
 CHANNELS = "crossbeam-channel"
-# How many messages are passed to so many consumers: for long enough that the threads are spread over the processors.
+# How many messages are passed to this number of consumers: for long enough that the threads are spread over the processors.
 MESSAGES = {1: 200000, 4: 40000, 16: 10000}
-# What is asked of a message in place with buffers of 64: at most so many times one by mpsc of `Arc`, by the processors of all threads.
+# The bound of a message in place with buffers of 64: at most this many times one by mpsc of `Arc`, by the processors of all threads.
 # By a writer and readers, and by a call for each of its four steps.
 MOST_IN_A_LOOP = {1: 1.5, 4: 1.0, 16: 1.0}
 MOST_BY_CALLS = {4: 1.0, 16: 1.0}

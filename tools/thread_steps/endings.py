@@ -6,7 +6,7 @@ from pathlib import Path
 
 # So long all its threads have to sleep. The longest sleep in a test takes a fiftieth of a second.
 STILL_SECONDS = 3
-# Processor time, of which a file of tests takes some seconds.
+# Processor time; a file of tests takes some seconds of it.
 MOST_SECONDS = 60
 
 

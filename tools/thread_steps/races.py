@@ -63,7 +63,7 @@ def is_known(report):
 
 
 def helgrind(program):
-    """Races but for those that are known."""
+    """Races, except those that are known."""
     said = sh("valgrind", "--tool=helgrind", program, 1, 8000, 4, WORK / "script", WORK / "replies")
     reports = re.sub(r"^==\d+== ?", "", said, flags=re.M).split("-" * 64)
     races = [report for report in reports if "Possible data race" in report and not is_known(report)]

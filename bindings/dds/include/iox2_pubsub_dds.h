@@ -10,9 +10,9 @@
  * and for each domain of its own: a second one is refused. A gateway is to live as long as its domain: another one later
  * would send the history again.
  *
- * What a caller owes: pointers as iox2_pubsub.h says; a domain lives, at its place, until its gateway was closed; gateways
+ * What a caller has to do: pointers as iox2_pubsub.h says; a domain lives, at its place, until its gateway was closed; gateways
  * that were opened together (one iox2ps_dds_gateways_t) are used by one thread at a time, which is that of their domains,
- * but for iox2ps_dds_wake; and nothing is closed twice. Cyclone DDS has threads of its own, which never call a domain.
+ * except iox2ps_dds_wake; and nothing is closed twice. Cyclone DDS has threads of its own, which never call a domain.
  *
  * Each call returns IOX2PS_OK, a code of the domain, or one of those below. Where there is a why, it gets words for a
  * refusal, cut to its room and ended by a zero byte; it may be null with a room of 0. What opens or starts something
@@ -54,7 +54,7 @@ typedef uint32_t (*iox2ps_dds_make_t)(iox2ps_domain_t *domain, void *what);
 
 /* How a domain is called that threads share. call takes the lock, returns what make returns, gives the lock back and wakes
  * those whom it may have brought something. wait does the same again as long as make's code says that this port still waits,
- * each time when something came that may help, and until so many nanoseconds have passed. wait may be null where no gateway
+ * each time when something came that may help, and until this number of nanoseconds has passed. wait may be null where no gateway
  * has threads. */
 typedef struct iox2ps_dds_lock_t {
   uint32_t (*call)(void *context, iox2ps_domain_t *domain, uint32_t brings, iox2ps_dds_make_t make, void *what);
@@ -91,7 +91,7 @@ typedef struct iox2ps_dds_counts_t {
   uint64_t sent, received;
   uint64_t own;            /* the gateway's own messages, which it passes over */
   uint64_t too_long;       /* from the topic: more bytes than a message of the domain may have */
-  uint64_t other_size;     /* from the topic: not so many values of the domain's type as the frame says */
+  uint64_t other_size;     /* from the topic: another number of values of the domain's type than the frame says */
   uint64_t other_type;     /* from the topic: of a writer whose type is another */
   uint64_t malformed;      /* from the topic: no frame, but under its name */
   uint64_t no_loan;        /* from the topic: the domain lent nothing */
@@ -129,10 +129,10 @@ uint32_t iox2ps_dds_gateways_open(uint32_t dds_domain, size_t max_message_size, 
 /* Gives the group up. Gateways that are open in it stay, and keep what they need. */
 void iox2ps_dds_gateways_close(iox2ps_dds_gateways_t *gateways);
 
-/* Moves what is there, for each gateway at most so many messages each way, and never waits. */
+/* Moves what is there, for each gateway at most this number of messages each way, and never waits. */
 void iox2ps_dds_forward(iox2ps_dds_gateways_t *gateways, size_t most, iox2ps_dds_forwarded_t *forwarded);
 
-/* The same, and where nothing is there waits for the topics so many nanoseconds at most. It doesn't wait while a message of
+/* The same, and if nothing is there waits for the topics this number of nanoseconds at most. It doesn't wait while a message of
  * a topic waits for a subscriber, which the caller's thread alone can let receive. */
 void iox2ps_dds_wait(iox2ps_dds_gateways_t *gateways, uint64_t nanoseconds, size_t most, iox2ps_dds_forwarded_t *forwarded);
 
@@ -144,7 +144,7 @@ uint32_t iox2ps_dds_flush(iox2ps_dds_gateways_t *gateways, uint64_t nanoseconds)
 
 /* ---- one gateway */
 
-/* The settings for messages of one value of so many bytes, or of slices of them. */
+/* The settings for messages of one value of this number of bytes, or of slices of them. */
 void iox2ps_dds_settings_defaults(iox2ps_dds_settings_t *settings, size_t element_size, uint32_t is_slice);
 
 /* Opens a gateway. Where a port is refused the code is the domain's; else IOX2PS_DDS_REFUSED: for settings that don't fit the

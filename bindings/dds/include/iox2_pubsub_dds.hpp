@@ -110,7 +110,7 @@ private:
 /* What gateways have together that were opened together. */
 class Polled {
 public:
-  /* Moves what is there, for each gateway at most so many messages each way, and never waits. */
+  /* Moves what is there, for each gateway at most this number of messages each way, and never waits. */
   Forwarded forward(std::size_t most = 1024) {
     Forwarded now;
     iox2ps_dds_forward(group_.get(), most, &now);
@@ -234,7 +234,7 @@ private:
  * domain. */
 class Gateways : public Polled {
 public:
-  /* For messages of so many bytes at most: what is longer DDS throws away before it takes memory. */
+  /* For messages of at most this number of bytes: DDS throws longer ones away before it takes memory. */
   static std::optional<Gateways> open(std::uint32_t dds_domain, std::size_t max_message_size, std::string &why) {
     auto group = detail::open_group(dds_domain, max_message_size, why);
     if (!group) return std::nullopt;

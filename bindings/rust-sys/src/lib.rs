@@ -1,5 +1,5 @@
 //! The declarations of the C header `iox2_pubsub.h`, with bytes where it has `void` and `char`. The header says what each is,
-//! what each call returns, and what its caller owes.
+//! what each call returns, and what its caller has to do.
 #![allow(missing_docs)]
 #![deny(missing_debug_implementations)]
 

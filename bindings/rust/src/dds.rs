@@ -211,7 +211,7 @@ impl Group {
 
     fn forward(&self, most: usize) -> Forwarded {
         let mut now = Forwarded::default();
-        // SAFETY: the group is open, and used by this thread alone: what has it isn't `Send`, but for wakers.
+        // SAFETY: the group is open, and used by this thread alone: what has it isn't `Send`, except wakers.
         unsafe { c::iox2ps_dds_forward(self.0, most, &mut now) };
         now
     }
@@ -272,7 +272,7 @@ impl fmt::Debug for Gateways {
 }
 
 impl Gateways {
-    /// Joins a DDS domain for messages of so many bytes at most. What is longer DDS throws away before it
+    /// Joins a DDS domain for messages of at most this number of bytes. DDS throws longer ones away before it
     /// takes memory.
     ///
     /// # Errors

@@ -280,7 +280,7 @@ impl<P: Payload + ?Sized> DomainBuilder<P> {
         self
     }
 
-    /// For how many closed publishers, of which it has samples, a subscriber has room.
+    /// How many closed publishers a subscriber has room for while it has samples of them.
     pub fn subscriber_expired_connection_buffer(mut self, value: usize) -> Self {
         self.config.subscriber_expired_connection_buffer = value;
         self

@@ -1,4 +1,4 @@
-//! Why a call was refused. The names are iceoryx2's, but for those that say otherwise.
+//! Why a call was refused. The names are iceoryx2's, except those that say otherwise.
 
 use crate::sys;
 use std::error::Error;

@@ -43,7 +43,7 @@ pub trait Payload: sealed::Sealed + 'static {
     #[doc(hidden)]
     type Element: Copy + 'static;
 
-    /// The payload of so many bytes that begins there, or `None` if no payload fits.
+    /// The payload of this number of bytes that begins there, or `None` if no payload fits.
     #[doc(hidden)]
     fn at(start: *mut u8, bytes: usize) -> Option<*mut Self>;
 
@@ -64,7 +64,7 @@ pub trait Payload: sealed::Sealed + 'static {
         "the alignment of a message is at most 16"
     );
 
-    /// So many bytes have so many elements, or the greatest number of bytes that there can be.
+    /// How many bytes this number of elements has, or the greatest number that there can be.
     #[doc(hidden)]
     #[must_use]
     fn greatest_size(elements: usize) -> usize {

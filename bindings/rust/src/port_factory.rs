@@ -59,7 +59,7 @@ impl<'d, P: Payload + ?Sized, M: Threads> PortFactoryPublisher<'d, P, M> {
         self
     }
 
-    /// What comes of a full buffer where there is no overflow.
+    /// What a publisher does at a full buffer without overflow.
     pub fn backpressure_strategy(mut self, value: BackpressureStrategy) -> Self {
         self.options.backpressure_strategy = value as u32;
         self
@@ -71,7 +71,7 @@ impl<'d, P: Payload + ?Sized, M: Threads> PortFactoryPublisher<'d, P, M> {
         self
     }
 
-    /// What comes of a connection for which memory is refused.
+    /// What the port does if memory for a connection is refused.
     pub fn set_degradation_handler(mut self, value: DegradationAction) -> Self {
         self.options.degradation = value as u32;
         self
@@ -83,8 +83,8 @@ impl<'d, P: Payload + ?Sized, M: Threads> PortFactoryPublisher<'d, P, M> {
         self
     }
 
-    /// What says how many slots the publisher has: it is given the worst case, with which no loan is
-    /// refused for want of a slot. The publisher gets as many as it answers, but no more than the
+    /// What says how many slots the publisher has. It is given the worst case, with which no loan is
+    /// refused because no slot is free. The publisher gets the number that it answers, but no more than the
     /// worst case, and at least one where that isn't none.
     pub fn override_sample_preallocation(
         mut self,
@@ -163,7 +163,7 @@ impl<'d, P: Payload + ?Sized, M: Threads> PortFactorySubscriber<'d, P, M> {
         self
     }
 
-    /// What comes of a connection for which memory is refused.
+    /// What the port does if memory for a connection is refused.
     pub fn set_degradation_handler(mut self, value: DegradationAction) -> Self {
         self.options.degradation = value as u32;
         self

@@ -161,7 +161,7 @@ pub(crate) fn lend(
 
 // A closed subscriber's slots come back by an update of the connections alone, which a loan doesn't make.
 pub(crate) fn update_for_slots(shared: &mut Shared, port: &sys::Publisher, code: u32) -> bool {
-    // SAFETY: see `Shared::at`. A loan says what it comes to.
+    // SAFETY: see `Shared::at`. A loan says its own result.
     code == sys::LOAN_ERROR_OUT_OF_MEMORY
         && unsafe { sys::iox2ps_publisher_update_connections(shared.at(), port) } == sys::OK
 }
@@ -316,7 +316,7 @@ impl<T: Copy + 'static, M: Threads> Publisher<[T], M> {
             .unwrap_or(0)
     }
 
-    /// Lends a message of so many values, none of which is written yet.
+    /// Lends a message of this number of values, none of them written yet.
     ///
     /// # Errors
     ///
@@ -325,7 +325,7 @@ impl<T: Copy + 'static, M: Threads> Publisher<[T], M> {
         self.lend(<[T]>::greatest_size(len))
     }
 
-    /// Lends a message of so many default values.
+    /// Lends a message of this number of default values.
     ///
     /// # Errors
     ///
@@ -350,7 +350,7 @@ impl<T: Copy + 'static, M: Threads> Publisher<[T], M> {
 }
 
 impl<T: Copy + 'static, M: MayWait> Publisher<[T], M> {
-    /// Lends a message of so many values, none of which is written yet. Waits while an earlier send of the
+    /// Lends a message of this number of values, none of them written yet. Waits while an earlier send of the
     /// publisher does, while as many loans are out as it may have, or while no slot is free.
     ///
     /// # Errors

@@ -1,4 +1,4 @@
-//! Reads one message after the other, of which several are received in one hold of the lock.
+//! Reads one message after the other, and receives several in one hold of the lock.
 
 use crate::desk::{Batch, Desk};
 use crate::domain::config;
@@ -150,7 +150,7 @@ impl<P: Payload + ?Sized, M: Threads> Subscriber<P, M> {
         self.reader_with_capacity(most.min(CAPACITY))
     }
 
-    /// The same, where it takes at most so many at a time; 0 counts as 1.
+    /// The same, and takes at most this number at a time; 0 counts as 1.
     pub fn reader_with_capacity(&self, capacity: usize) -> Reader<'_, P, M> {
         let capacity = capacity.max(1);
         Reader {

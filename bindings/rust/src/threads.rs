@@ -168,7 +168,7 @@ impl Waits {
     }
 }
 
-/// A wait: for what, of which port, until when or for good, and what its calls bring to others.
+/// A wait: for what, of which port, until when or forever, and what its calls bring to others.
 #[doc(hidden)]
 #[derive(Clone, Copy, Debug)]
 pub struct Wait {

@@ -63,7 +63,7 @@ struct Waiting {
     is_awake: bool,
 }
 
-/// All of it is used under the lock, but for what is to be done afterwards.
+/// All of it is used under the lock, except what is to be done afterwards.
 #[derive(Default)]
 pub(crate) struct WaitingList {
     threads: Vec<Waiting>,

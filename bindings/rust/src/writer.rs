@@ -1,4 +1,4 @@
-//! Sends one message after the other, each of which takes the lock once.
+//! Sends one message after the other, and takes the lock once for each.
 
 use crate::errors::SendError;
 use crate::loan::{discard, send};
@@ -204,7 +204,7 @@ impl<T: Copy + 'static, M: MayWait> Writer<'_, T, M> {
 }
 
 impl<T: Copy + 'static, M: Threads> Publisher<T, M> {
-    /// Sends one message after the other, each of which takes the lock once.
+    /// Sends one message after the other, and takes the lock once for each.
     pub fn writer(&self) -> Writer<'_, T, M> {
         Writer {
             publisher: self,

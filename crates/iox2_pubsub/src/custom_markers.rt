@@ -1,6 +1,6 @@
-//! The types that stand for bytes of a caller's own.
+//! The types of custom bytes.
 
-/// A byte of a custom payload, of which each element has as many as the domain's settings say
+/// A byte of a payload of custom bytes. Each element has as many as the domain's settings say
 /// (`units_per_element`).
 ///
 /// Example (`crates/iox2_slice_tests/src/tests/custom_payloads.rt`):
@@ -18,7 +18,7 @@
 #[derive(Debug, Clone, Copy, PartialEq, Eq, Default)]
 pub struct CustomPayloadMarker(pub u8);
 
-/// The user header of messages with a custom payload.
+/// The user header of messages of custom bytes.
 ///
 /// Example (`crates/iox2_slice_tests/src/tests/custom_payloads.rt`):
 ///

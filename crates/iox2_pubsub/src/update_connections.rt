@@ -5,7 +5,7 @@ ghost use Rattle.iox2_pubsub.specs.UpdateCalls.{returned_failure};
 use crate::domain::Domain;
 use iox2_machine::{BackpressureFn, ConnectionFailure, DegradationFn};
 
-/// A port of which the connections can be updated by a call, in a domain whose messages and boxed
+/// A port whose connections can be updated by a call, in a domain whose messages and boxed
 /// handlers have these types. Each send, receive and question does it too.
 ///
 /// Example (`crates/thermometer/src/report.rt`):
@@ -46,9 +46,9 @@ pub trait UpdateConnections<T: Drop, U: Default + Drop, F: BackpressureFn, G: De
     ///
     /// Fails where there is no room to keep the connection of a publisher that departed: then it
     /// stays, the rest of the update is done, and the port is due again. Where memory for a
-    /// connection is refused, the port's handler says what comes of that: nothing, a warning of the
-    /// domain, or that the update fails with `FailedToEstablishConnection(OutOfMemory)`, after the
-    /// rest of it is done. The first failure is returned.
+    /// connection is refused, the port's handler decides: nothing happens, the domain warns, or the
+    /// update fails with `FailedToEstablishConnection(OutOfMemory)`, after the rest of it is done.
+    /// The first failure is returned.
     fn update_connections(&self, domain: &mut Domain<T, U, F, G>) -> Result<(), ConnectionFailure>
         requires live { is_live domain.old self.now }
         ensures live { is_live domain.new self.now }

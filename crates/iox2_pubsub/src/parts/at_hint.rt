@@ -50,9 +50,9 @@ impl<T: Drop, U: Default + Drop, F: BackpressureFn, G: DegradationFn> Domain<T, 
         is_last_at_hint(&mut self.state, &parts.sample())
     }
 
-    /// Whether the publisher with these numbers stands at the place that they name, and lends so many
-    /// elements at once if it has a free slot: its memory doesn't grow, and nothing refuses the loan. This
-    /// library's own.
+    /// Whether the publisher with these numbers is at the place that they name, and lends this number
+    /// of elements at once if it has a free slot: its memory doesn't grow, and nothing refuses the loan.
+    /// This library's own.
     pub fn lends_at_once(&self, parts: &PublisherParts, len: usize) -> bool
         ensures ready { IsTrue result → IsReadyPublisher self.now (publisher_with parts.now) }
         ensures fixed { IsTrue result → GrowsBy self.now (publisher_with parts.now) Static }

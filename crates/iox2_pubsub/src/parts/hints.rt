@@ -108,8 +108,8 @@ pub(crate) fn sends_at_once<T, U>(state: &DomainState<T, U>, place: usize) -> bo
     true
 }
 
-/// Whether the publisher at the place may lend so many elements at once, if it has a free slot: its memory
-/// doesn't grow, no send of it waits, and neither its loans nor the domain's numbers are used up.
+/// Whether the publisher at the place may lend this number of elements at once, if it has a free slot: its
+/// memory doesn't grow, no send of it waits, and neither its loans nor the domain's numbers are used up.
 pub(crate) fn lends_at_once<T, U>(state: &DomainState<T, U>, place: usize, len: usize) -> bool
     ensures publisher { IsTrue result → (x : PublisherFields) → slice_index_or state.now.publishers place None ≡ Some x
         → (is_some x.blocked ≡ false) × (x.allocation ≡ Static) × (len ≤ x.initial_max_slice_len) × (length x.loans < x.max_loaned_samples) }

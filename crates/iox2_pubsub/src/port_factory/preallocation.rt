@@ -49,8 +49,8 @@ impl<P: Fn(usize) -> usize + Drop> SlotSettings<PreallocatedSamplesOverride<P>> 
     ghost use Rattle.iox2_machine.specs.machine.Limits.{worst_case};
     ghost use Rattle.iox2_pubsub.specs.Factories.{AsksFor};
 
-    /// How the slots of a publisher with so many loans are allocated. The override is asked how many
-    /// there are to be, but not where the worst case doesn't fit `usize`.
+    /// How the slots of a publisher with this number of loans are allocated. The override is asked how
+    /// many there should be, but not where the worst case doesn't fit `usize`.
     pub(crate) fn ask(&self, config: &ServiceConfig, loans: usize) -> SegmentOptions
         requires { P.IsAlwaysCallable self.now.preallocated.callback }
         ensures allocation { result.allocation ≡ self.now.allocation }

@@ -181,9 +181,9 @@ impl<F: BackpressureFn, G: DegradationFn, O: Drop, H> PortFactoryPublisher<F, G,
         self
     }
 
-    /// Sets what says how many slots the publisher is to have: a closure that is given the worst
-    /// case, with which no loan is refused for want of a slot. The publisher gets as many slots as it
-    /// answers, but no more than the worst case, and at least one where that isn't none.
+    /// Sets the closure that says how many slots the publisher gets. It is given the worst case, with
+    /// which no loan ever lacks a slot. The publisher gets the number that it answers, but no more
+    /// than the worst case, and at least one where that isn't none.
     ///
     /// iceoryx2's `PortFactoryPublisher::override_sample_preallocation`
     /// (`src/service/port_factory/publisher.rs`).

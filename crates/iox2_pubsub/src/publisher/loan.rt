@@ -18,8 +18,8 @@ impl Publisher {
     ghost use Rattle.iox2_pubsub.specs.MachineSteps.{TakesStep};
 
     /// Lends a message of one element, whose payload isn't written and whose user header has
-    /// its default value. The loan is out until its message was sent. It takes no memory, but for
-    /// further slots of a publisher whose memory grows.
+    /// its default value. The loan is out until its message was sent. It takes no memory, except
+    /// for further slots of a publisher whose memory grows.
     ///
     /// # Errors
     ///
@@ -31,9 +31,9 @@ impl Publisher {
     /// times, and `InternalFailure` where memory for more is refused, or their size doesn't fit
     /// `usize`. Nothing changes then.
     ///
-    /// A publisher with as many slots as `worst_case_slots` says for its limit of loans is never
-    /// refused for want of a slot or of memory: while fewer loans than its limit are out and a message
-    /// number is left, the loan is granted, whatever its subscribers hold.
+    /// A publisher with as many slots as `worst_case_slots` says for its limit of loans never lacks
+    /// a slot or memory: while fewer loans than its limit are out and a message number is left, the
+    /// loan is granted, whatever its subscribers hold.
     ///
     /// iceoryx2's `Publisher::loan_uninit` (`src/port/publisher.rs`).
     #[inline(always)]
@@ -52,8 +52,8 @@ impl Publisher {
         self.lend(domain, false, 1)
     }
 
-    // Lends a message of so many elements. Where the length counts, one that is longer than a static
-    // publisher lends is refused.
+    // Lends a message of this number of elements. If the length counts, one that is longer than a
+    // static publisher lends is refused.
     #[inline(always)]
     pub(crate) fn lend<T: Drop, U: Default + Drop, F: BackpressureFn, G: DegradationFn>(
         &self,

@@ -25,9 +25,9 @@ impl SampleMut {
     /// `channel` is the number of the channel, below `number_of_channels` of the settings. `connection`
     /// is the place of the connection, as `get_connection_id_of` of the publisher tells it. A subscriber
     /// that is closed, or whose channel is closed, is skipped. Where the channel is full and the service
-    /// doesn't overflow, the publisher's handler says what comes of that, or without one its strategy:
-    /// the message isn't delivered, or the send is blocked. Connections aren't updated, and the message
-    /// enters no history. Takes no memory.
+    /// doesn't overflow, the publisher's handler decides, or without one its strategy: the message isn't
+    /// delivered, or the send is blocked. Connections aren't updated, and the message enters no history.
+    /// Takes no memory.
     ///
     /// Returns how many subscribers took the message, one or none, or the blocked send. Without that
     /// connection it is none.

@@ -32,10 +32,10 @@ impl SampleMut {
     ghost use Rattle.iox2_domain.specs.Shows.{Shows};
     ghost use Rattle.iox2_pubsub.specs.Handles.{buffer_size_of, written_lender, written_number};
 
-    /// Sends the message to every subscriber that is open, but for those whose channel 0 is closed.
-    /// Where the buffer of one is full and the service doesn't overflow, the publisher's handler says
-    /// what comes of that, or without one its strategy: the subscriber doesn't get it, or the send is
-    /// blocked, and waits for this subscriber. Returns how many subscribers took it, or the blocked send.
+    /// Sends the message to every open subscriber, except those whose channel 0 is closed. Where the
+    /// buffer of one is full and the service doesn't overflow, the publisher's handler decides, or
+    /// without one its strategy: the subscriber doesn't get it, or the send is blocked, and waits for
+    /// this subscriber. Returns how many subscribers took it, or the blocked send.
     ///
     /// Fails with `ConnectionBrokenSinceSenderNoLongerExists` where the publisher is gone: the message
     /// is lost. Fails with `ConnectionError` where memory for a connection with a new subscriber is

@@ -12,13 +12,13 @@ impl Subscriber {
     ghost use Rattle.iox2_pubsub.specs.Live.{IsLiveSubscriber};
     ghost use Rattle.iox2_pubsub.specs.ReceivedSamples.{Receives};
 
-    /// Updates the subscriber's connections and receives a message of a publisher of which it may
-    /// borrow one more: the one of that publisher that has waited longest. Closed publishers come
-    /// first. Which of several publishers it is isn't promised, so a message of another may have
+    /// Updates the subscriber's connections and receives the oldest message that waits from one
+    /// publisher, if it may borrow one more from that publisher. Closed publishers come first. It isn't
+    /// promised which of several publishers comes first, so a message of another may have
     /// waited longer. `None` where no message waits.
     ///
-    /// Fails with `ReceiveError::ExceedsMaxBorrows` where messages wait, but of each publisher that
-    /// they come from as many are borrowed as may be. The update stands then, and no message moves.
+    /// Fails with `ReceiveError::ExceedsMaxBorrows` where messages wait, but no more may be borrowed
+    /// from any of their publishers. The update stays done then, and no message moves.
     /// Fails with `ReceiveError::ConnectionFailure` where the update does, as
     /// `UpdateConnections::update_connections` says.
     ///

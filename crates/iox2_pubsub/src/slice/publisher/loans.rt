@@ -1,4 +1,4 @@
-//! A publisher lends slices, and bytes of the caller's own.
+//! A publisher lends slices, and custom bytes.
 ghost use Rattle.std.specs.Prelude.{◌*◌, ◌+◌, ◌≡◌, ◌≤◌, IfOk, IsOk, List, OnErr, length, true, ℕ, ⊤};
 ghost use Rattle.std.specs.List.{All};
 
@@ -19,9 +19,9 @@ impl Publisher {
     ghost use Rattle.iox2_pubsub.specs.Slices.{HasValues};
     ghost use Rattle.iox2_pubsub.specs.WrittenLoans.{DefaultSliceCall};
 
-    /// Lends a message of so many elements, 0 or more, none of which is written, and whose user
-    /// header has its default value. The loan is out until its message was sent. It takes no
-    /// memory, but for further slots of a publisher whose memory grows.
+    /// Lends a message of `slice_len` elements, 0 or more. None of them is written, and the user header
+    /// has its default value. The loan is out until its message was sent. It takes no memory,
+    /// except for further slots of a publisher whose memory grows.
     ///
     /// # Errors
     ///
@@ -34,10 +34,9 @@ impl Publisher {
     /// something, `OutOfMemory` where it has made slots 255 times, and `InternalFailure` where memory
     /// for more is refused, or their size doesn't fit `usize`. Nothing changes then.
     ///
-    /// A publisher with as many slots as `worst_case_slots` says for its limit of loans is never
-    /// refused for want of a slot or of memory: while fewer loans than its limit are out and a message
-    /// number is left, a loan of up to `initial_max_slice_len` elements is granted, whatever its
-    /// subscribers hold.
+    /// A publisher with as many slots as `worst_case_slots` says for its limit of loans never lacks
+    /// a slot or memory: while fewer loans than its limit are out and a message number is left, a
+    /// loan of up to `initial_max_slice_len` elements is granted, whatever its subscribers hold.
     ///
     /// iceoryx2's `Publisher::loan_slice_uninit` (`src/port/publisher.rs`).
     #[inline(always)]
@@ -61,8 +60,8 @@ impl Publisher {
         }
     }
 
-    /// Lends a message of so many elements, 0 or more, each of which is a default value of its own,
-    /// and whose user header has its default value, so that it may be sent as it is. Refused as
+    /// Lends a message of `slice_len` elements, 0 or more, each a default value of its own. The user header
+    /// has its default value too, so the message may be sent as it is. Refused as
     /// `loan_slice_uninit` is; no default value is made then.
     ///
     /// iceoryx2's `Publisher::loan_slice` (`src/port/publisher.rs`).
@@ -86,8 +85,8 @@ impl Publisher {
         }
     }
 
-    /// Lends a message of so many elements, each of as many bytes as the domain's settings say
-    /// (`units_per_element`), none of which is written. In a domain of the variant `FixedSize` the
+    /// Lends a message of `slice_len` elements, each of as many bytes as the domain's settings say
+    /// (`units_per_element`). None of them is written. In a domain of the variant `FixedSize` the
     /// length is 1. Refused as `loan_slice_uninit` is.
     ///
     /// iceoryx2's `Publisher::loan_custom_payload` (`src/port/publisher.rs`).
