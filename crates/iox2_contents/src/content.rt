@@ -14,7 +14,7 @@ use std::alloc::{AllocError, Global};
 use std::marker::Model;
 
 /// What lies in a slot. An unwritten loan has its cells; a written loan or a sent message has its
-/// values. What isn't used of the two is empty.
+/// values. What isn't used of the two is empty (docs/decisions/slots.md, "What lies in a slot is one type").
 ///
 /// iceoryx2's `RawSample` and `RawSampleMut` (`src/raw_sample.rs`) point to a message's headers and
 /// payload in shared memory.

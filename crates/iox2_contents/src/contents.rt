@@ -158,7 +158,7 @@ impl<T: Drop, U: Default + Drop> Contents<T, U> {
     }
 
     // The same of a loan whose cells have a list. It stands apart, so that nothing has to be kept over a
-    // usual write.
+    // usual write (docs/decisions/cost.md, "The contents of a publisher take 48 bytes").
     #[cold]
     #[inline(never)]
     fn write_listed_from_fn<F: FnMut(usize) -> T + Drop>(&mut self, slot: usize, f: F)

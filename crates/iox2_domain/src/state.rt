@@ -28,7 +28,7 @@ pub struct DomainState<T, U> {
     pub subscribers: Vec<Option<SubscriberState>>,
     pub connections: Slab<Connection>,
     pub books: Slab<SlotBook>,
-    // At the key of each book what lies in its slots.
+    // At the key of each book what lies in its slots (docs/decisions/slots.md, "Book and contents aren't one record").
     pub contents: Vec<Option<Contents<T, U>>>,
 }
 

@@ -177,6 +177,7 @@ pub(crate) fn send_unasked<T: Drop, U: Default + Drop>(
 }
 
 /// The same, whether the publisher has a handler or not. A box is among these boxes.
+// (docs/decisions/cost.md, "A publisher without a handler pays one look for it")
 #[inline(never)]
 pub(crate) fn send_ready<T: Drop, U: Default + Drop, F: BackpressureFn, G: DegradationFn>(
     state: &mut DomainState<T, U>,

@@ -37,7 +37,7 @@ pub fn write_loan<T: Drop, U: Default + Drop>(
     loan
 }
 
-// The same, wherever the loan lies.
+// The same, wherever the loan lies (docs/decisions/cost.md, "What a message takes is cleared and asked once").
 #[cold]
 #[inline(never)]
 fn search_and_write<T: Drop, U: Default + Drop>(

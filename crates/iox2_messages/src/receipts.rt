@@ -166,7 +166,7 @@ pub fn release_sample<T: Drop, U: Default + Drop>(state: &mut DomainState<T, U>,
 }
 
 // The same, wherever the sample lies and whichever of its ports is gone. It takes the sample itself: a
-// reference would have the usual release keep it in memory.
+// reference would have the usual release keep it in memory (docs/decisions/cost.md, "What a usual message asks about departed ports").
 #[cold]
 #[inline(never)]
 fn search_and_release<T: Drop, U: Default + Drop>(state: &mut DomainState<T, U>, sample: SampleAt)

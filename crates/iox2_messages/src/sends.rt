@@ -80,6 +80,7 @@ fn update_and_find<T: Drop, U: Default + Drop, F: BackpressureFn, G: Degradation
 
 // Updates the publisher of a loan, where it is due, and sends the loan, wherever both are. Where the
 // update fails, the loan is given back. Of a publisher that is gone the loan is lost.
+// (docs/decisions/cost.md, "What a usual message asks about departed ports")
 #[cold]
 #[inline(never)]
 fn update_and_send<T: Drop, U: Default + Drop, F: BackpressureFn, G: DegradationFn>(

@@ -316,7 +316,7 @@ fn pop_from(free: &mut Vec<usize>, start: usize) -> Option<usize>
     Some(newest)
 }
 
-// The same where the newest of all, which was taken out, is older.
+// The same where the newest of all, which was taken out, is older (docs/decisions/cost.md, "The newest free slot is taken first").
 #[cold]
 #[inline(never)]
 fn another_from(free: &mut Vec<usize>, newest: usize, start: usize) -> Option<usize>
