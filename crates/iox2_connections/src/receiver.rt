@@ -277,6 +277,8 @@ pub fn release_if_last(
     if !is_last_at(connections, books, key, message) {
         return false;
     }
+    // The compiler does this look-up with the first (docs/decisions/cost.md, "A release looks its
+    // connection up twice").
     release(connections, key, message.slot);
     true
 }
