@@ -101,7 +101,7 @@ pub enum Command<T, U> {
     Retry {
         /// The blocked send.
         of: usize,
-        /// The time since the send was blocked, of which the backpressure handler is told.
+        /// The time since the send was blocked, which the backpressure handler is told.
         elapsed: Duration,
     },
     /// Lets a blocked send go on past the receiver that it waits for.

@@ -57,8 +57,8 @@ pub fn reads_give_what_was_sent<T, U>()
     ensures { ReadsGiveWhatWasSent T U }
 {}
 
-/// With ample memory and no closed subscriber left but the one that looks, a subscriber's receive, `HasSamples`, update, read
-/// or release leaves the view of that one as it was.
+/// With ample memory and no closed subscriber left except the one that looks, a subscriber's receive,
+/// `HasSamples`, update, read or release leaves the view of that one as it was.
 pub fn calls_leave_others_views<T, U>()
     ensures { CallsLeaveOthersViews T U }
 {}

@@ -57,7 +57,7 @@ fn has_all_loans<T, U>(state: &DomainState<T, U>, place: usize) -> bool
     publisher.loans.len() >= publisher.max_loaned_samples
 }
 
-// Whether the current segment of the publisher at a place has a free slot for so many elements.
+// Whether the current segment of the publisher at a place has a free slot for `len` elements.
 fn has_slot<T: Drop, U: Default + Drop>(state: &DomainState<T, U>, place: usize, len: usize) -> bool
     requires agrees { IsDomain state.now }
     requires stands { (x : PublisherFields) × (slice_index_or state.now.publishers place None ≡ Some x) }

@@ -56,7 +56,8 @@ fn receipt_of(
     }
 }
 
-// The subscriber at a place borrows a message, if one waits of which it may borrow one more.
+// The subscriber at a place borrows a message, if one waits in a connection from which it may borrow
+// one more.
 #[inline(always)]
 fn take_at<T: Drop, U: Default + Drop>(
     state: &mut DomainState<T, U>,
@@ -96,8 +97,8 @@ fn is_due<T, U>(state: &DomainState<T, U>, place: usize) -> bool
 /// The subscriber at a place is updated, and then borrows the message that has waited longest in
 /// some connection. `None` where no message waits. The message lies where the receipt says.
 ///
-/// `ExceedsMaxBorrows` where messages wait, but only where as many are borrowed as may be, and
-/// `ConnectionFailure` where the update fails. The update stands then.
+/// `ExceedsMaxBorrows` if messages wait, but only in connections from which as many are borrowed as
+/// may be, and `ConnectionFailure` if the update fails. The update stays done then.
 #[inline(always)]
 pub fn receive_at<T: Drop, U: Default + Drop, F: BackpressureFn, G: DegradationFn>(
     state: &mut DomainState<T, U>,

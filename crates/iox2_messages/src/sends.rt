@@ -111,7 +111,7 @@ fn update_and_send<T: Drop, U: Default + Drop, F: BackpressureFn, G: Degradation
     }
 }
 
-// A loan of which no place is known yet.
+// A loan whose place isn't known yet.
 fn loan_sought(publisher: UniquePublisherId, number: u128) -> LoanAt
     ensures publisher { result.publisher ≡ publisher }
     ensures number { result.number ≡ number }

@@ -217,8 +217,8 @@ fn leave_domain<T: Drop, U: Default + Drop>(state: &mut DomainState<T, U>, place
     publisher.book
 }
 
-/// The publisher at a place is closed, of which no connection is marked as open and no delivery is
-/// blocked.
+/// Closes the publisher at a place. None of its connections is marked as open, and it has no blocked
+/// delivery.
 pub(crate) fn close_publisher<T: Drop, U: Default + Drop>(
     state: &mut DomainState<T, U>,
     place: usize,

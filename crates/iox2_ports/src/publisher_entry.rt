@@ -75,10 +75,10 @@ fn place_for_publisher<T: Drop, U: Default + Drop>(
     }
 }
 
-// A publisher with these options and so many slots, which are its first segment, enters at the place
-// that it has, and every subscriber is due for an update. Returns its id, which was the next.
+// A publisher with these options and this first segment of slots enters at the place that it has,
+// and every subscriber is due for an update. Returns its id, which was the next.
 //
-// Where memory is refused it doesn't enter, and no id is used.
+// If memory is refused it doesn't enter, and no id is used.
 fn admit_publisher<T: Drop, U: Default + Drop>(
     state: &mut DomainState<T, U>,
     place: usize,

@@ -22,7 +22,7 @@ use std::alloc::{AllocError, Global};
 pub struct SegmentOptions {
     /// How its memory grows.
     pub allocation: AllocationStrategy,
-    /// So many slots are asked for in place of the worst case.
+    /// How many slots are asked for in place of the worst case, if any number is.
     pub asked_slots: Option<usize>,
 }
 
@@ -45,8 +45,8 @@ pub(crate) fn first_segment(
     Some(slots)
 }
 
-/// The room that each of so many slots needs for so many elements, and for one at least. Where there
-/// are no slots, none is needed.
+/// The room that each of `slots` slots needs for `len` elements, and for one at least. If there are
+/// no slots, none is needed.
 pub(crate) fn room_for(config: &ServiceConfig, slots: usize, len: usize) -> usize
     requires { segment_fits config.now slots len ≡ true }
     ensures { 0 < slots → result ≡ slot_length len * (config.now).units_per_element }
@@ -65,9 +65,9 @@ pub(crate) struct Segment<T, U> {
 }
 
 impl<T: Drop, U: Default + Drop> Segment<T, U> {
-    /// So many slots of a publisher of this node without holders, each with room for so many elements, which lie
-    /// in lists where they are to be handed out as slices. Their cells can then be handed out for so many loans at
-    /// a time.
+    /// The slots of a publisher of this node: `slots` of them, without holders, each with room for `room`
+    /// elements. These are in lists if they are to be handed out as slices. Their cells can then be handed
+    /// out for `lists` loans at a time.
     pub(crate) fn new(
         alloc: Global,
         node: UniqueNodeId,

@@ -104,7 +104,7 @@ fn drop_waiting_if_left<T: Drop, U: Default + Drop>(
     }
 }
 
-/// Closes the subscriber at a place, of which no connection is marked as open.
+/// Closes the subscriber at a place. None of its connections is marked as open.
 pub(crate) fn close_subscriber<T: Drop, U: Default + Drop>(
     state: &mut DomainState<T, U>,
     place: usize,

@@ -37,7 +37,7 @@ fn home_of(at: Places, publisher: &PublisherState, subscriber: &SubscriberState)
     }
 }
 
-// Makes a connection with so many channels, in which no slot stands, and returns its key.
+// Makes a connection with `channels` channels and no slot in it, and returns its key.
 fn make_connection(
     alloc: Global,
     connections: &mut Slab<Connection>,
@@ -208,8 +208,8 @@ fn hand_out_history<T: Drop, U: Default + Drop>(
 }
 
 // The publisher at a place that isn't due, with no end at a subscriber's place, gets one if an open
-// subscriber stands there. The last messages of its history wait in it, as many as fit, but where its
-// channel is closed. Where memory for a connection is refused, its handler is asked.
+// subscriber is there. The last messages of its history wait in it, as many as fit, unless its
+// channel is closed. If memory for a connection is refused, its handler is asked.
 fn connect_sender<T: Drop, U: Default + Drop, F: BackpressureFn, G: DegradationFn>(
     state: &mut DomainState<T, U>,
     boxes: &Boxes<F, G>,
@@ -253,8 +253,8 @@ fn drop_waiting_at<T: Drop, U: Default + Drop>(
     drop_all(publisher.id.value(), &mut state.connections, book, key);
 }
 
-// The publisher at a place loses its end at a subscriber's place, of which nothing is borrowed and
-// which no subscriber has. The connection goes, and what waited there is lost.
+// The publisher at a place loses its end at a subscriber's place. Nothing is borrowed from that
+// connection, and no subscriber has it. The connection goes, and what waited there is lost.
 fn disconnect_sender<T: Drop, U: Default + Drop>(
     state: &mut DomainState<T, U>,
     at: Places,

@@ -39,8 +39,8 @@ fn expired_limit(config: &ServiceConfig) -> usize
         .max(config.subscriber_max_borrowed_samples)
 }
 
-// The connection at a key goes, and with it what waits there, of which there is a warning. Returns
-// the key of its publisher's book.
+// The connection at a key goes, and with it what waits there; a warning says so. Returns the key of
+// its publisher's book.
 fn drop_connection<T: Drop, U: Default + Drop>(state: &mut DomainState<T, U>, key: usize) -> usize
     requires agrees { IsDomain state.old }
     requires stands { ContainsKey (state.old).connections key }

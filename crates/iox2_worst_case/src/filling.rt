@@ -11,8 +11,8 @@ use iox2_machine::{
 };
 use std::alloc::Global;
 
-/// A list of commands with which a publisher comes to need every slot of the worst case, in a new
-/// domain with these settings. This library's own.
+/// A list of commands that make a publisher need every slot of the worst case, in a new domain with
+/// these settings. This library's own.
 ///
 /// The first command makes the publisher, with this limit of loans and this override of its slots.
 /// Then each subscriber that there may be is made, one after another: it receives as many messages
@@ -133,7 +133,7 @@ fn push_send<T: Copy, U>(commands: &mut Vec<Command<T, U>>, variant: TypeVariant
     commands.push_reserved(Command::Send { of });
 }
 
-// So many messages are sent.
+// `count` messages are sent.
 fn push_sends<T: Copy, U>(
     commands: &mut Vec<Command<T, U>>,
     variant: TypeVariant,
@@ -150,7 +150,7 @@ fn push_sends<T: Copy, U>(
     }
 }
 
-// So many messages are sent, each of which the subscriber receives.
+// `count` messages are sent, and the subscriber receives each.
 fn push_rounds<T: Copy, U>(
     commands: &mut Vec<Command<T, U>>,
     variant: TypeVariant,
@@ -201,7 +201,7 @@ fn push_subscribers<T: Copy, U>(commands: &mut Vec<Command<T, U>>, config: &Serv
     }
 }
 
-// So many loans are taken.
+// `count` loans are taken.
 fn push_loans<T, U>(commands: &mut Vec<Command<T, U>>, variant: TypeVariant, count: usize)
     requires { vec_len commands.old + count ≤ vec_capacity commands.old }
     ensures { commands.new.items ≡ commands.old.items ++ replicate count (loan_spec variant) }

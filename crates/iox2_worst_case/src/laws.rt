@@ -6,8 +6,8 @@ pub fn worst_case_is_reached<T, U>()
     ensures { WorstCaseIsReached T U }
 {}
 
-/// With ample memory and any smaller number of slots, each run of that list refuses a loan for want of slots while fewer
-/// than the publisher's limit are out.
+/// With ample memory and any smaller number of slots, each run of that list refuses a loan with
+/// `OutOfMemory` while fewer loans than the publisher's limit are out.
 pub fn worst_case_is_least<T, U>()
     ensures { WorstCaseIsLeast T U }
 {}

@@ -78,9 +78,9 @@ impl SampleMut {
     }
 }
 
-// Sends a publisher's written loan to its receivers, once the publisher's connections are updated. Where the
-// send is blocked, what came of it has this handle, which is made before, of the numbers of the loan that
-// the send spends, and disowned where the send isn't blocked.
+// Sends a publisher's written loan to its receivers, once the publisher's connections are updated. If the
+// send is blocked, its outcome has this handle. The handle is made before, of the numbers of the loan that
+// the send spends, and is disowned if the send isn't blocked.
 #[inline(always)]
 fn send_loan<T: Drop, U: Default + Drop, F: BackpressureFn, G: DegradationFn>(
     state: &mut DomainState<T, U>,
@@ -110,7 +110,7 @@ fn send_loan<T: Drop, U: Default + Drop, F: BackpressureFn, G: DegradationFn>(
     })
 }
 
-/// What came of a send that ended so. Where it is blocked it has this handle.
+/// The outcome of a send that ended so. If the send is blocked, the outcome has this handle.
 pub(crate) fn outcome_of(blocked: BlockedSend, end: SendEnd) -> Result<SendOutcome, SendError>
     ensures same { result_of_send result ≡ end_result end }
     ensures blocked { IfOk result (λ came. IfBlocked came (λ it. it ≡ blocked)) }
