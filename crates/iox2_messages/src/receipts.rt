@@ -95,7 +95,7 @@ fn is_due<T, U>(state: &DomainState<T, U>, place: usize) -> bool
 }
 
 /// The subscriber at a place is updated, and then borrows the message that has waited longest in
-/// some connection. `None` where no message waits. The message lies where the receipt says.
+/// some connection. `None` if no message waits. The message lies where the receipt says.
 ///
 /// `ExceedsMaxBorrows` if messages wait, but only in connections from which as many are borrowed as
 /// may be, and `ConnectionFailure` if the update fails. The update stays done then.
@@ -167,7 +167,8 @@ pub fn release_sample<T: Drop, U: Default + Drop>(state: &mut DomainState<T, U>,
 }
 
 // The same, wherever the sample lies and whichever of its ports is gone. It takes the sample itself: a
-// reference would have the usual release keep it in memory (docs/decisions/cost.md, "What a usual message asks about departed ports").
+// reference would have the usual release keep it in memory
+// (docs/decisions/cost.md, "What a usual message asks about departed ports").
 #[cold]
 #[inline(never)]
 fn search_and_release<T: Drop, U: Default + Drop>(state: &mut DomainState<T, U>, sample: SampleAt)

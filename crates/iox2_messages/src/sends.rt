@@ -48,8 +48,8 @@ struct ReadyLoan {
     slot: usize,
 }
 
-// Updates the publisher of a loan, where it is due, and finds where both are. `None` where the
-// publisher is gone. Fails where the update does.
+// Updates the publisher of a loan, where it is due, and finds where both are. `None` if the
+// publisher is gone. Fails if the update does.
 fn update_and_find<T: Drop, U: Default + Drop, F: BackpressureFn, G: DegradationFn>(
     state: &mut DomainState<T, U>,
     boxes: &Boxes<F, G>,

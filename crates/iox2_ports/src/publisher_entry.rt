@@ -137,9 +137,9 @@ fn admit_publisher<T: Drop, U: Default + Drop>(
 /// the strategy. Where a connection can't be made, its options say what answers, or the box does that
 /// is handed in. Boxes are kept among the boxes. Returns its id, which was the next, and its place.
 ///
-/// `UnableToCreatePortTag` where no id is left, then `ExceedsMaxSupportedPublishers` where no
-/// place is free, then `UnableToCreateDataSegment` where the segment's size doesn't fit `usize`.
-/// After that `UnableToCreateDataSegment` or `FailedToDeployThreadsafetyPolicy` where memory for
+/// `UnableToCreatePortTag` if no id is left, then `ExceedsMaxSupportedPublishers` if no
+/// place is free, then `UnableToCreateDataSegment` if the segment's size doesn't fit `usize`.
+/// After that `UnableToCreateDataSegment` or `FailedToDeployThreadsafetyPolicy` if memory for
 /// the segment or for the port and its boxes is refused. No id is used then, and nothing changes that
 /// can be seen.
 pub fn create_publisher<T: Drop, U: Default + Drop, F: BackpressureFn, G: DegradationFn>(

@@ -27,7 +27,7 @@ pub struct SegmentOptions {
 }
 
 /// How many slots each segment of a publisher with these options has: no more than the worst case,
-/// and at least one where that isn't none. `None` where the worst case or the size of the first
+/// and at least one if that isn't none. `None` if the worst case or the size of the first
 /// segment doesn't fit `usize`.
 pub(crate) fn first_segment(
     config: &ServiceConfig,
@@ -85,7 +85,7 @@ impl<T: Drop, U: Default + Drop> Segment<T, U> {
     }
 }
 
-/// Keeps a segment's book and contents at one key, which the books had vacant. Where memory is
+/// Keeps a segment's book and contents at one key, which the books had vacant. If memory is
 /// refused, both stay as they are.
 pub(crate) fn add_segment<T: Drop, U: Drop>(
     books: &mut Slab<SlotBook>,

@@ -94,7 +94,7 @@ fn place_for_subscriber<T: Drop, U: Default + Drop>(
 // A subscriber with these options enters at the place that it has, and every publisher is due for
 // an update. Returns its id, which was the next.
 //
-// Where memory is refused nothing changes.
+// If memory is refused nothing changes.
 fn admit_subscriber<T: Drop, U: Default + Drop>(
     state: &mut DomainState<T, U>,
     place: usize,
@@ -130,9 +130,9 @@ fn admit_subscriber<T: Drop, U: Default + Drop>(
 /// box does that is handed in, which is kept among the boxes. Returns its id, which was the next, and
 /// its place.
 ///
-/// `UnableToCreatePortTag` where no id is left, then
+/// `UnableToCreatePortTag` if no id is left, then
 /// `BufferSizeExceedsMaxSupportedBufferSizeOfService`, then `ExceedsMaxSupportedSubscribers`
-/// where no place is free, then `FailedToDeployThreadsafetyPolicy` where memory for the port or its
+/// if no place is free, then `FailedToDeployThreadsafetyPolicy` if memory for the port or its
 /// box is refused. Nothing changes then.
 pub fn create_subscriber<T: Drop, U: Default + Drop, F: BackpressureFn, G: DegradationFn>(
     state: &mut DomainState<T, U>,

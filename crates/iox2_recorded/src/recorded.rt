@@ -72,7 +72,7 @@ impl<
     /// Carries out a command, and keeps it with its reply if there is room and no call was missed
     /// before. Else it is missed, which `missed` counts.
     ///
-    /// `AllocError` where there is no room to name what the command makes. Then it isn't carried out.
+    /// `AllocError` if there is no room to name what the command makes. Then it isn't carried out.
     pub fn call(&mut self, command: Command<T, U>) -> Result<Reply<T, U>, AllocError>
         requires recorded { IsRecorded (defaults_of T.is_default U.is_default) self.old }
         ensures recorded { IsRecorded (defaults_of T.is_default U.is_default) self.new }

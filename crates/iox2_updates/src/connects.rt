@@ -153,7 +153,7 @@ fn key_from(connections: &Slab<Connection>, publisher: u128, key: Option<usize>)
 
 // The publisher at a place that isn't due gets its end at the place of an open subscriber, where it
 // has none. Returns the key of its connection, in which no slot stands: the one that the subscriber
-// has with this very publisher, or a new one. Where memory for a new one is refused, the publisher's
+// has with this very publisher, or a new one. If memory for a new one is refused, the publisher's
 // handler is asked, and the failure is returned that it makes of this, if any.
 fn make_sender_end<T: Drop, U: Default + Drop, F: BackpressureFn, G: DegradationFn>(
     state: &mut DomainState<T, U>,
@@ -280,7 +280,7 @@ fn disconnect_sender<T: Drop, U: Default + Drop>(
 /// What the update of the publisher at a place, which isn't due, does at a subscriber's place. An end
 /// to the subscriber that stands there stays; where it is closed, what waits for it is lost. Any
 /// other end goes, and one to an open subscriber is made, in which the last messages of the history
-/// wait. Where memory for one is refused, its handler is asked.
+/// wait. If memory for one is refused, its handler is asked.
 pub(crate) fn update_sender_place<T: Drop, U: Default + Drop, F: BackpressureFn, G: DegradationFn>(
     state: &mut DomainState<T, U>,
     boxes: &Boxes<F, G>,

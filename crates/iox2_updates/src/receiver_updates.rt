@@ -83,7 +83,7 @@ fn joined_key<T: Drop, U: Default + Drop>(
 }
 
 // The subscriber at a place gets its end to the publisher at another, at whose place it has none.
-// Where memory for a connection is refused, its handler is asked, and the failure is returned that it
+// If memory for a connection is refused, its handler is asked, and the failure is returned that it
 // makes of this, if any.
 fn connect_end<T: Drop, U: Default + Drop, F: BackpressureFn, G: DegradationFn>(
     state: &mut DomainState<T, U>,
@@ -166,8 +166,8 @@ fn connect_at<T: Drop, U: Default + Drop, F: BackpressureFn, G: DegradationFn>(
 }
 
 /// Updates the subscriber at a place, where it is due: it gets its connection with each publisher, by
-/// rising place, and the publishers that departed are retired from their places. Where memory for a
-/// connection is refused, its handler is asked, which may fail the update. Where a retirement is
+/// rising place, and the publishers that departed are retired from their places. If memory for a
+/// connection is refused, its handler is asked, which may fail the update. If a retirement is
 /// refused, the update fails, and the subscriber is due again.
 ///
 /// iceoryx2's `Subscriber::force_update_connections` (`src/port/subscriber.rs`).

@@ -23,9 +23,9 @@ use std::alloc::Global;
 /// an override of fewer than `worst_case_slots`, one of its loans is refused with
 /// `LoanError::OutOfMemory` while fewer than `loans` are out.
 ///
-/// `None` where the service overwrites messages, may have no publisher or no subscriber, has
-/// elements of more than one unit or connections of more than one channel; where `loans` is 0; where
-/// the worst case or the length of the list doesn't fit `usize`; and where memory for the list is
+/// `None` if the service overwrites messages, may have no publisher or no subscriber, has
+/// elements of more than one unit or connections of more than one channel; if `loans` is 0; if
+/// the worst case or the length of the list doesn't fit `usize`; and if memory for the list is
 /// refused.
 pub fn worst_case_commands<T: Copy + Drop, U: Drop>(
     alloc: Global,
@@ -81,7 +81,7 @@ fn is_fillable(config: &ServiceConfig, loans: usize) -> bool
         && worst_case_slots(config, loans).is_some()
 }
 
-// How many commands the list has; `None` where that doesn't fit.
+// How many commands the list has; `None` if that doesn't fit.
 fn list_length(config: &ServiceConfig, loans: usize) -> Option<usize>
     ensures { IfSome result (λ n. n ≡ 1 + config.now.max_subscribers * filling_length config.now + loans) }
 {
@@ -90,7 +90,7 @@ fn list_length(config: &ServiceConfig, loans: usize) -> Option<usize>
     all.checked_add(loans)?.checked_add(1)
 }
 
-// How many commands make and fill one subscriber; `None` where that doesn't fit.
+// How many commands make and fill one subscriber; `None` if that doesn't fit.
 fn filling_length(config: &ServiceConfig) -> Option<usize>
     ensures { IfSome result (λ n. n ≡ filling_length config.now) }
 {

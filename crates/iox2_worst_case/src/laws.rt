@@ -1,7 +1,8 @@
 ghost use Rattle.iox2_worst_case.specs.FillingCommands.{WorstCaseIsReached, WorstCaseIsLeast};
 
-/// With ample memory, for each fillable configuration, every run of a stated list of commands skips and refuses none, and
-/// the publisher that its first command made holds the worst case of messages and loans in the end.
+/// With ample memory, for each fillable configuration, every run of a stated list of commands skips and
+/// refuses none, and the publisher that its first command made holds the worst case of messages and loans
+/// in the end.
 pub fn worst_case_is_reached<T, U>()
     ensures { WorstCaseIsReached T U }
 {}
