@@ -14,7 +14,7 @@ use iox2_domain::DomainState;
 use iox2_machine::LoanError;
 
 /// Readies a slot for a loan of a publisher whose memory grows: its current segment then has a free
-/// slot that is long enough. Where need be it first reclaims slots, or makes a further segment and
+/// slot that is long enough. If need be, it first reclaims slots, or makes a further segment and
 /// counts it. Refuses the loan as `loan` says.
 // (docs/decisions/cost.md, "What a publisher that doesn't grow pays for those that do")
 #[cold]

@@ -117,7 +117,7 @@ pub fn receive_at<T: Drop, U: Default + Drop, F: BackpressureFn, G: DegradationF
     take_at(state, place)
 }
 
-// The slot that is borrowed in a connection is given back to its publisher. Where that is gone, it
+// The slot that is borrowed in a connection is given back to its publisher. If that is gone, it
 // has one holder less at once, and the subscriber forgets the publisher with its last message.
 fn release_borrowed_slot<T: Drop, U: Default + Drop>(
     state: &mut DomainState<T, U>,

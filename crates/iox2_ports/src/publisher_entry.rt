@@ -45,7 +45,7 @@ fn warn_of_failure(
     }
 }
 
-// The new publisher at a place is updated for the first time, and it is warned where that fails.
+// The new publisher at a place is updated for the first time, and it is warned if that fails.
 fn update_first<T: Drop, U: Default + Drop, F: BackpressureFn, G: DegradationFn>(
     state: &mut DomainState<T, U>,
     boxes: &Boxes<F, G>,
@@ -133,8 +133,8 @@ fn admit_publisher<T: Drop, U: Default + Drop>(
 }
 
 /// Makes a publisher with these options, and connects it with the subscribers that there are; it is
-/// warned where that fails. Where a receiver is full, the handler answers, or without one it follows
-/// the strategy. Where a connection can't be made, its options say what answers, or the box does that
+/// warned if that fails. If a receiver is full, the handler answers, or without one it follows
+/// the strategy. If a connection can't be made, its options say what answers, or the box does that
 /// is handed in. Boxes are kept among the boxes. Returns its id, which was the next, and its place.
 ///
 /// `UnableToCreatePortTag` if no id is left, then `ExceedsMaxSupportedPublishers` if no

@@ -57,7 +57,7 @@ fn warn_of_failure(
     }
 }
 
-// The new subscriber at a place is updated for the first time, and it is warned where that fails.
+// The new subscriber at a place is updated for the first time, and it is warned if that fails.
 fn update_first<T: Drop, U: Default + Drop, F: BackpressureFn, G: DegradationFn>(
     state: &mut DomainState<T, U>,
     boxes: &Boxes<F, G>,
@@ -126,7 +126,7 @@ fn admit_subscriber<T: Drop, U: Default + Drop>(
 }
 
 /// Makes a subscriber with these options, and connects it with the publishers that there are; it is
-/// warned where that fails. Where a connection can't be made, its options say what answers, or the
+/// warned if that fails. If a connection can't be made, its options say what answers, or the
 /// box does that is handed in, which is kept among the boxes. Returns its id, which was the next, and
 /// its place.
 ///

@@ -118,8 +118,8 @@ fn choose<T: Drop, U: Default + Drop>(
     )
 }
 
-/// The departed publisher, whose connection stands at the key that the subscriber at a place has at
-/// a publisher's place, is retired from there. Returns whether it is: where it is refused, the
+/// The departed publisher, whose connection is at the key that the subscriber at a place has at
+/// a publisher's place, is retired from there. Returns whether it is: if it is refused, the
 /// subscriber is due again.
 ///
 /// iceoryx2's `Receiver::prepare_connection_removal` (`src/port/details/receiver.rs`).
