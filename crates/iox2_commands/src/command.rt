@@ -7,12 +7,13 @@ use std::time::Duration;
 
 /// One call of a run, as plain data. It is this project's own.
 ///
-/// `of` is the position in the list, counted from 0, of the command that made the port, loan, sample or blocked send
-/// that the call is on. A loan keeps the name of its loan command through writes and `AssumeInit`, a blocked send that of
-/// the `Send` or `SendCopy` that blocked. Where `of` names nothing live of the wanted kind, the command is skipped and
-/// changes nothing. So is one whose `at` is past the end, a loan or `SendCopy` in a service of the other kind, and a loan,
-/// send, update or close of a publisher that waits for a receiver. In a service whose `units_per_element` isn't 1 each
-/// loan, `SendCopy` and `Receive` is skipped.
+/// `of` is the position in the list, counted from 0, of the command that made the port, loan, sample or
+/// blocked send that the call is on. A loan keeps the name of its loan command through writes and
+/// `AssumeInit`, a blocked send that of the `Send` or `SendCopy` that blocked. If `of` names nothing live
+/// of the wanted kind, the command is skipped and changes nothing. So is one whose `at` is past the end, a
+/// loan or `SendCopy` in a service of the other kind, and a loan, send, update or close of a publisher that
+/// waits for a receiver. In a service whose `units_per_element` isn't 1 each loan, `SendCopy` and `Receive`
+/// is skipped.
 #[derive(Debug, Copy, PartialEq, Eq)]
 pub enum Command<T, U> {
     /// Does nothing.
@@ -21,7 +22,7 @@ pub enum Command<T, U> {
     CreatePublisher(NewPublisher),
     /// Makes a subscriber, with a degradation handler that always gives the answer named here.
     CreateSubscriber {
-        /// How many messages of one publisher may wait; the service's limit where nothing is named. 0 means 1.
+        /// How many messages of one publisher may wait; the service's limit if nothing is named. 0 means 1.
         buffer: Option<usize>,
         /// The answer of its degradation handler.
         degradation: DegradationAction,
@@ -59,7 +60,7 @@ pub enum Command<T, U> {
         /// What is written.
         value: T,
     },
-    /// Takes an unwritten loan as written, where it has no unwritten cell.
+    /// Takes an unwritten loan as written, if it has no unwritten cell.
     AssumeInit {
         /// The loan.
         of: usize,
@@ -101,7 +102,7 @@ pub enum Command<T, U> {
     Retry {
         /// The blocked send.
         of: usize,
-        /// The time since the send was blocked, of which the backpressure handler is told.
+        /// The time since the send was blocked, which the backpressure handler is told.
         elapsed: Duration,
     },
     /// Lets a blocked send go on past the receiver that it waits for.
@@ -154,7 +155,7 @@ pub enum Command<T, U> {
 }
 
 impl<T, U> Command<T, U> {
-    /// The position that the command names, where it names one.
+    /// The position that the command names, if it names one.
     pub fn of_mut(&mut self) -> Option<&mut usize> {
         match self {
             Command::Nothing | Command::CreatePublisher(_) | Command::CreateSubscriber { .. } => {

@@ -10,11 +10,12 @@ use iox2_machine::{
 pub struct NewPublisher {
     /// How many loans may be out at a time.
     pub loans: usize,
-    /// What it does with a full receiver where no handler says otherwise.
+    /// What it does with a full receiver if no handler says otherwise.
     pub strategy: BackpressureStrategy,
     /// How its segments grow. It is taken as given in services for single values too.
     pub allocation: AllocationStrategy,
-    /// The number of elements for which its first segment has room; in a service for single values it counts as 1.
+    /// The number of elements for which its first segment has room; in a service for single values it
+    /// counts as 1.
     pub initial_max_slice_len: usize,
     /// What the override of the preallocation answers, if there is one.
     pub override_slots: Option<usize>,
@@ -25,8 +26,9 @@ pub struct NewPublisher {
 }
 
 impl NewPublisher {
-    /// A publisher with that limit of loans and that strategy, with one segment for messages of one element, which warns
-    /// of connections that aren't made. Change the fields for another: `NewPublisher { override_slots: Some(2), ..asked }`.
+    /// A publisher with that limit of loans and that strategy, with one segment for messages of one
+    /// element, which warns of connections that aren't made. Change the fields for another:
+    /// `NewPublisher { override_slots: Some(2), ..asked }`.
     pub fn new(loans: usize, strategy: BackpressureStrategy) -> Self
         ensures { result ≡ publisher_with loans strategy }
     {

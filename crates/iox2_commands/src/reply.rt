@@ -6,12 +6,12 @@ use iox2_machine::{
 };
 use std::alloc::AllocError;
 
-/// What a command of a run comes to. It is this project's own.
+/// The reply to a command of a run. It is this project's own.
 #[derive(Debug, Copy, PartialEq, Eq)]
 pub enum Reply<T, U> {
     /// The command was carried out, and has nothing to tell.
     Done,
-    /// The command can't be carried out where it stands, as `Command` says, and changed nothing.
+    /// The command can't be carried out at its position, as `Command` says, and changed nothing.
     Skipped,
     /// A publisher was made, with this id.
     PublisherMade(UniquePublisherId),
@@ -27,7 +27,7 @@ pub enum Reply<T, U> {
     LoanRefused(LoanError),
     /// A cell is unwritten, and the loan stays as it was.
     Unwritten,
-    /// The message was sent, and so many receivers took it.
+    /// The message was sent, and that many receivers took it.
     Delivered(usize),
     /// The send waits for a receiver.
     Blocked,

@@ -5,7 +5,8 @@ pub fn fresh_is_well_formed<T, U>()
     ensures { FreshIsWellFormed T U }
 {}
 
-/// In a well-formed state a publisher holds no more different messages and loans than the worst case for its loans.
+/// In a well-formed state a publisher holds no more different messages and loans than the worst case for
+/// its loans.
 pub fn holds_at_most_worst_case<T, U>()
     ensures { WorstCaseIsEnough T U }
 {}

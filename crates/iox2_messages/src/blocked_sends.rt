@@ -199,7 +199,7 @@ pub fn give_up_send<T: Drop, U: Default + Drop, F: BackpressureFn, G: Degradatio
     SendEnd::of(go_on(state, boxes, place, Resumption { start, elapsed }))
 }
 
-// Whether the publisher that stands at a place waits for a receiver.
+// Whether the publisher that is at a place waits for a receiver.
 fn waits_at<T: Drop, U: Default + Drop>(state: &DomainState<T, U>, place: usize) -> bool
     requires { (x : PublisherFields) × (slice_index_or state.now.publishers place None ≡ Some x) }
     ensures { (x : PublisherFields) → slice_index_or state.now.publishers place None ≡ Some x → result ≡ is_some x.blocked }
@@ -225,7 +225,7 @@ pub fn is_waiting<T: Drop, U: Default + Drop>(
     waits_at(state, place)
 }
 
-// Whether the publisher that stands at a place waits with the message with this number.
+// Whether the publisher that is at a place waits with the message with this number.
 fn waits_with<T: Drop, U: Default + Drop>(
     state: &DomainState<T, U>,
     place: usize,

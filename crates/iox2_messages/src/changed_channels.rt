@@ -24,13 +24,13 @@ use slab::Slab;
 /// What becomes of a channel.
 #[derive(Debug, Clone, Copy, PartialEq, Eq)]
 pub enum ChannelChange {
-    /// It comes into this state. Its hint goes, where that is another one.
+    /// It comes into this state. Its hint goes, if that is another one.
     SetState(u64),
     /// A disconnect is hinted there.
     SetHint,
 }
 
-// A channel of a connection is changed, where it is in the state `expected`.
+// A channel of a connection is changed, if it is in the state `expected`.
 fn change_channel(connection: &mut Connection, channel: usize, expected: u64, change: ChannelChange)
     ensures changed { connection.new ≡ changed_link change channel expected connection.old }
     ensures bounded { IsBounded connection.new }
@@ -132,7 +132,7 @@ pub fn change_received<T: Drop, U: Default + Drop>(
 }
 
 /// A channel of the connection that the publisher at a place has at another, if there is one, is
-/// closed, where it is in the state `expected`.
+/// closed, if it is in the state `expected`.
 ///
 /// iceoryx2's `Sender::close_channel` (`src/port/details/sender.rs`).
 pub fn close_sent<T: Drop, U: Default + Drop>(

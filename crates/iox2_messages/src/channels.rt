@@ -111,7 +111,7 @@ pub fn some_received_in<T: Drop, U: Default + Drop>(
         || some_at_keys(&state.connections, &subscriber.keys, asked)
 }
 
-/// Whether a channel of each connection of the subscriber at a place is in that state. So it is where
+/// Whether a channel of each connection of the subscriber at a place is in that state. This holds if
 /// the subscriber has none.
 ///
 /// What iceoryx2's `Receiver::set_channel_state` (`src/port/details/receiver.rs`) returns.

@@ -21,7 +21,7 @@ use iox2_machine::{BackpressureFn, BackpressureHandler, DegradationFn};
 use iox2_slots::{SlotBook, SlotMark};
 use std::time::Duration;
 
-// The message in a slot is sent, and stands last in the history. What leaves the history for it has
+// The message in a slot is sent, and is last in the history. What leaves the history for it has
 // one holder less.
 #[inline(always)]
 fn remember(publisher: &mut PublisherState, book: &mut SlotBook, slot: usize)
@@ -117,7 +117,7 @@ fn handler_at<'a, T: Drop, U: Default + Drop, F: BackpressureFn, G: DegradationF
     publisher.handler(boxes)
 }
 
-// Delivers the loan in a slot of the publisher at a place, for which the handler answers. Where it
+// Delivers the loan in a slot of the publisher at a place, for which the handler answers. If it
 // reached all receivers it is out no more afterwards, else its publisher waits for a receiver.
 #[inline(always)]
 fn send_slot<T: Drop, U: Default + Drop, X: BackpressureFn>(
@@ -157,7 +157,7 @@ fn send_slot<T: Drop, U: Default + Drop, X: BackpressureFn>(
     conclude(publisher, book, slot, outcome)
 }
 
-/// Delivers the loan in a slot of the publisher at a place, which has no handler. Where it reached
+/// Delivers the loan in a slot of the publisher at a place, which has no handler. If it reached
 /// all receivers it is out no more afterwards, else its publisher waits for a receiver. Nothing of a
 /// handler is on the path of the message.
 #[inline(always)]

@@ -14,7 +14,7 @@ use iox2_domain::DomainState;
 use iox2_machine::LoanError;
 
 /// Readies a slot for a loan of a publisher whose memory grows: its current segment then has a free
-/// slot that is long enough. Where need be it first reclaims slots, or makes a further segment and
+/// slot that is long enough. If need be, it first reclaims slots, or makes a further segment and
 /// counts it. Refuses the loan as `loan` says.
 // (docs/decisions/cost.md, "What a publisher that doesn't grow pays for those that do")
 #[cold]
@@ -57,7 +57,7 @@ fn has_all_loans<T, U>(state: &DomainState<T, U>, place: usize) -> bool
     publisher.loans.len() >= publisher.max_loaned_samples
 }
 
-// Whether the current segment of the publisher at a place has a free slot for so many elements.
+// Whether the current segment of the publisher at a place has a free slot for `len` elements.
 fn has_slot<T: Drop, U: Default + Drop>(state: &DomainState<T, U>, place: usize, len: usize) -> bool
     requires agrees { IsDomain state.now }
     requires stands { (x : PublisherFields) × (slice_index_or state.now.publishers place None ≡ Some x) }

@@ -14,13 +14,13 @@ use iox2_machine::{AllocationStrategy, LoanError, ServiceConfig};
 use iox2_slots::SlotBook;
 use std::alloc::{AllocError, Global};
 
-/// So many segments may be made in a publisher's life, the first included.
+/// How many segments may be made in a publisher's life, the first included.
 const SEGMENT_LIMIT: usize = 255;
 
-/// The publisher at a place makes a segment that is long enough for a loan of so many elements. It
-/// becomes its current one. What lies in older slots that nobody holds is dropped.
+/// The publisher at a place makes a segment that is long enough for a loan of `len` elements. It
+/// becomes its current one. What is in older slots that nobody holds is dropped.
 ///
-/// `OutOfMemory` where it has made all its segments, then `InternalFailure` where the segment's size
+/// `OutOfMemory` if it has made all its segments, then `InternalFailure` if the segment's size
 /// doesn't fit `usize` or memory for it is refused. Nothing changes then.
 #[cold]
 #[inline(never)]
@@ -59,8 +59,8 @@ pub(crate) fn grow<T: Drop, U: Default + Drop>(
     Ok(())
 }
 
-// The length of the next segment of a publisher, for a loan of so many elements. `None` where its
-// size doesn't fit.
+// The length of the next segment of a publisher, for a loan of `len` elements. `None` if its size
+// doesn't fit.
 fn next_length(publisher: &PublisherState, config: &ServiceConfig, len: usize) -> Option<usize>
     ensures long { IfSome result (λ longest. len ≤ longest) }
     ensures longer { IfSome result (λ longest. (publisher.now).segment_length ≤ longest) }
@@ -75,8 +75,8 @@ fn next_length(publisher: &PublisherState, config: &ServiceConfig, len: usize) -
     Some(longest)
 }
 
-// So many slots more stand behind those of a book, each with room for so many units, and with as many
-// lists of cells. Returns the first of them. Where memory is refused both stay as they are.
+// Adds `more` slots behind those of a book, each with room for `room` units, with as many lists of
+// cells. Returns the first of them. If memory is refused both stay as they are.
 fn add_slots<T: Drop, U: Default + Drop>(
     alloc: Global,
     book: &mut SlotBook,
@@ -103,7 +103,7 @@ fn add_slots<T: Drop, U: Default + Drop>(
     Ok(start)
 }
 
-// What lies in the slots of a book that nobody holds is dropped.
+// What is in the slots of a book that nobody holds is dropped.
 fn clear_unused<T: Drop, U: Default + Drop>(
     alloc: Global,
     book: &SlotBook,

@@ -37,7 +37,8 @@ pub fn write_loan<T: Drop, U: Default + Drop>(
     loan
 }
 
-// The same, wherever the loan lies (docs/decisions/cost.md, "What a message takes is cleared and asked once").
+// The same, wherever the loan lies
+// (docs/decisions/cost.md, "What a message takes is cleared and asked once").
 #[cold]
 #[inline(never)]
 fn search_and_write<T: Drop, U: Default + Drop>(
@@ -136,7 +137,7 @@ pub fn write_loan_unspecified<T: Copy + Default + Drop, U: Default + Drop>(
     found(loan, at)
 }
 
-/// Takes a publisher's unwritten loan as written, where each of its cells is, and returns whether it
+/// Takes a publisher's unwritten loan as written, if each of its cells is, and returns whether it
 /// did. Nothing changes where some cell isn't written.
 pub fn assume_loan<T: Drop, U: Default + Drop>(state: &mut DomainState<T, U>, loan: &LoanAt) -> bool
     requires agrees { IsDomain state.old }

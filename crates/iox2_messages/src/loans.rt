@@ -17,7 +17,7 @@ use iox2_contents::Contents;
 use iox2_domain::{DomainState, LoanAt, PublisherState};
 use iox2_machine::{AllocationStrategy, LoanError};
 
-// In the slot, which nobody holds, starts a loan of so many elements, each of so many units.
+// A loan of `len` elements, each of `units_per_element` units, starts in the slot, which nobody holds.
 fn start<T: Drop, U: Default + Drop>(
     contents: &mut Option<Contents<T, U>>,
     slot: usize,
@@ -34,16 +34,16 @@ fn start<T: Drop, U: Default + Drop>(
     contents.start(slot, len * units_per_element);
 }
 
-/// The publisher at a place lends a slot for a message of so many elements, with a default user
+/// The publisher at a place lends a slot for a message of `len` elements, with a default user
 /// header. It takes memory only for a further segment. Returns the loan, which has the number that
 /// was the next and lies in its slot.
 ///
-/// Of a static publisher: `ExceedsMaxLoanSize` where the length counts and is more than it lends,
-/// then `ExceedsMaxLoans` where as many loans are out as it may have, then `OutOfMemory` where each
-/// of its slots is in use, then `InternalFailure` where no message number is left. Of one whose
-/// memory grows: `ExceedsMaxLoans`, then `InternalFailure` where no number is left; then, where its
-/// current segment has no free slot that is long enough, `OutOfMemory` where all its segments were
-/// made, and `InternalFailure` where memory for a further one is refused or its size doesn't fit.
+/// Of a static publisher: `ExceedsMaxLoanSize` if the length counts and is more than it lends,
+/// then `ExceedsMaxLoans` if as many loans are out as it may have, then `OutOfMemory` if each
+/// of its slots is in use, then `InternalFailure` if no message number is left. Of one whose
+/// memory grows: `ExceedsMaxLoans`, then `InternalFailure` if no number is left; then, if its
+/// current segment has no free slot that is long enough, `OutOfMemory` if all its segments were
+/// made, and `InternalFailure` if memory for a further one is refused or its size doesn't fit.
 /// Nothing changes then that can be seen.
 #[inline(always)]
 pub fn loan<T: Drop, U: Default + Drop>(
@@ -133,7 +133,7 @@ fn is_static_at<T, U>(state: &DomainState<T, U>, place: usize) -> bool
     publisher.allocation == AllocationStrategy::Static
 }
 
-// The slot is a loan that is out, of so many elements.
+// The slot is a loan of `len` elements that is out.
 fn lend(publisher: &mut PublisherState, slot: usize, len: usize)
     requires { length publisher.old.loans < publisher.old.loan_room }
     ensures { publisher.new ≡ lending len slot publisher.old.segments publisher.old }

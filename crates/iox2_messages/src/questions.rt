@@ -11,7 +11,7 @@ use iox2_machine::{BackpressureFn, ConnectionFailure, DegradationFn};
 use iox2_updates::update_subscriber;
 
 /// The subscriber at a place is updated, and then asked whether any message waits for it, also one
-/// that it may not borrow yet. Where the update fails, that is the answer, and the update stands.
+/// that it may not borrow yet. If the update fails, that is the answer, and the update stands.
 pub fn has_samples_at<T: Drop, U: Default + Drop, F: BackpressureFn, G: DegradationFn>(
     state: &mut DomainState<T, U>,
     boxes: &Boxes<F, G>,

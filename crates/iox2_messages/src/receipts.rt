@@ -56,7 +56,8 @@ fn receipt_of(
     }
 }
 
-// The subscriber at a place borrows a message, if one waits of which it may borrow one more.
+// The subscriber at a place borrows a message, if one waits in a connection from which it may borrow
+// one more.
 #[inline(always)]
 fn take_at<T: Drop, U: Default + Drop>(
     state: &mut DomainState<T, U>,
@@ -94,10 +95,10 @@ fn is_due<T, U>(state: &DomainState<T, U>, place: usize) -> bool
 }
 
 /// The subscriber at a place is updated, and then borrows the message that has waited longest in
-/// some connection. `None` where no message waits. The message lies where the receipt says.
+/// some connection. `None` if no message waits. The message lies where the receipt says.
 ///
-/// `ExceedsMaxBorrows` where messages wait, but only where as many are borrowed as may be, and
-/// `ConnectionFailure` where the update fails. The update stands then.
+/// `ExceedsMaxBorrows` if messages wait, but only in connections from which as many are borrowed as
+/// may be, and `ConnectionFailure` if the update fails. The update stays done then.
 #[inline(always)]
 pub fn receive_at<T: Drop, U: Default + Drop, F: BackpressureFn, G: DegradationFn>(
     state: &mut DomainState<T, U>,
@@ -116,7 +117,7 @@ pub fn receive_at<T: Drop, U: Default + Drop, F: BackpressureFn, G: DegradationF
     take_at(state, place)
 }
 
-// The slot that is borrowed in a connection is given back to its publisher. Where that is gone, it
+// The slot that is borrowed in a connection is given back to its publisher. If that is gone, it
 // has one holder less at once, and the subscriber forgets the publisher with its last message.
 fn release_borrowed_slot<T: Drop, U: Default + Drop>(
     state: &mut DomainState<T, U>,
@@ -166,7 +167,8 @@ pub fn release_sample<T: Drop, U: Default + Drop>(state: &mut DomainState<T, U>,
 }
 
 // The same, wherever the sample lies and whichever of its ports is gone. It takes the sample itself: a
-// reference would have the usual release keep it in memory (docs/decisions/cost.md, "What a usual message asks about departed ports").
+// reference would have the usual release keep it in memory
+// (docs/decisions/cost.md, "What a usual message asks about departed ports").
 #[cold]
 #[inline(never)]
 fn search_and_release<T: Drop, U: Default + Drop>(state: &mut DomainState<T, U>, sample: SampleAt)

@@ -10,7 +10,7 @@ use iox2_machine::ConnectionFailure;
 /// of a delivery isn't.
 #[derive(Clone, Copy)]
 pub enum SendEnd {
-    /// So many receivers took the message.
+    /// That many receivers took the message.
     Delivered(usize),
     /// It went over all receivers, and the handler failed it at some of them.
     Undelivered,
@@ -23,7 +23,7 @@ pub enum SendEnd {
 }
 
 impl SendEnd {
-    /// The end of a send whose delivery came to this.
+    /// How a send with this outcome of its delivery ended.
     #[inline(always)]
     pub(crate) fn of(outcome: DeliveryOutcome) -> SendEnd
         ensures same { end_result result ≡ result_of_send outcome }

@@ -21,7 +21,7 @@ use iox2_machine::{BackpressureFn, ConnectionFailure, DegradationFn, UniquePubli
 use iox2_updates::update_publisher;
 
 // Whether a publisher's written loan lies where its handle says, and its publisher is due for no update:
-// so it may be sent at once, where its publisher has no handler. It returns at each test that fails
+// so it may be sent at once, if its publisher has no handler. It returns at each test that fails
 // (docs/decisions/cost.md, "A call goes on where its look-up ended").
 #[inline(always)]
 fn is_ready<T: Drop, U: Default + Drop>(state: &DomainState<T, U>, loan: &LoanAt) -> bool
@@ -48,8 +48,8 @@ struct ReadyLoan {
     slot: usize,
 }
 
-// Updates the publisher of a loan, where it is due, and finds where both are. `None` where the
-// publisher is gone. Fails where the update does.
+// Updates the publisher of a loan, if it is due, and finds where both are. `None` if the
+// publisher is gone. Fails if the update does.
 fn update_and_find<T: Drop, U: Default + Drop, F: BackpressureFn, G: DegradationFn>(
     state: &mut DomainState<T, U>,
     boxes: &Boxes<F, G>,
@@ -78,7 +78,7 @@ fn update_and_find<T: Drop, U: Default + Drop, F: BackpressureFn, G: Degradation
     }))
 }
 
-// Updates the publisher of a loan, where it is due, and sends the loan, wherever both are. Where the
+// Updates the publisher of a loan, if it is due, and sends the loan, wherever both are. If the
 // update fails, the loan is given back. Of a publisher that is gone the loan is lost.
 // (docs/decisions/cost.md, "What a usual message asks about departed ports")
 #[cold]
@@ -111,7 +111,7 @@ fn update_and_send<T: Drop, U: Default + Drop, F: BackpressureFn, G: Degradation
     }
 }
 
-// A loan of which no place is known yet.
+// A loan whose place isn't known yet.
 fn loan_sought(publisher: UniquePublisherId, number: u128) -> LoanAt
     ensures publisher { result.publisher ≡ publisher }
     ensures number { result.number ≡ number }
@@ -143,8 +143,8 @@ fn send_unready<T: Drop, U: Default + Drop, F: BackpressureFn, G: DegradationFn>
     update_and_send(state, boxes, publisher, number)
 }
 
-/// Sends a publisher's written loan, and returns what `outcome` makes of how that ended. Where the
-/// publisher is due, its connections are updated first; where that fails, the loan is given back, and
+/// Sends a publisher's written loan, and returns what `outcome` makes of how that ended. If the
+/// publisher is due, its connections are updated first; if that fails, the loan is given back, and
 /// no message was sent. Of a publisher that is gone the loan is lost. The loan is out no more
 /// afterwards, unless the send is blocked. A publisher that has a box for a handler asks the one that
 /// it has among these boxes.

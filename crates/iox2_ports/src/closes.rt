@@ -12,10 +12,10 @@ use crate::{publisher_closes, subscriber_closes};
 use iox2_domain::DomainState;
 use iox2_updates::{unmark_publisher, unmark_subscriber};
 
-/// The publisher at a place, of which no delivery is blocked, is closed. Its place is free, and its
-/// loans stay out. What waits for an open subscriber that has its end stays there, and what waits for
-/// anybody else is lost. A connection with nothing in it is gone, and so is its book where nobody
-/// holds a slot of it. Every subscriber is due for an update.
+/// Closes the publisher at a place, which has no blocked delivery. Its place is free, and its loans
+/// stay out. What waits for an open subscriber that has its end stays there, and what waits for
+/// anybody else is lost. A connection with nothing in it is gone, and so is the publisher's book if
+/// nobody holds a slot of it. Every subscriber is due for an update.
 ///
 /// iceoryx2's `Publisher` drops its state (`src/port/publisher.rs`).
 pub fn close_publisher<T: Drop, U: Default + Drop>(state: &mut DomainState<T, U>, place: usize)
@@ -31,7 +31,7 @@ pub fn close_publisher<T: Drop, U: Default + Drop>(state: &mut DomainState<T, U>
 }
 
 /// Closes the subscriber at a place. It takes no messages any more, and what waits for it from
-/// publishers that are gone is lost. It leaves its place where it has borrowed nothing; else it
+/// publishers that are gone is lost. It leaves its place if it has borrowed nothing; else it
 /// stays until its last sample is released.
 ///
 /// iceoryx2's `Subscriber`'s drop (`src/port/subscriber.rs`).

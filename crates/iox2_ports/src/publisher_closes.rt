@@ -23,7 +23,7 @@ use iox2_slots::SlotBook;
 use iox2_updates::settle_book_if_left;
 use slab::Slab;
 
-// Whether the subscriber of a connection, which stands at a key, is open and has it there.
+// Whether the subscriber of a connection, which is at a key, is open and has it there.
 fn is_awaited(subscribers: &[Option<SubscriberState>], key: usize, connection: &Connection) -> bool
     ensures { result ≡ is_awaited subscribers.now key connection.now }
 {
@@ -45,7 +45,7 @@ fn holds_slots(connection: &Connection) -> bool
     connection.has_data() || connection.has_borrowed() || connection.has_other_data()
 }
 
-// Whether a connection of the publisher stands at a key.
+// Whether a connection of the publisher is at a key.
 fn is_publishers(connections: &Slab<Connection>, key: usize, publisher: u128) -> bool
     ensures { IsTrue result ↔ IsSomeAnd (get connections.now key) (λ c. c.home.publisher ≡ publisher) }
 {
@@ -55,7 +55,7 @@ fn is_publishers(connections: &Slab<Connection>, key: usize, publisher: u128) ->
     }
 }
 
-// The publisher leaves its connection at a key, which goes where no slot waits or is borrowed.
+// The publisher leaves its connection at a key, which goes if no slot waits or is borrowed.
 fn leave_own(
     publisher: u128,
     subscribers: &[Option<SubscriberState>],
@@ -150,7 +150,7 @@ fn leave_connections(
     leave_subscribers(id, place, subscribers, connections, book);
 }
 
-// Takes away the subscriber's key at a publisher's place, where its connection is gone, and makes it
+// Takes away the subscriber's key at a publisher's place, if its connection is gone, and makes it
 // due for an update.
 fn forget(subscriber: &mut SubscriberState, connections: &Slab<Connection>, place: usize)
     ensures { subscriber.new ≡ left_subscriber connections.now place subscriber.old }
@@ -177,7 +177,7 @@ fn forget_if_any(
     }
 }
 
-// Each subscriber forgets the publisher at a place, where its connection is gone.
+// Each subscriber forgets the publisher at a place, if its connection is gone.
 fn forget_everywhere(
     subscribers: &mut [Option<SubscriberState>],
     connections: &Slab<Connection>,
@@ -217,8 +217,8 @@ fn leave_domain<T: Drop, U: Default + Drop>(state: &mut DomainState<T, U>, place
     publisher.book
 }
 
-/// The publisher at a place is closed, of which no connection is marked as open and no delivery is
-/// blocked.
+/// Closes the publisher at a place. None of its connections is marked as open, and it has no blocked
+/// delivery.
 pub(crate) fn close_publisher<T: Drop, U: Default + Drop>(
     state: &mut DomainState<T, U>,
     place: usize,

@@ -45,7 +45,7 @@ fn warn_of_failure(
     }
 }
 
-// The new publisher at a place is updated for the first time, and it is warned where that fails.
+// The new publisher at a place is updated for the first time, and it is warned if that fails.
 fn update_first<T: Drop, U: Default + Drop, F: BackpressureFn, G: DegradationFn>(
     state: &mut DomainState<T, U>,
     boxes: &Boxes<F, G>,
@@ -75,10 +75,10 @@ fn place_for_publisher<T: Drop, U: Default + Drop>(
     }
 }
 
-// A publisher with these options and so many slots, which are its first segment, enters at the place
-// that it has, and every subscriber is due for an update. Returns its id, which was the next.
+// A publisher with these options and this first segment of slots enters at the place that it has,
+// and every subscriber is due for an update. Returns its id, which was the next.
 //
-// Where memory is refused it doesn't enter, and no id is used.
+// If memory is refused it doesn't enter, and no id is used.
 fn admit_publisher<T: Drop, U: Default + Drop>(
     state: &mut DomainState<T, U>,
     place: usize,
@@ -133,13 +133,13 @@ fn admit_publisher<T: Drop, U: Default + Drop>(
 }
 
 /// Makes a publisher with these options, and connects it with the subscribers that there are; it is
-/// warned where that fails. Where a receiver is full, the handler answers, or without one it follows
-/// the strategy. Where a connection can't be made, its options say what answers, or the box does that
+/// warned if that fails. If a receiver is full, the handler answers, or without one it follows
+/// the strategy. If a connection can't be made, its options say what answers, or the box does that
 /// is handed in. Boxes are kept among the boxes. Returns its id, which was the next, and its place.
 ///
-/// `UnableToCreatePortTag` where no id is left, then `ExceedsMaxSupportedPublishers` where no
-/// place is free, then `UnableToCreateDataSegment` where the segment's size doesn't fit `usize`.
-/// After that `UnableToCreateDataSegment` or `FailedToDeployThreadsafetyPolicy` where memory for
+/// `UnableToCreatePortTag` if no id is left, then `ExceedsMaxSupportedPublishers` if no
+/// place is free, then `UnableToCreateDataSegment` if the segment's size doesn't fit `usize`.
+/// After that `UnableToCreateDataSegment` or `FailedToDeployThreadsafetyPolicy` if memory for
 /// the segment or for the port and its boxes is refused. No id is used then, and nothing changes that
 /// can be seen.
 pub fn create_publisher<T: Drop, U: Default + Drop, F: BackpressureFn, G: DegradationFn>(

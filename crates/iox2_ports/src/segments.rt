@@ -22,12 +22,12 @@ use std::alloc::{AllocError, Global};
 pub struct SegmentOptions {
     /// How its memory grows.
     pub allocation: AllocationStrategy,
-    /// So many slots are asked for in place of the worst case.
+    /// How many slots are asked for in place of the worst case, if any number is.
     pub asked_slots: Option<usize>,
 }
 
 /// How many slots each segment of a publisher with these options has: no more than the worst case,
-/// and at least one where that isn't none. `None` where the worst case or the size of the first
+/// and at least one if that isn't none. `None` if the worst case or the size of the first
 /// segment doesn't fit `usize`.
 pub(crate) fn first_segment(
     config: &ServiceConfig,
@@ -45,8 +45,8 @@ pub(crate) fn first_segment(
     Some(slots)
 }
 
-/// The room that each of so many slots needs for so many elements, and for one at least. Where there
-/// are no slots, none is needed.
+/// The room that each of `slots` slots needs for `len` elements, and for one at least. If there are
+/// no slots, none is needed.
 pub(crate) fn room_for(config: &ServiceConfig, slots: usize, len: usize) -> usize
     requires { segment_fits config.now slots len ≡ true }
     ensures { 0 < slots → result ≡ slot_length len * (config.now).units_per_element }
@@ -65,9 +65,9 @@ pub(crate) struct Segment<T, U> {
 }
 
 impl<T: Drop, U: Default + Drop> Segment<T, U> {
-    /// So many slots of a publisher of this node without holders, each with room for so many elements, which lie
-    /// in lists where they are to be handed out as slices. Their cells can then be handed out for so many loans at
-    /// a time.
+    /// The slots of a publisher of this node: `slots` of them, without holders, each with room for `room`
+    /// elements. These are in lists if they are to be handed out as slices. Their cells can then be handed
+    /// out for `lists` loans at a time.
     pub(crate) fn new(
         alloc: Global,
         node: UniqueNodeId,
@@ -85,7 +85,7 @@ impl<T: Drop, U: Default + Drop> Segment<T, U> {
     }
 }
 
-/// Keeps a segment's book and contents at one key, which the books had vacant. Where memory is
+/// Keeps a segment's book and contents at one key, which the books had vacant. If memory is
 /// refused, both stay as they are.
 pub(crate) fn add_segment<T: Drop, U: Drop>(
     books: &mut Slab<SlotBook>,

@@ -58,7 +58,7 @@ fn key_count(subscribers: &[Option<SubscriberState>], place: usize) -> usize
     }
 }
 
-// Whether a connection stands at the key, and its publisher is gone.
+// Whether a connection is at the key, and its publisher is gone.
 fn is_left<T: Drop, U: Default + Drop>(state: &DomainState<T, U>, key: usize) -> bool
     ensures { IsTrue result ↔ IsSomeAnd (get state.now.connections key) (λ c. IsStanding state.now.publishers c.home → ⊥) }
 {
@@ -104,7 +104,7 @@ fn drop_waiting_if_left<T: Drop, U: Default + Drop>(
     }
 }
 
-/// Closes the subscriber at a place, of which no connection is marked as open.
+/// Closes the subscriber at a place. None of its connections is marked as open.
 pub(crate) fn close_subscriber<T: Drop, U: Default + Drop>(
     state: &mut DomainState<T, U>,
     place: usize,

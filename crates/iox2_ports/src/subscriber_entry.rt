@@ -57,7 +57,7 @@ fn warn_of_failure(
     }
 }
 
-// The new subscriber at a place is updated for the first time, and it is warned where that fails.
+// The new subscriber at a place is updated for the first time, and it is warned if that fails.
 fn update_first<T: Drop, U: Default + Drop, F: BackpressureFn, G: DegradationFn>(
     state: &mut DomainState<T, U>,
     boxes: &Boxes<F, G>,
@@ -94,7 +94,7 @@ fn place_for_subscriber<T: Drop, U: Default + Drop>(
 // A subscriber with these options enters at the place that it has, and every publisher is due for
 // an update. Returns its id, which was the next.
 //
-// Where memory is refused nothing changes.
+// If memory is refused nothing changes.
 fn admit_subscriber<T: Drop, U: Default + Drop>(
     state: &mut DomainState<T, U>,
     place: usize,
@@ -126,13 +126,13 @@ fn admit_subscriber<T: Drop, U: Default + Drop>(
 }
 
 /// Makes a subscriber with these options, and connects it with the publishers that there are; it is
-/// warned where that fails. Where a connection can't be made, its options say what answers, or the
+/// warned if that fails. If a connection can't be made, its options say what answers, or the
 /// box does that is handed in, which is kept among the boxes. Returns its id, which was the next, and
 /// its place.
 ///
-/// `UnableToCreatePortTag` where no id is left, then
+/// `UnableToCreatePortTag` if no id is left, then
 /// `BufferSizeExceedsMaxSupportedBufferSizeOfService`, then `ExceedsMaxSupportedSubscribers`
-/// where no place is free, then `FailedToDeployThreadsafetyPolicy` where memory for the port or its
+/// if no place is free, then `FailedToDeployThreadsafetyPolicy` if memory for the port or its
 /// box is refused. Nothing changes then.
 pub fn create_subscriber<T: Drop, U: Default + Drop, F: BackpressureFn, G: DegradationFn>(
     state: &mut DomainState<T, U>,

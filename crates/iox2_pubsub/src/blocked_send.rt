@@ -27,7 +27,7 @@ pub struct BlockedSend {
 }
 
 impl BlockedSend {
-    // The handle of the send of this loan, where it is blocked.
+    // The handle of the send of this loan, if it is blocked.
     #[inline(always)]
     pub(crate) fn of(service_id: u128, loan: &LoanAt) -> BlockedSend
         ensures { result ≡ record { service_id = service_id; loan = loan.now } }

@@ -60,7 +60,7 @@ impl<T: Drop, U: Default + Drop> Domain<T, U> {
     /// Each message has one element in a domain of the variant `FixedSize`, and any number of them in
     /// one of `Dynamic`, whose ports are those of module `slice`.
     ///
-    /// Fails with `DomainCreateError::OutOfMemory` where memory is refused.
+    /// Fails with `DomainCreateError::OutOfMemory` if memory is refused.
     pub fn new(alloc: Global, config: ServiceConfig) -> Result<Self, DomainCreateError>
         ensures { IfOk result (IsNewDomain config) }
     {
@@ -71,7 +71,7 @@ impl<T: Drop, U: Default + Drop> Domain<T, U> {
 impl<T: Drop, U: Default + Drop, F: BackpressureFn, G: DegradationFn> Domain<T, U, F, G> {
     /// As `new`, for a domain whose ports may have handlers of these types.
     ///
-    /// Fails with `DomainCreateError::OutOfMemory` where memory is refused.
+    /// Fails with `DomainCreateError::OutOfMemory` if memory is refused.
     pub fn with_handlers(alloc: Global, config: ServiceConfig) -> Result<Self, DomainCreateError>
         ensures { IfOk result (IsNewDomain config) }
     {
@@ -105,7 +105,7 @@ impl<T: Drop, U: Default + Drop, F: BackpressureFn, G: DegradationFn> Domain<T, 
     }
 
     /// How often a port was refused memory for a connection since the domain was made;
-    /// `u64::MAX` says at least so often. The call in which that happened failed or went on without
+    /// `u64::MAX` says at least that often. The call in which that happened failed or went on without
     /// the connection, as the port's handler answered; no message goes through it until a later update
     /// makes it.
     ///
@@ -124,7 +124,7 @@ impl<T: Drop, U: Default + Drop, F: BackpressureFn, G: DegradationFn> Domain<T, 
     }
 
     /// How many connections the domain keeps. One whose ports are both closed goes with the last
-    /// message that is borrowed there, and at once where none is.
+    /// message that is borrowed there, and at once if none is.
     pub fn connection_count(&self) -> usize
         ensures { result ≡ count_by is_some self.now.connections }
     {

@@ -31,7 +31,7 @@ pub struct Publisher {
     pub(crate) id: UniquePublisherId,
     // Where the domain looks for it first.
     pub(crate) place: usize,
-    // What it does where a receiver is full.
+    // What it does if a receiver is full.
     pub(crate) strategy: BackpressureStrategy,
     // How many elements a loan has at most: one in a domain of single values.
     pub(crate) initial_max_slice_len: usize,
@@ -48,7 +48,7 @@ impl Publisher {
         self.id
     }
 
-    /// What the publisher does where the buffer of a subscriber is full and the service doesn't
+    /// What the publisher does if the buffer of a subscriber is full and the service doesn't
     /// overflow.
     ///
     /// iceoryx2's `Publisher::backpressure_strategy` (`src/port/publisher.rs`).

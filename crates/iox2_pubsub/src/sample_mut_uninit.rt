@@ -37,7 +37,7 @@ impl SampleMutUninit {
     ghost use Rattle.iox2_domain.specs.Shows.{Shows};
     ghost use Rattle.iox2_pubsub.specs.Handles.{unwritten_lender, unwritten_number};
 
-    /// The payload, in a domain of single values, and `None` where it isn't written.
+    /// The payload, in a domain of single values, and `None` if it isn't written.
     ///
     /// iceoryx2's `SampleMutUninit::payload` (`src/sample_mut_uninit.rs`).
     pub fn payload<'a, T: Drop, U: Default + Drop, F: BackpressureFn, G: DegradationFn>(

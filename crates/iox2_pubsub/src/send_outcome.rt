@@ -1,10 +1,10 @@
-//! What came of a send.
+//! The outcome of a send.
 ghost use Rattle.std.specs.Prelude.{◌≡◌};
 ghost use Rattle.iox2_pubsub.specs.SendCalls.{IsDelivered};
 
 use crate::blocked_send::BlockedSend;
 
-/// What came of a message that was sent.
+/// The outcome of a send.
 ///
 /// Example (`crates/slow_display/src/sending.rt`):
 ///
@@ -20,7 +20,7 @@ use crate::blocked_send::BlockedSend;
 ///
 /// This library's own, where iceoryx2's `SampleMut::send` returns the number of receivers alone.
 pub enum SendOutcome {
-    /// So many subscribers took it.
+    /// That many subscribers took the message.
     Delivered(usize),
     /// It waits for a subscriber whose buffer is full.
     Blocked(BlockedSend),

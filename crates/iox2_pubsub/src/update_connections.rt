@@ -42,10 +42,10 @@ pub trait UpdateConnections<T: Drop, U: Default + Drop, F: BackpressureFn, G: De
     ghost adds: { Kept T U F G → ℕ };
 
     /// Makes the port's connections with the ports of the other side that came since its last
-    /// update. Where no port came or was closed since, it does nothing.
+    /// update. If no port came or was closed since, it does nothing.
     ///
-    /// Fails where there is no room to keep the connection of a publisher that departed: then it
-    /// stays, the rest of the update is done, and the port is due again. Where memory for a
+    /// Fails if there is no room to keep the connection of a publisher that departed: then it
+    /// stays, the rest of the update is done, and the port is due again. If memory for a
     /// connection is refused, the port's handler decides: nothing happens, the domain warns, or the
     /// update fails with `FailedToEstablishConnection(OutOfMemory)`, after the rest of it is done.
     /// The first failure is returned.

@@ -37,10 +37,10 @@ impl<
     F: BackpressureFn,
     G: DegradationFn,
 > Recorded<T, U, F, G> {
-    /// A new domain with these settings, which keeps its first calls, up to so many.
+    /// A new domain with these settings, which keeps its first calls, up to `room` of them.
     ///
-    /// `NoCells` where the settings have no cells handed out (`lists_cells`), as commands read and write
-    /// them; else `OutOfMemory` where there is no room for the domain or for the calls.
+    /// `NoCells` if the settings have no cells handed out (`lists_cells`), as commands read and write
+    /// them; else `OutOfMemory` if there is no room for the domain or for the calls.
     pub fn new(
         alloc: Global,
         config: ServiceConfig,
@@ -72,7 +72,7 @@ impl<
     /// Carries out a command, and keeps it with its reply if there is room and no call was missed
     /// before. Else it is missed, which `missed` counts.
     ///
-    /// `AllocError` where there is no room to name what the command makes. Then it isn't carried out.
+    /// `AllocError` if there is no room to name what the command makes. Then it isn't carried out.
     pub fn call(&mut self, command: Command<T, U>) -> Result<Reply<T, U>, AllocError>
         requires recorded { IsRecorded (defaults_of T.is_default U.is_default) self.old }
         ensures recorded { IsRecorded (defaults_of T.is_default U.is_default) self.new }
@@ -105,7 +105,7 @@ impl<
             && self.replies.len() < self.replies.capacity()
     }
 
-    /// How many calls were missed for want of room. The recording is whole where it is 0.
+    /// How many calls were missed because there was no room. The recording is whole if it is 0.
     pub fn missed(&self) -> u64
         ensures { result ≡ self.now.missed }
     {

@@ -143,8 +143,8 @@ pub fn carry_out<
 /// Carries out the commands on the domain, one after the other, and returns a reply for each.
 ///
 /// Each subscriber receives a part of what each publisher sent in the run, in order and each message
-/// once; each sample names its publisher, and each read gives what was sent. Of types of which one
-/// value alone is a default, as `u64` and `()`, the run uses that one throughout.
+/// once; each sample names its publisher, and each read gives what was sent. If each of the two types
+/// has one default value alone, as `u64` and `()` have, the run uses that one throughout.
 ///
 /// An uninitialised loan is granted wherever a command of the run asks for one of permitted length
 /// from a publisher that waits for no receiver, has one segment and at least the slots that
@@ -154,12 +154,13 @@ pub fn carry_out<
 ///
 /// What the commands made is spent at the end: ports stay in the domain, loans stay out, blocked
 /// sends stay so and messages stay borrowed. The memory for the replies and for what the commands make
-/// is taken first. Where it is refused the commands are handed back, and none was carried out; and so
-/// where the domain hands out no cells (`ServiceConfig::lists_cells`), as commands read and write them.
+/// is taken first. If it is refused the commands are handed back, and none was carried out. The same
+/// happens if the domain hands out no cells (`ServiceConfig::lists_cells`), as commands read and write
+/// them.
 ///
 /// A publisher follows its strategy at a full buffer, or the backpressure handler that its command
-/// names. It has as many slots in a segment as it needs, or as its command asks for. The domain may have messages of either variant: those of `FixedSize` are single values, those
-/// of `Dynamic` slices.
+/// names. It has as many slots in a segment as it needs, or as its command asks for. The domain may have
+/// messages of either variant: those of `FixedSize` are single values, those of `Dynamic` slices.
 pub fn run<T: Copy + Default + Drop, U: Copy + Default + Drop, F: BackpressureFn, G: DegradationFn>(
     alloc: Global,
     domain: &mut Domain<T, U, F, G>,

@@ -37,7 +37,7 @@ fn home_of(at: Places, publisher: &PublisherState, subscriber: &SubscriberState)
     }
 }
 
-// Makes a connection with so many channels, in which no slot stands, and returns its key.
+// Makes a connection with `channels` channels and no slot in it, and returns its key.
 fn make_connection(
     alloc: Global,
     connections: &mut Slab<Connection>,
@@ -97,7 +97,7 @@ fn connection_count(connections: &Slab<Connection>, subscriber: u128) -> usize
     count
 }
 
-// Whether a connection of the subscriber stands at the key.
+// Whether a connection of the subscriber is at the key.
 fn is_subscribers(connections: &Slab<Connection>, key: usize, subscriber: u128) -> bool
     ensures { one_if_receivers subscriber (get connections.now key) ≡ cond result 1 0 }
 {
@@ -107,8 +107,8 @@ fn is_subscribers(connections: &Slab<Connection>, key: usize, subscriber: u128) 
     }
 }
 
-// Makes a connection in which no slot stands, with room for its key in the ports at these places,
-// also where it is to expire, and returns its key.
+// Makes a connection with no slot in it, and with room for its key in the ports at these places, also
+// where it is to expire. Returns its key.
 pub(crate) fn make_between<T: Drop, U: Default + Drop>(
     state: &mut DomainState<T, U>,
     at: Places,
@@ -140,7 +140,7 @@ pub(crate) fn make_between<T: Drop, U: Default + Drop>(
     )
 }
 
-// The key, where it leads to a connection of the publisher.
+// The key, if it leads to a connection of the publisher.
 fn key_from(connections: &Slab<Connection>, publisher: u128, key: Option<usize>) -> Option<usize>
     ensures { result ≡ key_from connections.now publisher key }
 {
@@ -151,9 +151,9 @@ fn key_from(connections: &Slab<Connection>, publisher: u128, key: Option<usize>)
     }
 }
 
-// The publisher at a place that isn't due gets its end at the place of an open subscriber, where it
-// has none. Returns the key of its connection, in which no slot stands: the one that the subscriber
-// has with this very publisher, or a new one. Where memory for a new one is refused, the publisher's
+// The publisher at a place that isn't due gets its end at the place of an open subscriber, if it
+// has none. Returns the key of its connection, with no slot in it: the one that the subscriber
+// has with this very publisher, or a new one. If memory for a new one is refused, the publisher's
 // handler is asked, and the failure is returned that it makes of this, if any.
 fn make_sender_end<T: Drop, U: Default + Drop, F: BackpressureFn, G: DegradationFn>(
     state: &mut DomainState<T, U>,
@@ -184,7 +184,7 @@ fn make_sender_end<T: Drop, U: Default + Drop, F: BackpressureFn, G: Degradation
 }
 
 // Puts the last messages of the history of the publisher at a place into its connection at a key, in
-// which no slot stands. What was given back is reclaimed first.
+// which no slot is. What was given back is reclaimed first.
 fn hand_out_history<T: Drop, U: Default + Drop>(
     state: &mut DomainState<T, U>,
     publisher_place: usize,
@@ -208,8 +208,8 @@ fn hand_out_history<T: Drop, U: Default + Drop>(
 }
 
 // The publisher at a place that isn't due, with no end at a subscriber's place, gets one if an open
-// subscriber stands there. The last messages of its history wait in it, as many as fit, but where its
-// channel is closed. Where memory for a connection is refused, its handler is asked.
+// subscriber is there. The last messages of its history wait in it, as many as fit, unless its
+// channel is closed. If memory for a connection is refused, its handler is asked.
 fn connect_sender<T: Drop, U: Default + Drop, F: BackpressureFn, G: DegradationFn>(
     state: &mut DomainState<T, U>,
     boxes: &Boxes<F, G>,
@@ -253,8 +253,8 @@ fn drop_waiting_at<T: Drop, U: Default + Drop>(
     drop_all(publisher.id.value(), &mut state.connections, book, key);
 }
 
-// The publisher at a place loses its end at a subscriber's place, of which nothing is borrowed and
-// which no subscriber has. The connection goes, and what waited there is lost.
+// The publisher at a place loses its end at a subscriber's place. Nothing is borrowed from that
+// connection, and no subscriber has it. The connection goes, and what waited there is lost.
 fn disconnect_sender<T: Drop, U: Default + Drop>(
     state: &mut DomainState<T, U>,
     at: Places,
@@ -278,9 +278,9 @@ fn disconnect_sender<T: Drop, U: Default + Drop>(
 }
 
 /// What the update of the publisher at a place, which isn't due, does at a subscriber's place. An end
-/// to the subscriber that stands there stays; where it is closed, what waits for it is lost. Any
+/// to the subscriber that is there stays; if it is closed, what waits for it is lost. Any
 /// other end goes, and one to an open subscriber is made, in which the last messages of the history
-/// wait. Where memory for one is refused, its handler is asked.
+/// wait. If memory for one is refused, its handler is asked.
 pub(crate) fn update_sender_place<T: Drop, U: Default + Drop, F: BackpressureFn, G: DegradationFn>(
     state: &mut DomainState<T, U>,
     boxes: &Boxes<F, G>,

@@ -139,7 +139,7 @@ fn has_borrowed(connections: &Slab<Connection>, subscriber: &SubscriberState) ->
         || borrows_at_keys(connections, id, &subscriber.keys)
 }
 
-/// The subscriber at a place leaves where it was closed and has borrowed nothing any more. Then
+/// The subscriber at a place leaves if it was closed and has borrowed nothing any more. Then
 /// its place is free, and every publisher is due. Its connections stay at the ends of publishers.
 ///
 /// iceoryx2's `SubscriberSharedState`, which goes with the last sample (`src/port/subscriber.rs`).
@@ -160,8 +160,8 @@ pub fn leave_if_unused<T: Drop, U: Default + Drop>(state: &mut DomainState<T, U>
     make_all_due(&mut state.publishers);
 }
 
-/// The subscriber of the connection at a key, whose publisher is gone, forgets the connection where
-/// no slot stands in it, and the connection goes.
+/// The subscriber of the connection at a key, whose publisher is gone, forgets the connection if
+/// no slot is in it, and the connection goes.
 ///
 /// iceoryx2's `Receiver::release_offset` (`src/port/details/receiver.rs`).
 pub fn forget_if_empty<T: Drop, U: Default + Drop>(
@@ -186,7 +186,7 @@ pub fn forget_if_empty<T: Drop, U: Default + Drop>(
     }
 }
 
-/// The book at a key goes, with its contents, where its publisher is gone and no slot of it has a
+/// The book at a key goes, with its contents, if its publisher is gone and no slot of it has a
 /// holder any more.
 pub fn settle_book_if_left<T: Drop, U: Default + Drop>(state: &mut DomainState<T, U>, key: usize)
     requires { HasParts state.old }

@@ -14,8 +14,8 @@ use iox2_machine::{
     UniquePublisherId, UniqueSubscriberId, Warning, ZeroCopyCreationError,
 };
 
-/// What the port with an id and this mark, of the service with a number, answers for the connection
-/// which was to stand there, for which memory was refused. A box is among these boxes.
+/// What the port with an id and this mark, of the service with a number, answers if memory for the
+/// connection there is refused. A box is among these boxes.
 pub(crate) fn ask<F: BackpressureFn, G: DegradationFn>(
     mark: HandlerMark<DegradationAction>,
     boxes: &Boxes<F, G>,
@@ -33,8 +33,8 @@ pub(crate) fn ask<F: BackpressureFn, G: DegradationFn>(
     degradation_answer(mark, boxes, port, &info)
 }
 
-/// What a port does without the connection which was to stand there, for which memory was refused:
-/// as its handler answers it goes on, or warns, or its update fails. The connection is counted.
+/// What a port does if memory for the connection there is refused: as its handler answers, it goes
+/// on, or warns, or its update fails. The connection is counted.
 pub(crate) fn degrade(
     warnings: &mut Warnings,
     answer: DegradationAction,

@@ -6,8 +6,8 @@ ghost use Rattle.iox2_updates.specs.Marks.{UnmarksReceiver, UnmarksSender};
 
 use iox2_domain::{DomainState, is_open_at, key_at, stands_at};
 
-/// The connection that the publisher at a place has at a subscriber's place is marked as open, where
-/// that subscriber stands there and is open, and channel 0 isn't closed.
+/// The connection that the publisher at a place has at a subscriber's place is marked as open, if
+/// that subscriber is there and is open, and channel 0 isn't closed.
 pub fn mark_end<T: Drop, U: Default + Drop>(
     state: &mut DomainState<T, U>,
     publisher_place: usize,

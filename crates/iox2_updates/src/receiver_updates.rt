@@ -40,7 +40,7 @@ fn expired_full() -> ConnectionFailure
     )
 }
 
-// At a place where no publisher stands, the one that the subscriber has its end to is retired.
+// At a place where no publisher is, the one that the subscriber has its end to is retired.
 fn disconnect_at<T: Drop, U: Default + Drop>(
     state: &mut DomainState<T, U>,
     at: Places,
@@ -83,7 +83,7 @@ fn joined_key<T: Drop, U: Default + Drop>(
 }
 
 // The subscriber at a place gets its end to the publisher at another, at whose place it has none.
-// Where memory for a connection is refused, its handler is asked, and the failure is returned that it
+// If memory for a connection is refused, its handler is asked, and the failure is returned that it
 // makes of this, if any.
 fn connect_end<T: Drop, U: Default + Drop, F: BackpressureFn, G: DegradationFn>(
     state: &mut DomainState<T, U>,
@@ -120,8 +120,8 @@ fn is_publishers<T: Drop, U: Default + Drop>(
     state.connections[key].home().publisher == publisher
 }
 
-// The subscriber at a place, which has its end at this key at a publisher's place, keeps it where it
-// leads to the publisher that stands there, and gets one in its place where not.
+// The subscriber at a place, which has its end at this key at a publisher's place, keeps it if it
+// leads to the publisher that is there, and else gets one in its place.
 fn replace_end<T: Drop, U: Default + Drop, F: BackpressureFn, G: DegradationFn>(
     state: &mut DomainState<T, U>,
     boxes: &Boxes<F, G>,
@@ -143,7 +143,7 @@ fn replace_end<T: Drop, U: Default + Drop, F: BackpressureFn, G: DegradationFn>(
     }
 }
 
-// At a place where a publisher stands, the subscriber keeps its end to it or gets one, after the one
+// At a place where a publisher is, the subscriber keeps its end to it or gets one, after the one
 // that it has to another was retired.
 fn connect_at<T: Drop, U: Default + Drop, F: BackpressureFn, G: DegradationFn>(
     state: &mut DomainState<T, U>,
@@ -165,9 +165,9 @@ fn connect_at<T: Drop, U: Default + Drop, F: BackpressureFn, G: DegradationFn>(
     }
 }
 
-/// Updates the subscriber at a place, where it is due: it gets its connection with each publisher, by
-/// rising place, and the publishers that departed are retired from their places. Where memory for a
-/// connection is refused, its handler is asked, which may fail the update. Where a retirement is
+/// Updates the subscriber at a place, if it is due: it gets its connection with each publisher, by
+/// rising place, and the publishers that departed are retired from their places. If memory for a
+/// connection is refused, its handler is asked, which may fail the update. If a retirement is
 /// refused, the update fails, and the subscriber is due again.
 ///
 /// iceoryx2's `Subscriber::force_update_connections` (`src/port/subscriber.rs`).

@@ -39,8 +39,8 @@ fn expired_limit(config: &ServiceConfig) -> usize
         .max(config.subscriber_max_borrowed_samples)
 }
 
-// The connection at a key goes, and with it what waits there, of which there is a warning. Returns
-// the key of its publisher's book.
+// The connection at a key goes, and with it what waits there; a warning says so. Returns the key of
+// its publisher's book.
 fn drop_connection<T: Drop, U: Default + Drop>(state: &mut DomainState<T, U>, key: usize) -> usize
     requires agrees { IsDomain state.old }
     requires stands { ContainsKey (state.old).connections key }
@@ -118,8 +118,8 @@ fn choose<T: Drop, U: Default + Drop>(
     )
 }
 
-/// The departed publisher, whose connection stands at the key that the subscriber at a place has at
-/// a publisher's place, is retired from there. Returns whether it is: where it is refused, the
+/// The departed publisher, whose connection is at the key that the subscriber at a place has at
+/// a publisher's place, is retired from there. Returns whether it is: if it is refused, the
 /// subscriber is due again.
 ///
 /// iceoryx2's `Receiver::prepare_connection_removal` (`src/port/details/receiver.rs`).

@@ -13,9 +13,9 @@ use crate::places::Places;
 use iox2_domain::{Boxes, DomainState, clear_due, is_due_at};
 use iox2_machine::{BackpressureFn, ConnectionFailure, DegradationFn};
 
-/// Updates the publisher at a place, where it is due: it goes over the subscribers' places. An end to
-/// the subscriber that stands there stays; where it is closed, what waits for it is lost. Any other
-/// end goes, and one to an open subscriber is made. Where memory for one is refused, its handler is
+/// Updates the publisher at a place, if it is due: it goes over the subscribers' places. An end to
+/// the subscriber that is there stays; if it is closed, what waits for it is lost. Any other
+/// end goes, and one to an open subscriber is made. If memory for one is refused, its handler is
 /// asked, which may fail the update. The first failure is returned.
 ///
 /// iceoryx2's `PublisherSharedState::force_update_connections` (`src/port/publisher.rs`).

@@ -11,8 +11,8 @@ use iox2_machine::{
 };
 use std::alloc::Global;
 
-/// A list of commands with which a publisher comes to need every slot of the worst case, in a new
-/// domain with these settings. This library's own.
+/// A list of commands that make a publisher need every slot of the worst case, in a new domain with
+/// these settings. This library's own.
 ///
 /// The first command makes the publisher, with this limit of loans and this override of its slots.
 /// Then each subscriber that there may be is made, one after another: it receives as many messages
@@ -23,9 +23,9 @@ use std::alloc::Global;
 /// an override of fewer than `worst_case_slots`, one of its loans is refused with
 /// `LoanError::OutOfMemory` while fewer than `loans` are out.
 ///
-/// `None` where the service overwrites messages, may have no publisher or no subscriber, has
-/// elements of more than one unit or connections of more than one channel; where `loans` is 0; where
-/// the worst case or the length of the list doesn't fit `usize`; and where memory for the list is
+/// `None` if the service overwrites messages, may have no publisher or no subscriber, has
+/// elements of more than one unit or connections of more than one channel; if `loans` is 0; if
+/// the worst case or the length of the list doesn't fit `usize`; and if memory for the list is
 /// refused.
 pub fn worst_case_commands<T: Copy + Drop, U: Drop>(
     alloc: Global,
@@ -81,7 +81,7 @@ fn is_fillable(config: &ServiceConfig, loans: usize) -> bool
         && worst_case_slots(config, loans).is_some()
 }
 
-// How many commands the list has; `None` where that doesn't fit.
+// How many commands the list has; `None` if that doesn't fit.
 fn list_length(config: &ServiceConfig, loans: usize) -> Option<usize>
     ensures { IfSome result (λ n. n ≡ 1 + config.now.max_subscribers * filling_length config.now + loans) }
 {
@@ -90,7 +90,7 @@ fn list_length(config: &ServiceConfig, loans: usize) -> Option<usize>
     all.checked_add(loans)?.checked_add(1)
 }
 
-// How many commands make and fill one subscriber; `None` where that doesn't fit.
+// How many commands make and fill one subscriber; `None` if that doesn't fit.
 fn filling_length(config: &ServiceConfig) -> Option<usize>
     ensures { IfSome result (λ n. n ≡ filling_length config.now) }
 {
@@ -133,7 +133,7 @@ fn push_send<T: Copy, U>(commands: &mut Vec<Command<T, U>>, variant: TypeVariant
     commands.push_reserved(Command::Send { of });
 }
 
-// So many messages are sent.
+// `count` messages are sent.
 fn push_sends<T: Copy, U>(
     commands: &mut Vec<Command<T, U>>,
     variant: TypeVariant,
@@ -150,7 +150,7 @@ fn push_sends<T: Copy, U>(
     }
 }
 
-// So many messages are sent, each of which the subscriber receives.
+// `count` messages are sent, and the subscriber receives each.
 fn push_rounds<T: Copy, U>(
     commands: &mut Vec<Command<T, U>>,
     variant: TypeVariant,
@@ -201,7 +201,7 @@ fn push_subscribers<T: Copy, U>(commands: &mut Vec<Command<T, U>>, config: &Serv
     }
 }
 
-// So many loans are taken.
+// `count` loans are taken.
 fn push_loans<T, U>(commands: &mut Vec<Command<T, U>>, variant: TypeVariant, count: usize)
     requires { vec_len commands.old + count ≤ vec_capacity commands.old }
     ensures { commands.new.items ≡ commands.old.items ++ replicate count (loan_spec variant) }

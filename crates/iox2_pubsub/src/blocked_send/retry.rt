@@ -22,11 +22,11 @@ impl BlockedSend {
     ghost use Rattle.iox2_pubsub.specs.Handles.{blocked_sender};
 
     /// Tries the send again at the subscriber that it waits for, and goes on to those that remain.
-    /// Those that took the message aren't served again, and connections aren't updated. Where the
+    /// Those that took the message aren't served again, and connections aren't updated. If the
     /// subscriber is still full, the send is blocked again. `elapsed` is the time since the send was
     /// first blocked at that subscriber, which a publisher's handler is told. It takes no memory.
     ///
-    /// Fails with `UnableToDeliver` alone, where a handler has failed the send at some subscriber.
+    /// Fails with `UnableToDeliver` alone, if a handler has failed the send at some subscriber.
     /// When the send has ended or failed, its publisher lends, sends and updates again, and its slot
     /// is free when every subscriber that took the message has released it and no history keeps it.
     ///
@@ -49,7 +49,7 @@ impl BlockedSend {
     }
 
     /// Gives up the subscriber that the send waits for, and goes on to those that remain. That
-    /// subscriber doesn't get the message, and the send doesn't fail for it. Where a later one is
+    /// subscriber doesn't get the message, and the send doesn't fail for it. If a later one is
     /// full, the send is blocked there. It takes no memory. Fails as `retry` does, and leaves the same
     /// when the send has ended.
     ///

@@ -80,7 +80,7 @@ impl<T: Drop, U: Default + Drop, F: BackpressureFn, G: DegradationFn> Domain<T, 
         has_marked(&self.state, &parts.loan(), wants_written)
     }
 
-    /// A handle of the written loan with these numbers, and `None` where this domain has none that
+    /// A handle of the written loan with these numbers, and `None` if this domain has none that
     /// is out and written. This library's own.
     pub fn written_of(&self, parts: &LoanParts) -> Option<SampleMut>
         ensures out { IfSome result (λ loan. IsWritten self.now loan) }
@@ -96,7 +96,7 @@ impl<T: Drop, U: Default + Drop, F: BackpressureFn, G: DegradationFn> Domain<T, 
         })
     }
 
-    /// A handle of the unwritten loan with these numbers, and `None` where this domain has none that
+    /// A handle of the unwritten loan with these numbers, and `None` if this domain has none that
     /// is out and not written. This library's own.
     pub fn unwritten_of(&self, parts: &LoanParts) -> Option<SampleMutUninit>
         ensures out { IfSome result (λ loan. IsUnwritten self.now loan) }
@@ -130,7 +130,7 @@ impl<T: Drop, U: Default + Drop, F: BackpressureFn, G: DegradationFn> Domain<T, 
     ghost use Rattle.iox2_pubsub.specs.Live.{IsBlockedKey, IsBlockedSend};
     ghost use Rattle.iox2_pubsub.specs.Parts.{blocked_parts, loan_named};
 
-    /// A handle of the blocked send with these numbers, and `None` where this domain has none that
+    /// A handle of the blocked send with these numbers, and `None` if this domain has none that
     /// is blocked. This library's own.
     pub fn blocked_of(&self, parts: &LoanParts) -> Option<BlockedSend>
         ensures live { IfSome result (λ blocked. IsBlockedSend self.now blocked) }

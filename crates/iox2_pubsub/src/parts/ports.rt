@@ -37,8 +37,8 @@ impl<T: Drop, U: Default + Drop, F: BackpressureFn, G: DegradationFn> Domain<T, 
     ghost use Rattle.iox2_pubsub.specs.Live.{IsPlacedPublisher, IsPublisherKey, publisher_key};
     ghost use Rattle.iox2_pubsub.specs.Parts.{publisher_named, publisher_parts};
 
-    /// A handle of the publisher with these numbers, and `None` where this domain has none that
-    /// wasn't closed. Where the publisher stands at another place than they say, the handle says where.
+    /// A handle of the publisher with these numbers, and `None` if this domain has none that
+    /// wasn't closed. If the publisher stands at another place than they say, the handle says where.
     /// This library's own.
     pub fn publisher_of(&self, parts: &PublisherParts) -> Option<Publisher>
         ensures live { IfSome result (λ publisher. IsPublisherKey self.now (publisher_key publisher)) }
@@ -90,8 +90,8 @@ impl<T: Drop, U: Default + Drop, F: BackpressureFn, G: DegradationFn> Domain<T, 
     ghost use Rattle.iox2_pubsub.specs.Live.{IsLiveSubscriber, IsSubscriberKey};
     ghost use Rattle.iox2_pubsub.specs.Parts.{subscriber_named, subscriber_parts};
 
-    /// A handle of the subscriber with these numbers, and `None` where this domain has none that
-    /// wasn't closed. Where the subscriber stands at another place than they say, the handle says
+    /// A handle of the subscriber with these numbers, and `None` if this domain has none that
+    /// wasn't closed. If the subscriber stands at another place than they say, the handle says
     /// where. This library's own.
     pub fn subscriber_of(&self, parts: &SubscriberParts) -> Option<Subscriber>
         ensures live { IfSome result (λ subscriber. IsLiveSubscriber self.now subscriber) }

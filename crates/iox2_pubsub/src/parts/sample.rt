@@ -76,7 +76,7 @@ impl<T: Drop, U: Default + Drop, F: BackpressureFn, G: DegradationFn> Domain<T, 
         has_sample(&self.state, &parts.sample())
     }
 
-    /// A handle of the sample with these numbers, and `None` where this domain has none that wasn't
+    /// A handle of the sample with these numbers, and `None` if this domain has none that wasn't
     /// released. Its origin is what the numbers say, and isn't looked up. This library's own.
     pub fn sample_of(&self, parts: &SampleParts) -> Option<Sample>
         ensures live { IfSome result (λ sample. IsLiveSample self.now sample) }

@@ -50,7 +50,7 @@ impl<P: Fn(usize) -> usize + Drop> SlotSettings<PreallocatedSamplesOverride<P>> 
     ghost use Rattle.iox2_pubsub.specs.Factories.{AsksFor};
 
     /// How the slots of a publisher with this number of loans are allocated. The override is asked how
-    /// many there should be, but not where the worst case doesn't fit `usize`.
+    /// many there should be, but not if the worst case doesn't fit `usize`.
     pub(crate) fn ask(&self, config: &ServiceConfig, loans: usize) -> SegmentOptions
         requires { P.IsAlwaysCallable self.now.preallocated.callback }
         ensures allocation { result.allocation ≡ self.now.allocation }

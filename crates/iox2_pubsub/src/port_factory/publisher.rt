@@ -129,7 +129,7 @@ impl<F: BackpressureFn, G: DegradationFn, O: Drop, H> PortFactoryPublisher<F, G,
         self
     }
 
-    /// Sets what the publisher does where the buffer of a subscriber is full and the service doesn't
+    /// Sets what the publisher does if the buffer of a subscriber is full and the service doesn't
     /// overflow: the send is blocked, or the subscriber doesn't get the message.
     ///
     /// iceoryx2's `PortFactoryPublisher::backpressure_strategy`
@@ -141,7 +141,7 @@ impl<F: BackpressureFn, G: DegradationFn, O: Drop, H> PortFactoryPublisher<F, G,
         self
     }
 
-    /// Sets what answers where the buffer of a subscriber is full and the service doesn't overflow,
+    /// Sets what answers if the buffer of a subscriber is full and the service doesn't overflow,
     /// in place of the strategy: the send is blocked, or the subscriber doesn't get the message, and
     /// then the send may fail. A handler that is a box goes with the publisher to the domain, which
     /// keeps it until the publisher is closed.
@@ -155,7 +155,7 @@ impl<F: BackpressureFn, G: DegradationFn, O: Drop, H> PortFactoryPublisher<F, G,
         self
     }
 
-    /// Sets what answers where memory for a connection with a subscriber is refused: the publisher
+    /// Sets what answers if memory for a connection with a subscriber is refused: the publisher
     /// goes on without it, or the domain warns of it too, as by default, or the call fails. A handler
     /// that is a box goes with the publisher to the domain, which keeps it until the publisher is closed.
     ///
@@ -170,7 +170,7 @@ impl<F: BackpressureFn, G: DegradationFn, O: Drop, H> PortFactoryPublisher<F, G,
     }
 
     /// Sets how the memory of the publisher grows. A static one refuses a loan that is too long, or
-    /// where each of its slots is in use; any other makes further slots for it, up to 254 times.
+    /// if each of its slots is in use; any other makes further slots for it, up to 254 times.
     ///
     /// iceoryx2's `PortFactoryPublisher::allocation_strategy`
     /// (`src/service/port_factory/publisher.rs`), which is of slices alone.
@@ -183,7 +183,7 @@ impl<F: BackpressureFn, G: DegradationFn, O: Drop, H> PortFactoryPublisher<F, G,
 
     /// Sets the closure that says how many slots the publisher gets. It is given the worst case, with
     /// which no loan ever lacks a slot. The publisher gets the number that it answers, but no more
-    /// than the worst case, and at least one where that isn't none.
+    /// than the worst case, and at least one if that isn't none.
     ///
     /// iceoryx2's `PortFactoryPublisher::override_sample_preallocation`
     /// (`src/service/port_factory/publisher.rs`).
@@ -206,7 +206,7 @@ impl<F: BackpressureFn, G: DegradationFn, O: Drop, H> PortFactoryPublisher<F, G,
     }
 
     /// A factory with the same settings, which makes publishers without handlers, and with the worst
-    /// case of slots: where memory for a connection is refused, the domain warns of it.
+    /// case of slots: if memory for a connection is refused, the domain warns of it.
     ///
     /// iceoryx2's `PortFactoryPublisher::__internal_partial_clone`
     /// (`src/service/port_factory/publisher.rs`).
@@ -251,14 +251,14 @@ impl<F: BackpressureFn, G: DegradationFn, H: PortHandle<Publisher>> PortFactoryP
 > {
     /// Makes the publisher, with the next id at the lowest free place, and connects it with the
     /// subscribers that there are. Each of its first slots has room for the longest loan that the
-    /// factory was told of. Every subscriber is then due for an update. Where memory for a
-    /// connection is refused, the publisher's handler says whether the domain warns of it; where the
+    /// factory was told of. Every subscriber is then due for an update. If memory for a
+    /// connection is refused, the publisher's handler says whether the domain warns of it; if the
     /// handler fails the call, the publisher is made, and the domain warns of that.
     ///
-    /// Fails, in this order, with `UnableToCreatePortTag` where the domain has no ids left, with
-    /// `ExceedsMaxSupportedPublishers` where as many publishers are open as may be, with
-    /// `UnableToCreateDataSegment` where the number of slots or their size doesn't fit `usize`.
-    /// After these, where memory is refused: with `UnableToCreateDataSegment` if it was for the
+    /// Fails, in this order, with `UnableToCreatePortTag` if the domain has no ids left, with
+    /// `ExceedsMaxSupportedPublishers` if as many publishers are open as may be, with
+    /// `UnableToCreateDataSegment` if the number of slots or their size doesn't fit `usize`.
+    /// After these, if memory is refused: with `UnableToCreateDataSegment` if it was for the
     /// slots, with `FailedToDeployThreadsafetyPolicy` if it was for the publisher's state or its boxes.
     /// No id is then used, and the domain stays as it is.
     ///

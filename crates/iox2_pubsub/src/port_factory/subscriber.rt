@@ -82,7 +82,7 @@ impl<G: DegradationFn, H: PortHandle<Subscriber>> PortFactorySubscriber<G, H> {
         self
     }
 
-    /// Sets what answers where memory for a connection with a publisher is refused: the subscriber
+    /// Sets what answers if memory for a connection with a publisher is refused: the subscriber
     /// goes on without it, or the domain warns of it too, as by default, or the call fails. A handler
     /// that is a box goes with the subscriber to the domain, which keeps it until the subscriber is
     /// closed.
@@ -97,7 +97,7 @@ impl<G: DegradationFn, H: PortHandle<Subscriber>> PortFactorySubscriber<G, H> {
         self
     }
 
-    /// A factory with the same settings, which makes subscribers without a handler: where memory for
+    /// A factory with the same settings, which makes subscribers without a handler: if memory for
     /// a connection is refused, the domain warns of it.
     ///
     /// iceoryx2's `PortFactorySubscriber::__internal_partial_clone`
@@ -116,15 +116,15 @@ impl<G: DegradationFn, H: PortHandle<Subscriber>> PortFactorySubscriber<G, H> {
     }
 
     /// Makes the subscriber in the domain, with the next id at the lowest free place, and connects
-    /// it with the publishers that are there. Every publisher is then due for an update. Where
+    /// it with the publishers that are there. Every publisher is then due for an update. If
     /// memory for a connection is refused, the subscriber's handler says whether the domain warns of
-    /// it; where the handler fails the call, the subscriber is made, and the domain warns of that. It
-    /// also warns where it keeps more departed publishers for the subscriber than its settings say.
+    /// it; if the handler fails the call, the subscriber is made, and the domain warns of that. It
+    /// also warns if it keeps more departed publishers for the subscriber than its settings say.
     ///
-    /// Fails with `UnableToCreatePortTag` where the domain has no port ids left, then with
-    /// `BufferSizeExceedsMaxSupportedBufferSizeOfService` where the buffer is larger than the domain
-    /// allows, then with `ExceedsMaxSupportedSubscribers` where there are as many subscribers as it
-    /// allows, then with `FailedToDeployThreadsafetyPolicy` where memory for the subscriber or its box
+    /// Fails with `UnableToCreatePortTag` if the domain has no port ids left, then with
+    /// `BufferSizeExceedsMaxSupportedBufferSizeOfService` if the buffer is larger than the domain
+    /// allows, then with `ExceedsMaxSupportedSubscribers` if there are as many subscribers as it
+    /// allows, then with `FailedToDeployThreadsafetyPolicy` if memory for the subscriber or its box
     /// is refused. A failure leaves the domain as it was, and uses up no id.
     ///
     /// iceoryx2's `PortFactorySubscriber::create` (`src/service/port_factory/subscriber.rs`) and

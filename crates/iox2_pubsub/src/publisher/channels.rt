@@ -19,7 +19,7 @@ impl Publisher {
 
     /// Names the publisher's connection to a subscriber, by the subscriber's place: for the calls on
     /// its channels, and for `SampleMut::deliver_offset_to_connection`. `receiver_port_id` is the
-    /// number of the subscriber's id. `None` where the publisher has no connection to it: that to a
+    /// number of the subscriber's id. `None` if the publisher has no connection to it: that to a
     /// new subscriber comes with the publisher's next send or update, and that to a closed one goes
     /// with a later one.
     ///
@@ -59,7 +59,7 @@ impl Publisher {
 
     /// Whether a channel is in a state at a connection, and the subscriber has hinted there that it is
     /// about to disconnect. A change of the state takes the hint away. Both are numbered as for
-    /// `has_channel_state`; `false` where there is no such connection.
+    /// `has_channel_state`; `false` if there is no such connection.
     ///
     /// iceoryx2's `Sender::has_disconnect_hint` (`src/port/details/sender.rs`), which is internal.
     pub fn has_disconnect_hint<T: Drop, U: Default + Drop, F: BackpressureFn, G: DegradationFn>(
@@ -81,7 +81,7 @@ impl Publisher {
     /// nothing there until it opens the channel again (`Subscriber::set_channel_state`). A send goes to
     /// channel 0, and past it where it is closed: its subscriber gets no message and no history there,
     /// isn't counted, and no handler is asked of it. What waits in a closed channel stays, and in
-    /// channel 0 it can be received. Where the channel is in another state, or there is no such
+    /// channel 0 it can be received. If the channel is in another state, or there is no such
     /// connection, nothing changes. Both are numbered as for `has_channel_state`; other channels stay
     /// as they are. Takes no memory.
     ///

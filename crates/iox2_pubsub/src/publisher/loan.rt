@@ -23,12 +23,12 @@ impl Publisher {
     ///
     /// # Errors
     ///
-    /// First `ExceedsMaxLoans` where as many loans are out as the publisher may have at a time. Of a
-    /// static publisher then `OutOfMemory` where each of its slots holds a loan, or a message that is
-    /// kept for later subscribers, waits or is borrowed; and `InternalFailure` where the domain has no
-    /// message number left. Of one whose memory grows `InternalFailure` where there is no such number;
-    /// then, where each of its newest slots holds something, `OutOfMemory` where it has made slots 255
-    /// times, and `InternalFailure` where memory for more is refused, or their size doesn't fit
+    /// First `ExceedsMaxLoans` if as many loans are out as the publisher may have at a time. Of a
+    /// static publisher then `OutOfMemory` if each of its slots holds a loan, or a message that is
+    /// kept for later subscribers, waits or is borrowed; and `InternalFailure` if the domain has no
+    /// message number left. Of one whose memory grows `InternalFailure` if there is no such number;
+    /// then, if each of its newest slots holds something, `OutOfMemory` if it has made slots 255
+    /// times, and `InternalFailure` if memory for more is refused, or their size doesn't fit
     /// `usize`. Nothing changes then.
     ///
     /// A publisher with as many slots as `worst_case_slots` says for its limit of loans never lacks

@@ -24,7 +24,7 @@ impl SampleMut {
     /// so one subscriber gets it alone.
     /// `channel` is the number of the channel, below `number_of_channels` of the settings. `connection`
     /// is the place of the connection, as `get_connection_id_of` of the publisher tells it. A subscriber
-    /// that is closed, or whose channel is closed, is skipped. Where the channel is full and the service
+    /// that is closed, or whose channel is closed, is skipped. If the channel is full and the service
     /// doesn't overflow, the publisher's handler decides, or without one its strategy: the message isn't
     /// delivered, or the send is blocked. Connections aren't updated, and the message enters no history.
     /// Takes no memory.
@@ -32,12 +32,12 @@ impl SampleMut {
     /// Returns how many subscribers took the message, one or none, or the blocked send. Without that
     /// connection it is none.
     ///
-    /// Fails with `ConnectionBrokenSinceSenderNoLongerExists` where the publisher is gone: the message
-    /// is lost. Fails with `UnableToDeliver` where the publisher's handler failed the send. No other
+    /// Fails with `ConnectionBrokenSinceSenderNoLongerExists` if the publisher is gone: the message
+    /// is lost. Fails with `UnableToDeliver` if the publisher's handler failed the send. No other
     /// error is returned.
     ///
     /// The loan counts among the publisher's loans until the send has ended. Its slot is free again
-    /// then where nobody took the message, and else when the subscriber has released it. A message in
+    /// then if nobody took the message, and else when the subscriber has released it. A message in
     /// another channel than 0 can't be received by this library: it stays until its ports are closed at
     /// the latest, and with overflow until a later one goes there in its place.
     ///

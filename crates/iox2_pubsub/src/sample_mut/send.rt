@@ -32,20 +32,20 @@ impl SampleMut {
     ghost use Rattle.iox2_domain.specs.Shows.{Shows};
     ghost use Rattle.iox2_pubsub.specs.Handles.{buffer_size_of, written_lender, written_number};
 
-    /// Sends the message to every open subscriber, except those whose channel 0 is closed. Where the
+    /// Sends the message to every open subscriber, except those whose channel 0 is closed. If the
     /// buffer of one is full and the service doesn't overflow, the publisher's handler decides, or
     /// without one its strategy: the subscriber doesn't get it, or the send is blocked, and waits for
     /// this subscriber. Returns how many subscribers took it, or the blocked send.
     ///
-    /// Fails with `ConnectionBrokenSinceSenderNoLongerExists` where the publisher is gone: the message
-    /// is lost. Fails with `ConnectionError` where memory for a connection with a new subscriber is
+    /// Fails with `ConnectionBrokenSinceSenderNoLongerExists` if the publisher is gone: the message
+    /// is lost. Fails with `ConnectionError` if memory for a connection with a new subscriber is
     /// refused and the publisher's handler fails the call: the loan is given back, and no message was
-    /// sent. Fails with `UnableToDeliver` where the publisher's handler failed the send at some
+    /// sent. Fails with `UnableToDeliver` if the publisher's handler failed the send at some
     /// subscriber: the message was sent, and the others may have got it. No other error is returned.
     ///
     /// The loan counts among the publisher's loans until the send has ended. Its slot is free again
     /// when, besides, every subscriber that took the message has released it and no history keeps it.
-    /// Memory is asked for only where the publisher gets a connection with a new subscriber: where it
+    /// Memory is asked for only if the publisher gets a connection with a new subscriber: if it
     /// is refused and the send goes on, that subscriber doesn't get the message, and the domain keeps a
     /// warning, as long as the publisher's handler says no other.
     ///
@@ -78,9 +78,9 @@ impl SampleMut {
     }
 }
 
-// Sends a publisher's written loan to its receivers, once the publisher's connections are updated. Where the
-// send is blocked, what came of it has this handle, which is made before, of the numbers of the loan that
-// the send spends, and disowned where the send isn't blocked.
+// Sends a publisher's written loan to its receivers, once the publisher's connections are updated. If the
+// send is blocked, its outcome has this handle. The handle is made before, of the numbers of the loan that
+// the send spends, and is disowned if the send isn't blocked.
 #[inline(always)]
 fn send_loan<T: Drop, U: Default + Drop, F: BackpressureFn, G: DegradationFn>(
     state: &mut DomainState<T, U>,
@@ -110,7 +110,7 @@ fn send_loan<T: Drop, U: Default + Drop, F: BackpressureFn, G: DegradationFn>(
     })
 }
 
-/// What came of a send that ended so. Where it is blocked it has this handle.
+/// The outcome of a send that ended so. If the send is blocked, the outcome has this handle.
 pub(crate) fn outcome_of(blocked: BlockedSend, end: SendEnd) -> Result<SendOutcome, SendError>
     ensures same { result_of_send result ≡ end_result end }
     ensures blocked { IfOk result (λ came. IfBlocked came (λ it. it ≡ blocked)) }

@@ -24,8 +24,8 @@ impl SampleMut {
     /// The user header, to be changed where it lies. What is left behind the reference is the loan's
     /// user header from then on, and nothing else of the domain changes.
     ///
-    /// iceoryx2's `SampleMut::user_header_mut` (`src/sample_mut.rs`). There the loan knows its memory; here the
-    /// domain is handed in, and is what the reference borrows.
+    /// iceoryx2's `SampleMut::user_header_mut` (`src/sample_mut.rs`). There the loan knows its memory; here
+    /// the domain is handed in, and is what the reference borrows.
     pub fn user_header_mut<'a, T: Drop, U: Default + Drop, F: BackpressureFn, G: DegradationFn>(
         domain: &'a mut Domain<T, U, F, G>,
         sample: &mut SampleMut,

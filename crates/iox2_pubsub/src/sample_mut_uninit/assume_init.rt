@@ -20,7 +20,7 @@ impl SampleMutUninit {
     ghost use Rattle.iox2_pubsub.specs.Slices.{HasUnwrittenCells, HasValues};
     ghost use Rattle.iox2_pubsub.specs.Handles.{unwritten_number, written_number};
 
-    /// Makes the loan one that may be sent, where each of its cells is written. Else the loan is
+    /// Makes the loan one that may be sent, if each of its cells is written. Else the loan is
     /// handed back as it was, and nothing changes. No value is copied.
     ///
     /// iceoryx2's `SampleMutUninit::assume_init` (`src/sample_mut_uninit.rs`), which takes the

@@ -24,8 +24,8 @@ impl SampleMutUninit {
     /// The user header, to be changed where it lies. What is left behind the reference is the loan's
     /// user header from then on, and nothing else of the domain changes.
     ///
-    /// iceoryx2's `SampleMutUninit::user_header_mut` (`src/sample_mut_uninit.rs`). There the loan knows its memory; here the
-    /// domain is handed in, and is what the reference borrows.
+    /// iceoryx2's `SampleMutUninit::user_header_mut` (`src/sample_mut_uninit.rs`). There the loan knows its
+    /// memory; here the domain is handed in, and is what the reference borrows.
     pub fn user_header_mut<'a, T: Drop, U: Default + Drop, F: BackpressureFn, G: DegradationFn>(
         domain: &'a mut Domain<T, U, F, G>,
         sample: &mut SampleMutUninit,

@@ -48,7 +48,7 @@ impl Sample {
         sample_payloads(&domain.state, &self.sample.sample)
     }
 
-    /// The same, where the message lies in the slot that its handle names, and `None` elsewhere: so
+    /// The same, if the message lies in the slot that its handle names, and `None` otherwise: so
     /// nothing is searched. This library's own.
     #[inline(always)]
     pub fn payload_at_hint<'a, T: Drop, U: Default + Drop, F: BackpressureFn, G: DegradationFn>(

@@ -41,7 +41,7 @@ impl SampleMutUninit {
     ghost use Rattle.iox2_pubsub.specs.Slices.{HasUnwrittenCells, HasValues, HoldsSlices, IsSliced};
     ghost use Rattle.iox2_pubsub.specs.Handles.{as_unwritten, as_written, unwritten_number, written_number};
 
-    /// The cells as they lie in their slot: `None` where one isn't written. They are handed out where the
+    /// The cells as they lie in their slot: `None` if one isn't written. They are handed out if the
     /// settings say so (`ServiceConfig::lists_cells`), as they do by default.
     ///
     /// iceoryx2's `SampleMutUninit::payload` (`src/sample_mut_uninit.rs`).
@@ -104,7 +104,7 @@ impl SampleMutUninit {
         written(service_id, loan)
     }
 
-    /// Makes the loan one that may be sent, where each of its cells is written. Else the loan is
+    /// Makes the loan one that may be sent, if each of its cells is written. Else the loan is
     /// handed back as it was, and nothing changes. No value is copied.
     ///
     /// iceoryx2's `SampleMutUninit::assume_init` (`src/sample_mut_uninit.rs`), which takes the

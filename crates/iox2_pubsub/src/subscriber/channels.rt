@@ -19,7 +19,7 @@ impl Subscriber {
 
     /// Whether a channel is in a state at some connection of the subscriber: 0 is that of a new
     /// channel, `u64::MAX` that of a closed one, and any other the caller's. `channel` is its number,
-    /// below `number_of_channels` of the settings. It isn't, where the subscriber has no connection.
+    /// below `number_of_channels` of the settings. It isn't if the subscriber has no connection.
     ///
     /// iceoryx2's `Receiver::at_least_one_channel_has_state` (`src/port/details/receiver.rs`), which
     /// is internal.
@@ -40,7 +40,7 @@ impl Subscriber {
     /// where it is closed: it takes messages then, unless the state is the closed one, `u64::MAX`,
     /// again. A new channel is in the state 0; any other is the caller's. Where the channel isn't
     /// closed it stays as it is. `channel` is its number, below `number_of_channels` of the settings.
-    /// Returns whether it was closed at every connection, and so `true` where there is none: that
+    /// Returns whether it was closed at every connection, and so `true` if there is none: that
     /// with a new publisher comes with the subscriber's next update, receive or question. Takes no
     /// memory.
     ///

@@ -17,7 +17,7 @@ impl Subscriber {
 
     /// Closes the subscriber: it takes no messages any more, and what waits for it is lost. Its
     /// samples live and read on until they are released; with the last of them its place is free for
-    /// another, or at once where it has none. Takes no memory.
+    /// another, or at once if it has none. Takes no memory.
     ///
     /// iceoryx2's `Subscriber`, when it is dropped (`src/port/subscriber.rs`).
     pub fn close<T: Drop, U: Default + Drop, F: BackpressureFn, G: DegradationFn>(

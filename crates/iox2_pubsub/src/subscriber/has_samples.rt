@@ -18,7 +18,7 @@ impl Subscriber {
     /// Updates the subscriber's connections and says whether any message waits for it, also one
     /// that it can't receive before it has released another.
     ///
-    /// Fails where the update does, as `UpdateConnections::update_connections` says.
+    /// Fails if the update does, as `UpdateConnections::update_connections` says.
     ///
     /// iceoryx2's `Subscriber::has_samples` (`src/port/subscriber.rs`).
     pub fn has_samples<T: Drop, U: Default + Drop, F: BackpressureFn, G: DegradationFn>(

@@ -15,11 +15,11 @@ impl Subscriber {
     /// Updates the subscriber's connections and receives the oldest message that waits from one
     /// publisher, if it may borrow one more from that publisher. Closed publishers come first. It isn't
     /// promised which of several publishers comes first, so a message of another may have
-    /// waited longer. `None` where no message waits.
+    /// waited longer. `None` if no message waits.
     ///
-    /// Fails with `ReceiveError::ExceedsMaxBorrows` where messages wait, but no more may be borrowed
+    /// Fails with `ReceiveError::ExceedsMaxBorrows` if messages wait, but no more may be borrowed
     /// from any of their publishers. The update stays done then, and no message moves.
-    /// Fails with `ReceiveError::ConnectionFailure` where the update does, as
+    /// Fails with `ReceiveError::ConnectionFailure` if the update does, as
     /// `UpdateConnections::update_connections` says.
     ///
     /// iceoryx2's `Subscriber::receive` (`src/port/subscriber.rs`).

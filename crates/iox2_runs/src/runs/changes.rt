@@ -103,7 +103,7 @@ pub(crate) fn write_header<
     }
 }
 
-/// Takes the loan as written, where each of its cells is.
+/// Takes the loan as written, if each of its cells is.
 pub(crate) fn assume_init<
     T: Default + Drop,
     U: Default + Drop,

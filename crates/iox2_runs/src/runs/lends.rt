@@ -102,7 +102,7 @@ pub(crate) fn loan_slice<T: Default + Drop, U: Default + Drop, F: BackpressureFn
     }
 }
 
-/// Sends the value with the publisher, and makes the blocked send, where it is blocked.
+/// Sends the value with the publisher, and makes the blocked send, if it is blocked.
 pub(crate) fn send_copy<T: Default + Drop, U: Default + Drop, F: BackpressureFn, G: DegradationFn>(
     domain: &mut Domain<T, U, F, G>,
     held: Made,

@@ -46,7 +46,7 @@ pub fn disown_all(mut table: Vec<Made>) {
     table.destroy_empty();
 }
 
-/// What a command came to: its reply, what it left of what its handle named, and what it made.
+/// How a command ended: its reply, what it left of what its handle named, and what it made.
 pub(crate) type Turn<T, U> = (Reply<T, U>, Made, Made);
 
 /// Takes what the command at the position made out of the table, if there is any.

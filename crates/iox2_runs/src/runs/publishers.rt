@@ -20,7 +20,7 @@ use iox2_pubsub::{
     DegradationHandler, Domain, NoOverride, PortFactoryPublisher, PortHandle, Publisher,
 };
 
-// The factory, told what the command asks of the publisher, but for its length and its slots.
+// The factory, told what the command asks of the publisher, except its length and its slots.
 fn told<F: BackpressureFn, G: DegradationFn, H>(
     factory: PortFactoryPublisher<F, G, NoOverride, H>,
     asked: NewPublisher,
@@ -39,7 +39,7 @@ fn told<F: BackpressureFn, G: DegradationFn, H>(
     }
 }
 
-// Makes a publisher by the factory, with an override that always asks for so many slots.
+// Makes a publisher by the factory, with an override that always asks for `slots` slots.
 fn create_asked<
     T: Drop,
     U: Default + Drop,
@@ -67,7 +67,7 @@ fn create_asked<
     factory.create(domain)
 }
 
-// Makes a publisher by the factory, with an override that asks for so many slots where there is one.
+// Makes a publisher by the factory, with an override that asks for `asked_slots` if that is a number.
 fn create<
     T: Drop,
     U: Default + Drop,

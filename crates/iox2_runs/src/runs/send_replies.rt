@@ -7,8 +7,8 @@ use iox2_commands::Reply;
 use iox2_machine::SendError;
 use iox2_pubsub::SendOutcome;
 
-/// What is replied to a send, a retry or a giving up that came out so, and the blocked send, where it
-/// is blocked.
+/// The reply to a send, a retry or a giving up with this outcome, and the blocked send, if it is
+/// blocked.
 pub(crate) fn send_reply<T, U>(outcome: Result<SendOutcome, SendError>) -> (Reply<T, U>, Made)
     ensures reply { result.0 ≡ reply_to_send outcome }
     ensures made { result.1 ≡ made_by_send outcome }

@@ -12,7 +12,7 @@ use iox2_machine::{BackpressureFn, DegradationFn};
 use iox2_pubsub::Domain;
 use std::time::Duration;
 
-/// Sends the loan, and makes the blocked send, where it is blocked.
+/// Sends the loan, and makes the blocked send, if it is blocked.
 pub(crate) fn send<T: Default + Drop, U: Default + Drop, F: BackpressureFn, G: DegradationFn>(
     domain: &mut Domain<T, U, F, G>,
     held: Made,
@@ -53,7 +53,7 @@ pub(crate) fn discard<T: Default + Drop, U: Default + Drop, F: BackpressureFn, G
     }
 }
 
-/// Tries the blocked send again. It keeps its position where it is blocked again.
+/// Tries the blocked send again. It keeps its position if it is blocked again.
 pub(crate) fn retry<T: Default + Drop, U: Default + Drop, F: BackpressureFn, G: DegradationFn>(
     domain: &mut Domain<T, U, F, G>,
     held: Made,
@@ -71,7 +71,7 @@ pub(crate) fn retry<T: Default + Drop, U: Default + Drop, F: BackpressureFn, G: 
     }
 }
 
-/// Gives up the receiver that the blocked send waits for. The send keeps its position where it is
+/// Gives up the receiver that the blocked send waits for. The send keeps its position if it is
 /// blocked at a later one.
 pub(crate) fn give_up<T: Default + Drop, U: Default + Drop, F: BackpressureFn, G: DegradationFn>(
     domain: &mut Domain<T, U, F, G>,

@@ -27,8 +27,8 @@ impl<
     H: PortHandle<Publisher>,
 > PortFactoryPublisher<F, G, PreallocatedSamplesOverride<P>, H> {
     /// Makes the publisher, as a factory without an override does, but with as many slots as the
-    /// override says, which is asked first: no more than the worst case, and at least one where that
-    /// isn't none. Where the worst case doesn't fit `usize` the override isn't asked.
+    /// override says, which is asked first: no more than the worst case, and at least one if that
+    /// isn't none. If the worst case doesn't fit `usize` the override isn't asked.
     ///
     /// With fewer slots than the worst case a loan fails with `LoanError::OutOfMemory` while each slot
     /// is in use, though fewer loans are out than may be.

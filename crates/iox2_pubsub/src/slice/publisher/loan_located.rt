@@ -22,7 +22,7 @@ use std::ptr::NonNull;
 pub struct LocatedLoan<T> {
     /// The loan.
     pub loan: SampleMut,
-    /// Where its first value lies, until the loan is sent or given back. `None` where it has no
+    /// Where its first value lies, until the loan is sent or given back. `None` if it has no
     /// values. No clause says what lies there, since none speaks of memory that the domain owns.
     pub start: Option<NonNull<T>>,
 }

@@ -25,13 +25,13 @@ impl Publisher {
     ///
     /// # Errors
     ///
-    /// Of a static publisher, in this order: `ExceedsMaxLoanSize` where the length is above
-    /// `initial_max_slice_len`; `ExceedsMaxLoans` where as many loans are out as the publisher may have
-    /// at a time; `OutOfMemory` where each of its slots holds a loan, or a message that is kept for
-    /// later subscribers, waits or is borrowed; `InternalFailure` where the domain has no message
-    /// number left. Of one whose memory grows: `ExceedsMaxLoans`, then `InternalFailure` where there is
-    /// no such number; then, where the length is above that of its newest slots or each of them holds
-    /// something, `OutOfMemory` where it has made slots 255 times, and `InternalFailure` where memory
+    /// Of a static publisher, in this order: `ExceedsMaxLoanSize` if the length is above
+    /// `initial_max_slice_len`; `ExceedsMaxLoans` if as many loans are out as the publisher may have
+    /// at a time; `OutOfMemory` if each of its slots holds a loan, or a message that is kept for
+    /// later subscribers, waits or is borrowed; `InternalFailure` if the domain has no message
+    /// number left. Of one whose memory grows: `ExceedsMaxLoans`, then `InternalFailure` if there is
+    /// no such number; then, if the length is above that of its newest slots or each of them holds
+    /// something, `OutOfMemory` if it has made slots 255 times, and `InternalFailure` if memory
     /// for more is refused, or their size doesn't fit `usize`. Nothing changes then.
     ///
     /// A publisher with as many slots as `worst_case_slots` says for its limit of loans never lacks
