@@ -1,6 +1,6 @@
-/* A stand-in for iceoryx2's own C binding: the six of its functions whose names are those of this library's but for the
- * prefix, and some types. What each takes is simplified; only that the names are there, beside those of iox2_pubsub.h,
- * matters to the programs in this folder. */
+/* A stand-in for iceoryx2's own C binding: the six of its functions that this library has too, by the same
+ * names except for the prefix, and some types. What each takes is simplified; only that the names are there,
+ * beside those of iox2_pubsub.h, matters to the programs in this folder. */
 #ifndef STAND_IN_FOR_ICEORYX2_H
 #define STAND_IN_FOR_ICEORYX2_H
 

@@ -29,8 +29,8 @@ typedef union numbers_t {
   iox2ps_sample_t sample;
 } numbers_t;
 
-/* How many words of a thing are its names, and how many it has. Among those of a sample stands its origin, which names
- * nothing. */
+/* How many words of a thing are its names, and how many it has. Among those of a sample is its origin, which
+ * names nothing. */
 static const size_t names[KINDS] = {4, 4, 6, 6, 8};
 static const size_t words[KINDS] = {7, 6, 9, 9, 11};
 

@@ -1,10 +1,11 @@
 /* Makes random calls, most of them on channels, and holds each to a small model: `random_channels SEED CALLS`.
  *
- * The model knows of each connection what waits and is borrowed there, and how its one to three channels stand. A message
- * may be sent to all connections, into channel 0, or into one channel of one connection. It says what each call
- * has to return; after each call all channels are read and compared with it. The handle of a port that was closed stays
- * where it was, so that many calls are made by numbers that name nothing, which has to be answered by IOX2PS_NOT_LIVE.
- * Memory is never refused here. Each message has eight bytes, which are a number that no other message has. */
+ * The model knows of each connection what waits and is borrowed there, and the state of its one to three
+ * channels. A message may be sent to all connections, into channel 0, or into one channel of one connection.
+ * It says what each call has to return; after each call all channels are read and compared with it. The
+ * handle of a port that was closed stays where it was, so that many calls are made by numbers that name
+ * nothing, which has to be answered by IOX2PS_NOT_LIVE. Memory is never refused here. Each message has eight
+ * bytes, which are a number that no other message has. */
 #include "iox2_pubsub.h"
 #include "random_numbers.h"
 #include <inttypes.h>
@@ -210,7 +211,7 @@ static void update_publisher(publisher_t *p) {
   forget_connections();
 }
 
-/* Of the expired ones those that were kept first go first, but none of which something is borrowed. */
+/* Of the expired ones that have nothing borrowed, the one that was kept first: it goes first. */
 static connection_t *first_to_go(const subscriber_t *q) {
   connection_t *first = NULL;
   for (EACH_OF(q, c)) {
@@ -260,7 +261,7 @@ static int update_subscriber(subscriber_t *q) {
 
 /* ---- the model: closes and releases */
 
-/* A closed publisher of which it has no message is forgotten. */
+/* It forgets each closed publisher that it has no message of. */
 static void prune(const subscriber_t *q) {
   for (EACH_OF(q, c)) {
     if (!publisher_of(c->publisher) && load_of(c) == 0) c->receiver = NO_END;

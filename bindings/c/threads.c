@@ -21,7 +21,8 @@ static void check(int is_so, const char *words) {
   exit(1);
 }
 
-/* Each call of the domain stands between these two, and a thread that has done something others may wait for says so. */
+/* Each call of the domain is made between these two. A thread says so when it has done what others may wait
+ * for. */
 static void begin(void) { check(pthread_mutex_lock(&lock) == 0, "no lock"); }
 static void end(int may_help) {
   check(pthread_mutex_unlock(&lock) == 0, "no lock");

@@ -25,7 +25,7 @@ iox2ps_status_t __wrap_iox2ps_loan_payload(iox2ps_domain_t *, const iox2ps_loan_
 iox2ps_status_t __wrap_iox2ps_subscriber_receive(iox2ps_domain_t *, const iox2ps_subscriber_t *, iox2ps_sample_t *, const void **, size_t *);
 iox2ps_status_t __wrap_iox2ps_sample_payload(iox2ps_domain_t *, const iox2ps_sample_t *, const void **, size_t *);
 
-/* The last loans and samples, of which the domain says which are live, and what was said of each sample. */
+/* The last loans and samples, and what was said of each sample. The domain says which of them are live. */
 enum { KEPT = 64 };
 static iox2ps_loan_t loans[KEPT];
 static iox2ps_sample_t samples[KEPT];

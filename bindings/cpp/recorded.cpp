@@ -10,7 +10,7 @@ struct Reading {
 
 using Domain = iox2ps::Domain<Reading>;
 
-// Sends two readings, of which the second waits for a subscriber that is full.
+// Sends two readings. The second waits for a subscriber that is full.
 static void send(iox2ps::Publisher<Reading> &publisher, iox2ps::Subscriber<Reading> &subscriber) {
   auto loan = publisher.loan().expect("a loan");
   loan->number = 1;

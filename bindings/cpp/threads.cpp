@@ -453,7 +453,7 @@ void each_listener_is_called_for_each_message() {
 }
 
 #ifdef __linux__
-/* Whether it is readable within so many milliseconds; -1 waits for good. */
+/* Whether it is readable within that many milliseconds; -1 waits for good. */
 bool is_readable(int loop, int milliseconds) {
   epoll_event event;
   return epoll_wait(loop, &event, 1, milliseconds) == 1;
@@ -573,7 +573,7 @@ private:
   pthread_mutex_t mutex_;
 };
 
-/* Two threads send to two others, each of which gets all. */
+/* Two threads send to two others. Each of these gets all. */
 void a_lock_with_inheritance_is_brought() {
   constexpr std::uint64_t messages = 500;
   iox2ps::Config<Message> config(1);

@@ -32,13 +32,13 @@ public:
     });
   }
 
-  /* Waits until it has had so many. */
+  /* Waits until it has had that many turns. */
   void has_had(std::size_t turns) {
     wait_until([&] { return had_ >= turns || has_ended_; });
     if (had_ < turns) too_few();
   }
 
-  /* Waits until it has had so many, and stands before the lock. */
+  /* Waits until it has had that many turns, and is before the lock. */
   void stands_after(std::size_t turns) {
     wait_until([&] { return (comes_ && had_ == turns) || has_ended_; });
     if (has_ended_) too_few();
@@ -103,7 +103,7 @@ private:
 /* A thread whose turns are counted. */
 class Watch {
 public:
-  /* Before its next turn after so many it stops. */
+  /* After that many turns it stops before its next one. */
   template <typename Run> Watch(std::size_t allowed, Run run)
       : turns_(std::make_shared<Turns>(allowed)), thread_([turns = turns_, run = std::move(run)]() mutable {
           Turns::own() = turns.get();

@@ -43,7 +43,7 @@
  * With the lock, all calls of a domain are one list, and what is proved of a list of calls is so of that one, in the order
  * in which the lock was taken. bindings/c/threads.c is such a program; iox2_pubsub_shared.hpp has a lock in it.
  *
- * Each call returns IOX2PS_OK, which is 0, or one of the codes that stand at it. Where it says nothing
+ * Each call returns IOX2PS_OK, which is 0, or one of the codes listed at it. Where it says nothing
  * else, a call that doesn't return IOX2PS_OK changes neither the domain nor what its pointers point to,
  * and IOX2PS_NO_DOMAIN says that the iox2ps_domain_t has no domain. A compiler that can, warns where the code is dropped.
  *
@@ -126,7 +126,7 @@ typedef enum iox2ps_status_e {
   IOX2PS_CONNECTION_FAILURE_EXPIRED_BUFFER_FULL = 46,
   IOX2PS_CONNECTION_FAILURE_UNABLE_TO_MAP = 47, /**< never returned */
   IOX2PS_PUBLISHER_CREATE_ERROR_EXCEEDS_MAX_SUPPORTED_PUBLISHERS = 50, /**< as many are open as the domain allows */
-  /** Memory for its messages was refused, or there can't be so much. */
+  /** Memory for its messages was refused, or there can't be that much. */
   IOX2PS_PUBLISHER_CREATE_ERROR_UNABLE_TO_CREATE_DATA_SEGMENT = 51,
   IOX2PS_PUBLISHER_CREATE_ERROR_FAILED_TO_DEPLOY_THREADSAFETY_POLICY = 52, /**< other memory was refused */
   IOX2PS_PUBLISHER_CREATE_ERROR_UNABLE_TO_CREATE_PORT_TAG = 53, /**< no id is left for a port */
@@ -332,7 +332,7 @@ void iox2ps_subscriber_options_of(const iox2ps_config_t *config, iox2ps_subscrib
  * if that doesn't fit size_t. */
 IOX2PS_NODISCARD iox2ps_status_t iox2ps_worst_case_slots(const iox2ps_config_t *config, size_t loans, size_t *slots);
 
-/** The text of a code or of the kind of a warning, which ends in a zero byte and lies there for good; len
+/** The text of a code or of the kind of a warning, which ends in a zero byte and stays there for good; len
  * is without that byte. Each number has one. */
 void iox2ps_error_text_at(uint32_t code, const char **text, size_t *len);
 
@@ -543,8 +543,8 @@ IOX2PS_NODISCARD iox2ps_status_t iox2ps_sample_release(iox2ps_domain_t *domain, 
  * A subscriber's calls go over all connections that it has, also with closed publishers whose messages it has; a
  * publisher's are about one, which iox2ps_publisher_get_connection_id_of() names. A port has a connection once it was made
  * by an update of its own. A publisher may make these calls while a send of it waits; one that waits for a closed channel
- * goes past it when it is tried again. IOX2PS_NO_SUCH_CHANNEL comes for each channel from number_of_channels on, but
- * for channel 0.
+ * goes past it when it is tried again. The calls return IOX2PS_NO_SUCH_CHANNEL for each channel from
+ * number_of_channels on, except channel 0.
  *
  * Calls that only ask aren't recorded, and nothing recorded depends on them. For calls that change a channel, and for a
  * send to one connection, there is no command, so that a recording ends before the first of them: it and what follows are

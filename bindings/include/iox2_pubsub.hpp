@@ -233,8 +233,8 @@ private:
   std::size_t size_ = 0;
 };
 
-/** What came of a message that was sent: how many subscribers took it, or the send that waits. In a domain without
- * overflow it has to be looked at: a send that waits and is dropped is given up. */
+/** The outcome of a message that was sent: how many subscribers took it, or the send that waits. In a domain
+ * without overflow it has to be looked at: a send that waits and is dropped is given up. */
 template <typename P, typename M = OneThread> class [[nodiscard]] Sent {
 public:
   /** How many subscribers took it, or none where it waits. */

@@ -58,7 +58,7 @@ enum class Error : std::uint32_t {
 
   /** As many publishers are open as the domain allows. */
   PublisherExceedsMaxSupportedPublishers = IOX2PS_PUBLISHER_CREATE_ERROR_EXCEEDS_MAX_SUPPORTED_PUBLISHERS,
-  /** Memory for its messages was refused, or there can't be so much. */
+  /** Memory for its messages was refused, or there can't be that much. */
   PublisherUnableToCreateDataSegment = IOX2PS_PUBLISHER_CREATE_ERROR_UNABLE_TO_CREATE_DATA_SEGMENT,
   /** Other memory was refused. */
   PublisherFailedToDeployThreadsafetyPolicy = IOX2PS_PUBLISHER_CREATE_ERROR_FAILED_TO_DEPLOY_THREADSAFETY_POLICY,

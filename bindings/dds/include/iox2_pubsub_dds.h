@@ -121,7 +121,7 @@ typedef struct iox2ps_dds_origin_t {
 /* ---- the gateways of a thread */
 
 /* Joins a DDS domain, by number: 0 to 230. What is longer than max_message_size bytes is thrown away by DDS before it takes
- * memory, where this is the process's first use of that DDS domain; 0 stands for 1 MiB. Later gateways for longer
+ * memory, if this is the process's first use of that DDS domain; 0 means 1 MiB. Later gateways for longer
  * messages are refused. */
 uint32_t iox2ps_dds_gateways_open(uint32_t dds_domain, size_t max_message_size, iox2ps_dds_gateways_t **gateways,
                                   char *why, size_t room);

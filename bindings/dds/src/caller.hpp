@@ -17,7 +17,7 @@ public:
   bool may_wait() const { return lock_.call && lock_.wait; }
   iox2ps_domain_t *domain() const { return domain_; }
 
-  /* Makes calls that may bring so much to those who wait. */
+  /* Makes calls that may bring what `brings` says to those who wait. */
   template <typename Make> std::uint32_t call(std::uint32_t brings, Make &&make) const {
     if (!lock_.call) return make(domain_);
     return lock_.call(lock_.context, domain_, brings, made_by<Make>, &make);

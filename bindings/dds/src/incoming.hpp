@@ -17,7 +17,7 @@ public:
   Incoming(const Incoming &) = delete;
   Incoming &operator=(const Incoming &) = delete;
 
-  /* Takes and sends so many at most, until nothing is there or a send is blocked. */
+  /* Takes and sends at most that many, until nothing is there or a send is blocked. */
   void forward(iox2ps_dds_forwarded_t &now, std::size_t most);
 
   bool is_blocked() const { return is_blocked_; }

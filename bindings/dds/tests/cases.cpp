@@ -7,8 +7,8 @@
 
 namespace {
 
-/* Says who is there: when the test says so, or so many seconds after what it waits for. Options: ready (a file to make), until;
- * writers, other_types, incompatible (how many it waits for), hold. */
+/* Says who is there: when the test says so, or that many seconds (hold) after what it waits for. Options:
+ * ready (a file to make), until; writers, other_types, incompatible (how many it waits for), hold. */
 int look_role(const Options &options) {
   Peer peer = peer_of(options);
   options.tell("ready");

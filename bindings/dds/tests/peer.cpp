@@ -18,9 +18,9 @@ void send(Peer &peer, iox2ps::Publisher<Bytes> &publisher, std::size_t len, cons
   }
 }
 
-/* Options: count, len, publishers, gentle (0: send on while messages wait for the topic), more_when (a file: so many messages more
- * once it is there), sent (a file to make when all are), late (1: one message more, once somebody is there), until (a file: to
- * stay until it is there). */
+/* Options: count, len, publishers, gentle (0: send on while messages wait for the topic), more_when (a file:
+ * that many messages more once it is there), sent (a file to make when all are), late (1: one message more,
+ * once somebody is there), until (a file: to stay until it is there). */
 int send_role(const Options &options) {
   Peer peer = peer_of(options);
   std::vector<iox2ps::Publisher<Bytes>> publishers;
@@ -200,7 +200,7 @@ int pong_role(const Options &options) {
   std::uint64_t answered = 0;
   while (answered < options.number("count", 1000) && seconds_since(last) < 10) {
     peer.gateway.wait(10ms);
-    std::vector<std::uint64_t> questions; // answered when the own answers before are taken out, of which a buffer has few
+    std::vector<std::uint64_t> questions; // answered when its own earlier answers are out: a buffer has few
     while (auto sample = subscriber.receive().expect("a receive")) {
       Head head;
       std::memcpy(&head, sample->data(), sizeof head);

@@ -188,7 +188,7 @@ int hostile_role(const Options &options) {
   return 0;
 }
 
-/* How many participants of DDS there are, once there are so many or the time has passed. */
+/* How many participants of DDS there are, once there are that many or the time has passed. */
 int participants_role(const Options &options) {
   Plain plain(options, &iox2_msgs_msg_dds__Frame__desc);
   dds_entity_t list = dds_create_reader(plain.participant, DDS_BUILTIN_TOPIC_DCPSPARTICIPANT, nullptr, nullptr);

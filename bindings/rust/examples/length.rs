@@ -1,6 +1,6 @@
 //! Passes messages from a publisher to a subscriber, as tools/length_cost.c does by the calls for C: `length MESSAGES BYTES KIND`, where KIND
-//! is `uninit` (a loan of which one byte is written), `zeros` (a loan of zeros) or `copy` (a copy on both sides). Beside each it fills
-//! and copies as many bytes without a domain.
+//! is `uninit` (a loan in which one byte is written), `zeros` (a loan of zeros) or `copy` (a copy on both
+//! sides). Beside each it fills and copies as many bytes without a domain.
 
 use iox2_pubsub::{Domain, Loan, Publisher, SendOutcome, Subscriber};
 use std::error::Error;

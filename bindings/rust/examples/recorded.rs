@@ -4,7 +4,7 @@ use iox2_pubsub::{Domain, Publisher, SendOutcome, Subscriber};
 use std::error::Error;
 use std::time::Duration;
 
-// Sends two readings, of which the second waits for a subscriber that is full.
+// Sends two readings. The second waits for a subscriber that is full.
 fn send(
     publisher: &Publisher<[u16]>,
     subscriber: &Subscriber<[u16]>,

@@ -1,4 +1,4 @@
-//! A domain: a service and what stands in it.
+//! A domain: a service and what is in it.
 
 use crate::errors::{unexpected, DomainCreateError};
 use crate::guarded::Guarded;
@@ -304,8 +304,8 @@ impl<P: Payload + ?Sized> DomainBuilder<P> {
         self
     }
 
-    /// Keeps a recording of the domain's first calls: as many as give this number of commands, with so
-    /// many bytes of each message. The others are 0 in it. [`Domain::recording`] gives it.
+    /// Keeps a recording of the domain's first calls: as many as give this number of commands, with
+    /// that many bytes of each message. The others are 0 in it. [`Domain::recording`] gives it.
     pub fn record(mut self, commands: usize, bytes: usize) -> Self {
         self.recorded = Some(Room { commands, bytes });
         self

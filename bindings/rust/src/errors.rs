@@ -11,7 +11,7 @@ use std::str;
 pub(crate) fn text(code: u32) -> &'static str {
     let mut start = ptr::null();
     let mut len = 0;
-    // SAFETY: both pointers are of locals. The text lies in the archive for good.
+    // SAFETY: both pointers are of locals. The text is in the archive for good.
     let bytes = unsafe {
         sys::iox2ps_error_text_at(code, &mut start, &mut len);
         slice::from_raw_parts(start, len)
@@ -301,7 +301,7 @@ impl Error for ReceiveError {
     }
 }
 
-// A failed connection has a code of its own for each call that it fails; they differ by so much.
+// A failed connection has a code of its own for each call that it fails. The codes differ by these numbers.
 const FROM_SEND: u32 =
     sys::CONNECTION_FAILURE_OUT_OF_MEMORY - sys::SEND_ERROR_CONNECTION_OUT_OF_MEMORY;
 const FROM_RECEIVE: u32 =

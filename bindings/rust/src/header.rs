@@ -12,7 +12,7 @@ pub struct Header {
 }
 
 impl Header {
-    // Of a message whose elements have so many bytes each. One of no size is the only one.
+    // Of a message whose elements have `size` bytes each. One of no size is the only one.
     pub(crate) fn of(header: &sys::Header, size: usize) -> Header {
         let bytes = header.number_of_elements as usize;
         Header {

@@ -32,9 +32,9 @@ pub unsafe trait DomainLock: Send + Sync + 'static {
 
 /// The standard library's lock. Who finds it taken looks again after pauses that double, and then some times after
 /// others were let run, before it sleeps: so its holder makes several calls meanwhile, and what they need stays near its
-/// processor. That takes 2,016 pauses in all, some 110 microseconds on the Xeon where they were measured, of which a
-/// thread keeps its processor for the first 30. It lends no priority: where threads have unequal priorities, or there is
-/// one processor, bring a lock of your own.
+/// processor. That takes 2,016 pauses in all, some 110 microseconds on the Xeon where they were measured. A
+/// thread keeps its processor for the first 30 of these microseconds. It lends no priority: where threads
+/// have unequal priorities, or there is one processor, bring a lock of your own.
 pub struct StdLock(Mutex<()>);
 
 // How many short pauses are between the first looks.

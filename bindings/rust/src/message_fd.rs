@@ -53,7 +53,7 @@ impl MessageFd {
     ///
     /// # Errors
     ///
-    /// What the system says of the read, but for there being nothing to read.
+    /// What the system says of the read, except that there is nothing to read.
     pub fn reset(&self) -> io::Result<()> {
         let read = match (&self.0.file).read(&mut [0; 8]) {
             Err(error) if error.kind() == ErrorKind::WouldBlock => Ok(()),

@@ -1,4 +1,4 @@
-//! What came of a send.
+//! The outcome of a send.
 
 use crate::errors::{unexpected, SendError};
 use crate::numbers::number;
@@ -13,7 +13,7 @@ use std::mem::{forget, ManuallyDrop, MaybeUninit};
 use std::ptr;
 use std::time::{Duration, Instant};
 
-/// What came of a message that was sent. A compiler warns where it is dropped, since a send that is blocked
+/// The outcome of a message that was sent. A compiler warns where it is dropped, since a send that is blocked
 /// is given up there:
 ///
 /// ```compile_fail
@@ -103,7 +103,7 @@ impl<P: Payload + ?Sized, M: Threads> fmt::Debug for SendOutcome<P, M> {
 #[must_use = "a send that is blocked is given up where it is dropped"]
 pub struct BlockedSend<P: Payload + ?Sized, M: Threads = OneThread> {
     hold: M::Hold,
-    // In a box, since a send is seldom blocked, and what came of it is passed on by value.
+    // In a box, since a send is seldom blocked, and its outcome is passed on by value.
     blocked: Box<sys::Blocked>,
     message: PhantomData<P>,
 }

@@ -181,7 +181,7 @@ pub struct Wait {
 /// A part in a domain.
 #[doc(hidden)]
 pub trait Hold: Clone + Deref {
-    /// Such a part for a new port, of which its loans and samples have theirs.
+    /// Such a part for a new port. Its loans and samples get theirs from it.
     fn of_port(&self) -> Self;
 }
 

@@ -1,6 +1,6 @@
 use std::time::{Duration, Instant};
 
-// When so much time has passed; for good, where that is beyond the clock.
+// When that much time has passed; for good, if that is beyond the clock.
 pub(crate) fn after(timeout: Duration) -> Option<Instant> {
     Instant::now().checked_add(timeout)
 }

@@ -56,7 +56,7 @@ fn turn<T>(
     code
 }
 
-// Where none is to be had, that is said by the next send, which asks again.
+// If there is none, the next send says so, since it asks again.
 #[inline(always)]
 fn next<T>(shared: &mut Shared, port: &sys::Publisher) -> Option<Lent> {
     let mut lent = MaybeUninit::uninit();

@@ -77,7 +77,7 @@ fn reading(number: u64) -> Reading {
     }
 }
 
-// Sends so many, and receives as many of the other process, each once and in order.
+// Sends that many, and receives as many of the other process, each once and in order.
 fn polled(topic: &str) {
     let domain = settings().create().unwrap();
     let gateway = Gateway::open(&domain, Settings::topic(topic)).unwrap();

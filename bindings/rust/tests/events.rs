@@ -308,7 +308,7 @@ mod descriptor {
         fn poll(descriptors: *mut PollFd, count: u64, milliseconds: i32) -> i32;
     }
 
-    // Within so many milliseconds; -1 waits for good.
+    // Within that many milliseconds; -1 waits for good.
     fn is_readable(of: &impl AsRawFd, milliseconds: i32) -> bool {
         let mut one = PollFd {
             descriptor: of.as_raw_fd(),

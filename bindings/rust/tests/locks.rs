@@ -88,7 +88,7 @@ fn keeping() -> iox2_pubsub::DomainBuilder<u64> {
         .backpressure_strategy(BackpressureStrategy::RetryUntilDelivered)
 }
 
-// Two producers and four consumers, each of whom gets all in order.
+// Two producers and four consumers. Each consumer gets all in order.
 fn all_in_order<M>(domain: &Domain<u64, M>)
 where
     M: iox2_pubsub::MayWait,

@@ -495,7 +495,7 @@ fn slots_that_no_number_counts_are_refused() {
 
 fn text(code: u32) -> &'static str {
     let (mut start, mut len) = (null(), 0);
-    // SAFETY: the text lies in the archive for good.
+    // SAFETY: the text is in the archive for good.
     let bytes = unsafe {
         iox2ps_error_text_at(code, &mut start, &mut len);
         assert_eq!(*start.add(len), 0);

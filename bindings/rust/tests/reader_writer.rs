@@ -42,7 +42,7 @@ fn next<M: Threads>(reader: &mut Reader<'_, u64, M>) -> Option<u64> {
     reader.receive().unwrap().copied()
 }
 
-// Two producers and four consumers, each of whom gets all in order.
+// Two producers and four consumers. Each consumer gets all in order.
 fn all_in_order<M: MayWait>(domain: &Domain<u64, M>, capacity: usize, messages: u64)
 where
     Publisher<u64, M>: Sync,
@@ -286,7 +286,7 @@ fn a_slot_that_a_waiting_reader_gives_back_frees_a_loan() {
 // How often a reader's first wait takes the lock before it asks: that others may serve it.
 const TO_ASK: usize = 1;
 
-// A thread that reads so many messages, and stands after so many turns.
+// A thread that reads that many messages, and stops after that many turns.
 fn stopped_reader<'s, const N: usize>(
     scope: &'s Scope<'s, '_>,
     turns: usize,

@@ -372,7 +372,7 @@ fn a_loan_comes_back_where_the_time_is_up() {
         SendError::PublisherIsBlocked
     );
     drop(blocked);
-    // That loan is spent, so that two may be had.
+    // That loan is spent, so that two may be lent.
     let _two = [publisher.loan().unwrap(), publisher.loan().unwrap()];
     assert_eq!(subscriber.receive_copy().unwrap(), Some(1));
 }

@@ -1,5 +1,6 @@
-//! Passes messages of 64 bytes between threads: `compare_threads WHAT CONSUMERS MESSAGES BUFFER`. One producer sends so
-//! many, and each consumer gets all. Prints the nanoseconds of a message by the clock and by the processors of all threads.
+//! Passes messages of 64 bytes between threads: `compare_threads WHAT CONSUMERS MESSAGES BUFFER`. One
+//! producer sends all messages, and each consumer gets them all. Prints the nanoseconds of a message by the
+//! clock and by the processors of all threads.
 //!
 //! WHAT is `in-place` (a loan, written without the lock, and a send; a receive, read without the lock, and a release), `each` (the
 //! same, where a message is released in the call that receives the next), `reader` (in place too, by a writer and by readers, which

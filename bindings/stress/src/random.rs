@@ -1,5 +1,5 @@
-//! Makes random calls on one domain from several threads: `random SEED CALLS THREADS SCRIPT REPLIES`. What lies between
-//! this and the archive (lock_order.c) writes down the calls in the order of the lock.
+//! Makes random calls on one domain from several threads: `random SEED CALLS THREADS SCRIPT REPLIES`. What is
+//! between this and the archive (lock_order.c) writes down the calls in the order of the lock.
 //!
 //! Handles are made by one thread and used, sent or dropped by another: each thread has some of its own, and some lie
 //! where all take from. Loans are written and samples read without the lock, while the others call.

@@ -1,6 +1,7 @@
-//! Sixteen threads make, use, hand over and drop everything, for so many seconds: `soak SECONDS SEED`. Each message is accounted for:
-//! a subscriber gets those of each publisher one after the other from the first that it gets, and in the end the last
-//! of each that was sent while it was connected. Only what was given up may be missing. Ends with a line of counts.
+//! Sixteen threads make, use, hand over and drop everything, for SECONDS seconds: `soak SECONDS SEED`. Each
+//! message is accounted for: a subscriber gets those of each publisher one after the other from the first
+//! that it gets, and in the end the last of each that was sent while it was connected. Only what was given up
+//! may be missing. Ends with a line of counts.
 
 mod numbers;
 
@@ -114,7 +115,7 @@ impl Reader {
         Some(received)
     }
 
-    /// The same of all that a reader takes at once, of which no other thread may receive a later one meanwhile.
+    /// The same of all that a reader takes at once. Meanwhile no other thread may receive a later message.
     fn read_all(&self, round: &Round, capacity: usize, wait: Option<Duration>) {
         let mut last = lock(&self.last);
         let mut reader = self.subscriber.reader_with_capacity(capacity);

@@ -20,7 +20,7 @@ pub enum Name {
     },
 }
 
-// What a command made, and where it stands.
+// What a command made, and where it is.
 #[derive(Clone, Copy)]
 pub(crate) struct Entry {
     pub(crate) name: Name,
@@ -33,7 +33,7 @@ pub(crate) struct Entry {
 /// The position that no command has: a command that names it is skipped.
 pub const NOWHERE: usize = usize::MAX;
 
-// Where an entry with this name stands in the table.
+// Where an entry with this name is in the table.
 pub(crate) fn place_of(table: &[Entry], name: Name) -> Option<usize>
     ensures { IfSome result (λ place. place < length table.now) }
 {

@@ -23,7 +23,7 @@ pub struct Recorder {
 }
 
 impl Recorder {
-    /// A recorder for so many commands, which keeps so many bytes of each message. The others are 0 in
+    /// A recorder for that many commands, which keeps that many bytes of each message. The others are 0 in
     /// what it keeps.
     ///
     /// `AllocError` where there is no room for the commands.
@@ -111,7 +111,7 @@ impl Recorder {
         self.keep_values(position, bytes, is_written);
     }
 
-    /// Keeps a loan of so many bytes, which are written and sent at once, and returns the position of
+    /// Keeps a loan of that many bytes, which are written and sent at once, and returns the position of
     /// the loan.
     pub fn keep_loan(&mut self, publisher: usize, bytes: &[u8]) -> usize {
         let position = self.commands.len();

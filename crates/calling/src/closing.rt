@@ -5,7 +5,7 @@ use crate::failure::Failure;
 use crate::passing::{pass, receive_next, send};
 use iox2_pubsub::{BackpressureStrategy, Domain, Publisher, Subscriber};
 
-/// Makes a publisher, passes a reading, and closes the publisher, whatever came of the reading.
+/// Makes a publisher, passes a reading, and closes the publisher, whatever happened to the reading.
 pub fn pass_once(
     domain: &mut Domain<u32, ()>,
     subscriber: &Subscriber,

@@ -13,7 +13,7 @@ pub trait Failing: Display + Drop + From<io::Error> + From<AllocError> {
     fn status(&self) -> u8;
 }
 
-/// Does the task with the words of the command line, of which the first names the program. Where it
+/// Does the task with the words of the command line. The first of these names the program. If the task
 /// fails, says why on the standard error, and returns its exit status.
 ///
 /// Example (`crates/list_runner/src/main.rt`):

@@ -10,7 +10,7 @@ use passing::ByHandles;
 use slice_passing::pass_slices;
 use std::alloc::Global;
 
-/// Makes a domain of bytes, and passes so many messages, each of so many bytes. Returns how many
+/// Makes a domain of bytes, and passes that many messages, each of that many bytes. Returns how many
 /// arrived with their length: fewer than all where a call is refused.
 #[unsafe(no_mangle)]
 pub extern "C" fn pass_by_handles(alloc: Global, bytes: usize, messages: u64) -> u64

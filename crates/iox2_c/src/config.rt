@@ -44,7 +44,7 @@ pub struct Config {
 }
 
 impl Config {
-    /// The defaults of a domain with this id, for messages of so many bytes.
+    /// The defaults of a domain with this id, for messages of that many bytes.
     pub fn defaults(service_id: u128, payload_size: usize, payload_alignment: usize) -> Config
         ensures settings { settings_of result ≡ record (default_config service_id) { variant = Dynamic; lists_cells = false } }
         ensures size { result.payload_size ≡ payload_size }
@@ -57,7 +57,7 @@ impl Config {
         )
     }
 
-    /// The settings of a domain for messages of so many bytes.
+    /// The settings of a domain for messages of that many bytes.
     pub fn of(config: &ServiceConfig, payload_size: usize, payload_alignment: usize) -> Config
         ensures settings { settings_of result ≡ record (config.now) { variant = Dynamic; units_per_element = 1; lists_cells = false; publisher_allocation_strategy = Static } }
         ensures size { result.payload_size ≡ payload_size }

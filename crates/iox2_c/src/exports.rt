@@ -1,5 +1,5 @@
-//! What the static library exports. Each export has what stands in `calls` done to the domain where it
-//! lies in C's box. Only what makes or frees a domain, and a question of `questions`, takes it out and
+//! What the static library exports. Each export has what is in `calls` done to the domain where it
+//! is in C's box. Only what makes or frees a domain, and a question of `questions`, takes it out and
 //! puts it back.
 
 mod channel_changes;

@@ -78,7 +78,7 @@ impl PublisherOptions {
     }
 }
 
-/// How memory grows: not at all, but for the numbers of others.
+/// How memory grows: not at all, except for the numbers of others.
 pub fn allocation_of(number: u32) -> AllocationStrategy
     ensures { result ≡ allocation_numbered number }
 {
@@ -114,7 +114,7 @@ impl SubscriberOptions {
     }
 }
 
-/// What answers where memory for a connection is refused: it warns, but for the numbers of others.
+/// What answers where memory for a connection is refused: it warns, except for the numbers of others.
 pub fn degradation_of(number: u32) -> DegradationHandler<NoHandler>
     ensures { answer_of result ≡ Fixed (degradation_numbered number) }
 {

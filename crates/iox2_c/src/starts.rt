@@ -1,4 +1,4 @@
-//! Where bytes lie, for C. No clause says what lies there, since none speaks of memory that the domain
+//! Where bytes are, for C. No clause says what is there, since none speaks of memory that the domain
 //! owns.
 
 use std::ptr;

@@ -9,7 +9,7 @@ use iox2_machine::{UniqueNodeId, UniquePublisherId};
 use iox2_slots::SlotBook;
 use std::alloc::{AllocError, Global};
 
-/// Where the connection stands.
+/// Where the connection is.
 pub(crate) const HOME: Home = Home {
     publisher: 1,
     subscriber: 2,
@@ -18,7 +18,7 @@ pub(crate) const HOME: Home = Home {
     book: 0,
 };
 
-/// The subscriber, for which so many messages may wait.
+/// The subscriber, for which that many messages may wait.
 pub(crate) fn receiver(buffer_size: usize, is_open: bool) -> ReceiverDetails
     ensures port { result.port_id ≡ 2 }
     ensures buffer { result.buffer_size ≡ buffer_size }

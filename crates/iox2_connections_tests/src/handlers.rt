@@ -25,7 +25,7 @@ fn connection_with(alloc: Global, buffer_size: usize, slot: usize) -> Result<Con
     Ok(connection)
 }
 
-// The slot's delivery, which was tried again so many times.
+// The slot's delivery, which was tried again that many times.
 fn delivery_of(slot: usize, retries: u64) -> Delivery
     ensures sender { result.publisher ≡ 1 }
     ensures slot { result.slot ≡ slot }
@@ -45,7 +45,7 @@ fn delivery_of(slot: usize, retries: u64) -> Delivery
     }
 }
 
-// What a delivery comes to that was tried again so many times, at a receiver for which a message
+// The outcome of a delivery that was tried again that many times, at a receiver for which a message
 // waits. Its handler has the patience for two retries.
 fn outcome_at(
     alloc: Global,
@@ -88,7 +88,7 @@ fn without_overflow() -> ServiceConfig {
     }
 }
 
-// Whether the delivery waits for the first receiver, which was asked again so many times.
+// Whether the delivery waits for the first receiver, which was asked again that many times.
 fn is_waiting(outcome: DeliveryOutcome, retries: u64) -> bool {
     match outcome {
         DeliveryOutcome::Suspended(progress) => {

@@ -1,4 +1,4 @@
-//! What tests of `iox2_pubsub` and of runs start from. No crate but those of tests stands on it.
+//! What tests of `iox2_pubsub` and of runs start from. Only crates of tests use it.
 #![tactic(auto)]
 
 ghost use Rattle.std.specs.Prelude.{◌≡◌, IsTrue, None, false};
@@ -83,7 +83,7 @@ pub fn settings() -> ServiceConfig
     }
 }
 
-/// The same, with a buffer of one message, of which the subscriber may borrow one.
+/// The same, with a buffer of one message. The subscriber may borrow one message.
 pub fn smallest() -> ServiceConfig
     ensures { result ≡ record (default_config 7) { node_id = 3; max_publishers = 1; max_subscribers = 1; subscriber_max_buffer_size = 1; subscriber_max_borrowed_samples = 1; enable_safe_overflow = false } }
 {

@@ -1,4 +1,4 @@
-//! Handlers that tests put into boxes. No crate but those of tests stands on it.
+//! Handlers that tests put into boxes. Only crates of tests use it.
 #![tactic(auto)]
 
 ghost use Rattle.std.specs.Prelude.{◌≡◌, cond, nat_lt};
@@ -9,7 +9,7 @@ use iox2_machine::{
     DegradationFn, DegradationInfo,
 };
 
-/// Tries a delivery again so many times, and gives its last answer then.
+/// Tries a delivery again that many times, and gives its last answer then.
 #[derive(Drop)]
 pub struct Patience {
     /// How many times a delivery is tried again.

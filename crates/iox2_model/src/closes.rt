@@ -18,7 +18,7 @@ impl Model {
     }
 
     // What is borrowed stays, and what waits stays where its subscriber is open and has its end.
-    // Subscribers forget the departed publishers of which they have no message, and are due.
+    // Subscribers forget the departed publishers that they have no message of, and are due.
     fn close_publisher(&mut self, p: usize) -> Result<(), ModelError> {
         let Some(publisher) = self.publishers.get(p) else {
             return Err(ModelError::NoRule);

@@ -87,7 +87,7 @@ impl Model {
         self.enter_history(loan.publisher, message)
     }
 
-    // The message stands last in the history, whose oldest leaves where it is full.
+    // The message is last in the history, whose oldest leaves if it is full.
     fn enter_history(&mut self, p: usize, message: usize) -> Result<(), ModelError> {
         let alloc = self.alloc;
         let size = self.config.history_size;

@@ -1,7 +1,7 @@
 use crate::error::ModelError;
 use std::alloc::Global;
 
-// What lies between one publisher and one subscriber: numbers of messages, oldest first.
+// What is between one publisher and one subscriber: numbers of messages, oldest first.
 #[derive(Drop)]
 pub(crate) struct Mailbox {
     waiting: Vec<usize>,

@@ -22,7 +22,7 @@ pub struct Model {
     // By the number of the message: loans in a user's hands, and messages that were sent.
     pub(crate) loans: Numbered<Loan>,
     pub(crate) entries: Numbered<Entry>,
-    // By number: in which of its publisher's segments the message lies, counted from 1.
+    // By number: in which of its publisher's segments the message is, counted from 1.
     pub(crate) segments: Vec<usize>,
     pub(crate) mailboxes: Mailboxes,
     pub(crate) publisher_places: Vec<Option<usize>>,

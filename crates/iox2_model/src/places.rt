@@ -1,6 +1,6 @@
 use crate::error::ModelError;
 
-// The port that stands at a place; nothing past the end.
+// The port that is at a place; nothing past the end.
 pub(crate) fn occupant(places: &[Option<usize>], place: usize) -> Option<usize> {
     let Some(port) = places.get(place) else {
         return None;
@@ -35,7 +35,7 @@ pub(crate) fn vacate(places: &mut Vec<Option<usize>>, port: usize) {
     }
 }
 
-// The lowest place at which nothing stands, where it is below the limit.
+// The lowest place at which nothing is, if it is below the limit.
 pub(crate) fn free_place(limit: usize, places: &[Option<usize>]) -> Option<usize> {
     let mut lowest = places.len();
     for place in 0..places.len() {

@@ -11,7 +11,7 @@ pub(crate) struct Port {
     // At the place of a port of the other kind, the port with which it has a mailbox.
     pub(crate) ends: Vec<Option<usize>>,
     pub(crate) is_due: bool,
-    // What comes of a connection that is refused memory.
+    // What is done about a connection that is refused memory.
     degradation: DegradationAction,
 }
 

@@ -45,7 +45,7 @@ impl Publisher {
     }
 }
 
-// The segments of a publisher's slots, of which new loans lie in the last.
+// The segments of a publisher's slots. New loans are in the last one.
 #[derive(Clone, Copy)]
 pub(crate) struct Segments {
     pub(crate) allocation: AllocationStrategy,
@@ -103,7 +103,7 @@ impl Subscriber {
         }
     }
 
-    // The publishers with which it has mailboxes, but for the departed ones that it still knows.
+    // The publishers with which it has mailboxes, except the departed ones that it still knows.
     pub(crate) fn connected(&self, alloc: Global) -> Result<Vec<usize>, AllocError> {
         let mut found = Vec::new(alloc);
         for end in self.port.ends.as_slice() {

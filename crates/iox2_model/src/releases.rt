@@ -5,8 +5,8 @@ use crate::places::{set_place, vacate};
 use iox2_commands::Reply;
 
 impl Model {
-    // A departed publisher of which no message is left is forgotten, and the subscriber is gone with
-    // its last borrowed message where it was closed.
+    // A departed publisher that has no message left is forgotten. A closed subscriber is gone with its
+    // last borrowed message.
     pub(crate) fn release(&mut self, of: usize) -> Result<Reply<u64, u64>, ModelError> {
         let Some((p, q, message)) = self.sample_at(of) else {
             return Ok(Reply::Skipped);
@@ -24,7 +24,7 @@ impl Model {
         self.is_present(p) || self.mailboxes.has_data(p, q) || self.mailboxes.has_borrows(p, q)
     }
 
-    // The subscriber forgets the departed publishers of which it has no message any more.
+    // The subscriber forgets the departed publishers that it has no more messages of.
     pub(crate) fn prune(&mut self, q: usize) -> Result<(), ModelError> {
         let mut ends = Vec::new(self.alloc);
         let mut expired = Vec::new(self.alloc);

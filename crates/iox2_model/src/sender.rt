@@ -27,7 +27,7 @@ impl Model {
         }
     }
 
-    // An end to the subscriber that stands at the place stays, and what waits for it is lost where
+    // An end to the subscriber that is at the place stays, and what waits for it is lost where
     // it is closed. Any other end goes, and one to an open subscriber is made.
     fn update_sender_place(&mut self, p: usize, place: usize) -> Updated {
         let Some(q) = occupant(self.subscriber_places.as_slice(), place) else {
@@ -74,7 +74,7 @@ impl Model {
         Ok(None)
     }
 
-    // The last messages of a publisher's history, at most so many.
+    // The last messages of a publisher's history, at most that many.
     fn last_messages(&self, p: usize, count: usize) -> Result<Vec<usize>, ModelError> {
         let Some(publisher) = self.publishers.get(p) else {
             return Err(ModelError::NoRule);
@@ -83,7 +83,7 @@ impl Model {
     }
 }
 
-// The last numbers of a list, at most so many.
+// The last numbers of a list, at most that many.
 pub(crate) fn last(
     alloc: Global,
     numbers: &[usize],

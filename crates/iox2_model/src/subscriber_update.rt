@@ -47,7 +47,7 @@ impl Model {
         self.subscribers.get(q)?.port.end(place)
     }
 
-    // At a place where a publisher stands, an end to it stays or is made, after the one that stood
+    // At a place with a publisher, an end to it stays or is made, after the earlier publisher
     // there was retired.
     fn connect_at_place(&mut self, q: usize, place: usize) -> Updated {
         let Some(p) = occupant(self.publisher_places.as_slice(), place) else {
@@ -68,7 +68,7 @@ impl Model {
         Ok(None)
     }
 
-    // At an empty place, the publisher that stood there is retired.
+    // At an empty place, the publisher that was there is retired.
     fn disconnect_at_place(&mut self, q: usize, place: usize) -> Updated {
         if occupant(self.publisher_places.as_slice(), place).is_some() {
             return Ok(None);
@@ -107,9 +107,9 @@ impl Model {
         Ok(Some(Self::expired_buffer_full()))
     }
 
-    // With room it is kept. Without, one of which messages are borrowed takes the place of the first
-    // of which none are, and is refused where there is no such one; and one of which none are
-    // borrowed loses what waits.
+    // With room it is kept. Without room, it loses what waits if none of its messages is borrowed. If
+    // some are, it takes the place of the first that has none borrowed, and is refused if there is no
+    // such one.
     fn retirement(&self, q: usize, old: usize) -> Retirement {
         let Some(subscriber) = self.subscribers.get(q) else {
             return Retirement::Refused;

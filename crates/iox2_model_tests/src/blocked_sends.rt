@@ -29,7 +29,7 @@ const SUBSCRIBER: Command<u64, u64> = Command::CreateSubscriber {
     degradation: DegradationAction::Warn,
 };
 
-// A publisher with so many loans.
+// A publisher with that many loans.
 fn publisher(
     loans: usize,
     strategy: BackpressureStrategy,

@@ -21,7 +21,7 @@ fn slices() -> ServiceConfig {
     }
 }
 
-// A publisher with so many loans, whose first segment is for slices of length 1.
+// A publisher with that many loans, whose first segment is for slices of length 1.
 fn publisher(
     loans: usize,
     allocation: AllocationStrategy,
@@ -39,7 +39,7 @@ const SUBSCRIBER: Command<u64, u64> = Command::CreateSubscriber {
     degradation: DegradationAction::Warn,
 };
 
-// A model of the service with this publisher as its first command, with so much memory for segments.
+// A model of the service with this publisher as its first command, with that much memory for segments.
 fn model(rt: &impl Abort, alloc: Global, memory: Memory, first: Command<u64, u64>) -> Model {
     let mut model = Model::new(alloc, slices(), memory).expect(rt, "a model");
     let made = Reply::PublisherMade(UniquePublisherId::new(1));

@@ -12,7 +12,7 @@ pub struct Kept {
 }
 
 impl Kept {
-    /// Room for so many of each. `None` where memory runs out.
+    /// Room for that many of each. `None` where memory runs out.
     pub fn new(alloc: Global, loans: usize, samples: usize) -> Option<Kept> {
         Some(Kept {
             loans: HeapCircularBuffer::with_capacity(alloc, loans).ok()?,

@@ -11,10 +11,10 @@ use kept::Kept;
 use passing::pass_oldest;
 use std::alloc::Global;
 
-/// Makes a domain with a publisher of which so many loans stay out, and with a subscriber that keeps
-/// so many samples. In each round a loan is taken and the oldest one sent, and a message is received
+/// Makes a domain with a publisher that keeps that many loans out, and with a subscriber that keeps
+/// that many samples. In each round a loan is taken and the oldest one sent, and a message is received
 /// and the oldest sample released. Returns how many samples were released: as many as there are
-/// rounds, but for those in which loans and samples gather, or fewer where a call is refused.
+/// rounds, except those in which loans and samples gather, or fewer if a call is refused.
 #[unsafe(no_mangle)]
 pub extern "C" fn pass_oldest_messages(
     alloc: Global,

@@ -1,4 +1,4 @@
-//! Messages pass from a publisher to a subscriber, each of which keeps many.
+//! Messages pass from a publisher to a subscriber. Both keep many.
 ghost use Rattle.std.specs.Prelude.{◌≤◌, IfSome};
 ghost use Rattle.iox2_pubsub.specs.Live.{IsLivePublisher, IsLiveSample, IsLiveSubscriber, IsSingleValued, IsUnblocked, IsWritten, Stays, written_key};
 ghost use Rattle.kept_cost.specs.Ports.{HasPorts};
@@ -10,7 +10,7 @@ use iox2_pubsub::{
 };
 use std::alloc::Global;
 
-/// Makes the ports, and has them pass messages in so many rounds. Returns how many samples were
+/// Makes the ports, and has them pass messages in that many rounds. Returns how many samples were
 /// released. `None` where a port is refused.
 pub fn pass_oldest(alloc: Global, kept: Kept, rounds: u64) -> Option<u64>
     ensures { IfSome result (λ released. released ≤ rounds) }
@@ -51,7 +51,7 @@ fn pass_to(
     Some(released)
 }
 
-// Has messages pass in so many rounds, and returns how many samples were released.
+// Has messages pass in that many rounds, and returns how many samples were released.
 fn pass_all(
     domain: &mut Domain<u64, ()>,
     publisher: &Publisher,

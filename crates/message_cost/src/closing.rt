@@ -12,7 +12,7 @@ use iox2_pubsub::{
 };
 use std::alloc::Global;
 
-/// What stands in a domain when its ports are closed.
+/// What is in a domain when its ports are closed.
 #[repr(C)]
 pub struct Closing {
     /// How many publishers there are.
@@ -73,7 +73,7 @@ fn close_all_in(alloc: Global, domain: &mut Domain<u64, ()>, closing: &Closing) 
     })
 }
 
-// Makes so many publishers. `None` where one is refused.
+// Makes that many publishers. `None` where one is refused.
 fn create_senders(alloc: Global, domain: &mut Domain<u64, ()>, count: usize) -> Option<Vec<Sender>>
     ensures live { IfSome result (λ senders. All (λ sender. IsLivePublisher domain.new sender.publisher) senders.items) }
     ensures stays { Stays domain.old domain.new }
@@ -110,7 +110,7 @@ fn update_all(domain: &mut Domain<u64, ()>, receivers: &[Receiver]) -> Option<()
     Some(())
 }
 
-// Each publisher sends so many messages. `None` where one isn't lent.
+// Each publisher sends that many messages. `None` where one isn't lent.
 fn send_all(domain: &mut Domain<u64, ()>, senders: &[Sender], messages: usize) -> Option<()>
     requires single_valued { IsSingleValued domain.old }
     requires senders { All (λ sender. IsLivePublisher domain.old sender.publisher) senders.now }
@@ -122,7 +122,7 @@ fn send_all(domain: &mut Domain<u64, ()>, senders: &[Sender], messages: usize) -
     Some(())
 }
 
-// The publisher sends so many messages. `None` where one isn't lent.
+// The publisher sends that many messages. `None` where one isn't lent.
 fn send_many(domain: &mut Domain<u64, ()>, publisher: &Publisher, messages: usize) -> Option<()>
     requires single_valued { IsSingleValued domain.old }
     requires publisher { IsLivePublisher domain.old publisher.now }

@@ -20,7 +20,7 @@ use ports::{create_receivers, keep_loans, keep_publishers, keep_samples, keep_su
 use receiver::Receiver;
 use std::alloc::Global;
 
-/// Makes a domain with this load, and passes so many messages through it. Returns how many of them
+/// Makes a domain with this load, and passes that many messages through it. Returns how many of them
 /// every subscriber received and read as they were written: fewer than all where a call is refused.
 #[unsafe(no_mangle)]
 pub extern "C" fn pass_messages(alloc: Global, load: &Load, messages: u64) -> u64

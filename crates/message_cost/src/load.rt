@@ -1,9 +1,9 @@
-//! What stands in a domain while messages pass through it.
+//! What is in a domain while messages pass through it.
 ghost use Rattle.std.specs.Prelude.{◌≡◌, IfSome};
 
 use iox2_pubsub::{ServiceConfig, TypeVariant};
 
-/// What stands in a domain while messages pass through it.
+/// What is in a domain while messages pass through it.
 #[repr(C)]
 pub struct Load {
     /// How many publishers there are beside the one that sends.

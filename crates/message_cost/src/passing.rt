@@ -5,7 +5,7 @@ ghost use Rattle.iox2_pubsub.specs.Live.{IsLivePublisher, IsLiveSubscriber, IsSi
 use crate::receiver::Receiver;
 use iox2_pubsub::{Domain, Publisher};
 
-/// Passes so many messages, one after the other. Returns how many of them every receiver received
+/// Passes that many messages, one after the other. Returns how many of them every receiver received
 /// and read as they were written.
 pub fn pass_all(
     domain: &mut Domain<u64, ()>,

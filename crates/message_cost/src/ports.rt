@@ -7,7 +7,7 @@ use crate::receiver::Receiver;
 use iox2_pubsub::{BackpressureStrategy, Domain, Publisher};
 use std::alloc::Global;
 
-/// Makes so many subscribers. `None` where one is refused.
+/// Makes that many subscribers. `None` where one is refused.
 pub fn create_receivers(
     alloc: Global,
     domain: &mut Domain<u64, ()>,
@@ -24,7 +24,7 @@ pub fn create_receivers(
     Some(receivers)
 }
 
-/// Makes so many publishers that send nothing, and lets go of their handles. `None` where one is
+/// Makes that many publishers that send nothing, and lets go of their handles. `None` where one is
 /// refused.
 pub fn keep_publishers(domain: &mut Domain<u64, ()>, count: usize) -> Option<()>
     ensures { Stays domain.old domain.new }
@@ -40,7 +40,7 @@ pub fn keep_publishers(domain: &mut Domain<u64, ()>, count: usize) -> Option<()>
     Some(())
 }
 
-/// Makes so many subscribers that never receive, and lets go of their handles. `None` where one is
+/// Makes that many subscribers that never receive, and lets go of their handles. `None` where one is
 /// refused.
 pub fn keep_subscribers(domain: &mut Domain<u64, ()>, count: usize) -> Option<()>
     ensures { Stays domain.old domain.new }
@@ -52,7 +52,7 @@ pub fn keep_subscribers(domain: &mut Domain<u64, ()>, count: usize) -> Option<()
     Some(())
 }
 
-/// Takes so many loans, and lets go of their handles, so that they stay out. `None` where one is
+/// Takes that many loans, and lets go of their handles, so that they stay out. `None` where one is
 /// refused.
 pub fn keep_loans(domain: &mut Domain<u64, ()>, publisher: &Publisher, count: usize) -> Option<()>
     requires single_valued { IsSingleValued domain.old }
@@ -66,7 +66,7 @@ pub fn keep_loans(domain: &mut Domain<u64, ()>, publisher: &Publisher, count: us
     Some(())
 }
 
-/// Has each receiver receive so many messages, and lets go of the samples, so that they stay
+/// Has each receiver receive that many messages, and lets go of the samples, so that they stay
 /// borrowed. `None` where one isn't sent or received.
 pub fn keep_samples(
     domain: &mut Domain<u64, ()>,

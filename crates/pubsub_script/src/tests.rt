@@ -21,13 +21,13 @@ struct Outcome<'a> {
 }
 
 impl<'a> Outcome<'a> {
-    /// Runs a script that stands in a slice.
+    /// Runs a script that is in a slice.
     fn of(alloc: Global, text: &'a [u8]) -> Self {
         let mut input = text;
         Outcome::of_input(alloc, text, &mut input)
     }
 
-    /// Runs a script of which `input` gives the text.
+    /// Runs a script whose text `input` gives.
     fn of_input<R: Read>(alloc: Global, text: &'a [u8], input: &mut R) -> Self {
         let mut replies = Vec::new(alloc);
         let mut errors = Vec::new(alloc);
@@ -122,7 +122,7 @@ const WITHOUT_A_DOMAIN: [&[u8]; 22] = [
     b"\nsub x\n",
 ];
 
-/// Lines of which none is a command.
+/// Lines that are no commands.
 const MALFORMED_LINES: [&[u8]; 69] = [
     b"",
     b"  ",

@@ -17,7 +17,7 @@ impl Budget {
         self.left == 0
     }
 
-    /// Takes so many commands, and says whether they were left. Where they weren't, the search is over.
+    /// Takes that many commands, and says whether they were left. If they weren't, the search is over.
     pub fn takes(&mut self, commands: usize) -> bool {
         if self.left <= commands {
             self.left = 0;

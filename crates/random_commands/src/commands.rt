@@ -267,7 +267,7 @@ fn read(chance: &mut Chance, model: &Model) -> Command<u64, u64> {
     }
 }
 
-// Any command on this position, but for those that make ports.
+// Any command on this position, except those that make ports.
 fn anything(chance: &mut Chance, model: &Model, of: usize) -> Command<u64, u64> {
     let value = chance.value();
     let at = cell(chance, model, of);

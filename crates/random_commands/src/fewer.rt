@@ -7,8 +7,8 @@ pub const COUNTS: [usize; 15] = [
     8192, 4096, 2048, 1024, 512, 256, 128, 64, 32, 16, 8, 4, 3, 2, 1,
 ];
 
-/// At how many offsets so many commands in a row are tried, since lists often repeat a few commands that
-/// have to go together.
+/// At how many offsets each number of commands in a row is tried, since lists often repeat a few commands
+/// that have to go together.
 pub const MOST_PHASES: usize = 8;
 
 /// The commands without `count` of them from the position `from` on. The others name what they named

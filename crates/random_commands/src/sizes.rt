@@ -13,7 +13,7 @@ struct Sizes {
     expired: usize,
 }
 
-// One of some sorts of services, each of which has something large.
+// One of some sorts of services. Each has something large.
 fn greatest_sizes(chance: &mut Chance) -> Sizes {
     let small = Sizes {
         publishers: 3,

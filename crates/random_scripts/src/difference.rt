@@ -28,7 +28,7 @@ pub(crate) enum Difference {
 }
 
 impl Difference {
-    /// How many of so many replies are the model's, up to the difference.
+    /// How many of this number of replies are the model's, up to the difference.
     pub(crate) fn rank(self, replies: usize) -> usize {
         match self {
             Difference::Reply { position, .. } | Difference::NoRule { position } => position,

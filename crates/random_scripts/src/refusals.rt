@@ -24,9 +24,8 @@ pub(crate) fn only_run(rt: &HostRuntime, number: u64, seed: u64) -> Result<(), F
     Ok(())
 }
 
-/// Draws a script, makes so many allocations, and then runs the script, in which one may be refused.
-/// Fails where what becomes of it isn't what the model says, whatever it was that memory was refused
-/// to.
+/// Draws a script, makes that many allocations, and then runs the script, in which one may be refused.
+/// Fails if its outcome isn't what the model says, whatever was refused memory.
 pub(crate) fn run_refused(
     rt: &HostRuntime,
     allocations: u64,
@@ -85,7 +84,7 @@ fn compared(
     compare(alloc, script.config, commands, ran, memory)
 }
 
-// Prints the script, and what differs where memory is refused after so many times.
+// Prints the script, and what differs when memory is refused after that many times.
 fn print_closest(
     rt: &HostRuntime,
     script: &Script,
@@ -116,7 +115,7 @@ fn print_refusal(rt: &HostRuntime, ran: &Ran, refused: &Comparison) -> Result<()
     Ok(())
 }
 
-// Makes so many allocations.
+// Makes that many allocations.
 fn allocate(alloc: Global, count: u64) -> Result<(), Failure> {
     for _ in 0..count {
         Vec::<u8>::with_capacity(alloc, 1)?;

@@ -10,7 +10,7 @@ use recordings::push_script;
 /// How many commands a script has at most.
 pub(crate) const MOST_COMMANDS: usize = 200;
 
-/// Runs so many scripts of a seed, and prints how often each kind of reply was met. Fails at the
+/// Runs that many scripts of a seed, and prints how often each kind of reply was met. Fails at the
 /// first reply that isn't one that the model has, with the shortest script that fails, and where a
 /// kind was never met.
 pub(crate) fn run_scripts(rt: &HostRuntime, count: u64, seed: u64) -> Result<(), Failure> {

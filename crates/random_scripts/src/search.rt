@@ -1,11 +1,11 @@
-//! Tries of scripts that may fail. They end after so many commands.
+//! Tries of scripts that may fail. They end after a given number of commands.
 use crate::comparison::first_difference;
 use crate::failure::Failure;
 use iox2_model::ModelError;
 use random_commands::{Budget, Script, without};
 use std::alloc::Global;
 
-/// Tries scripts, until so many commands were carried out.
+/// Tries scripts, until that many commands were carried out.
 #[derive(Drop)]
 pub(crate) struct Search {
     alloc: Global,

@@ -101,7 +101,7 @@ fn with_fewer_lines(search: &mut Search, script: Script) -> Result<Script, Failu
     Ok(found)
 }
 
-// Leaves out so many lines at once, from before the last ones on, where the rest still fails.
+// Leaves out that many lines at once, from before the last ones on, if the rest still fails.
 fn without_so_many(
     search: &mut Search,
     script: Script,

@@ -9,7 +9,7 @@ use std::alloc::{AllocError, Global};
 
 type Recorder<T, U> = Recorded<T, U, Box<dyn BackpressureFn>, Box<dyn DegradationFn>>;
 
-/// The calls that a recorded domain with so much room keeps, their replies, and how many it misses.
+/// The calls that a recorded domain with that much room keeps, their replies, and how many it misses.
 pub(crate) fn record<T: Copy + Default + Drop, U: Copy + Default + Drop>(
     alloc: Global,
     config: ServiceConfig,

@@ -7,8 +7,8 @@ use recordings::{Fault, load, save};
 // How many commands a list has at most.
 const MOST_COMMANDS: usize = 12;
 
-/// Draws so many short lists of a seed, and damages the recording of each: every byte in turn is flipped
-/// in each of its bits, and the text is cut at every place. No damaged text is a recording.
+/// Draws that many short lists of a seed, and damages the recording of each: every byte in turn is
+/// flipped in each of its bits, and the text is cut at every place. No damaged text is a recording.
 pub(crate) fn try_damages(rt: &HostRuntime, count: u64, seed: u64) -> Result<(), Failure> {
     let mut tried = 0usize;
     for number in 0..count {

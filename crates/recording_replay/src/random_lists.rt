@@ -19,9 +19,9 @@ pub(crate) fn print_list(rt: &HostRuntime, number: u64, seed: u64) -> Result<(),
     Ok(())
 }
 
-/// Draws so many lists of a seed, of services with up to three channels a connection. Each is recorded, saved and loaded, and is the same then; its replay
-/// has the recorded replies; and where one recorded reply is made another one, the replay differs there
-/// alone, and so does the shortest list.
+/// Draws that many lists of a seed, of services with up to three channels a connection. Each is recorded,
+/// saved and loaded, and is the same then; its replay has the recorded replies; and if one recorded reply
+/// is made another one, the replay differs there alone, and so does the shortest list.
 pub(crate) fn try_random_lists(rt: &HostRuntime, count: u64, seed: u64) -> Result<(), Failure> {
     let mut commands = 0usize;
     for number in 0..count {

@@ -44,7 +44,7 @@ pub(crate) fn first_difference(before: &Recording, after: &Recording) -> Option<
         .position(|(old, new)| *old != *new)
 }
 
-// The first command stands in the fourth line of a recording.
+// The first command is in the fourth line of a recording.
 fn print_difference(
     rt: &HostRuntime,
     before: &Recording,

@@ -26,8 +26,8 @@ struct Search {
 }
 
 /// The recording up to the command at the position, with as many commands before it left out as can be:
-/// so that all others reply as they did, but for the ids of ports, and the last as the whole replay does.
-/// The search ends after so many commands.
+/// so that all others reply as they did, except for the ids of ports, and the last as the whole replay
+/// does. The search ends after a number of commands.
 pub(crate) fn shortest(
     alloc: Global,
     recording: &Recording,
@@ -97,7 +97,7 @@ fn copy(alloc: Global, text: &str) -> Result<String, Failure> {
     Ok(copied)
 }
 
-// Leaves out so many commands at once, from before the last ones on, where the rest still shows the
+// Leaves out that many commands at once, from before the last ones on, if the rest still shows the
 // difference. The last one stays.
 fn without_so_many(
     alloc: Global,
@@ -161,7 +161,7 @@ fn shows(alloc: Global, search: &mut Search, recording: &Recording) -> Result<bo
     })
 }
 
-// Whether two replies are the same but for the ids of ports.
+// Whether two replies are the same except for the ids of ports.
 fn is_alike(old: &str, new: &str) -> bool {
     for kind in ["publisher ", "subscriber ", "sample "] {
         if old.starts_with(kind) && new.starts_with(kind) {

@@ -7,8 +7,8 @@ use iox2_machine::{
 use std::alloc::AllocError;
 use std::fmt::Write;
 
-/// Adds the script with these settings and commands, for which a script has words all but for the settings that
-/// `docs/SCRIPT.md` doesn't name.
+/// Adds the script with these settings and commands. A script has words for all of them, except for the
+/// settings that `docs/SCRIPT.md` doesn't name.
 pub fn push_script(
     text: &mut String,
     config: &ServiceConfig,
@@ -23,7 +23,7 @@ pub fn push_script(
     Ok(())
 }
 
-// The line of a script that makes a domain with these settings, but for those that `push_service` has.
+// The line of a script that makes a domain with these settings, except those that `push_service` has.
 pub(crate) fn push_domain(text: &mut String, config: &ServiceConfig) -> Result<(), AllocError> {
     let kind = match config.variant {
         TypeVariant::FixedSize => "domain",

@@ -29,7 +29,7 @@ pub enum Fault {
     NoReply,
     /// The text ends before the last line of a recording.
     Cut,
-    /// The last line doesn't have the number of the commands and the sum of what stands before it: the
+    /// The last line doesn't have the number of the commands and the sum of what is before it: the
     /// text was changed.
     Changed,
     /// Something follows the last line of the recording.

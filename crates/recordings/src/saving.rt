@@ -10,7 +10,7 @@ pub(crate) const TITLE: &str = "recording ";
 /// The version of the text that `save` gives, and the only one that `load` reads.
 pub(crate) const VERSION: u64 = 1;
 
-/// What stands between a command and its reply.
+/// What is between a command and its reply.
 pub(crate) const REPLIES: &str = " = ";
 
 /// The text of a recording: its version, its settings, a line for each command with its reply, and a

@@ -15,7 +15,7 @@ pub(crate) enum Later {
     Publisher,
 }
 
-// Does something with a port that is made, and spends its handle, whatever comes of it.
+// Does something with a port that is made, and spends its handle, whatever the outcome.
 macro_rules! with_port {
     ($port:ident = $made:expr => $outcome:expr) => {
         match $made {

@@ -12,7 +12,7 @@ pub(crate) struct Scale {
 }
 
 impl Scale {
-    /// The scale of so many commands.
+    /// The scale of that many commands.
     pub(crate) fn new(count: usize) -> Scale {
         let step = match count {
             0..=30 => 30,

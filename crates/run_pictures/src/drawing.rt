@@ -101,7 +101,7 @@ impl Drawing {
         self.counted("=\"", value, "\"");
     }
 
-    /// That a shape is moved there, but for the last quotation mark.
+    /// That a shape is moved there, except for the last quotation mark.
     pub(crate) fn moved(&mut self, x: usize, y: usize) {
         self.counted(" transform=\"translate(", x, " ");
         self.counted("", y, ")");

@@ -269,7 +269,7 @@ impl Follower {
         }
     }
 
-    // The port is closed. A subscriber keeps the connection of a publisher of which it has messages.
+    // The port is closed. A subscriber keeps the connection of a publisher whose messages it has.
     fn close_port(&mut self, at: usize, object: Object) -> Result<(), Failure> {
         let id = object.port();
         self.end_port(at, id);
@@ -378,7 +378,7 @@ impl Follower {
         at
     }
 
-    // Whether the message has come to the subscriber since then. The last visits stand last.
+    // Whether the message has come to the subscriber since then. The last visits are last.
     fn has_visited(&self, subscriber: usize, message: usize, since: usize) -> bool {
         for visit in self.story.visits.iter().rev() {
             if visit.from < since {

@@ -1,4 +1,4 @@
-//! Where ports and messages lie in a picture.
+//! Where ports and messages are in a picture.
 use crate::failure::Failure;
 use crate::positions::Positions;
 use crate::rows::Rows;
@@ -42,7 +42,7 @@ pub(crate) struct Lanes {
 }
 
 impl Lanes {
-    /// The lanes below a height, for a run of so many commands.
+    /// The lanes below a height, for a run of that many commands.
     pub(crate) fn new(alloc: Global, story: &Story, top: usize) -> Result<Lanes, Failure> {
         let mut found = Lanes {
             lanes: Vec::new(alloc),

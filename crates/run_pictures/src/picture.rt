@@ -51,7 +51,7 @@ struct Ground {
     lanes: Lanes,
 }
 
-// What lies in the lanes.
+// What is in the lanes.
 fn push_messages(svg: &mut Drawing, story: &Story, ground: &Ground) {
     push_ways(svg, story, ground);
     push_loans(svg, story, ground);

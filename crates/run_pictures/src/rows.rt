@@ -1,4 +1,4 @@
-//! Which row of a lane a bar lies in.
+//! Which row of a lane a bar is in.
 use crate::failure::Failure;
 use std::alloc::Global;
 

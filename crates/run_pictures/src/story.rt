@@ -69,7 +69,7 @@ pub(crate) enum MarkKind {
     Discarded,
     /// The port was closed.
     Closed,
-    /// A publisher was closed of which the subscriber keeps the connection.
+    /// A publisher was closed, and the subscriber keeps its connection.
     Expired,
     /// The recording has another reply.
     OtherReply,

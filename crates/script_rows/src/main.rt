@@ -1,4 +1,4 @@
-//! Runs rows: scripts in which each command stands beside the reply that it has to get.
+//! Runs rows: scripts in which each command is beside the reply that it has to get.
 #![tactic(auto)]
 
 mod comparison;

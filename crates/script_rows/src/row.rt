@@ -1,4 +1,4 @@
-//! What stands in a row.
+//! What is in a row.
 use std::alloc::{AllocError, Global};
 
 /// A script, and the lines that have to be printed for it.

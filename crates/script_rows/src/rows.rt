@@ -4,7 +4,7 @@ use crate::failure::Failure;
 use crate::row::Row;
 use crate::tally::Tally;
 
-/// Runs the rows that stand in a text. Lines without a word say nothing, and those that begin with `#`.
+/// Runs the rows that are in a text. Lines without a word say nothing, and those that begin with `#`.
 pub(crate) fn run_rows(rt: &HostRuntime, text: &str, tally: &mut Tally) -> Result<(), Failure> {
     let mut open: Option<Row> = None;
     for (index, line) in text.lines().enumerate() {

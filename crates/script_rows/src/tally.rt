@@ -19,7 +19,7 @@ impl Tally {
         }
     }
 
-    /// Counts a row of so many replies, which is as it has to be or isn't.
+    /// Counts a row of that many replies, which is as it has to be or isn't.
     pub(crate) fn add(&mut self, replies: u64, is_refuted: bool) {
         self.rows = self.rows.saturating_add(1);
         self.replies = self.replies.saturating_add(replies);

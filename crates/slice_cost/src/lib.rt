@@ -10,7 +10,7 @@ use passing::BySteps;
 use slice_passing::pass_slices;
 use std::alloc::Global;
 
-/// Makes a domain of slices, and passes so many of them, each of so many elements. Returns how many
+/// Makes a domain of slices, and passes that many of them, each of that many elements. Returns how many
 /// arrived with their length: fewer than all where a call is refused.
 #[unsafe(no_mangle)]
 pub extern "C" fn pass_long_messages(alloc: Global, elements: usize, messages: u64) -> u64

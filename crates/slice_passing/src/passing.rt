@@ -9,7 +9,7 @@ use std::alloc::Global;
 
 /// The calls by which a bench passes one slice of these elements.
 pub trait Steps<T: Drop> {
-    /// Sends one slice of so many elements. `None` where it isn't lent or sent.
+    /// Sends one slice of that many elements. `None` where it isn't lent or sent.
     fn pass(domain: &mut Domain<T, ()>, publisher: &Publisher, elements: usize) -> Option<()>
         requires slices { PassesSlices domain.old }
         requires publisher { IsLivePublisher domain.old (as_publisher publisher.now) }
@@ -22,7 +22,7 @@ pub trait Steps<T: Drop> {
         ensures { Stays domain.old domain.new };
 }
 
-/// Passes so many slices, each of so many elements, one after the other. Returns how many of them
+/// Passes that many slices, each of that many elements, one after the other. Returns how many of them
 /// the subscriber received with the length that they were lent with. `None` where a port is refused.
 pub fn pass_slices<T: Drop, S: Steps<T>>(
     alloc: Global,

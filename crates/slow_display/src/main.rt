@@ -1,6 +1,6 @@
 //! A thermometer sends its readings to a display that is slow, and waits for it where it is full.
 //!
-//! This is how a program handles a send that is blocked: it matches on what came of the send, and
+//! This is how a program handles a send that is blocked: it matches on the outcome of the send, and
 //! spends the blocked send by another try or by giving up. Nothing else is tested when it runs. How
 //! often a reading is tried again is said by a handler of its own.
 #![tactic(auto)]

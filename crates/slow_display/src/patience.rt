@@ -4,7 +4,7 @@ ghost use Rattle.iox2_pubsub.specs.declared.BackpressureAction.TheVariants.{Disc
 
 use iox2_pubsub::{BackpressureAction, BackpressureFn, BackpressureInfo};
 
-/// Has a reading wait for the display while it was tried again fewer than so many times. After that
+/// Has a reading wait for the display while it was tried again fewer than `retries` times. After that
 /// the display isn't given the reading.
 #[derive(Drop)]
 pub struct Patience {

@@ -19,7 +19,7 @@ use std::process::Abort;
 use std::rc::Rc;
 use std::time::Duration;
 
-// A publisher that would discard, but that its box tries a delivery again so many times.
+// A publisher that would discard, except that its box tries a delivery again that many times.
 fn patient_publisher(
     rt: &impl Abort,
     alloc: Global,

@@ -20,7 +20,7 @@ const ANSWERS: [BackpressureAction; 4] = [
     BackpressureAction::DiscardDataAndFail,
 ];
 
-// The answer that is given when so many were given before.
+// The answer that is given when that many were given before.
 fn answer(given: usize) -> BackpressureAction {
     ANSWERS[given % 4]
 }
@@ -80,7 +80,7 @@ fn ended(
     }
 }
 
-// What waits for two subscribers, each of which has room for one message, and how many answers were
+// What waits for two subscribers that have room for one message each, and how many answers were
 // given.
 #[derive(Clone, Copy)]
 struct Expected {

@@ -40,7 +40,7 @@ pub(crate) fn waiting_publisher(rt: &impl Abort, domain: &mut Weather) -> Publis
     factory.create(domain).expect(rt, "a publisher")
 }
 
-/// A subscriber for which so many messages of each publisher may wait.
+/// A subscriber that has room for that many messages of each publisher.
 pub(crate) fn subscriber_of(rt: &impl Abort, domain: &mut Weather, buffer_size: usize) -> Subscriber
     ensures live { IsLiveSubscriber domain.new result }
     ensures stays { Stays domain.old domain.new }

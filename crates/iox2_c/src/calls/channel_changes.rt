@@ -1,5 +1,5 @@
-//! What ports change at the channels of their connections. No command of a recording stands for that, so
-//! that a recording ends before it.
+//! What ports change at the channels of their connections. A recording has no command for that, so
+//! that it ends before it.
 ghost use Rattle.std.specs.Prelude.{◌≡◌, ◌<◌};
 ghost use Rattle.iox2_pubsub.specs.Live.{No_item};
 ghost use Rattle.iox2_c.specs.Channels.{AnswersPublisherChannel, AnswersSubscriberChannel, ChangesReceived, ClosesSent, SetsState};

@@ -1,4 +1,4 @@
-//! Sends to one connection. No command of a recording stands for that, so that a recording ends before it.
+//! Sends to one connection. A recording has no command for that, so that it ends before it.
 ghost use Rattle.iox2_c.specs.ConnectionSends.{SendToReturns};
 
 use crate::calls::channels::has_channel;

@@ -22,7 +22,7 @@ use iox2_pubsub::slice::{LocatedLoan, Publisher, SampleMut};
 pub trait Fill {
     ghost lends: { Lending };
 
-    /// Lends so many bytes, which are filled where they were lent, and says where they lie.
+    /// Lends that many bytes, which are filled where they were lent, and says where they are.
     fn lend_located(
         publisher: &Publisher,
         domain: &mut BytesDomain,
@@ -36,7 +36,7 @@ pub trait Fill {
         ensures lender { IfOk result (λ it. lender_key (written_key (as_written it.loan)) ≡ publisher_key (as_publisher publisher.now)) }
         ensures stays { Stays domain.old domain.new };
 
-    /// Lends so many bytes, and fills them with a closure of its own: the compiler inlines what fills a
+    /// Lends that many bytes, and fills them with a closure of its own: the compiler inlines what fills a
     /// loan where one place calls it with this closure, and so it does in `lend_located`.
     fn lend(
         publisher: &Publisher,
@@ -79,7 +79,7 @@ impl Fill for Zeros {
     }
 }
 
-/// The bytes are whatever they are. It costs the same for any length that lay in the slot before.
+/// The bytes are whatever they are. It costs the same for any length that was in the slot before.
 pub struct Unspecified {}
 
 impl Fill for Unspecified {
@@ -107,7 +107,7 @@ impl Fill for Unspecified {
     }
 }
 
-/// Lends a message of so many bytes, filled so, and says where they lie.
+/// Lends a message of that many bytes, filled so, and says where they are.
 pub fn loan<B: Fill>(
     service: &mut Service,
     numbers: &PublisherNumbers,
@@ -189,8 +189,8 @@ fn loan_recorded<B: Fill>(
     code
 }
 
-// What came of a loan: its code, and where it was granted its numbers and where its bytes lie. The ids
-// that it shares with its publisher stand in that one's numbers, so that they aren't kept while a
+// The outcome of a loan: its code, and, if it was granted, its numbers and where its bytes are. The
+// ids that it shares with its publisher are in that one's numbers, so that they aren't kept while a
 // loan is filled.
 #[inline(always)]
 fn tell_lent(

@@ -52,7 +52,7 @@ fn plain_factory(service: &Service) -> Factory
     factory.initial_max_slice_len(service.payload_size)
 }
 
-// What came of a publisher: its code, and its numbers where it was made.
+// The outcome of making a publisher: its code, and its numbers if it was made.
 fn tell(made: Result<Publisher, PublisherCreateError>, out: &mut PublisherNumbers) -> u32
     ensures code { result ≡ code_of publisher_code made }
     ensures named { IfOk made (λ it. named_publisher out.new ≡ publisher_key (as_publisher it)) }
@@ -87,7 +87,7 @@ fn factory_with(service: &Service, options: &PublisherOptions) -> Factory
     }
 }
 
-// Makes a publisher by the factory, with an override that always asks for so many slots.
+// Makes a publisher by the factory, with an override that always asks for that many slots.
 fn create_asked<P: Fn(usize) -> usize + Drop>(
     domain: &mut BytesDomain,
     factory: Factory,
@@ -102,7 +102,7 @@ fn create_asked<P: Fn(usize) -> usize + Drop>(
     asking.create(domain)
 }
 
-// Makes a publisher by the factory, which asks for so many slots, or for the worst case where that is 0.
+// Makes a publisher by the factory, which asks for that many slots, or for the worst case if that is 0.
 fn create_by(
     domain: &mut BytesDomain,
     factory: Factory,

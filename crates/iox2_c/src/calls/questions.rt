@@ -83,7 +83,7 @@ pub fn has_samples(service: &mut Service, numbers: &SubscriberNumbers, waits: &m
     code
 }
 
-// What came of an update of the port with this name, which is recorded: its code.
+// Records an update of the port with this name, and returns its code.
 fn tell_update(recording: &mut Recording, name: Name, updated: Result<(), ConnectionFailure>) -> u32
     ensures { result ≡ code_of failure_code updated }
 {
@@ -96,7 +96,7 @@ fn tell_update(recording: &mut Recording, name: Name, updated: Result<(), Connec
     code
 }
 
-// What came of the question: its code, and the answer.
+// The outcome of the question: its code, and the answer.
 fn tell_answer(answer: Result<bool, ConnectionFailure>, waits: &mut u32) -> u32
     ensures code { result ≡ code_of failure_code answer }
     ensures tells { IfOk answer (λ some_wait. waits.new ≡ cond some_wait 1 0) }

@@ -138,7 +138,7 @@ pub fn header(service: &Service, numbers: &SampleNumbers, out: &mut HeaderNumber
     OK
 }
 
-// A handle of a sample that lies where its numbers say, and was borrowed last there.
+// A handle of a sample that is where its numbers say, and was borrowed last there.
 #[inline(always)]
 fn sample_at_hint(domain: &mut BytesDomain, numbers: &SampleNumbers) -> Option<Sample>
     ensures live { IfSome result (λ it. IsLiveSample domain.new (as_sample it)) }

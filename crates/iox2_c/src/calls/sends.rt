@@ -23,7 +23,7 @@ use iox2_pubsub::slice::Publisher;
 use iox2_pubsub::{SendError, SendOutcome};
 use std::time::Duration;
 
-// What came of a send: its code, and how many took the message or the numbers of the send that waits.
+// The outcome of a send: its code, and how many took the message or the numbers of the send that waits.
 fn tell(
     sent: Result<SendOutcome, SendError>,
     receivers: &mut usize,

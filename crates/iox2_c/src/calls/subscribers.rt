@@ -55,7 +55,7 @@ fn factory_with(service: &Service, options: &SubscriberOptions) -> PortFactorySu
         .set_degradation_handler(degradation_of(options.degradation))
 }
 
-// What came of a subscriber: its code, and its numbers where it was made.
+// The outcome of making a subscriber: its code, and its numbers if it was made.
 fn tell(made: Result<Subscriber, SubscriberCreateError>, out: &mut SubscriberNumbers) -> u32
     ensures code { result ≡ code_of subscriber_code made }
     ensures named { IfOk made (λ it. named_subscriber out.new ≡ subscriber_key (as_subscriber it)) }
@@ -175,8 +175,8 @@ fn receive_named(
     }
 }
 
-// What came of a receive: the sample's numbers, and where its bytes lie. The ids that it shares with
-// its subscriber stand in that one's numbers. It lies where its numbers say.
+// The outcome of a receive: the sample's numbers, and where its bytes are. The ids that it shares with
+// its subscriber are in that one's numbers. It is where its numbers say.
 #[inline(always)]
 fn tell_received(
     service: &Service,

@@ -19,7 +19,7 @@ use crate::status::{HAS_DOMAIN, INVALID_SETTINGS, NO_DOMAIN, OK, OUT_OF_MEMORY};
 use iox2_pubsub::worst_case_slots;
 use std::alloc::Global;
 
-/// Writes the defaults of a domain with this id, for messages of so many bytes.
+/// Writes the defaults of a domain with this id, for messages of that many bytes.
 #[unsafe(no_mangle)]
 pub extern "C" fn iox2ps_config_defaults(
     config: &mut Config,
@@ -50,7 +50,7 @@ pub extern "C" fn iox2ps_subscriber_options_of(config: &Config, options: &mut Su
     *options = SubscriberOptions::of(config);
 }
 
-/// How many slots a publisher with so many loans has.
+/// How many slots a publisher with that many loans has.
 #[unsafe(no_mangle)]
 pub extern "C" fn iox2ps_worst_case_slots(config: &Config, loans: usize, slots: &mut usize) -> u32
     ensures slots { result ≡ 0 → slots.new ≡ worst_case (settings_of config.now) loans }
@@ -85,7 +85,7 @@ pub extern "C" fn iox2ps_domain_create(
     create(alloc, domain, config, None)
 }
 
-/// Makes a domain where there is none, whose first calls are recorded: so many commands, with so many
+/// Makes a domain where there is none, whose first calls are recorded: that many commands, with that many
 /// bytes of each message.
 #[unsafe(no_mangle)]
 pub extern "C" fn iox2ps_domain_create_recorded(

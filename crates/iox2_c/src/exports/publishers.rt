@@ -82,7 +82,7 @@ pub extern "C" fn iox2ps_publisher_close(
     }
 }
 
-/// Lends a message of so many bytes, each of which is 0, and says where they lie.
+/// Lends a message of that many bytes, all of them 0, and says where they are.
 #[unsafe(no_mangle)]
 pub extern "C" fn iox2ps_publisher_loan(
     domain: &mut DomainBox,
@@ -107,8 +107,8 @@ pub extern "C" fn iox2ps_publisher_loan(
     }
 }
 
-/// Lends a message of so many bytes, whatever they are, and says where they lie. It costs the same for
-/// any length that lay in the slot before.
+/// Lends a message of that many bytes, whatever they are, and says where they are. It costs the same
+/// for any length that was in the slot before.
 #[unsafe(no_mangle)]
 pub extern "C" fn iox2ps_publisher_loan_uninit(
     domain: &mut DomainBox,

@@ -1,4 +1,4 @@
-//! The replies of a run to what came of a call.
+//! The replies of a run to the outcome of a call.
 
 use crate::status::{BLOCKED, NO_SAMPLE, OK};
 use iox2_commands::Reply;
@@ -8,7 +8,7 @@ use iox2_pubsub::{
     SubscriberCreateError,
 };
 
-/// What came of a call on bytes.
+/// The outcome of a call on bytes.
 pub type BytesReply = Reply<u64, u64>;
 
 /// Why a call failed, if it did.
@@ -53,7 +53,7 @@ pub fn loan_reply(code: u32, refused: Option<LoanError>) -> BytesReply {
     }
 }
 
-/// Of a send or a retry, whose message so many subscribers took.
+/// Of a send or a retry, whose message that many subscribers took.
 pub fn send_reply(code: u32, receivers: usize, failed: Option<SendError>) -> BytesReply {
     match (failed, code) {
         (Some(error), _) => Reply::SendRefused(error),

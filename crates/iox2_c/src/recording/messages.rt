@@ -11,7 +11,7 @@ use iox2_pubsub::{Key, LoanError, ReceiveError, SendError};
 use std::time::Duration;
 
 impl Recording {
-    /// A loan of so many bytes was asked for. It was granted, or not, as the code and the error say.
+    /// A loan of that many bytes was asked for. It was granted, or not, as the code and the error say.
     pub fn loan(
         &mut self,
         publisher: &PublisherNumbers,
@@ -39,7 +39,7 @@ impl Recording {
         }
     }
 
-    /// A loan was sent, and so many subscribers took it, or it wasn't, as the code and the error say.
+    /// A loan was sent, and that many subscribers took it, or it wasn't, as the code and the error say.
     pub fn sent(
         &mut self,
         loan: &LoanNumbers,
@@ -93,7 +93,7 @@ impl Recording {
         self.keep_last(loan_name(loan), code, |of| Command::Discard { of });
     }
 
-    /// A send that waits was tried again, so many nanoseconds after it was blocked.
+    /// A send that waits was tried again, that many nanoseconds after it was blocked.
     pub fn retried(
         &mut self,
         blocked: &LoanNumbers,

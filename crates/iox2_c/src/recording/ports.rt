@@ -13,7 +13,7 @@ use iox2_pubsub::{
 };
 
 impl Recording {
-    /// A publisher with these options was asked for, and this came of it.
+    /// A publisher with these options was asked for, and got this reply.
     pub fn publisher(&mut self, options: &PublisherOptions, reply: BytesReply) {
         let Some(recorder) = &mut self.recorder else {
             return;
@@ -35,7 +35,7 @@ impl Recording {
         }
     }
 
-    /// A subscriber with these options was asked for, and this came of it.
+    /// A subscriber with these options was asked for, and got this reply.
     pub fn subscriber(&mut self, options: &SubscriberOptions, reply: BytesReply) {
         let Some(recorder) = &mut self.recorder else {
             return;
@@ -94,7 +94,7 @@ impl SubscriberNumbers {
     }
 }
 
-// For how many slots a publisher asks: 0 stands for none.
+// For how many slots a publisher asks: 0 means that it asks for none.
 fn asked_slots(slots: usize) -> Option<usize> {
     match slots {
         0 => None,

@@ -5,7 +5,7 @@ ghost use Rattle.iox2_contents.specs.SlotContents.{SomeAt};
 use crate::tests::starts::start;
 use iox2_contents::Contents;
 
-// A loan of so many elements whose cells are listed, and which is written then, or ends unwritten. Returns
+// A loan of that many elements whose cells are listed, and which is written then, or ends unwritten. Returns
 // its second cell.
 fn listed(
     contents: &mut Contents<u64, u64>,

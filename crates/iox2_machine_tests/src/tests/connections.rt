@@ -140,7 +140,7 @@ fn each_channel_has_a_state_of_its_own(rt: HostRuntime) {
     assert!(rt; marked && unmarked);
 }
 
-// Fills the second of three channels, in each of which two slots may wait.
+// Fills the second of three channels. Two slots may wait in each channel.
 fn fill(connection: &mut Connection) -> [PutOutcome; 6]
     requires channels { length connection.old.channels ≡ 3 }
     requires returned { connection.old.returned ≡ [] }

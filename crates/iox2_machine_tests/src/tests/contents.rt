@@ -111,7 +111,7 @@ fn a_single_value_is_written_and_read(rt: HostRuntime) {
     assert!(rt; is_empty && written == [21, 22] && is_empty_again && other == 22);
 }
 
-// The contents of one slot, in which a loan of so many elements lies in a list.
+// The contents of one slot, in which a loan of that many elements is in a list.
 fn listed(rt: &impl Abort, alloc: Global, len: usize) -> Contents<Reading, Station>
     ensures { SomeAt result 0 (λ content. (content.is_in_place ≡ false) × (0 < content.lists)) }
 {

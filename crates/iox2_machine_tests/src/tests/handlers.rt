@@ -74,7 +74,7 @@ fn a_handler_of_refused_connections_answers(rt: HostRuntime) {
     assert!(rt; second == DegradationAction::Ignore);
 }
 
-// Waits so many milliseconds for a full subscriber, and passes it over then.
+// Waits that many milliseconds for a full subscriber, and passes it over then.
 #[derive(Drop)]
 struct Deadline {
     milliseconds: u128,

@@ -105,7 +105,7 @@ fn an_update_may_be_tried_again(rt: HostRuntime) {
     assert!(rt; help_for(full) == "release a closed publisher's sample");
 }
 
-// With how many loans a publisher may find memory that found none with so many.
+// With how many loans a publisher may find memory, if it found none with that many.
 fn loans_to_try(created: Result<u8, PublisherCreateError>, loans: usize) -> Option<usize>
     ensures { IfSome result (λ _. IsErr created) }
 {

@@ -1,6 +1,6 @@
 use iox2_machine::{AllocationStrategy, BackpressureStrategy, ServiceConfig, TypeVariant};
 
-// The defaults with one field changed, of which there are so many.
+// How many fields there are. `changed_at` gives the defaults with one of them changed.
 const FIELDS: usize = 16;
 
 fn changed_at(field: usize) -> ServiceConfig {

@@ -3,7 +3,7 @@ use iox2_slots::{SlotBook, SlotMark};
 use std::alloc::Global;
 use std::process::Abort;
 
-// A book of a publisher with so many slots, all of them free.
+// A book of a publisher with that many slots, all of them free.
 fn book(rt: &impl Abort, alloc: Global, slots: usize) -> SlotBook {
     let node = UniqueNodeId::new(7);
     SlotBook::new(alloc, node, UniquePublisherId::new(3), slots).expect(rt, "a book")

@@ -16,7 +16,7 @@ fn five(rt: &impl Abort, alloc: Global) -> Contents<u64, u64>
     Contents::new(alloc, 2, 5, true, 3).expect(rt, "room")
 }
 
-// Whether a loan of so many elements in the first slot, whose cells nobody writes, has these values.
+// Whether a loan of that many elements in the first slot, whose cells nobody writes, has these values.
 fn has(contents: &mut Contents<u64, u64>, len: usize, values: &[u64]) -> bool
     requires room { SomeAt contents.old 0 (λ content. (content.cells ≡ []) × (content.is_in_place ≡ false) × (content.lists ≡ 3) × (content.room ≡ 5)) }
     requires slots { length contents.old ≡ 2 }

@@ -21,7 +21,7 @@ fn slots_are_counted_for_subscribers_history_and_loans(rt: HostRuntime) {
     assert!(rt; worst_case_slots(&limits(0, 0, 0, 0), 0) == Some(0));
 }
 
-// The same, with so many channels in a connection.
+// The same, with that many channels in a connection.
 fn with_channels(config: ServiceConfig, channels: usize) -> ServiceConfig {
     ServiceConfig {
         number_of_channels: channels,

@@ -62,7 +62,7 @@ fn two_messages(
     Ok(Vec::from_array(alloc, commands)?)
 }
 
-// The same with two slices of two elements each, of which the second element is read.
+// The same with two slices of two elements each. The second element is read.
 fn two_slices(alloc: Global, receives: bool) -> Result<Commands, AllocError> {
     let commands = [
         SUBSCRIBER,

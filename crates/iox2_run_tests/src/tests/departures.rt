@@ -17,7 +17,7 @@ fn service(max_publishers: usize, buffer: usize) -> ServiceConfig {
     }
 }
 
-// It keeps none of which it has borrowed nothing, whatever waited: the connection and the book that
+// It keeps none that it has borrowed nothing from, whatever waited: the connection and the book that
 // are left are the other publisher's, and no warning tells of the message.
 #[test]
 fn a_closed_subscriber_forgets_departed_publishers(rt: HostRuntime) {
@@ -37,8 +37,8 @@ fn a_closed_subscriber_forgets_departed_publishers(rt: HostRuntime) {
     assert_eq!(rt; told.kept, [1, 1]);
 }
 
-// A publisher of which a closed subscriber has borrowed nothing leaves no connection behind when it
-// closes.
+// When a publisher closes that a closed subscriber has borrowed nothing from, it leaves no connection
+// behind.
 #[test]
 fn a_closed_subscriber_loses_empty_connections(rt: HostRuntime) {
     let steps = [

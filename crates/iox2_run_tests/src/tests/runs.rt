@@ -17,7 +17,7 @@ pub(crate) const CREATE_SUBSCRIBER: Command<u64, u8> = Command::CreateSubscriber
     degradation: DegradationAction::Warn,
 };
 
-/// The command that makes a publisher with so many loans.
+/// The command that makes a publisher with that many loans.
 pub(crate) fn create_publisher(loans: usize) -> Command<u64, u8> {
     Command::CreatePublisher(NewPublisher::new(loans, BackpressureStrategy::DiscardData))
 }
@@ -34,7 +34,7 @@ pub(crate) fn replies_to_numbers(
     Ok(replies)
 }
 
-/// The same with a header of which there is one value at all.
+/// The same with a header that has only one value.
 fn replies_without_headers(
     alloc: Global,
     domain: &mut Domain<u64, ()>,

@@ -239,7 +239,7 @@ fn lists_of_slices_are_granted_with_their_slots(rt: HostRuntime) {
     assert_lists_are_granted(&rt, rt.alloc(), config);
 }
 
-// Asserts that a publisher with one loan needs so many slots there: the list is granted with them, and
+// Asserts that a publisher with one loan needs that many slots there: the list is granted with them, and
 // with one fewer its last loan finds none, while no other loan is out.
 fn assert_slots_are_needed(rt: &impl Abort, alloc: Global, config: &ServiceConfig, slots: usize) {
     assert_eq!(rt; worst_case_slots(config, 1), Some(slots), "at {config:?}");
@@ -291,7 +291,7 @@ fn smallest_with_history() -> ServiceConfig {
 
 const NO_SLOT: Reply<u64, u8> = Reply::LoanRefused(LoanError::OutOfMemory);
 
-// What it replies to its list. One message is borrowed, one waits, one stands in the history, and the
+// What it replies to its list. One message is borrowed, one waits, one is in the history, and the
 // last loan takes the fourth slot.
 fn replies_with_four_slots() -> [Reply<u64, u8>; 14] {
     [

@@ -22,7 +22,7 @@ fn domain(rt: &impl Abort, alloc: Global) -> Shares {
     Domain::new(alloc, slices()).expect(rt, "a domain")
 }
 
-// A publisher with one slot, in which each of its messages lies.
+// A publisher with one slot, which has each of its messages.
 fn publisher(rt: &impl Abort, domain: &mut Shares) -> Publisher {
     let factory = slice_factory(domain)
         .override_sample_preallocation(|_| 1)
@@ -30,7 +30,7 @@ fn publisher(rt: &impl Abort, domain: &mut Shares) -> Publisher {
     factory.create(domain).expect(rt, "a publisher")
 }
 
-// Lends a slice of so many shares.
+// Lends a slice of that many shares.
 fn lend_shares(
     rt: &impl Abort,
     domain: &mut Shares,

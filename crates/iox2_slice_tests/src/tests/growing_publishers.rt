@@ -43,7 +43,7 @@ fn lends(
     Ok(())
 }
 
-// How many loans of rising length are granted, from 2 on, each of which is given back.
+// How many loans of rising length are granted, from 2 on. Each is given back.
 fn granted_up_to(
     rt: &impl Abort,
     domain: &mut Numbers,

@@ -15,7 +15,7 @@ use iox2_pubsub::{
 use std::alloc::Global;
 use std::process::Abort;
 
-// Settings of connections with so many channels, in each of which so many messages may wait.
+// Settings of connections with that many channels, each with room for that many messages.
 fn channels(number: usize, buffer: usize) -> ServiceConfig {
     ServiceConfig {
         subscriber_max_buffer_size: buffer,

@@ -28,7 +28,7 @@ fn share(rt: &impl Abort, domain: &mut Shares, publisher: &Publisher, value: &Rc
     lend(rt, domain, publisher).write_payload(domain, share)
 }
 
-// The publisher has one slot, in which each of its messages lies. The first is sent to nobody, the second
+// The publisher has one slot, which has each of its messages. The first is sent to nobody, the second
 // isn't written, and the third is given back.
 #[test]
 fn a_value_stays_until_the_next_loan_in_its_slot(rt: HostRuntime) {

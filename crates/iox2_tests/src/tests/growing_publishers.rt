@@ -7,7 +7,7 @@ use iox2_machine::AllocationStrategy;
 use iox2_pubsub::Publisher;
 use std::process::Abort;
 
-// A publisher with so many loans and slots of one message each time.
+// A publisher with that many loans and slots of one message each time.
 fn growing(
     rt: &impl Abort,
     domain: &mut Weather,

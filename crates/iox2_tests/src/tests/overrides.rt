@@ -62,7 +62,7 @@ fn a_partial_clone_of_a_factory_has_no_override(rt: HostRuntime) {
     assert!(rt; lent == [true, true]);
 }
 
-// How often an override is asked for a publisher with so many loans, and why it isn't made.
+// How often an override is asked for a publisher with that many loans, and why it isn't made.
 fn asked_for(rt: &impl Abort, alloc: Global, loans: usize) -> (u64, Option<PublisherCreateError>) {
     let mut domain = domain(rt, alloc);
     let asked = Cell::new(0u64);

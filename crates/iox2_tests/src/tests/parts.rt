@@ -8,7 +8,7 @@ use iox2_fixtures::{Reading, Weather, factory_for, is_single_valued};
 use iox2_pubsub::{LoanParts, PublisherParts, SampleParts, SubscriberParts};
 use std::process::Abort;
 
-// Whether a publisher with the numbers stands in the domain.
+// Whether a publisher with the numbers is in the domain.
 fn has_publisher(domain: &Weather, parts: &PublisherParts) -> bool {
     domain.publisher_of(parts).map(|it| it.disown()).is_some()
 }
@@ -49,7 +49,7 @@ fn a_publisher_is_had_again_until_it_is_closed(rt: HostRuntime) {
     assert!(rt; !after);
 }
 
-// Whether a subscriber with the numbers stands in the domain.
+// Whether a subscriber with the numbers is in the domain.
 fn has_subscriber(domain: &Weather, parts: &SubscriberParts) -> bool {
     domain.subscriber_of(parts).map(|it| it.disown()).is_some()
 }
@@ -163,7 +163,7 @@ fn has_sample(domain: &Weather, parts: &SampleParts) -> bool {
     domain.sample_of(parts).map(|it| it.disown()).is_some()
 }
 
-// Whether the sample with the numbers lies there, and was borrowed last.
+// Whether the sample with the numbers is there, and was borrowed last.
 fn has_sample_at_hint(domain: &mut Weather, parts: &SampleParts) -> bool
     ensures { domain.new ≡ domain.old }
 {

@@ -7,7 +7,7 @@ use iox2_pubsub::Sample;
 use std::alloc::Global;
 use std::process::Abort;
 
-// A domain of which a message is borrowed, with its sample.
+// A domain with a borrowed message, and its sample.
 fn with_a_sample(rt: &impl Abort, alloc: Global) -> (Weather, Sample) {
     let mut domain = domain(rt, alloc);
     let subscriber = subscriber_of(rt, &mut domain);

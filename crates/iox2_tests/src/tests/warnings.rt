@@ -9,7 +9,7 @@ fn raised(subscriber: u128) -> Option<Warning> {
     })
 }
 
-// Each subscriber comes with a warning, of which the first is forgotten.
+// Each subscriber comes with a warning. The first warning is forgotten.
 #[test]
 fn the_last_warnings_are_read_oldest_first(rt: HostRuntime) {
     let config = ServiceConfig {

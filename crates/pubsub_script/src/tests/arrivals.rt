@@ -33,8 +33,8 @@ const SUBSCRIBER: usize = 1;
 
 const PUBLISHER: usize = 2;
 
-/// Lends as often as may be, and then writes and sends each loan. Of these messages so many arrive
-/// as find room.
+/// Lends as often as may be, and then writes and sends each loan. The messages that find room
+/// arrive.
 fn send_all(alloc: Global, plan: &mut Plan, limits: Limits) -> Result<(), Fail> {
     let mut loans = Vec::new(alloc);
     for _ in 0..limits.loans {

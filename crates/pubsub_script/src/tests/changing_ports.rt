@@ -1,4 +1,4 @@
-//! Scripts in which many ports stand, and some of them are closed and made again on the way.
+//! Scripts that have many ports, and some of them are closed and made again on the way.
 use super::plan::Plan;
 use std::alloc::Global;
 use std::io::Write;
@@ -44,7 +44,7 @@ fn receive(
 
 /// A publisher sends a message, which each subscriber receives, also where the publisher is closed
 /// meanwhile. Of every `ROUNDS` subscribers one is closed too. Returns the number of the publisher
-/// that stands in its place afterwards.
+/// that is in its place afterwards.
 fn pass(
     alloc: Global,
     plan: &mut Plan,

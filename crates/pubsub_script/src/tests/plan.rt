@@ -39,7 +39,7 @@ impl Plan {
         Ok(self.commands)
     }
 
-    /// Adds a message, from its loan to its send, which so many subscribers take.
+    /// Adds a message, from its loan to its send, which that many subscribers take.
     pub(super) fn send(
         &mut self,
         alloc: Global,
@@ -55,7 +55,7 @@ impl Plan {
         Ok(())
     }
 
-    /// Adds a message that is sent at once, which so many subscribers take.
+    /// Adds a message that is sent at once, which that many subscribers take.
     pub(super) fn copy(
         &mut self,
         alloc: Global,

@@ -63,7 +63,7 @@ fn value_of(publisher: usize, index: usize) -> usize {
     publisher.saturating_mul(10).saturating_add(index)
 }
 
-/// Each publisher sends its messages, the last of which finds every buffer full.
+/// Each publisher sends its messages. The last of them finds every buffer full.
 fn send_all(alloc: Global, plan: &mut Plan, ports: Ports) -> Result<(), Fail> {
     for publisher in 1..=ports.publishers {
         for index in 0..SENT {

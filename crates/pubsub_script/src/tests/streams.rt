@@ -42,7 +42,7 @@ impl Read for Dribble<'_> {
     }
 }
 
-/// Takes so many bytes, and then fails.
+/// Takes that many bytes, and then fails.
 #[derive(Drop)]
 pub struct Narrow {
     room: usize,
