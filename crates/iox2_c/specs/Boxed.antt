@@ -23,7 +23,8 @@ abbrev pub Turns : (Serving → Serving → Type 0) → (old new : Option Servin
 Turns P None new = new ≡ None
 Turns P (Some old) new = (it : Serving) × (new ≡ Some it) × P old it
 
--- Where there was a domain there is one, and all that was live in it stays but for the item.
+-- If there was a domain, there still is one, and all that was live in it stays, except the item. If there was none,
+-- there is none.
 abbrev pub HoldsOn : Item → (old new : Option Serving) → Type 0
 HoldsOn item None new = new ≡ None
 HoldsOn item (Some old) new = (it : Serving) × (new ≡ Some it) × ServesBut item old it

@@ -1,4 +1,4 @@
--- What each call comes to, by its code.
+-- The outcome of each call, by its code.
 use Rattle.std.specs.Prelude.{ℕ, true, ◌≡◌, ◌⊎◌, IfOk}
 use Rattle.std.specs.declared.result.Result.{Result}
 use Rattle.std.specs.declared.result.Result.TheVariants.{Err, Ok}

@@ -24,8 +24,8 @@ use Rattle.iox2_c.specs.declared.numbers.SubscriberNumbers.{SubscriberNumbers}
 abbrev pub Lending : Type 1
 Lending = (old new : KeptBytes) (publisher len : ℕ) → Result (Unit {0}) LoanError → Type 0
 
--- The publisher with these numbers was asked for so many bytes by such a step: the code, and the loan's numbers as they were and as
--- they are.
+-- The publisher with these numbers was asked for that many bytes by such a step, which returned this code. The loan's
+-- numbers are given as they were before and as they are after.
 pub record LoanReturns (Lends : Lending) (numbers : PublisherNumbers) (len : ℕ) (old new : Serving) (before after : LoanNumbers) (code : ℕ) : Type 0 where
   pub never : code ≡ 1 → ⊥
   pub lends : code ≡ 0 → Lends old.domain new.domain (wide numbers.id) len (Ok tt)

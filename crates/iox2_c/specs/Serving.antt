@@ -23,7 +23,7 @@ pub record IsOfBytes (domain : KeptBytes) : Type 0 where
   pub lists_no_cells : (domain.config).lists_cells ≡ false
   pub sliced : HoldsSlices domain
 
--- All that was live stays but for the item, and the lengths and alignments stay.
+-- All that was live stays, except the item, and the lengths and alignments stay.
 pub record ServesBut (spent : Item) (old new : Serving) : Type 0 where
   pub domain : StaysBut spent old.domain new.domain
   pub size : new.payload_size ≡ old.payload_size

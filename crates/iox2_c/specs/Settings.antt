@@ -58,7 +58,7 @@ plain_publisher_settings it = record (default_publisher_settings (it.domain).con
 abbrev pub plain_subscriber_settings : Serving → SubscriberSettings
 plain_subscriber_settings it = default_subscriber_settings (it.domain).config
 
--- The settings of a publisher with these options, but for the slots that it asks for.
+-- The settings of a publisher with these options, except the slots that it asks for.
 abbrev pub unasked_settings : ServiceConfig → PublisherOptions → PublisherSettings
 unasked_settings config it = record (default_publisher_settings config) {
   max_loaned_samples = it.max_loaned_samples;

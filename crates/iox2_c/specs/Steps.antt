@@ -42,7 +42,7 @@ use Rattle.iox2_c.specs.declared.numbers.SubscriberNumbers.{SubscriberNumbers}
 abbrev pub BytesState : Type 0
 BytesState = State ℕ (Unit {0})
 
--- What the boxes of a domain's publishers answer, of which there are none.
+-- What the boxes of a domain's publishers answer. There are no such boxes.
 abbrev pub publishers_answer : KeptBytes → Environment
 publishers_answer domain = answers_of (λ handler info action. action ≡ DiscardData) (λ handler cause info action. Unit {0}) (domain.boxes).publishers
 
@@ -67,7 +67,7 @@ module _ (old new : KeptBytes) where
       (λ it. (wide it.id ≡ s.next_port) × (it.buffer_size ≡ buffer_for given) × CreateSubscriber (subscribers_answer new) s given s' None)
       (λ error. CreateSubscriber (subscribers_answer new) s given s' (Some error)))
 
-  -- The publisher with this id was asked for so many bytes, none of which is written, with this answer.
+  -- The publisher with this id was asked for that many bytes, all unwritten, with this answer.
   abbrev pub LendsUnwritten : (publisher len : ℕ) → Result (Unit {0}) LoanError → Type 0
   LendsUnwritten publisher len answer = StepsTo (λ s s'. LoanCall (λ header. Unit {0}) true len s publisher answer s')
 
@@ -77,11 +77,11 @@ module _ (old new : KeptBytes) where
       (m : Messages ℕ (Unit {0})) (s : BytesState) → Shows old m s
       → (l : Loan ℕ (Unit {0})) × (s.loans number ≡ Some l) × (s' : BytesState) × WriteAllFrom s number l bytes s' × Shows new m s'
 
-  -- The publisher with this id was asked for so many bytes, each of which is 0, with this answer.
+  -- The publisher with this id was asked for that many bytes, each of them 0, with this answer.
   abbrev pub Lends : (publisher len : ℕ) → Result (Unit {0}) LoanError → Type 0
   Lends publisher len answer = StepsTo (λ s s'. DefaultSliceCall (λ byte. byte ≡ 0) (λ header. Unit {0}) len s publisher answer s')
 
-  -- The publisher with this id was asked for so many bytes, whatever they are, with this answer.
+  -- The publisher with this id was asked for that many bytes, whatever they are, with this answer.
   abbrev pub LendsUninit : (publisher len : ℕ) → Result (Unit {0}) LoanError → Type 0
   LendsUninit publisher len answer = StepsTo (λ s s'. DefaultSliceCall (λ byte. Unit {0}) (λ header. Unit {0}) len s publisher answer s')
 
@@ -96,7 +96,8 @@ module _ (old new : KeptBytes) where
       (m : Messages ℕ (Unit {0})) (s : BytesState) (l : Loan ℕ (Unit {0})) → Shows old m s → s.loans number ≡ Some l
       → (s' : BytesState) × Shows new (messages_after m number l sent) s' × Sends (publishers_answer old) s number l sent s'
 
-  -- The blocked send of the publisher with this id was tried again so many nanoseconds after it was blocked, with this outcome or error.
+  -- The blocked send of the publisher with this id was tried again that many nanoseconds after it was blocked, with
+  -- this outcome or error.
   pub record Retries (publisher nanoseconds : ℕ) (sent : Result SendOutcome SendError) : Type 0 where
     pub elapsed : Duration
     pub time : as_nanos elapsed ≡ nanoseconds

@@ -1,4 +1,4 @@
--- Types of which one value alone is a default value.
+-- Types with at most one default value.
 use Rattle.std.specs.Prelude.{◌≡◌}
 use Rattle.iox2_commands.specs.Runs.{Defaults}
 

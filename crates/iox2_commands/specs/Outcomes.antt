@@ -1,4 +1,4 @@
--- What a step comes to: a reply, a handle for later commands, an event, and the state afterwards.
+-- The outcome of a step: a reply, a handle for later commands, an event, and the state afterwards.
 use Rattle.std.specs.Prelude.{ℕ}
 use Rattle.std.specs.declared.option.Option.TheVariants.{Some}
 use Rattle.iox2_machine.specs.machine.Numbers.{put_at}
@@ -28,7 +28,7 @@ messages_after No_event messages = messages
 messages_after (Message_sent p n entry) messages = put_at messages n (Some entry)
 messages_after (Message_received p q n) messages = messages
 
--- All that a step comes to.
+-- The whole outcome of a step.
 pub record Outcome (T U : Type 0) : Type 0 where
   pub reply : Reply T U
   pub handle : Handle

@@ -53,7 +53,7 @@ module _ {T U : Type 0} where
   TellsOfRefusals (Release of) = Unit {0}
   TellsOfRefusals (Close of) = Unit {0}
 
-  -- The reply to the command refuses a port for want of memory.
+  -- The reply to the command refuses a port because memory was refused.
   abbrev pub RefusesPort : ServiceConfig → Command T U → Reply T U → Type 0
   RefusesPort c (CreatePublisher asked) (PublisherRefused UnableToCreateDataSegment) =
       first_segment_fits c (publisher_settings c.variant asked) ≡ true
@@ -61,7 +61,7 @@ module _ {T U : Type 0} where
   RefusesPort c command (SubscriberRefused NoSubscriberState) = Unit {0}
   RefusesPort c command _ = ⊥
 
-  -- No reply refuses a port for want of memory.
+  -- No reply refuses a port because memory was refused.
   abbrev pub RefuseNoPort : ServiceConfig → List (Command T U) → List (Reply T U) → Type 0
   RefuseNoPort c (command ∷ commands) (reply ∷ replies) = (RefusesPort c command reply → ⊥) × RefuseNoPort c commands replies
   RefuseNoPort c _ _ = Unit {0}

@@ -164,7 +164,7 @@ publisher_settings variant asked = record {
 
 -- The step of a command in a state, with the handles that the commands before it made.
 module _ {T U : Type 0} (environment : Environment) (default_value : T) (default_header : U) (messages : Messages T U) (s : State T U) (handles : List Handle) where
-  -- The command is skipped where it names nothing live of the wanted kind; else it comes to what `Then` says.
+  -- The command is skipped if it names nothing live of the wanted kind. Otherwise `Then` says what its outcome is.
   abbrev IfLive : {A : Type 0} → Outcome T U → Option A → (Then : A → Type 0) → Type 0
   IfLive o named Then = MatchOption named (o ≡ skipped s) Then
 
@@ -238,7 +238,7 @@ module _ {T U : Type 0} (environment : Environment) (default_value : T) (default
   abbrev ReadsValue : (n : ℕ) → (at : ℕ) → Outcome T U → Type 0
   ReadsValue n at o = MatchOption (messages n) ⊥ (λ entry. IfLive o (slice_get entry.values at) (λ value. o ≡ replied (Cell (Some value)) s))
 
-  -- What a command comes to.
+  -- The outcomes that a command may have.
   abbrev pub Step : Command T U → Outcome T U → Type 0
   Step Nothing o = o ≡ done s
   Step (PublisherCommand asked) o =

@@ -23,9 +23,9 @@ abbrev pub seen_handle : (q : ℕ) → Handle → Handle
 seen_handle q (Sample_handle p q' n) = cond (q' == q) (Sample_handle p q' n) No_handle
 seen_handle q handle = handle
 
--- Both have the same configuration, counters, places, publishers, loans and messages, the same record, mailboxes and
--- channels of q, and the same handles but for other subscribers' samples. Of another subscriber only whether it is open, its place and
--- its buffer are compared; warnings aren't.
+-- Both have the same configuration, counters, places, publishers, loans and messages. They have the same record,
+-- mailboxes and channels of q, and the same handles except for other subscribers' samples. Only three things are
+-- compared of another subscriber: whether it is open, its place and its buffer. Warnings aren't compared.
 pub record SameView {T U : Type 0} (q : ℕ) (m : Messages T U) (s : State T U) (named : List Handle) (m' : Messages T U) (s' : State T U) (named' : List Handle) : Type 0 where
   pub config : s.config ≡ s'.config
   pub next_port : s.next_port ≡ s'.next_port

@@ -53,7 +53,7 @@ module _ {F : Type 0} (environment : Environment) (config : ServiceConfig) (d : 
       Decides environment d.publisher (marks_of handler) d.strategy
       (record { service_id = config.service_id; sender_port_id = d.publisher; receiver_port_id = receiver; retries = retries_at d place; elapsed_time = elapsed_at d place }) result
 
-  -- What a put into the connection of that receiver comes to.
+  -- The result of a put into the connection of that receiver, by the put's outcome.
   abbrev pub ComesTo : (place receiver : ℕ) → PutOutcome → PutResult → Type 0
   ComesTo place receiver Taken result = result ≡ Accepted
   ComesTo place receiver (Overwrote oldest) result = result ≡ Accepted

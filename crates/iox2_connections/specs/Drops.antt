@@ -30,7 +30,7 @@ pub record DropsAll (p : ℕ) (holders : List ℕ) (old : Slab Link) (key : ℕ)
   pub recounts : Recounts p holders old holders' new
   pub shrinks : (slot : ℕ) → slice_index holders' slot ≤ slice_index holders slot
 
--- The connection at the key, of which nothing is borrowed, has lost what waited there, and is gone.
+-- The connection at the key, from which nothing is borrowed, has lost what waited there, and is gone.
 pub record RemovesConnection (p : ℕ) (holders : List ℕ) (old : Slab Link) (key : ℕ) (holders' : List ℕ) (new : Slab Link) : Type 0 where
   pub mid : Slab Link
   pub drops : DropsAll p holders old key holders' mid

@@ -50,7 +50,7 @@ pub record HasConnections (connections : Slab Link) (keys : List (Option ℕ)) :
 
 -- ---- in the machine's words
 
--- The connection is the subscriber q's, which may borrow so many of its messages.
+-- The connection is the subscriber q's, which may borrow that many of its messages.
 pub record IsReceivers (q most : ℕ) (c : Link) : Type 0 where
   pub subscriber : c.home.subscriber ≡ q
   pub limit : c.limit ≡ most

@@ -18,7 +18,7 @@ IsRingPut room old slot overflow Full new = (overflow ≡ false) × (length old 
 abbrev pub tagged : (channel : ℕ) → List ℕ → List ChannelNumber
 tagged channel slots = map (λ slot. record { channel = channel; number = slot }) slots
 
--- What waits in channels with these rings, the first of which has this number.
+-- What waits in channels with these rings. The first channel has this number.
 abbrev pub slots_from : (first : ℕ) → List (List ℕ) → List ChannelNumber
 slots_from first [] = []
 slots_from first (ring ∷ rings) = tagged first ring ++ slots_from (suc first) rings
@@ -31,16 +31,16 @@ rings channels = map (λ (c : FurtherChannel). c.waiting.items) channels
 abbrev pub statuses : List FurtherChannel → List Channel
 statuses channels = map (λ (c : FurtherChannel). c.status) channels
 
--- A new channel, in which so many slots may wait.
+-- A new channel, in which that many slots may wait.
 abbrev pub empty_channel : (buffer : ℕ) → FurtherChannel
 empty_channel buffer = record { status = new_channel; waiting = record { items = []; capacity = buffer } }
 
--- So many slots may wait in the channel, and no more do.
+-- That many slots may wait in the channel, and no more do.
 pub record HasRoom (buffer : ℕ) (c : FurtherChannel) : Type 0 where
   pub capacity : c.waiting.capacity ≡ buffer
   pub within : length c.waiting.items ≤ buffer
 
--- In each of these channels so many slots may wait, and no more do.
+-- That many slots may wait in each of these channels, and no more do.
 abbrev pub HaveRoom : (buffer : ℕ) → List FurtherChannel → Type 0
 HaveRoom buffer channels = All (HasRoom buffer) channels
 

@@ -21,7 +21,7 @@ pub record Link : Type 0 where
   pub returned : List ℕ  -- released and not yet reclaimed, oldest first
   pub others : List ChannelNumber  -- the slots that wait in the other channels, by rising channel, and in each oldest first
 
--- A new connection with so many channels: no slot stands in it, its channels are open, and it isn't marked as open.
+-- A new connection with that many channels: no slot stands in it, its channels are open, and it isn't marked as open.
 abbrev pub empty_link : Home → (buffer limit count : ℕ) → Link
 empty_link home buffer limit count = record { home = home; buffer = buffer; limit = limit; is_open = false; channels = replicate count new_channel; waiting = []; borrowed = []; returned = []; others = [] }
 

@@ -4,7 +4,7 @@ use Rattle.std.specs.declared.option.Option.{Option}
 use Rattle.std.specs.declared.option.Option.TheVariants.{None, Some}
 
 module _ {A : Type 0} where
-  -- The first record of which the test holds.
+  -- The first record that passes the test.
   abbrev pub look_up : (A → Bool) → List (Option A) → Option A
   look_up test [] = None
   look_up test (None ∷ xs) = look_up test xs

@@ -23,7 +23,7 @@ abbrev pub evict_or_refuse : Option ℕ → Retirement
 evict_or_refuse None = Refuse
 evict_or_refuse (Some key) = Evict key
 
--- What becomes of the connection at the key, where so many may be kept and these are kept already.
+-- What becomes of the connection at the key, if at most that many may be kept and these are kept already.
 abbrev pub chosen : Slab Link → (limit : ℕ) → (expired : List ℕ) → (key : ℕ) → Retirement
 chosen connections limit expired key =
     cond (nat_lt (length expired) limit) KeepExpired

@@ -3,7 +3,7 @@ use Rattle.std.specs.Prelude.{ℕ, Bool, ◌&&◌, ◌==◌, cond, List, length,
 use Rattle.std.specs.List.{refill}
 use Rattle.std.specs.declared.option.Option.{Option}
 
--- One where a publisher keeps so many lists, and 0 where it keeps none.
+-- 1 if a publisher keeps that many lists, and 0 if it keeps none.
 abbrev pub keeps : (lists : ℕ) → ℕ
 keeps lists = cond (nat_lt 0 lists) 1 0
 

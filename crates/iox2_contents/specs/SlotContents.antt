@@ -30,7 +30,7 @@ abbrev pub lists_for : (in_lists : Bool) → (lists : ℕ) → ℕ
 lists_for in_lists lists = cond in_lists lists 0
 
 module _ {T U : Type 0} where
-  -- The content of a loan that starts: so many unwritten cells, no values, and this user header.
+  -- The content of a loan that starts: that many unwritten cells, no values, and this user header.
   abbrev pub unwritten_content : (user_header : U) → (len : ℕ) → ContentState T U → ContentState T U
   unwritten_content user_header len content = record content { user_header = user_header; cells = replicate len None; values = [] }
 
@@ -96,8 +96,8 @@ module _ {T U : Type 0} where
   abbrev pub first_value_at : List (ContentState T U) → (slot : ℕ) → Option T
   first_value_at contents slot = option_and_then (λ content. slice_get content.values 0) (slice_get contents slot)
 
-  -- So many slots more stand behind the old ones, each without cells and with room for so many elements, which lie in lists
-  -- where they are to, and whose cells can then be handed out for so many loans at a time.
+  -- Behind the old slots stand `more` new ones, each without cells and with room for `room` elements, which lie in
+  -- lists if `in_lists` says so. The cells can then be handed out for `lists` loans at a time.
   pub record AddsSlots (old new : List (ContentState T U)) (more room : ℕ) (in_lists : Bool) (lists : ℕ) : Type 0 where
     pub added : List (ContentState T U)
     pub count : length added ≡ more

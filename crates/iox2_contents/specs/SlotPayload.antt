@@ -4,7 +4,7 @@ use Rattle.std.specs.declared.option.Option.{Option}
 use Rattle.iox2_contents.specs.declared.payload.Payload.{Payload}
 use Rattle.iox2_contents.specs.declared.payload.Payload.TheVariants.{Empty, Unwritten, Written, Elements}
 
--- A payload with room for so many elements lies in its slot, and not in lists.
+-- A payload with room for that many elements lies in its slot, and not in lists.
 abbrev pub lies_in_place : (room : ℕ) → (in_lists : Bool) → Bool
 lies_in_place room in_lists = room == 1 && not in_lists
 

@@ -22,7 +22,8 @@ module _ {T U : Type 0} where
   abbrev pub long_count : (most : ℕ) → List (SlotState T U) → ℕ
   long_count most slots = sum_by (one_if_long most) slots
 
-  -- Each slot that has cells finds a list for them, with so many lists to spare, which are this long, of so many in all.
+  -- Each slot that has cells finds a list for them that is `most` long. There are `lists` lists in all, and `spare` of
+  -- them are to spare.
   pub record HasLists (most spare lists : ℕ) (slots : List (SlotState T U)) : Type 0 where
     pub shown : All (ShowsAtMost most) slots
     pub listed : All ListsCells slots
@@ -32,7 +33,7 @@ module _ {T U : Type 0} where
     -- No more slots have cells than there are lists.
     pub opened : open_count (contents_of lists slots) ≤ lists
 
-  -- The same but for a slot whose cells are gone, and which may have their list still.
+  -- The same, except that the slot at `at` has no cells any more, and may have their list still.
   pub record HasListsBut (at most spare lists : ℕ) (slots : List (SlotState T U)) : Type 0 where
     pub shown : All (ShowsAtMost most) slots
     pub listed : (slot : ℕ) (s : SlotState T U) → slice_get slots slot ≡ Some s → slot ≢ at → ListsCells s

@@ -4,18 +4,18 @@ use Rattle.iox2_contents.specs.CellLists.{keeps}
 use Rattle.iox2_contents.specs.SlotContents.{ContentState}
 use Rattle.iox2_contents.specs.SlotPayload.{lies_in_place}
 
--- The content of a slot, of which `lists` is 1 where its publisher keeps lists, and for how many cells there is room in a list
--- that they have.
+-- The content of a slot, and how many cells have room in the list of its cells, if they have one. The content's `lists`
+-- is 1 if the slot's publisher keeps lists.
 pub record SlotState (T U : Type 0) : Type 0 where
   pub content : ContentState T U
   pub cell_room : ℕ
 
 module _ {T U : Type 0} where
-  -- The content with so many lists, where it has any.
+  -- The content with that many lists, if it has any.
   abbrev pub with_lists : (lists : ℕ) → ContentState T U → ContentState T U
   with_lists lists content = record content { lists = cond (nat_lt 0 content.lists) lists 0 }
 
-  -- The content of a slot of a publisher that keeps so many lists, if any.
+  -- The content of a slot of a publisher that keeps that many lists, if any.
   abbrev pub content_of : (lists : ℕ) → SlotState T U → ContentState T U
   content_of lists slot = with_lists lists slot.content
 
@@ -35,7 +35,7 @@ module _ {T U : Type 0} where
   abbrev pub waits : SlotState T U → Bool
   waits slot = nat_lt 0 slot.content.lists && (slot.cell_room == 0 && nat_lt 0 (length slot.content.cells))
 
-  -- The slot has no message yet, room for so many elements, and a publisher that keeps so many lists of cells.
+  -- The slot has no message yet, room for `room` elements, and a publisher that keeps `lists` lists of cells.
   pub record IsNew (is_default : U → Type 0) (room : ℕ) (in_lists : Bool) (lists : ℕ) (slot : SlotState T U) : Type 0 where
     pub default : is_default slot.content.user_header
     pub cells : slot.content.cells ≡ []

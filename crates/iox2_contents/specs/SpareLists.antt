@@ -14,7 +14,7 @@ module _ {A : Type 0} where
   of_first count [] = 0
   of_first count (x ∷ xs) = count x
 
-  -- There is a first one, of which P holds, and Q holds of it and each other one.
+  -- There is a first one. P holds for it, and Q holds for it and each other one.
   abbrev pub FirstAnd : (P : A → Type 0) → (Q : A → A → Type 0) → List A → Type 0
   FirstAnd P Q [] = ⊥
   FirstAnd P Q (x ∷ xs) = P x × All (Q x) xs

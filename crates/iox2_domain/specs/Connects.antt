@@ -32,7 +32,7 @@ module _ {T U : Type 0} where
       connections = f'.connections;
     }
 
-  -- What the publisher x hands out to each new receiver: its history, but for one whose channel is closed.
+  -- What the publisher x hands out to each new receiver: its history, or nothing to one whose channel is closed.
   abbrev pub histories_of : Fields T U → PublisherFields → ℕ → List ℕ
   histories_of f x q = history_for (state_of (kept_of f)) x.id (publisher_of f.books f.connections x).port q
 

@@ -25,7 +25,7 @@ with_loan_discarded f place x slot book = record f {
   contents = slice_set f.contents x.book (Some (with_changed (contents_at f.contents x.book) slot ended_content));
 }
 
--- The fields come to what the machine's discard of the loan n comes to.
+-- The fields reach the state after the machine's discard of the loan n.
 abbrev pub DiscardsLoan : {T U : Type 0} → (old new : Fields T U) → (n : ℕ) → Type 0
 DiscardsLoan {T} {U} old new n =
     (l : Loan T U) × ((state_of (kept_of old)).loans n ≡ Some l) × Reaches old new (loan_discarded (state_of (kept_of old)) n l)

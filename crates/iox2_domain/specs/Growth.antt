@@ -30,9 +30,9 @@ module _ {T U : Type 0} where
     pub lists : (n : ℕ) → All (λ content. content.lists ≡ n) old → All (λ content. content.lists ≡ n) new
     pub cells : KeepsOpen old new
 
-  -- Behind the slots of this book are so many more, each with room for so many units, which lie in lists where they are to,
-  -- and whose cells can be handed out for so many loans at a time. What lies in slots in use stays, and no other has cells
-  -- that had none.
+  -- Behind the slots of this book stand `more` new ones, each with room for `units` units, which lie in lists if
+  -- `in_lists` says so. The cells can then be handed out for `lists` loans at a time. What lies in slots in use stays,
+  -- and no slot that had no cells has any.
   pub record GrowsContents (book : Book) (more units : ℕ) (in_lists : Bool) (lists : ℕ) (old new : List (ContentState T U)) : Type 0 where
     pub count : length new ≡ length old + more
     pub kept : (slot : ℕ) → 0 < holders_at book slot → slice_get new slot ≡ slice_get old slot
@@ -58,21 +58,21 @@ module _ {T U : Type 0} where
       publishers = slice_set f.publishers place (Some (with_segment (length book.holders) len x));
     }
 
-  -- The publisher at the place has a new current segment, which is long enough for so many elements; or it has made all
-  -- segments that it may make, or memory is refused or the size doesn't fit, and then nothing changes.
+  -- The publisher at the place has a new current segment, which is long enough for that many elements; or it has made
+  -- all segments that it may make, or memory is refused or the size doesn't fit, and then nothing changes.
   abbrev pub MayGrow : {A : Type 0} → Fields T U → (place : ℕ) → PublisherFields → (len : ℕ) → Result A LoanError → Fields T U → Type 0
   MayGrow f place x len result f' =
       MatchResult result
       (λ _. (x.segments < segment_limit) × (longest : ℕ) × (len ≤ longest) × Grows f place x longest f')
       (λ e. (f' ≡ f) × ((e ≡ InternalFailure) ⊎ ((e ≡ OutOfMemory) × (x.segments ≡ segment_limit))))
 
-  -- The current segment of the publisher at the place has a free slot, and is long enough for so many elements.
+  -- The current segment of the publisher at the place has a free slot, and is long enough for that many elements.
   pub record HasFreeSlot (f : Fields T U) (x : PublisherFields) (len : ℕ) : Type 0 where
     pub book : Book
     pub stands : get f.books x.book ≡ Some book
     pub some_free : All (λ n. 0 < n) (drop x.segment_start book.holders) → ⊥
     pub long : len ≤ x.segment_length
 
-  -- Each slot of the publisher's current segment has a holder, or the segment is too short for so many elements.
+  -- Each slot of the publisher's current segment has a holder, or the segment is too short for that many elements.
   abbrev pub HasNoSlot : Fields T U → PublisherFields → (len : ℕ) → Type 0
   HasNoSlot f x len = (x.segment_length < len) ⊎ ((book : Book) × (get f.books x.book ≡ Some book) × All (λ n. 0 < n) (drop x.segment_start book.holders))

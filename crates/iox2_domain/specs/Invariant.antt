@@ -127,7 +127,7 @@ pub record IsBook {T U : Type 0} (b : Book) (contents : Option (List (ContentSta
   pub aligned : IsAligned b
   pub shaped : IsSomeAnd contents (λ cs. length cs ≡ length b.holders)
 
--- From this slot on each has room for so many units.
+-- Each slot from this one on has room for that many units.
 pub record HasRoomFrom {T U : Type 0} (start units : ℕ) (contents : List (ContentState T U)) : Type 0 where
   pub at : (slot : ℕ) (content : ContentState T U) → start ≤ slot → slice_get contents slot ≡ Some content → units ≤ content.room
 
@@ -188,7 +188,7 @@ IsLeft next_port publishers b = IsGone next_port publishers b.publisher × IsUse
 pub record KeepsBooks (next_port : ℕ) (publishers : List (Option PublisherFields)) (books : Slab Book) : Type 0 where
   pub at : (key : ℕ) (b : Book) → get books key ≡ Some b → IsOwned publishers key b.publisher ⊎ IsLeft next_port publishers b
 
--- Each book but the one at this key, which may have no holder any more.
+-- The same, except for the book at this key, which may have no holder any more.
 pub record KeepsBooksBut (next_port : ℕ) (publishers : List (Option PublisherFields)) (books : Slab Book) (spared : ℕ) : Type 0 where
   pub own : (b : Book) → get books spared ≡ Some b → IsOwned publishers spared b.publisher ⊎ IsGone next_port publishers b.publisher
   pub others : (key : ℕ) (b : Book) → key ≢ spared → get books key ≡ Some b → IsOwned publishers key b.publisher ⊎ IsLeft next_port publishers b
@@ -247,7 +247,7 @@ pub record HasShapes {T U : Type 0} (f : Fields T U) : Type 0 where
   pub at : (key slot : ℕ) (b : Book) (m : KeptMessage T U) → get f.books key ≡ Some b
       → message_in b (contents_at f.contents key) slot ≡ Some m → HasShape f.config m
 
--- How many lists of cells the settings ask for, of a publisher that may have so many loans out.
+-- How many lists of cells the settings ask for, of a publisher that may have that many loans out.
 abbrev pub lists_wanted : ServiceConfig → (max_loaned_samples : ℕ) → ℕ
 lists_wanted c max_loaned_samples = cond c.lists_cells (max 1 max_loaned_samples) 0
 
@@ -255,8 +255,8 @@ lists_wanted c max_loaned_samples = cond c.lists_cells (max 1 max_loaned_samples
 abbrev pub cell_lists : ServiceConfig → (max_loaned_samples : ℕ) → ℕ
 cell_lists c max_loaned_samples = lists_for (not (is_single_valued c)) (lists_wanted c max_loaned_samples)
 
--- What lies in slots lies in lists, so that it can be handed out as a slice, but in a domain of single values. Cells can be
--- handed out as lists too where the settings ask for it.
+-- Except in a domain of single values, what lies in slots lies in lists, so that it can be handed out as a slice, and
+-- cells can be handed out as lists too if the settings ask for it.
 pub record HasForms {T U : Type 0} (c : ServiceConfig) (contents : List (Option (List (ContentState T U)))) : Type 0 where
   pub at : is_single_valued c ≡ false → (key : ℕ) (cs : List (ContentState T U)) → slice_index_or contents key None ≡ Some cs → All (λ content. content.is_in_place ≡ false) cs
   pub cells : is_single_valued c ≡ false → c.lists_cells ≡ true → (key : ℕ) (cs : List (ContentState T U)) → slice_index_or contents key None ≡ Some cs → All (λ content. 0 < content.lists) cs
@@ -274,8 +274,8 @@ pub record IsUnwrittenLoan (books : Slab Book) (x : PublisherFields) (slot : ℕ
   pub out : 0 < times slot x.loans
   pub unwritten : mark_at books x.book slot ≡ Some Unwritten
 
--- Each slot with cells of a publisher that stands is a loan of its that is out and isn't written. So as many lists of cells
--- as it may have loans out are enough, and so many its slots have.
+-- Each slot with cells of a publisher that stands is a loan of its that is out and isn't written. So one list of cells
+-- for each loan that it may have out is enough. Its slots have as many lists as `cell_lists` says.
 pub record HasOpenLoans {T U : Type 0} (c : ServiceConfig) (publishers : List (Option PublisherFields)) (books : Slab Book) (contents : List (Option (List (ContentState T U)))) : Type 0 where
   pub at : (i slot : ℕ) (x : PublisherFields) → slice_index_or publishers i None ≡ Some x → 0 < cell_count contents x.book slot → IsUnwrittenLoan books x slot
   pub lists : (i : ℕ) (x : PublisherFields) (cs : List (ContentState T U)) → slice_index_or publishers i None ≡ Some x → slice_index_or contents x.book None ≡ Some cs
@@ -329,7 +329,7 @@ pub record IsDomain {T U : Type 0} (f : Fields T U) : Type 0 where
   pub well_formed : IsWellFormed (state_of (kept_of f))
   pub entries : KeepsEntries (kept_of f)
 
--- The same but for the book at the key, whose publisher is gone, and of which no slot may have a holder any more.
+-- The same, except for the book at the key: its publisher is gone, and maybe none of its slots has a holder any more.
 pub record IsDomainBut {T U : Type 0} (key : ℕ) (f : Fields T U) : Type 0 where
   pub parts : HasParts f
   pub kept_books : (k : ℕ) (b : Book) → k ≢ key → get f.books k ≡ Some b → IsOwned f.publishers k b.publisher ⊎ IsLeft f.next_port f.publishers b

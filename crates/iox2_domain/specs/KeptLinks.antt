@@ -30,7 +30,7 @@ pub record IsMade (Own : Home → Type 0) (Gone : ℕ → ℕ → Type 0) (old :
   pub none : NoLink old d.home.publisher d.home.subscriber
   pub present : Gone d.home.publisher d.home.subscriber → ⊥
 
--- Some of these connections were made, between ports that are there, and others were lost, between ports of which one is gone.
+-- Some of these connections were made, between ports that are there. Others were lost, each with a port that is gone.
 -- All others keep their channels.
 pub record ChannelsFollow (Own : Home → Type 0) (Gone : ℕ → ℕ → Type 0) (old new : Slab Link) : Type 0 where
   pub kept : (key : ℕ) (d : Link) → get new key ≡ Some d → HasLink old d ⊎ IsMade Own Gone old d

@@ -18,11 +18,11 @@ use Rattle.iox2_domain.specs.Fields.{Fields, kept_of, publisher_of}
 use Rattle.iox2_domain.specs.Ports.{PublisherFields}
 use Rattle.iox2_domain.specs.declared.loan_slots.LoanAt.{LoanAt}
 
--- The header of a message of so many elements of the publisher.
+-- The header of a message of the publisher, with that many elements.
 abbrev pub header_for : ServiceConfig → (publisher len : ℕ) → Header
 header_for c publisher len = record { node_id = c.node_id; publisher_id = publisher; number_of_elements = len }
 
--- The publisher with the slot among its loans, of so many elements, and with so many segments.
+-- The publisher with the slot among its loans, as a loan of `len` elements, and with `segments` segments.
 abbrev pub lending : (len slot segments : ℕ) → PublisherFields → PublisherFields
 lending len slot segments x = record x { loans = x.loans ++ slot ∷ []; longest_granted = max x.longest_granted len; segments = segments }
 

@@ -75,13 +75,13 @@ module _ {T U : Type 0} where
   abbrev pub user_header_changed : (user_header : U) → Loan T U → Loan T U
   user_header_changed user_header l = record l { user_header = user_header }
 
-  -- ---- what writes come to
+  -- ---- what writes do
 
   -- The loan n with these values, which makes it a written one.
   abbrev pub with_values_written : State T U → (n : ℕ) → Loan T U → (values : List T) → State T U
   with_values_written s n l values = with_loan s n (Some (record l { cells = map Some values; is_written = true }))
 
-  -- The fields come to what the machine's write of these values into the cells of the loan n comes to.
+  -- The fields reach the state after the machine's write of these values into the cells of the loan n.
   abbrev pub WritesLoan : (old new : Fields T U) → (n : ℕ) → (values : List T) → Type 0
   WritesLoan old new n values =
       (l : Loan T U) × ((state_of (kept_of old)).loans n ≡ Some l) × (length values ≡ length l.cells)

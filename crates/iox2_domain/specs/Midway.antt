@@ -16,9 +16,9 @@ module _ {T U : Type 0} where
   abbrev pub with_channels_of : Fields T U → State T U → State T U
   with_channels_of f s = record s { channels = (state_of (kept_of f)).channels }
 
-  -- The fields agree with one another, but for what they keep, and but for the book at the key, which may be kept for nobody.
-  -- They keep this state, but for channels, and no entry that they didn't keep before. Each connection was there before, with
-  -- the same channels.
+  -- The fields agree with one another, except in what they keep, and except that the book at the key may be kept for
+  -- nobody. They keep this state, except its channels, and no entry that they didn't keep before. Each connection was
+  -- there before, with the same channels.
   pub record IsMidway (old new : Fields T U) (s : State T U) (key : ℕ) : Type 0 where
     pub consistent : HasParts new
     pub lone : HasLoneLoans new.books

@@ -45,7 +45,8 @@ abbrev pub plain_publisher : (max_loaned_samples : ℕ) → BackpressureStrategy
 plain_publisher max_loaned_samples strategy initial_max_slice_len =
     static_publisher (record { max_loaned_samples = max_loaned_samples; strategy = strategy; degradation = mark.Fixed Warn; initial_max_slice_len = initial_max_slice_len }) None
 
--- A publisher that was just made with these settings, with so many slots, and with room for so many loans and connections.
+-- A publisher that was just made with these settings. It has `slots` slots, and room for `loan_room` loans and
+-- `key_room` connections.
 abbrev pub entering_publisher : (id place book : ℕ) → PublisherSettings → (slots loan_room : ℕ) (history : Buffer ℕ) (key_room : ℕ) → PublisherFields
 entering_publisher id place book given slots loan_room history key_room = record {
   id = id;
@@ -78,9 +79,9 @@ module _ {T U : Type 0} where
       cond (f.next_port == last_number) (Err UnableToCreatePortTag)
       (cond (nat_lt (lowest_empty f.publishers) (f.config).max_publishers) (Ok (lowest_empty f.publishers)) (Err ExceedsMaxSupportedPublishers))
 
--- A book of so many slots of the publisher, which names its node. None of the slots is in use, and their contents,
--- each without cells and with room for so many elements, lie in lists where they are to, and their cells can then be handed
--- out for so many loans at a time.
+-- A book of the publisher with `slots` slots, which names its node. None of the slots is in use. Their contents are
+-- each without cells and with room for `room` elements, and lie in lists if `in_lists` says so. The cells can then be
+-- handed out for `lists` loans at a time.
 pub record IsNewSegment {T U : Type 0} (book : Book) (contents : List (ContentState T U)) (node publisher slots room : ℕ) (in_lists : Bool) (lists : ℕ) : Type 0 where
   pub is_its : book.publisher ≡ publisher
   pub names_node : book.node ≡ node

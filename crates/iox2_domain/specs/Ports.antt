@@ -48,7 +48,8 @@ pub record SubscriberFields : Type 0 where
 abbrev pub slot_length : (segment_length : ℕ) → ℕ
 slot_length segment_length = max 1 segment_length
 
--- A subscriber that was just made, with this handler of degradations, and with room for so many connections and expired ones.
+-- A subscriber that was just made, with this handler of degradations, and with room for `key_room` connections and
+-- `expired_room` expired ones.
 abbrev pub entering : (id place buffer : ℕ) → Handler DegradationAction → (key_room expired_room : ℕ) → SubscriberFields
 entering id place buffer handler key_room expired_room = record {
   id = id;

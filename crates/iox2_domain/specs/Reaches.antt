@@ -1,4 +1,4 @@
--- What a step on the fields of a domain comes to.
+-- The outcome of a step on the fields of a domain.
 use Rattle.std.specs.Prelude.{◌≡◌, ℕ}
 use Rattle.std.specs.declared.option.Option.TheVariants.{Some}
 use Rattle.iox2_machine.specs.machine.Records.{Entry}

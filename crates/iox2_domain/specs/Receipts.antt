@@ -1,4 +1,4 @@
--- What a receive comes to.
+-- The outcome of a receive.
 use Rattle.std.specs.Prelude.{◌≡◌, ℕ, slice_get, Contains, MatchOption}
 use Rattle.std.specs.declared.option.Option.{Option}
 use Rattle.std.specs.declared.option.Option.TheVariants.{None, Some}

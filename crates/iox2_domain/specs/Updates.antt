@@ -31,19 +31,19 @@ without_sender_key place x = record x { keys = slice_set x.keys place None }
 abbrev pub without_receiver_key : (place : ℕ) → SubscriberFields → SubscriberFields
 without_receiver_key place y = record y { keys = slice_set y.keys place None }
 
--- The publisher, with room for so many keys.
+-- The publisher, with room for that many keys.
 abbrev pub with_sender_room : (room : ℕ) → PublisherFields → PublisherFields
 with_sender_room room x = record x { key_room = room }
 
--- The subscriber, with room for so many keys.
+-- The subscriber, with room for that many keys.
 abbrev pub with_receiver_room : (room : ℕ) → SubscriberFields → SubscriberFields
 with_receiver_room room y = record y { key_room = room }
 
--- The subscriber, with room for so many keys and so many expired ones.
+-- The subscriber, with room for `room` keys and `expired_room` expired ones.
 abbrev pub with_receiver_rooms : (room expired_room : ℕ) → SubscriberFields → SubscriberFields
 with_receiver_rooms room expired_room y = record y { key_room = room; expired_room = expired_room }
 
--- How many keys the port at a place has room for, where a port has room for so many.
+-- How many keys the port at a place has room for, as `room` says for each port, or 0 if no port is there.
 abbrev pub room_at : {A : Type 0} → (A → ℕ) → List (Option A) → (at : ℕ) → ℕ
 room_at room ports at = option_map_or room (slice_index_or ports at None) 0
 
@@ -87,7 +87,7 @@ is_open_subscriber subscribers place = option_map_or (λ (y : SubscriberFields).
 abbrev pub key_from : Slab Link → (p : ℕ) → Option ℕ → Option ℕ
 key_from connections p key = cond (is_port (publisher_of_key connections key) p) key None
 
--- A connection in which no slot stands, with so many new channels, was made at a key that was free.
+-- A connection with `count` new channels, in which no slot stands, was made at a key that was free.
 pub record MakesConnection (old : Slab Link) (home : Home) (buffer limit count key : ℕ) (new : Slab Link) : Type 0 where
   pub was_free : get old key ≡ None
   pub made : Updates old new key (Some (empty_link home buffer limit count))

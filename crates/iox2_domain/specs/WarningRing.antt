@@ -2,7 +2,7 @@
 use Rattle.std.specs.Prelude.{ℕ}
 use Rattle.iox2_machine.specs.machine.State.{Warnings}
 
--- What is kept, and so many of the last warnings have room.
+-- The warnings that are kept, and how many of the last ones have room.
 pub record WarningRing : Type 0 where
   pub items : Warnings
   pub capacity : ℕ

@@ -1,4 +1,4 @@
--- A publisher of which a delivery is blocked.
+-- A publisher with a blocked delivery.
 use Rattle.std.specs.Prelude.{◌≡◌, ℕ, slice_index_or}
 use Rattle.std.specs.declared.option.Option.TheVariants.{None, Some}
 use Rattle.iox2_connections.specs.declared.sender.Progress.{Progress}

@@ -11,13 +11,13 @@ use Rattle.iox2_domain.specs.Lending.{memory_for}
 use Rattle.iox2_domain.specs.Ports.{PublisherFields}
 use Rattle.iox2_domain.specs.Reaches.{Reaches}
 
--- The publisher at the place has made so many segments, and nothing else changes.
+-- The publisher at the place has made that many segments, and nothing else changes.
 abbrev pub with_segments : {T U : Type 0} → Fields T U → (place : ℕ) → PublisherFields → (segments : ℕ) → Fields T U
 with_segments f place x segments = record f { publishers = slice_set f.publishers place (Some (record x { segments = segments })) }
 
 module _ {T U : Type 0} where
-  -- The publisher, whose memory grows, has a free slot in its current segment, which is long enough for so many elements, and
-  -- the machine grants a loan of them. Only the number of its segments is one that it has after the loan.
+  -- The publisher, whose memory grows, has a free slot in its current segment, which is long enough for that many
+  -- elements, and the machine grants a loan of them. Only the number of its segments is one that it has after the loan.
   pub record IsReady (f : Fields T U) (place : ℕ) (x : PublisherFields) (len : ℕ) (f' : Fields T U) : Type 0 where
     pub uncounted : Fields T U
     pub reached : Reaches f uncounted (state_of (kept_of f))

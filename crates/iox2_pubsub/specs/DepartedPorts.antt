@@ -21,6 +21,6 @@ module _ {T U : Type 0} where
   abbrev pub departed_at : State T U → (q : ℕ) → ℕ
   departed_at s q = option_map_or (departed_of s) (s.subscribers q) 0
 
-  -- The subscriber q can keep what waits from each closed publisher, also where so many publishers more are closed.
+  -- The subscriber q can keep what waits from each closed publisher, even if that many more publishers are closed.
   abbrev pub HasRoom : State T U → (q closes : ℕ) → Type 0
   HasRoom s q closes = departed_at s q + closes ≤ expired_limit s.config

@@ -31,7 +31,7 @@ callback_of factory = factory.preallocated.callback
 abbrev pub with_callback : {F G O P : Type 0} → PublisherFactory F G O → P → PublisherFactory F G (PreallocatedSamplesOverride P)
 with_callback factory callback = record { settings = factory.settings; box = factory.box; degradation_box = factory.degradation_box; preallocated = record { callback = callback } }
 
--- The settings with which a publisher is made, once so many slots were asked for, or none.
+-- The settings that a publisher is made with, once that number of slots was asked for, or none.
 abbrev pub with_slots : PublisherSettings → Option ℕ → PublisherSettings
 with_slots settings asked = record settings { asked_slots = asked }
 

@@ -39,7 +39,7 @@ pub record IsLentWritten {T U F G : Type 0} (port : Publisher) (loan : SampleMut
   pub live : NeverWaits old (publisher_key port) → IsWrittenLoan new loan
   pub lent : IsLent port (written_key loan) old new
 
--- The loan has so many cells, none of which is written, and its header says that its publisher lent so many elements.
+-- The loan has `count` cells, all unwritten, and its header says that its publisher lent `len` elements.
 pub record IsUnfilled {T U F G : Type 0} (port : Publisher) (loan : SampleMutUninit) (len count : ℕ) (old new : Kept T U F G) : Type 0 where
   pub cells : HasUnwrittenCells new loan.loan.number (replicate count None)
   pub lengths : (its : List (Option T)) → HasUnwrittenCells new loan.loan.number its → length its ≡ count

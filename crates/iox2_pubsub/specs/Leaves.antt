@@ -7,8 +7,8 @@ use Rattle.iox2_pubsub.specs.LoansLeft.{LoansLeftStay, TakesOneLeft}
 use Rattle.iox2_pubsub.specs.declared.publisher.Publisher.{Publisher}
 use Rattle.iox2_pubsub.specs.declared.subscriber.Subscriber.{Subscriber}
 
--- The call leaves all as it was, but for this item: what else is live stays so, the same messages wait, who was up to date and
--- connected is, and as many loans and numbers are left.
+-- The call leaves all as it was, except this item. All else that is live stays so, the same messages wait, a port that
+-- was up to date and connected still is, and as many loans and numbers are left.
 pub record LeavesBut {T U F G : Type 0} (item : Item) (old new : Kept T U F G) : Type 0 where
   pub stays : StaysBut item old new
   pub waits : WaitingStays old new
@@ -19,7 +19,7 @@ pub record LeavesBut {T U F G : Type 0} (item : Item) (old new : Kept T U F G) :
 abbrev pub Leaves : {T U F G : Type 0} → (old new : Kept T U F G) → Type 0
 Leaves = LeavesBut No_item
 
--- The call leaves all as it was, but what waits for this subscriber, for which no more waits than before.
+-- The call leaves all as it was, except what waits for this subscriber: no more than before.
 pub record LeavesButWaiting {T U F G : Type 0} (subscriber : Subscriber) (old new : Kept T U F G) : Type 0 where
   pub stays : Stays old new
   pub others : OthersWait subscriber old new
@@ -27,21 +27,21 @@ pub record LeavesButWaiting {T U F G : Type 0} (subscriber : Subscriber) (old ne
   pub up_to_date : UpToDateStay old new
   pub loans_left : LoansLeftStay old new
 
--- The call leaves all as it was, but that the publisher has one loan fewer left, and the domain one number.
+-- The call leaves all as it was, except that the publisher has one loan fewer left, and the domain one number fewer.
 pub record LeavesLending {T U F G : Type 0} (publisher : Publisher) (old new : Kept T U F G) : Type 0 where
   pub stays : Stays old new
   pub waits : WaitingStays old new
   pub up_to_date : UpToDateStay old new
   pub loans_left : TakesOneLeft publisher old new
 
--- The call leaves all as it was, but that for no subscriber more than so many messages are added to what waits.
+-- The call leaves all as it was, except that it adds at most that many messages to what waits for each subscriber.
 pub record LeavesAdding {T U F G : Type 0} (more : ℕ) (old new : Kept T U F G) : Type 0 where
   pub stays : Stays old new
   pub adds : AddAtMost more old new
   pub up_to_date : UpToDateStay old new
   pub loans_left : LoansLeftStay old new
 
--- The call leaves all as it was, but that more messages may wait, and who was up to date may be due.
+-- The call leaves all as it was, except that more messages may wait, and a port that was up to date may be due.
 pub record LeavesNoFewer {T U F G : Type 0} (old new : Kept T U F G) : Type 0 where
   pub stays : Stays old new
   pub no_fewer : (subscriber : Subscriber) → waiting old subscriber ≤ waiting new subscriber

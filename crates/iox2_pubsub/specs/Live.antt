@@ -352,7 +352,7 @@ LeavesLater {T} subscriber old new = (publisher : ℕ) (payload : List T) (later
 abbrev pub LeavesOthers : {T U F G : Type 0} → Subscriber → Sample → (old new : Kept T U F G) → Type 0
 LeavesOthers subscriber sample old new = (publisher : ℕ) → publisher ≢ sample.origin → payloads_from new publisher subscriber ≡ payloads_from old publisher subscriber
 
--- For no subscriber more than so many messages are added to what waits.
+-- At most that many messages are added to what waits for each subscriber.
 abbrev pub AddAtMost : {T U F G : Type 0} → (more : ℕ) → (old new : Kept T U F G) → Type 0
 AddAtMost more old new = (subscriber : Subscriber) → waiting new subscriber ≤ waiting old subscriber + more
 
@@ -366,8 +366,8 @@ AreAll payloads value = AreAllSlices payloads (value ∷ [])
 
 -- ---- what a call spends, and what stays
 
--- What a call spends or makes: nothing, a port, a loan, a sample or the blocked send of a publisher, or two of these. What may
--- come of a send is one item, of which only the blocked send turns on whether the send is blocked.
+-- What a call spends or makes: nothing, a port, a loan, a sample or the blocked send of a publisher, or two of these.
+-- What a send spends or makes is one item too. The blocked send belongs to it only if the send is blocked.
 pub data Item : Type 0 where
   No_item : Item
   A_publisher : (id : ℕ) → Item
@@ -451,9 +451,9 @@ AreApart first (A_sent_copy publisher false) = Unit {0}
 AreApart first (Both second third) = AreApart first second × AreApart first third
 
 module _ {T U F G : Type 0} where
-  -- The settings stay, and each port, loan, sample and blocked send that was live is live and reads as it did, but for the
-  -- item that was spent. A publisher none of whose sends is blocked, or ever is, stays so, and one that no handler fails; and each
-  -- port keeps its boxes and its place, and each subscriber its buffer.
+  -- The settings stay, and each port, loan, sample and blocked send that was live is live and reads as it did, except
+  -- the item that was spent. A publisher without a blocked send stays so, and so does one whose sends are never
+  -- blocked, and one that no handler fails. Each port keeps its boxes and its place, and each subscriber its buffer.
   pub record StaysBut (spent : Item) (old new : Kept T U F G) : Type 0 where
     pub settings : new.config ≡ old.config
     pub single_valued : IsSingleValued old → IsSingleValued new

@@ -17,13 +17,13 @@ abbrev pub LendsFirst : ServiceConfig → PublisherSettings → Type 0
 LendsFirst c given = is_static given.allocation_strategy ≡ false → c.variant ≡ FixedSize → 1 ≤ given.initial_max_slice_len
 
 module _ {T U : Type 0} where
-  -- The publisher p stands, and its first segment is for slices of up to so many elements.
+  -- The publisher p stands, and its first segment is for slices of up to that many elements.
   abbrev pub LendsUpTo : State T U → (p longest : ℕ) → Type 0
   LendsUpTo s p longest = (x : MachinePublisher) × (s.publishers p ≡ Some x) × (x.initial_max_slice_len ≡ longest)
 
 module _ {T U F G : Type 0} where
-  -- The publisher wasn't closed, was made for slices of as many elements as its handle says, and can't be refused n loans more
-  -- that aren't longer, for want of a slot or of memory, or for its limit of loans.
+  -- The publisher wasn't closed, and was made for slices of as many elements as its handle says. No lack of slots or
+  -- memory, and no limit of loans, can refuse it n more loans that aren't longer.
   unfoldable pub HasLoansLeft : Kept T U F G → Publisher → (n : ℕ) → Type 0
   HasLoansLeft domain publisher n = CanLend (state_of domain) publisher.id n × LendsUpTo (state_of domain) publisher.id publisher.initial_max_slice_len
 

@@ -1,4 +1,4 @@
--- What one command of a run comes to.
+-- The outcome of one command of a run.
 use Rattle.std.specs.declared.vec.Vec.{Vec}
 use Rattle.iox2_machine.specs.machine.Records.{Environment}
 use Rattle.iox2_commands.specs.Runs.{Defaults}

@@ -6,7 +6,8 @@ use Rattle.iox2_runs.specs.Placed.{ArePlaced, IsPlacedMade}
 use Rattle.iox2_runs.specs.declared.runs.made.Made.{Made}
 use Rattle.iox2_runs.specs.declared.runs.made.Made.TheVariants.{Nothing, Publisher, Subscriber, Unwritten, Written, Blocked, Sample}
 
--- The port, loan, blocked send or sample that a command made, and of a loan the send of its publisher that may come to be blocked.
+-- The port, loan, blocked send or sample that a command made. For a loan it is also the send of its publisher, which
+-- may become blocked.
 abbrev pub item_of : Made → Item
 item_of Nothing = No_item
 item_of (Publisher publisher) = publisher_port publisher

@@ -13,7 +13,7 @@ use Rattle.iox2_machine.specs.declared.service_config.ServiceConfig.{ServiceConf
 abbrev pub has_slices : ServiceConfig → Bool
 has_slices c = not (is_fixed_size c.variant) && (c.units_per_element == 1)
 
--- The settings, told what a command asks of a publisher, but for its length and its slots.
+-- The settings, told what a command asks of a publisher, except its length and its slots.
 abbrev pub told : PublisherSettings → NewPublisher → PublisherSettings
 told given asked = record given {
   max_loaned_samples = asked.loans;

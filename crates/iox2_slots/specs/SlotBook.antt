@@ -38,7 +38,7 @@ pub record IsUsedFor (book : Book) (number slot : ℕ) : Type 0 where
   pub in_use : 0 < holders_at book slot
   pub number_is : slice_index book.numbers slot ≡ number
 
--- The header of a message of so many elements of the book's publisher.
+-- The header of a message of the book's publisher, with that many elements.
 abbrev pub header_in : Book → (len : ℕ) → Header
 header_in book len = record { node_id = book.node; publisher_id = book.publisher; number_of_elements = len }
 
@@ -53,7 +53,7 @@ pub record TakesFreeSlot (old new : Book) (slot number : ℕ) (header : Header) 
     holders = slice_set old.holders slot 1;
   }
 
--- The book with so many slots more behind its own, none of which is in use.
+-- The book with that many more slots behind its own, none of them in use.
 abbrev pub with_more_slots : (more : ℕ) → Book → Book
 with_more_slots more book = record book {
   numbers = book.numbers ++ replicate more 0;

@@ -1,4 +1,4 @@
--- What holds of a domain's fields in the midst of a close, and what a step of it comes to.
+-- What holds of a domain's fields in the midst of a close, and what a step of the close does.
 use Rattle.std.specs.Prelude.{◌≡◌, ◌⊎◌, ℕ}
 use Rattle.std.specs.declared.option.Option.{Option}
 use Rattle.std.specs.declared.option.Option.TheVariants.{Some}
@@ -39,8 +39,8 @@ module _ {T U : Type 0} where
     pub forth : (key slot n : ℕ) (m : KeptMessage T U) → HasNumber new.books key slot n → message_lying old key slot ≡ Some m → message_lying new key slot ≡ Some m
     pub number : (key slot n : ℕ) → HasNumber new.books key slot n → HasNumber old.books key slot n
 
-  -- The fields agree and keep this state afterwards, but for channels, and of messages what somebody still holds. Each
-  -- connection was there before, with the same channel.
+  -- The fields agree and keep this state afterwards, except its channels. Of the messages they keep those that somebody
+  -- still holds. Each connection was there before, with the same channel.
   pub record Passes (old new : Fields T U) (s : State T U) : Type 0 where
     pub parts : HasOwnedParts new
     pub state : state_of (kept_of new) ≡ with_channels_of new s

@@ -1,4 +1,4 @@
--- A list of commands with which a publisher comes to need every slot of the worst case.
+-- A list of commands that make a publisher need every slot of the worst case.
 use Rattle.std.specs.Prelude.{ℕ, zero, suc, List, [], ◌∷◌, ◌++◌, length, take, drop, replicate, ◌≡◌, false, ◌+◌, ◌*◌, ◌^◌, ◌<◌, slice_get}
 use Rattle.std.specs.declared.option.Option.{Option}
 use Rattle.std.specs.declared.option.Option.TheVariants.{None, Some}

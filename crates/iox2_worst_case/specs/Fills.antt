@@ -25,8 +25,8 @@ is_granted (UpdateRefused e) = false
 is_granted (ReceiveRefused e) = false
 is_granted _ = true
 
--- Every run of the list on a new domain, with ample memory, skips and refuses no command. The publisher that the first
--- command made holds the worst case for so many loans in the end.
+-- No run of the list on a new domain with ample memory skips or refuses a command. In the end, the publisher that the
+-- first command made holds as many messages as the worst case has for that many loans.
 abbrev pub Fills : {T U : Type 0} → ServiceConfig → (loans : ℕ) → List (Command T U) → Type 0
 Fills {T} {U} c loans commands =
     (replies : List (Reply T U)) (events : List (Event T U)) (m : Messages T U) (s : State T U)

@@ -43,7 +43,7 @@ script_config variant publishers subscribers buffer borrowed history expired ove
   publisher_allocation_strategy = Static;
 }
 
--- There are so many words, and the first is this one.
+-- There are that many words, and the first is this one.
 abbrev pub HasForm : Words → List ℕ → ℕ → Type 0
 HasForm words name count = (words.count ≡ count) × (words.word 0 ≡ name)
 
@@ -110,8 +110,9 @@ pub record IsDomainLine (words : Words) (config : ServiceConfig) : Type 0 where
   pub mode : IsMode (words.word 7) overflow
   pub settings : config ≡ script_config variant (value_of (words.word 1)) (value_of (words.word 2)) (value_of (words.word 3)) (value_of (words.word 4)) (value_of (words.word 5)) (value_of (words.word 6)) overflow
 
--- `pub L retry` or `.. discard`: a publisher with so many loans and this strategy, whose memory is static. With five words more:
--- how its memory grows, the length of a slice that its first slots hold, the number of its slots, and its handlers' answers.
+-- `pub L retry` or `.. discard`: a publisher with L loans and this strategy, whose memory is static. With five words
+-- more: how its memory grows, the length of a slice that its first slots hold, the number of its slots, and its
+-- handlers' answers.
 abbrev pub IsPublisherLine : Words → NewPublisher → Type 0
 IsPublisherLine words asked =
     (words.word 0 ≡ codes "pub") × IsNumberAt words 1 asked.loans × IsStrategy (words.word 2) asked.strategy
@@ -125,7 +126,7 @@ IsSubscriberLine words buffer degradation =
     (words.word 0 ≡ codes "sub") × IsSizeOrMost (words.word 1) buffer
     × ((words.count ≡ 2) × (degradation ≡ Warn) ⊎ (words.count ≡ 3) × IsDegradation (words.word 2) degradation)
 
--- `retry N`: the blocked send is tried again at once. `retry N S D`: after so many seconds and billionths of one.
+-- `retry N`: the blocked send is tried again at once. `retry N S D`: after S seconds and D billionths of one.
 abbrev pub IsRetryLine : Words → (of : ℕ) → Duration → Type 0
 IsRetryLine words of elapsed =
     (words.word 0 ≡ codes "retry") × IsNameAt words 1 of
@@ -144,7 +145,7 @@ abbrev pub IsCommandLine : Words → Command ℕ ℕ → Type 0
 IsCommandLine words command.Nothing = HasForm words (codes "nothing") 1
 IsCommandLine words (command.CreatePublisher asked) = IsPublisherLine words asked
 IsCommandLine words (command.CreateSubscriber buffer degradation) = IsSubscriberLine words buffer degradation
--- `loan N`, `default N`, `slice N L`: a loan of publisher N, unwritten, of a default value, or of so many elements.
+-- `loan N`, `default N`, `slice N L`: a loan of publisher N, unwritten, of a default value, or of L elements.
 IsCommandLine words (command.LoanUninit of) = HasForm words (codes "loan") 2 × IsNameAt words 1 of
 IsCommandLine words (command.Loan of) = HasForm words (codes "default") 2 × IsNameAt words 1 of
 IsCommandLine words (command.LoanSlice of len) = HasForm words (codes "slice") 3 × IsNameAt words 1 of × IsNumberAt words 2 len

@@ -12,6 +12,6 @@ pub record ChangesLoan {T U F G : Type 0} (old new : Kept T U F G) (before after
   pub live : IsWrittenLoan new after
   pub leaves : LeavesBut (written_loan before) old new
 
--- The loan with the second key is of the sensor of which the one with the first key was.
+-- The loan with the second key is of the same sensor as the loan with the first key was.
 abbrev pub SensorStays : {T F G : Type 0} → (old new : Kept T ℕ F G) → (before after : Key) → Type 0
 SensorStays old new before after = (sensor : ℕ) → LoanHasUserHeader old before sensor → LoanHasUserHeader new after sensor

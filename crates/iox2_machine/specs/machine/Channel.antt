@@ -2,7 +2,7 @@
 use Rattle.std.specs.Prelude.{ℕ, Bool, true, false, cond, ◌&&◌, ◌-◌, ◌^◌, ◌==◌}
 use Rattle.iox2_machine.specs.machine.Numbers.{put_at}
 
--- A channel, but for its messages.
+-- A channel without its messages.
 pub record Channel : Type 0 where
   pub state : ℕ
   pub has_hint : Bool  -- whether it was hinted that its other side disconnects

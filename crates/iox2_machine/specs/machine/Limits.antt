@@ -24,16 +24,16 @@ worst_case c loans = c.max_subscribers * channel_count c * (buffer_limit c + c.s
 abbrev pub last_number : ℕ
 last_number = 2 ^ 128 - 1
 
--- A publisher makes at most so many segments in its life.
+-- A publisher makes at most that many segments in its life.
 -- (iceoryx2: `port/details/data_segment.rs`, `max_number_of_segments`.)
 abbrev pub segment_limit : ℕ
 segment_limit = 255
 
--- Warnings past the last so many are forgotten.
+-- At most that many warnings are kept: the last ones. Older ones are forgotten.
 abbrev pub warning_limit : ℕ
 warning_limit = 32
 
--- The count of refused connections ends here: this number says "at least so many".
+-- The count of refused connections ends here: this number means that many or more.
 abbrev pub refusal_limit : ℕ
 refusal_limit = 2 ^ 64 - 1
 

@@ -43,7 +43,7 @@ NoSegmentFits c x len = by (x.allocation_strategy)
 
 module _ {T U : Type 0} where
   -- A loan of that length with unwritten cells and a default user header is out, under the counter's next number. Its
-  -- publisher has so many segments.
+  -- publisher has that many segments.
   abbrev pub loan_granted : (default_header : U) → State T U → (p : ℕ) → Publisher → (len segments : ℕ) → State T U
   loan_granted default_header s p x len segments = record s {
     next_message = s.next_message + 1;

@@ -109,13 +109,14 @@ with_released n box = record box { borrowed = without n box.borrowed }
 
 -- ---- bounds
 
--- At most so many messages wait in channel 0, at most so many are borrowed, and no number stands in the mailbox twice.
+-- At most `buffer` messages wait in channel 0, at most `borrow_limit` are borrowed, and no number stands in the mailbox
+-- twice.
 pub record IsWithin (buffer borrow_limit : ℕ) (box : Mailbox) : Type 0 where
   pub waiting : length box.waiting ≤ buffer
   pub borrowed : length box.borrowed ≤ borrow_limit
   pub once : IsOnce (numbers_in box)
 
--- How many messages may wait in a channel, of those that aren't channel 0: there are so many channels.
+-- How many messages may wait in a channel other than channel 0, if there are that many channels. For channel 0 it is 0.
 abbrev pub other_room : (channels buffer channel : ℕ) → ℕ
 other_room channels buffer zero = 0
 other_room channels buffer (suc k) = cond (nat_lt (suc k) channels) buffer 0

@@ -134,7 +134,7 @@ module _ {T U : Type 0} where
     mailboxes = put_at s.mailboxes p (mailbox_after_publisher s p x);
   }
 
-  -- The subscribers forget the departed publishers of which they have no message.
+  -- Each subscriber forgets the departed publishers that it has no message from.
   abbrev pub subscribers_pruned : State T U → State T U
   subscribers_pruned s = record s { subscribers = λ q. option_map {T = Subscriber} (pruned s q) (s.subscribers q) }
 

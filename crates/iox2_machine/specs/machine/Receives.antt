@@ -14,13 +14,14 @@ use Rattle.iox2_machine.specs.declared.errors.ConnectionFailure.{ConnectionFailu
 use Rattle.iox2_machine.specs.declared.errors.ReceiveError.{ReceiveError}
 use Rattle.iox2_machine.specs.declared.errors.ReceiveError.TheVariants.{ExceedsMaxBorrows, ConnectionFailure as CouldNotConnect}
 
--- What a receive comes to.
+-- The result of a receive.
 pub data ReceiveResult : Type 0 where
   Got_sample : (publisher message : ℕ) → ReceiveResult
   No_sample : ReceiveResult
   Receive_error : ReceiveError → ReceiveResult
 
--- The subscriber with that record, whose mailboxes stand by the publisher's id, and which may borrow so many messages of one.
+-- The subscriber with that record, and with its mailboxes by the publisher's id. It may borrow that many messages of
+-- each publisher.
 module _ (borrow_limit : ℕ) (y : Subscriber) (boxes : ℕ → Mailbox) where
   -- Something waits from some publisher.
   abbrev pub has_any_data : Bool

@@ -14,7 +14,7 @@ module _ {T U : Type 0} where
   abbrev pub is_connected : State T U → (q p : ℕ) → Bool
   is_connected s q p = is_present s p || has_numbers (s.mailboxes p q)
 
-  -- The subscriber q without the departed publishers of which it has no message any more.
+  -- The subscriber q without the departed publishers that it has no message from any more.
   abbrev pub pruned : State T U → (q : ℕ) → Subscriber → Subscriber
   pruned s q y = record y { ends = places_kept (is_connected s q) y.ends; expired = filter (is_connected s q) y.expired }
 
@@ -37,7 +37,7 @@ module _ {T U : Type 0} where
   abbrev pub unborrowed : State T U → (p q n : ℕ) → State T U
   unborrowed s p q n = with_mailbox s p q (with_released n (s.mailboxes p q))
 
-  -- The subscriber q forgets the departed publishers of which it has no message any more.
+  -- The subscriber q forgets the departed publishers that it has no message from any more.
   abbrev pub subscriber_pruned : State T U → (q : ℕ) → State T U
   subscriber_pruned s q = subscriber_changed s q (pruned s q)
 

@@ -30,7 +30,7 @@ pub data Retirement : Type 0 where
   Discard_data : Retirement  -- what waits from it is lost
   Refuse : Retirement  -- it stays where it is, and the update fails
 
--- The first of these publishers of which nothing is borrowed.
+-- The first of these publishers from which nothing is borrowed.
 abbrev pub first_without_borrows : (ℕ → Mailbox) → List ℕ → Option ℕ
 first_without_borrows boxes [] = None
 first_without_borrows boxes (p ∷ ps) = cond (has_borrows (boxes p)) (first_without_borrows boxes ps) (Some p)
@@ -40,8 +40,9 @@ abbrev pub evict_or_refuse : Option ℕ → Retirement
 evict_or_refuse None = Refuse
 evict_or_refuse (Some first) = Evict first
 
--- With room it is kept. Without, one of which messages are borrowed takes the place of the first of which none are, and
--- is refused where there is no such one; and one of which none are borrowed loses what waits.
+-- A departed publisher is kept while there is room. Without room, it loses what waits if none of its messages is
+-- borrowed. If one is borrowed, it takes the place of the first kept publisher without borrowed messages, and is
+-- refused if there is no such publisher.
 -- (iceoryx2: `port/details/receiver.rs`, `prepare_connection_removal`.)
 abbrev pub retirement_of : (limit : ℕ) → (boxes : ℕ → Mailbox) → (expired : List ℕ) → (p : ℕ) → Retirement
 retirement_of limit boxes expired p =
@@ -73,8 +74,8 @@ is_refused Refuse = true
 abbrev pub with_end : ReceiverSide → (place : ℕ) → (end : Option ℕ) → ReceiverSide
 with_end side place end = record side { ends = set_place side.ends place end }
 
--- The update of the subscriber q with that handler, which keeps so many expired publishers; `has_sender_end` says which
--- publishers have their end of the mailbox already.
+-- The update of the subscriber q, which has that handler and keeps at most `limit` expired publishers. `has_sender_end`
+-- says which publishers have their end of the mailbox already.
 module _ (environment : Environment) (service_id q : ℕ) (handler : Handler DegradationAction) (limit : ℕ) (has_sender_end : ℕ → Bool) where
   -- The end to p is made. Where p has no end either, memory may be refused in place of that.
   abbrev pub ConnectReceiver : ReceiverSide → (place p : ℕ) → ReceiverSide → Option ConnectionFailure → Type 0

@@ -90,9 +90,9 @@ module _ {T U : Type 0} where
     -- A closed subscriber has some message borrowed; else it is gone.
     pub is_used : y.is_open ≡ false → (p : ℕ) × (has_borrows (s.mailboxes p q) ≡ true)
 
-  -- A mailbox keeps its bounds; its numbers were given out; while its publisher is present, that has its end where
-  -- anything is in it; what is borrowed is borrowed by a subscriber that knows the publisher; and nothing waits from a
-  -- departed publisher but for an open one.
+  -- A mailbox keeps its bounds, and its numbers were given out. If anything is in it and its publisher is present, the
+  -- publisher has its end. What is borrowed is borrowed by a subscriber that knows the publisher. What waits from a
+  -- departed publisher waits for an open subscriber that knows it.
   pub record MailboxIsWellFormed (s : State T U) (p q : ℕ) : Type 0 where
     pub within : IsWithin (buffer_limit s.config) (s.config).subscriber_max_borrowed_samples (s.mailboxes p q)
     pub others : OthersWithin (channel_count s.config) (buffer_limit s.config) (s.mailboxes p q)
