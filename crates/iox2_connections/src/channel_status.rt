@@ -1,4 +1,4 @@
-//! How a channel of a connection stands.
+//! The status of a channel of a connection.
 ghost use Rattle.std.specs.Prelude.{◌≡◌};
 ghost use Rattle.iox2_machine.specs.machine.Channel.{is_closed, new_channel, with_hint, with_state};
 ghost use Rattle.iox2_connections.specs.Link.{changed_in};
@@ -15,7 +15,8 @@ pub const CHANNEL_STATE_OPEN: u64 = 0;
 /// iceoryx2's constant of this name, of `zero_copy_connection`.
 pub const CHANNEL_STATE_CLOSED: u64 = u64::MAX;
 
-/// The state of a channel, and whether a disconnect was hinted since it came into it.
+/// The state of a channel, and whether a disconnect was hinted since the channel came into this
+/// state.
 ///
 /// The two atomics that each channel of iceoryx2's `zero_copy_connection` has.
 #[derive(Clone, Copy)]
@@ -35,7 +36,7 @@ impl Model for ChannelStatus {
 }
 
 impl ChannelStatus {
-    /// How a new channel stands: it is open, and has no hint.
+    /// The status of a new channel: it is open, and has no hint.
     pub(crate) fn new() -> ChannelStatus
         ensures { result ≡ new_channel }
     {
@@ -66,7 +67,7 @@ impl ChannelStatus {
         self.has_hint
     }
 
-    /// Brings it from the state `expected` into another, which takes its hint away.
+    /// Brings it from the state `expected` into another, and takes its hint away.
     pub(crate) fn change_state(&mut self, expected: u64, state: u64)
         ensures { self.new ≡ changed_in expected (with_state state) self.old }
     {
@@ -76,7 +77,7 @@ impl ChannelStatus {
         }
     }
 
-    /// Gives it a hint, where it is in the state `expected`.
+    /// Gives it a hint, if it is in the state `expected`.
     pub(crate) fn set_hint(&mut self, expected: u64)
         ensures { self.new ≡ changed_in expected with_hint self.old }
     {

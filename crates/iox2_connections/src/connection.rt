@@ -1,4 +1,4 @@
-//! What lies between one publisher and one subscriber: numbers of the publisher's slots.
+//! What is between one publisher and one subscriber: numbers of the publisher's slots.
 ghost use Rattle.std.specs.Prelude.{◌≡◌, ◌+◌, ◌<◌, ◌↔◌, length, Contains, IfOk, IsTrue};
 ghost use Rattle.iox2_connections.specs.Link.{load, is_shut_in, empty_link, channel_at, has_slots, has_other_slots, has_borrowed_slots, has_returned_slots, can_borrow, is_shut, with_mark, state_changed, hint_set, with_returned, without_borrowed, IsBounded};
 ghost use Rattle.iox2_machine.specs.machine.Numbers.{IsOnce};
@@ -10,8 +10,7 @@ use circular_buffer::HeapCircularBuffer;
 use std::alloc::{AllocError, Global};
 use std::marker::Model;
 
-/// Between which two ports a connection stands, and at which place each of them knows it. It never
-/// changes.
+/// Which two ports a connection joins, and at which place each of them knows it. It never changes.
 #[derive(Debug, Clone, Copy, PartialEq, Eq)]
 pub struct Home {
     /// The id of the publisher.
@@ -26,12 +25,12 @@ pub struct Home {
     pub book: usize,
 }
 
-/// What `Connection::put` came to.
+/// The outcome of `Connection::put`.
 #[derive(Debug, Clone, Copy, PartialEq, Eq)]
 pub enum PutOutcome {
     /// The slot waits, and there was room for it.
     Taken,
-    /// The slot waits, and this one, the oldest of those that waited, went for it.
+    /// The slot waits. This one, the oldest of those that waited, made room for it and is gone.
     Overwrote(usize),
     /// There was no room, and nothing has changed.
     Full,
@@ -79,11 +78,11 @@ impl Model for Connection {
 impl Connection {
     ghost use Rattle.iox2_connections.specs.Link.{IsPut, IsTaken, IsDropped, IsOtherDropped, IsReclaimed};
 
-    /// A connection with so many channels, all of them open, in which no slot stands and which isn't
-    /// marked as open. At most `buffer` slots wait in each channel and at most `limit` are borrowed.
+    /// A connection with `channels` channels, all of them open. It has no slots, and isn't marked
+    /// as open. At most `buffer` slots wait in each channel, and at most `limit` are borrowed.
     ///
-    /// Returns `AllocError` where memory is refused, and where `buffer + limit + 1`, the room for
-    /// slots that are given back, isn't a `usize`.
+    /// Returns `AllocError` if memory is refused, or if `buffer + limit + 1`, the room for slots
+    /// that are given back, doesn't fit `usize`.
     pub fn new(
         alloc: Global,
         home: Home,
@@ -117,7 +116,7 @@ impl Connection {
         })
     }
 
-    /// Between which ports the connection stands.
+    /// Which ports the connection joins, and where each of them knows it.
     pub fn home(&self) -> Home
         ensures value { result ≡ self.now.home }
         ensures bounded { IsBounded self.now }
@@ -139,7 +138,8 @@ impl Connection {
         self.is_open
     }
 
-    /// Marks the connection as open, where its channel 0 isn't closed, or as open no more.
+    /// Marks the connection as open, if `is_open` is set and its channel 0 isn't closed. If not,
+    /// takes the mark away.
     pub fn set_open(&mut self, is_open: bool)
         ensures marked { self.new ≡ with_mark is_open self.old }
         ensures bounded { IsBounded self.new }
@@ -147,7 +147,7 @@ impl Connection {
         self.is_open = is_open && !self.status.is_closed();
     }
 
-    // How the channel stands, or a new one where there is none with that number.
+    // The status of the channel, or a new one if there is no channel with that number.
     fn status_of(&self, channel: usize) -> ChannelStatus
         ensures { result ≡ channel_at self.now.channels channel }
     {
@@ -181,9 +181,9 @@ impl Connection {
         self.status_of(channel).has_hint()
     }
 
-    /// Brings a channel from the state `expected` into another, which takes its hint away. In any
-    /// other state nothing changes, nor where there is no such channel. Where channel 0 closes, the
-    /// connection isn't marked as open any more.
+    /// Brings a channel from the state `expected` into another, and takes its hint away. Nothing
+    /// changes if it is in any other state, or if there is no such channel. If channel 0 closes,
+    /// the connection isn't marked as open any more.
     pub fn change_state(&mut self, channel: usize, expected: u64, state: u64)
         ensures changed { self.new ≡ state_changed channel expected state self.old }
         ensures bounded { IsBounded self.new }
@@ -197,7 +197,7 @@ impl Connection {
         }
     }
 
-    /// Hints a disconnect, where there is such a channel and it is in the state `expected`.
+    /// Hints a disconnect, if there is such a channel and it is in the state `expected`.
     pub fn set_disconnect_hint(&mut self, channel: usize, expected: u64)
         ensures hinted { self.new ≡ hint_set channel expected self.old }
         ensures bounded { IsBounded self.new }
@@ -217,9 +217,9 @@ impl Connection {
         self.waiting.capacity()
     }
 
-    /// Puts a slot behind those that wait in a channel. Where there is no room, the oldest of them
-    /// goes if `overflow` is set, and else nothing changes. What was given back is reclaimed before,
-    /// and there is such a channel.
+    /// Puts a slot behind those that wait in a channel. If there is no room and `overflow` is set,
+    /// the oldest of them goes; if it isn't set, nothing changes. There is such a channel, and what
+    /// was given back is reclaimed before.
     #[inline(always)]
     pub fn put(&mut self, channel: usize, slot: usize, overflow: bool) -> PutOutcome
         requires returned { length self.old.returned ≡ 0 }
@@ -245,7 +245,7 @@ impl Connection {
         Some(slot)
     }
 
-    /// Lets the slot go that has waited longest in channel 0. `None` if none waits there.
+    /// Lets go of the slot that has waited longest in channel 0. `None` if none waits there.
     pub fn drop_first(&mut self) -> Option<usize>
         ensures drops { IsDropped self.old result self.new }
         ensures bounded { IsBounded self.new }
@@ -253,8 +253,8 @@ impl Connection {
         self.waiting.pop_front()
     }
 
-    /// Lets the slot go that has waited longest in the first of the other channels in which some slot
-    /// waits. `None` if none waits there.
+    /// Lets go of the slot that has waited longest in the first of the other channels in which some
+    /// slot waits. `None` if none waits there.
     pub fn drop_other(&mut self) -> Option<usize>
         ensures drops { IsOtherDropped self.old result self.new }
         ensures bounded { IsBounded self.new }
@@ -263,7 +263,7 @@ impl Connection {
         self.further[index].waiting.pop_front()
     }
 
-    /// Gives a slot back, which is borrowed once, for the publisher to reclaim.
+    /// Gives back a slot, for the publisher to reclaim. The slot is borrowed once.
     pub fn release(&mut self, slot: usize)
         requires borrowed { Contains self.old.borrowed slot }
         requires once { IsOnce self.old.borrowed }
@@ -276,7 +276,7 @@ impl Connection {
         }
     }
 
-    /// Takes out a slot, which is borrowed once. It isn't given back.
+    /// Takes out a slot, without giving it back. The slot is borrowed once.
     pub fn let_go(&mut self, slot: usize)
         requires borrowed { Contains self.old.borrowed slot }
         requires once { IsOnce self.old.borrowed }
@@ -322,7 +322,7 @@ impl Connection {
         !self.borrowed.is_empty()
     }
 
-    /// Whether no slot stands in the connection.
+    /// Whether there is no slot in the connection.
     pub fn is_empty(&self) -> bool
         ensures { IsTrue result ↔ (load self.now ≡ 0) }
     {

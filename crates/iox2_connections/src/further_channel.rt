@@ -8,7 +8,7 @@ use crate::connection::PutOutcome;
 use circular_buffer::HeapCircularBuffer;
 use std::alloc::{AllocError, Global};
 
-/// A channel behind channel 0: how it stands, and the slots that wait there.
+/// A channel behind channel 0: its status, and the slots that wait there.
 #[derive(Drop)]
 pub(crate) struct FurtherChannel {
     pub(crate) status: ChannelStatus,
@@ -27,7 +27,7 @@ impl FurtherChannel {
     }
 }
 
-/// So many new channels. In each of them at most `buffer` slots wait.
+/// `count` new channels. In each of them at most `buffer` slots wait.
 pub(crate) fn new_channels(
     alloc: Global,
     buffer: usize,
@@ -42,8 +42,8 @@ pub(crate) fn new_channels(
     Ok(channels)
 }
 
-/// Puts a slot behind those of a ring. Where there is no room, the first of them goes if `overflow`
-/// is set, and else nothing changes.
+/// Puts a slot behind those of a ring. If there is no room and `overflow` is set, the first of them
+/// goes; if it isn't set, nothing changes.
 #[inline(always)]
 pub(crate) fn put_into(
     ring: &mut HeapCircularBuffer<usize>,

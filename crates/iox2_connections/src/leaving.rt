@@ -11,8 +11,8 @@ use crate::sender::reclaim_from;
 use circular_buffer::HeapCircularBuffer;
 use iox2_slots::SlotBook;
 
-/// Leaves a connection, as a publisher that closes does: what was given back is reclaimed, and what
-/// waits is lost where nobody awaits it. Each slot that went has one holder less.
+/// Leaves a connection, as a publisher that closes does. What was given back is reclaimed, and what
+/// waits is lost if nobody awaits it. Each slot that went has one holder less.
 ///
 /// iceoryx2's `Sender` drops its end of the connection (`src/port/details/sender.rs`).
 pub fn leave(connection: &mut Connection, book: &mut SlotBook, awaited: bool)

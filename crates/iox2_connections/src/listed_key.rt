@@ -1,7 +1,8 @@
 //! An element of a list of keys.
 ghost use Rattle.std.specs.Prelude.{◌≡◌, ℕ, Some};
 
-/// An element of a list of connections' keys: a key, or what stands at a place, which may have none.
+/// An element of a list of connections' keys: a key, or an entry for a place, which may have no
+/// key.
 ///
 /// This library's own. A subscriber has two such lists: at each publisher's place there may be a key,
 /// and each of the expired ones is a key. A walk over keys takes either.

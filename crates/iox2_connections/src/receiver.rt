@@ -23,7 +23,7 @@ use slab::Slab;
 pub struct Taken {
     /// The key of the connection.
     pub connection: usize,
-    /// Between which ports the connection stands.
+    /// Which ports the connection joins.
     pub home: Home,
     /// The slot of the message.
     pub slot: usize,
@@ -47,7 +47,7 @@ pub struct BorrowedMessage {
 pub enum Found {
     /// A message may be taken from the connection at this key.
     Ready(usize),
-    /// Messages wait, but only in connections where as many as may be are borrowed.
+    /// Messages wait, but only in connections that have as many borrowed as they may.
     AtLimit,
     /// No message waits.
     Nothing,
@@ -62,7 +62,7 @@ impl Found {
     }
 }
 
-// What the connection offers, which stands at a key.
+// What the connection offers. It is the one at the key.
 fn offer(connection: &Connection, key: usize) -> Found
     ensures { result ≡ offer_of key (Some connection.now) }
 {
@@ -138,7 +138,7 @@ fn take(connections: &mut Slab<Connection>, key: usize) -> Taken
     }
 }
 
-/// The key at a place, past the end of the list too.
+/// The key at a place, and `None` past the end of the list.
 pub fn key_in(keys: &[Option<usize>], place: usize) -> Option<usize>
     ensures { result ≡ slice_index_or keys.now place None }
 {
@@ -148,12 +148,13 @@ pub fn key_in(keys: &[Option<usize>], place: usize) -> Option<usize>
     }
 }
 
-/// Borrows the message that has waited longest in the first connection of which one may be borrowed:
-/// first among the expired ones, whose publishers are gone, in their order, then at `last_place`, and
-/// then by rising place, which `last_place` is afterwards. `None` where no message waits.
+/// Borrows the message that has waited longest in the first connection with a message that may be
+/// borrowed. First come the expired connections, whose publishers are gone, in their order, then
+/// the one at `last_place`, and then the others by rising place. If it is one of these others,
+/// `last_place` is its place afterwards. `None` if no message waits.
 ///
-/// `ExceedsMaxBorrows` where messages wait, but only in connections of which as many are borrowed as
-/// may be.
+/// `ExceedsMaxBorrows` if messages wait, but only in connections that have as many borrowed as they
+/// may.
 ///
 /// iceoryx2's `Receiver::receive` (`src/port/details/receiver.rs`).
 #[inline(always)]
@@ -207,8 +208,9 @@ pub fn has_samples(
         || search_keys(connections, keys).is_something()
 }
 
-// Whether the slot may be given back at once: the connection is this subscriber's, for slots of the book
-// at the key, and is marked as open, and the slot is the one that was borrowed last of it.
+// Whether the slot may be given back at once: the connection is this subscriber's, is for slots of
+// the book at the key, and is marked as open, and the slot is the one that was last borrowed from
+// it.
 fn is_last_borrowed(connection: &Connection, subscriber: u128, book: usize, slot: usize) -> bool
     ensures subscriber { IsTrue result → connection.now.home.subscriber ≡ subscriber }
     ensures book { IsTrue result → connection.now.home.book ≡ book }
@@ -233,10 +235,11 @@ fn has_number(book: &SlotBook, slot: usize, number: u128) -> bool
     book.number(slot) == number
 }
 
-/// Whether a message lies as it says: the connection at the key is this subscriber's, for slots of this
-/// book, and is marked as open, the slot is the one that was borrowed last of it, and has this number.
-/// It is mostly so. No holders are counted for that. A look-up in books that may be written tests less,
-/// and nothing is written (docs/decisions/cost.md, "Look-ups that can't fail go through `&mut`").
+/// Whether a message is where it says: the connection at the key is this subscriber's, is for slots
+/// of this book, and is marked as open, and the slot was last borrowed from it and has this number.
+/// It is mostly so. No holders are counted for that. A look-up in books that may be written tests
+/// less, and nothing is written
+/// (docs/decisions/cost.md, "Look-ups that can't fail go through `&mut`").
 #[inline(always)]
 pub fn is_last_at(
     connections: &Slab<Connection>,
@@ -257,8 +260,9 @@ pub fn is_last_at(
     }
 }
 
-/// Gives a message back to its publisher where it lies as it says ([`is_last_at`]), and returns whether it
-/// does. Else nothing changes. The slot keeps its holder until the publisher reclaims it.
+/// Gives a message back to its publisher if it is where it says ([`is_last_at`]), and returns
+/// whether it is. If it isn't, nothing changes. The slot keeps its holder until the publisher
+/// reclaims it.
 ///
 /// [`release`] does the same with a slot that is known to be borrowed.
 #[inline(always)]
@@ -283,8 +287,8 @@ pub fn release_if_last(
     true
 }
 
-/// Gives the message in a slot, which is borrowed from the connection at a key, back to its
-/// publisher. The slot keeps its holder until the publisher reclaims it.
+/// Gives a message back to its publisher. Its slot is borrowed from the connection at a key. The
+/// slot keeps its holder until the publisher reclaims it.
 ///
 /// iceoryx2's `Receiver::release_offset` (`src/port/details/receiver.rs`).
 pub fn release(connections: &mut Slab<Connection>, key: usize, slot: usize)
@@ -300,10 +304,10 @@ pub fn release(connections: &mut Slab<Connection>, key: usize, slot: usize)
     connections[key].release(slot);
 }
 
-/// Gives the message in a slot, which is borrowed from the connection at a key, back to the book of
-/// its publisher, which is gone. The slot has one holder less at once.
+/// Gives a message back to the book of its publisher, which is gone. Its slot is borrowed from the
+/// connection at a key, and has one holder less at once.
 ///
-/// iceoryx2's `Receiver::release_offset` (`src/port/details/receiver.rs`), where the segment of the
+/// iceoryx2's `Receiver::release_offset` (`src/port/details/receiver.rs`). There the segment of the
 /// publisher goes with its last message.
 pub fn let_go(connections: &mut Slab<Connection>, book: &mut SlotBook, key: usize, slot: usize)
     requires borrowed { IsSomeAnd (get connections.old key) (λ c. Contains c.borrowed slot) }

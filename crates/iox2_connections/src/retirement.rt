@@ -1,4 +1,4 @@
-//! What becomes of a departed publisher's connection, whose place at a subscriber is needed.
+//! What becomes of a departed publisher's connection when its place at a subscriber is needed.
 ghost use Rattle.std.specs.Prelude.{◌≡◌, ℕ, true};
 ghost use Rattle.slab.specs.Slab.{get, ContainsKey};
 ghost use Rattle.iox2_machine.specs.machine.Numbers.{contains};
@@ -12,7 +12,7 @@ use slab::Slab;
 pub enum Retirement {
     /// It is kept among the expired ones.
     KeepExpired,
-    /// The same, and the expired one at this key goes in its place.
+    /// The same, and the expired one at this key goes to make room.
     Evict(usize),
     /// What waits in it is lost.
     DiscardData,
@@ -20,7 +20,7 @@ pub enum Retirement {
     Refuse,
 }
 
-// Whether something is borrowed of the connection at a key.
+// Whether something is borrowed from the connection at a key.
 fn has_borrowed(connections: &Slab<Connection>, key: usize) -> bool
     requires { ContainsKey connections.now key }
     ensures { result ≡ has_borrowed (get connections.now key) }
@@ -28,7 +28,7 @@ fn has_borrowed(connections: &Slab<Connection>, key: usize) -> bool
     !connections[key].borrowed().is_empty()
 }
 
-// The key of the first of these connections of which nothing is borrowed.
+// The key of the first of these connections from which nothing is borrowed.
 fn first_unborrowed(connections: &Slab<Connection>, keys: &[usize]) -> Option<usize>
     requires { (key : ℕ) → contains keys.now key ≡ true → ContainsKey connections.now key }
     ensures { result ≡ first_unborrowed connections.now keys.now }
@@ -41,7 +41,8 @@ fn first_unborrowed(connections: &Slab<Connection>, keys: &[usize]) -> Option<us
     None
 }
 
-/// What becomes of the connection at a key, where so many may be kept and these are kept already.
+/// What becomes of the connection at a key, if `limit` expired ones may be kept and these already
+/// are.
 ///
 /// iceoryx2's `Receiver::prepare_connection_removal` (`src/port/details/receiver.rs`).
 pub fn choose_retirement(

@@ -40,9 +40,9 @@ pub struct ReceiverDetails {
     pub is_open: bool,
 }
 
-/// What stands at a subscriber's place, to a publisher that delivers.
+/// What is at a subscriber's place, as a publisher that delivers sees it.
 ///
-/// This library's own, where iceoryx2 copies the details of each receiver to its senders.
+/// This library's own: iceoryx2 copies the details of each receiver to its senders.
 pub trait Receiver {
     ghost use Rattle.iox2_connections.specs.declared.sender.ReceiverDetails.{ReceiverDetails};
 
@@ -79,11 +79,11 @@ pub struct Progress {
 pub struct Delivery {
     /// The publisher's id.
     pub publisher: u128,
-    /// The publisher's slot in which the message lies.
+    /// The publisher's slot with the message.
     pub slot: usize,
-    /// The channel of each connection into which it goes.
+    /// The channel of each connection that it goes into.
     pub channel: usize,
-    /// What happens at a full receiver, where no handler says otherwise.
+    /// What happens at a full receiver, if no handler says otherwise.
     pub strategy: BackpressureStrategy,
     /// Where the delivery is taken up.
     pub start: Progress,
@@ -94,8 +94,8 @@ pub struct Delivery {
 impl Delivery {
     ghost use Rattle.iox2_connections.specs.Deliveries.{retries_at, elapsed_at};
 
-    // How often the receiver at a place was asked again: the first was asked before, the others are
-    // asked anew.
+    // How often the receiver at a place was asked again. Only the first was asked before; the
+    // others are asked anew.
     fn retries_at(&self, place: usize) -> u64
         ensures { result ≡ retries_at self.now place }
     {
@@ -155,7 +155,8 @@ impl Reception {
     }
 }
 
-// One place more. It stands apart, so that at a receiver that takes the message nothing is counted.
+// One place more. It is a function of its own, so that nothing is counted at a receiver that takes
+// the message.
 #[cold]
 #[inline(never)]
 fn one_more(missed: usize) -> usize
@@ -165,7 +166,7 @@ fn one_more(missed: usize) -> usize
     missed + 1
 }
 
-// How many places have missed the message, with one at which it came to this
+// How many places have missed the message, with one more place that has this outcome
 // (docs/decisions/cost.md, "A delivery counts the places that missed it").
 fn count_missed(missed: usize, reception: Reception) -> usize
     requires fits { missed + 1 < 2 ^ 64 }
@@ -199,8 +200,8 @@ fn by_action(strategy: BackpressureStrategy, action: BackpressureAction) -> Rece
     }
 }
 
-// Asks the handler about a full receiver. The delivery is copied here: what is handed on by its
-// address would have to stand in memory at each send.
+// Asks the handler about a full receiver. The delivery is copied here: if its address were handed
+// on, it would have to be in memory at each send.
 #[cold]
 #[inline(never)]
 fn ask<F: BackpressureFn>(
@@ -222,7 +223,7 @@ fn ask<F: BackpressureFn>(
     by_action(delivery.strategy, handler.call(&info))
 }
 
-// What a put into this connection comes to.
+// What becomes of the message after this put into the connection.
 fn reception_of<F: BackpressureFn>(
     config: &ServiceConfig,
     delivery: &Delivery,
@@ -248,7 +249,7 @@ fn reception_of<F: BackpressureFn>(
     }
 }
 
-// Whether the subscriber with that id stands at the place, and is open.
+// Whether the subscriber with that id is at the place, and is open.
 #[cold]
 #[inline(never)]
 fn stands_open<R: Receiver>(receivers: &Vec<Option<R>>, place: usize, id: u128) -> bool
@@ -263,8 +264,8 @@ fn stands_open<R: Receiver>(receivers: &Vec<Option<R>>, place: usize, id: u128) 
     }
 }
 
-// Whether a channel of a connection takes messages: the subscriber, which the publisher knows at the
-// place, is open, and so is the channel. Of channel 0 the mark of the connection mostly says so.
+// Whether a channel of a connection takes messages: the subscriber that the publisher knows at the
+// place is open, and so is the channel. For channel 0 the mark of the connection mostly says so.
 fn is_open<R: Receiver>(
     connection: &Connection,
     receivers: &Vec<Option<R>>,
@@ -338,18 +339,17 @@ fn deliver_at<R: Receiver, F: BackpressureFn>(
 }
 
 /// Delivers a message into a channel of the connections at the places that remain, one after the
-/// other, until a receiver blocks it. What each gave back is reclaimed first. A receiver that is
-/// closed or whose channel is closed is skipped. One with room takes the message, and with safe
-/// overflow each does; at any other the handler decides, or the strategy where there is no handler.
+/// other, until a receiver blocks it. What each gave back is reclaimed first. A receiver is skipped
+/// if it is closed or its channel is. One with room takes the message, and with safe overflow each
+/// does. At any other the handler decides, or the strategy if there is no handler.
 ///
-/// A send starts at the first place. A send that was blocked is taken up where it blocked, or behind
-/// that receiver, with what it came to so far.
+/// A send starts at the first place. A send that was blocked goes on where it blocked, or behind
+/// that receiver, with what it has counted so far.
 ///
-/// `keys` has at each subscriber's place the key of the publisher's connection to it, and
-/// `receivers` the subscriber that stands there now. It is the vector itself, which is read only
-/// for a subscriber that may be closed. The count of holders of each slot in `book` follows: it
-/// grows with each connection that takes the slot, and shrinks for a slot that is overwritten or
-/// reclaimed.
+/// At each subscriber's place `keys` has the key of the publisher's connection to it, and
+/// `receivers` the subscriber that is there now. It is the vector itself, which is read only for a
+/// subscriber that may be closed. The count of holders of each slot in `book` follows: it grows
+/// with each connection that takes the slot, and shrinks if the slot is overwritten or reclaimed.
 ///
 /// iceoryx2's `Sender::deliver_offset` (`src/port/details/sender.rs`).
 #[inline(always)]
@@ -450,8 +450,8 @@ fn reclaim_at(publisher: u128, connections: &mut Slab<Connection>, book: &mut Sl
     reclaim_from(&mut connections[key], book);
 }
 
-/// Reclaims every slot that was given back in the publisher's connections at these keys. Each of
-/// them has one holder less for it. A publisher calls this where none of its slots is free.
+/// Reclaims every slot that was given back in the publisher's connections at these keys. Each time
+/// the slot has one holder less. A publisher calls this when none of its slots is free.
 ///
 /// iceoryx2's `Sender::retrieve_returned_samples` (`src/port/details/sender.rs`).
 pub fn reclaim_all(
@@ -495,8 +495,8 @@ pub fn drop_all(
     reclaim_from(emptied, book);
 }
 
-/// Takes out the publisher's connection at a key, of which nothing is borrowed. Each slot that stood
-/// there has one holder less.
+/// Takes out the publisher's connection at a key, from which nothing is borrowed. Each slot that
+/// was in it has one holder less.
 ///
 /// iceoryx2's `Sender::remove_connection` (`src/port/details/sender.rs`).
 pub fn remove_connection(
@@ -516,7 +516,7 @@ pub fn remove_connection(
     connections.remove(key);
 }
 
-// Puts a slot into a connection with room for it, which is one holder more.
+// Puts a slot into a connection with room for it, and counts one holder more.
 fn put_in_room(connection: &mut Connection, book: &mut SlotBook, slot: usize)
     requires room { length connection.old.waiting < connection.old.buffer }
     requires alone { load connection.old ≡ length connection.old.waiting }
@@ -530,8 +530,8 @@ fn put_in_room(connection: &mut Connection, book: &mut SlotBook, slot: usize)
     }
 }
 
-/// Puts the last messages of a publisher's history into a connection in which no slot stands: as
-/// many as may wait there, the oldest first. Each of them has one holder more.
+/// Puts the last messages of a publisher's history into a connection that has no slots: as many as
+/// may wait there, the oldest first. Each of them has one holder more.
 ///
 /// iceoryx2's `PublisherSharedState::deliver_sample_history` (`src/port/publisher.rs`).
 pub fn deliver_history(

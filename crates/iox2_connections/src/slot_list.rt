@@ -1,10 +1,10 @@
-//! A slot in a list: among what is borrowed of a connection, or among a publisher's loans.
+//! A slot in a list: among those borrowed from a connection, or among a publisher's loans.
 ghost use Rattle.std.specs.Prelude.{◌≡◌, ◌+◌, ◌-◌, ◌≤◌, ◌↔◌, length, slice_get, Some, MatchOption, Contains, IsTrue};
 ghost use Rattle.std.specs.Vec.{vec_capacity};
 ghost use Rattle.iox2_machine.specs.machine.Numbers.{without};
 ghost use Rattle.iox2_connections.specs.Counters.{times};
 
-/// A place at which a slot stands. It is looked for from both ends, since either the oldest or the
+/// A place at which a slot is. It is looked for from both ends, since either the oldest or the
 /// newest slots go first.
 #[inline(never)]
 fn place_of(slots: &[usize], slot: usize) -> Option<usize>
@@ -22,15 +22,15 @@ fn place_of(slots: &[usize], slot: usize) -> Option<usize>
     None
 }
 
-// Whether the slot stands last.
+// Whether the slot is last.
 fn is_last(slots: &[usize], slot: usize) -> bool
     ensures { IsTrue result ↔ (slice_get slots.now (length slots.now - 1) ≡ Some slot) }
 {
     slots.last().is_some_and(|last| *last == slot)
 }
 
-/// Takes a slot out of a list in which it stands once at most; the others keep their order. Where it
-/// stands last, there is no search and no shift.
+/// Takes a slot out of a list that has it once at most; the others keep their order. If it is last,
+/// there is no search and no shift.
 pub fn take_slot(slots: &mut Vec<usize>, slot: usize)
     requires { times slot slots.old.items ≤ 1 }
     ensures items { slots.new.items ≡ without slot slots.old.items }
@@ -44,7 +44,7 @@ pub fn take_slot(slots: &mut Vec<usize>, slot: usize)
     }
 }
 
-// The same, wherever the slot stands.
+// The same, wherever the slot is.
 #[inline(never)]
 fn search_and_take(slots: &mut Vec<usize>, slot: usize)
     requires { times slot slots.old.items ≤ 1 }

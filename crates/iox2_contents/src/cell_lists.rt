@@ -5,11 +5,12 @@ use crate::cells::push_unwritten;
 use std::alloc::{AllocError, Global};
 use std::marker::Model;
 
-/// Cells for each loan to show, and lists for those that have to be listed.
+/// Cells that each loan can show, and lists for loans that have to list their own.
 #[derive(Drop)]
 pub(crate) struct CellLists<T> {
-    // The first has unwritten cells for each loan to show that hasn't listed its own, and is never
-    // handed out. The others are spare: as many as loans may be out, but for those that loans have.
+    // The first has the unwritten cells that each loan shows until it lists its own. It is never
+    // handed out. The others are spare: as many as loans may be out, minus those that loans have
+    // now.
     lists: Vec<Vec<Option<T>>>,
 }
 
@@ -25,13 +26,15 @@ impl<T> Model for CellLists<T> {
       room = vec_capacity kept.lists - 1;
     } };
 
-    // The cells to show are unwritten, and each other list is empty and has room for as many, and for two.
+    // The cells to show are unwritten. Each other list is empty, and has room for as many, and for
+    // two.
     ghost invariant = { λ kept. FirstAnd (λ shown. shown.items ≡ replicate (length shown.items) None)
         (λ shown list. (list.items ≡ []) × (length shown.items ≤ vec_capacity list) × (1 < vec_capacity list)) kept.lists.items };
 }
 
 impl<T: Drop> CellLists<T> {
-    /// So many lists, each with room for so many cells, and for two at least, and as many cells to show.
+    /// `count` lists, each with room for `longest` cells, and for two at least. There are `longest`
+    /// cells to show.
     pub(crate) fn new(alloc: Global, count: usize, longest: usize) -> Result<Self, AllocError>
         ensures most { IfOk result (λ lists. lists.most ≡ longest) }
         ensures spare { IfOk result (λ lists. lists.spare ≡ count) }
@@ -48,8 +51,8 @@ impl<T: Drop> CellLists<T> {
         Ok(CellLists { lists })
     }
 
-    /// Takes back a list of a loan. One is long enough that has room for as many cells as can be
-    /// shown; a shorter one is of an older segment, and goes.
+    /// Takes back a list of a loan. It is kept if it has room for all cells that can be shown. A
+    /// shorter one is of an older segment, and goes.
     pub(crate) fn put(&mut self, list: Vec<Option<T>>)
         requires empty { list.items ≡ [] }
         requires wide { 1 < vec_capacity list }
@@ -96,7 +99,7 @@ impl<T> CellLists<T> {
     }
 }
 
-// So many unwritten cells.
+// `count` unwritten cells.
 fn unwritten_cells<T: Drop>(alloc: Global, count: usize) -> Result<Vec<Option<T>>, AllocError>
     ensures unwritten { IfOk result (λ cells. cells.items ≡ replicate count None) }
 {

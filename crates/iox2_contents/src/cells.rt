@@ -8,17 +8,17 @@ use std::alloc::{AllocError, Global};
 use std::marker::Model;
 use std::mem;
 
-/// The cells of an unwritten loan, and none where there is no such loan.
+/// The cells of an unwritten loan, and none if there is no such loan.
 ///
-/// They are listed once a reference is handed out by which they may be written. Until then a loan is
-/// but their number, and shows cells that all loans of its publisher share. The list is one of those
-/// that its publisher keeps for its loans, and goes back there. Each of these has room for two cells or
-/// more. Where a publisher keeps none, there is always room for one cell, and the others are never
-/// listed. So the room tells whether there are such lists.
+/// They are listed once a reference is handed out that can write them. Until then a loan only has
+/// their number, and shows cells that all loans of its publisher share. The list is one of those
+/// that its publisher keeps for its loans, and goes back there. Each of these has room for two
+/// cells or more. If a publisher keeps none, there is always room for one cell, and the others are
+/// never listed. So the room tells whether there are such lists.
 #[derive(Drop)]
 pub(crate) struct Cells<T> {
     listed: Vec<Option<T>>,
-    // So many cells aren't listed, and none of them is written.
+    // How many cells aren't listed. None of them is written.
     unlisted: usize,
 }
 
@@ -34,13 +34,14 @@ impl<T> Model for Cells<T> {
       lists = cond (vec_capacity cells.listed == 1) 0 1;
     } };
 
-    // With a list of its publisher's all cells are listed.
+    // With a list of their publisher's all cells are listed.
     ghost invariant = { λ cells. (length cells.listed.items + cells.unlisted < 2 ^ 64)
         × (1 < vec_capacity cells.listed → cells.unlisted ≡ 0) };
 }
 
 impl<T: Drop> Cells<T> {
-    /// No cells, of a publisher that keeps so many lists; with room for one, where it keeps none.
+    /// No cells, of a publisher that keeps `lists` lists. There is room for one cell if it keeps
+    /// none.
     pub(crate) fn new(alloc: Global, lists: usize) -> Result<Self, AllocError>
         ensures items { IfOk result (λ cells. cells.items ≡ []) }
         ensures lists { IfOk result (λ cells. cells.lists ≡ keeps lists) }
@@ -54,7 +55,7 @@ impl<T: Drop> Cells<T> {
         })
     }
 
-    /// So many unwritten cells, in place of those that were there.
+    /// `len` unwritten cells, in place of those that were there.
     pub(crate) fn start(&mut self, len: usize)
         requires { 0 < self.old.lists → self.old.room ≡ 0 }
         ensures { self.new ≡ with_items (replicate len None) self.old }
@@ -74,7 +75,8 @@ impl<T: Drop> Cells<T> {
         count
     }
 
-    /// Drops the cells, with the memory of a list of their publisher's. The room for one cell stays.
+    /// Drops the cells, and frees the memory of a list of their publisher's. The room for one cell
+    /// stays.
     pub(crate) fn free_memory(&mut self, alloc: Global)
         ensures items { self.new.items ≡ [] }
         ensures none { 0 < self.old.lists → self.new.room ≡ 0 }
@@ -88,7 +90,7 @@ impl<T: Drop> Cells<T> {
         self.unlisted = 0;
     }
 
-    /// Drops the cells, and takes their list out, which is its publisher's.
+    /// Drops the cells, and takes out their list, which is their publisher's.
     pub(crate) fn take_list(&mut self) -> Vec<Option<T>>
         requires { has_list self.old ≡ true }
         ensures empty { result.items ≡ [] }
@@ -105,7 +107,7 @@ impl<T: Drop> Cells<T> {
         list
     }
 
-    /// Lists the cells, which wait for it, in one of their publisher's lists.
+    /// Lists the cells, which wait for a list, in one of their publisher's lists.
     pub(crate) fn put_list(&mut self, list: Vec<Option<T>>)
         requires waits { waits self.old ≡ true }
         requires empty { list.items ≡ [] }
@@ -120,7 +122,7 @@ impl<T: Drop> Cells<T> {
         self.unlisted = 0;
     }
 
-    /// Moves the values out of the cells, each of which is written, to the end of the list.
+    /// Moves the values out of the cells to the end of the list. Each cell is written.
     pub(crate) fn move_to(&mut self, values: Vec<T>) -> Vec<T>
         requires written { list_all is_some self.old.items ≡ true }
         requires empty { values.items ≡ [] }
@@ -159,7 +161,7 @@ impl<T> Cells<T> {
         self.listed.capacity() == 0 && self.unlisted > 0
     }
 
-    /// The first cell. Where it isn't listed it is one of the unwritten ones.
+    /// The first cell. If it isn't listed, it is one of the unwritten ones.
     pub(crate) fn cell<'a>(&'a self, unwritten: &'a [Option<T>]) -> &'a Option<T>
         requires first { 0 < length self.now.items }
         requires unwritten { unwritten.now ≡ replicate (length unwritten.now) None }
@@ -172,7 +174,7 @@ impl<T> Cells<T> {
         &self.listed[0]
     }
 
-    /// The cells, of a publisher that keeps lists. Where they aren't listed they are as many of the
+    /// The cells, of a publisher that keeps lists. If they aren't listed, they are as many of the
     /// unwritten ones.
     pub(crate) fn cells<'a>(&'a self, unwritten: &'a [Option<T>]) -> &'a [Option<T>]
         requires lists { 0 < self.now.lists }
@@ -186,7 +188,7 @@ impl<T> Cells<T> {
         &unwritten[..self.unlisted]
     }
 
-    /// The first cell, to be changed, which is listed, or which there is room to list.
+    /// The first cell, to be changed. It is listed, or there is room to list it.
     pub(crate) fn cell_mut(&mut self) -> &mut Option<T>
         requires first { 0 < length self.old.items }
         requires room { 0 < self.old.room }
@@ -200,7 +202,7 @@ impl<T> Cells<T> {
         &mut self.listed[0]
     }
 
-    /// The cells, to be changed, which are listed where there are any.
+    /// The cells, to be changed. They are listed if there are any.
     pub(crate) fn cells_mut(&mut self) -> &mut [Option<T>]
         requires lists { 0 < self.old.lists }
         requires ready { waits self.old ≡ false }
@@ -211,7 +213,7 @@ impl<T> Cells<T> {
     }
 }
 
-/// Appends so many unwritten cells.
+/// Appends `len` unwritten cells.
 pub(crate) fn push_unwritten<T>(cells: &mut Vec<Option<T>>, len: usize)
     requires room { length cells.old.items + len ≤ vec_capacity cells.old }
     ensures cells { cells.new.items ≡ cells.old.items ++ replicate len None }

@@ -13,8 +13,9 @@ use crate::values::Values;
 use std::alloc::{AllocError, Global};
 use std::marker::Model;
 
-/// What lies in a slot. An unwritten loan has its cells; a written loan or a sent message has its
-/// values. What isn't used of the two is empty (docs/decisions/slots.md, "What lies in a slot is one type").
+/// What is in a slot. An unwritten loan has its cells; a written loan or a sent message has its
+/// values. The one that isn't used is empty
+/// (docs/decisions/slots.md, "What lies in a slot is one type").
 ///
 /// iceoryx2's `RawSample` and `RawSampleMut` (`src/raw_sample.rs`) point to a message's headers and
 /// payload in shared memory.
@@ -46,9 +47,9 @@ impl<T, U> Model for Content<T, U> {
 }
 
 impl<T: Drop, U: Default + Drop> Content<T, U> {
-    /// The content of a slot that has no message yet, with room for so many elements, of a publisher that
-    /// keeps so many lists of cells. A single one lies in place, for which no memory is taken, but where it
-    /// is to be in a list.
+    /// The content of a slot that has no message yet, with room for `room` elements, of a publisher
+    /// that keeps `lists` lists of cells. With room for one, the element is in place and takes no
+    /// memory, unless it is to be in a list.
     pub(crate) fn new(
         alloc: Global,
         room: usize,
@@ -75,8 +76,8 @@ impl<T: Drop, U: Default + Drop> Content<T, U> {
         })
     }
 
-    /// Makes the slot an unwritten loan of this length. A payload that lay in place is dropped, and one
-    /// in lists once another is written.
+    /// Makes the slot an unwritten loan of this length. A payload that was in place is dropped now,
+    /// and one in lists once another is written.
     pub(crate) fn start(&mut self, len: usize)
         requires fit { len ≤ self.old.content.room }
         requires none { has_list self.old ≡ false }
@@ -94,7 +95,7 @@ impl<T: Drop, U: Default + Drop> Content<T, U> {
         }
     }
 
-    /// Drops what the slot had, and frees its room, but for the room for one cell.
+    /// Drops what the slot had, and frees its room, except the room for one cell.
     pub(crate) fn clear(&mut self, alloc: Global)
         ensures in_place { self.new.content.is_in_place ≡ self.old.content.is_in_place }
         ensures lists { self.new.content.lists ≡ self.old.content.lists }
@@ -127,7 +128,7 @@ impl<T: Drop, U: Default + Drop> Content<T, U> {
 }
 
 impl<T: Drop, U> Content<T, U> {
-    /// Lists the cells, which wait for it, in one of their publisher's lists.
+    /// Lists the cells, which wait for a list, in one of their publisher's lists.
     pub(crate) fn put_list(&mut self, list: Vec<Option<T>>)
         requires waits { waits self.old ≡ true }
         requires empty { list.items ≡ [] }

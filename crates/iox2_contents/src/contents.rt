@@ -16,13 +16,14 @@ use std::marker::Model;
 /// What a publisher's users write and its subscribers' users read: for each slot the user header
 /// and the payload.
 ///
-/// A payload that lies in its slot is dropped when the next loan starts there, one in lists when
-/// another is written there, and either when the slot is cleared or the contents go.
+/// A payload in its slot is dropped when the next loan starts there. A payload in lists is dropped
+/// when another is written there. Either is dropped when the slot is cleared or the contents go.
 #[derive(Drop)]
 pub struct Contents<T, U> {
     slots: Vec<Content<T, U>>,
-    // One vector more, and no third: the contents take 48 bytes, so that an entry of a slab is found by
-    // one multiplication (docs/decisions/cost.md, "The contents of a publisher take 48 bytes").
+    // One vector more, and no third: the contents take 48 bytes, so that an entry of a slab is
+    // found by one multiplication
+    // (docs/decisions/cost.md, "The contents of a publisher take 48 bytes").
     lists: CellLists<T>,
 }
 
@@ -36,20 +37,21 @@ impl<T, U> Model for Contents<T, U> {
 
     ghost view = { λ contents. contents_of contents.lists.room contents.slots.items };
 
-    // The longest loan may show unwritten cells, and each loan that may be out finds a list for its own.
+    // There are enough unwritten cells for the longest loan to show, and a list for each loan that
+    // may be out.
     ghost invariant = { λ contents. HasLists contents.lists.most contents.lists.spare contents.lists.room contents.slots.items };
 }
 
 impl<T: Drop, U: Default + Drop> Contents<T, U> {
-    /// The contents of so many slots, each with room for so many elements. Each has a default user
-    /// header, no cells and no values. With room for one element a slot has it in place, unless it is to
-    /// lie in a list (`in_lists`), and else in lists of its own.
+    /// The contents of `slots` slots, each with room for `room` elements. Each has a default user
+    /// header, no cells and no values. A slot with room for one element has it in place, unless
+    /// `in_lists` asks for lists. Any other slot has its elements in lists of its own.
     ///
-    /// Where elements lie in lists, there are so many lists of cells (`lists`), of an `Option` for each
-    /// element, and one more for all loans that haven't listed theirs. So cells can be handed out for so
-    /// many loans at a time. Without such lists there is room for one cell in each slot.
+    /// If `in_lists` is set, there are `lists` lists of cells, each with an `Option` for each
+    /// element, and one more for all loans that haven't listed their cells. So `lists` loans at a
+    /// time can hand out their cells. Without such lists there is room for one cell in each slot.
     ///
-    /// Fails where memory runs out; but for `grow` no other call on contents takes memory.
+    /// Fails if memory runs out. Except `grow`, no other call on contents takes memory.
     pub fn new(
         alloc: Global,
         slots: usize,
@@ -71,9 +73,9 @@ impl<T: Drop, U: Default + Drop> Contents<T, U> {
         Ok(Contents { slots, lists })
     }
 
-    /// So many slots more, each with room for so many elements, behind those that are there, as `new`
-    /// makes them. Where they are longer, there are new lists of cells too, and a list that a loan has
-    /// goes with its cells. Fails where memory is refused; the contents then stay as they are.
+    /// Adds `more` slots, each with room for `room` elements, behind those that are there, as `new`
+    /// makes them. If these are longer, there are new lists of cells too, and a list that a loan
+    /// has goes with its cells. Fails if memory is refused; the contents then stay as they are.
     pub fn grow(
         &mut self,
         alloc: Global,
@@ -100,7 +102,7 @@ impl<T: Drop, U: Default + Drop> Contents<T, U> {
         Ok(())
     }
 
-    /// Drops what lies in the slot, which is of no loan or message any more, and frees its room.
+    /// Drops what is in the slot, and frees its room. No loan or message has it any more.
     pub fn clear(&mut self, alloc: Global, slot: usize)
         requires { slot < length self.old }
         ensures { ClearsSlot self.old self.new slot }
@@ -109,9 +111,10 @@ impl<T: Drop, U: Default + Drop> Contents<T, U> {
         self.slots[slot].clear(alloc);
     }
 
-    /// Makes the slot an unwritten loan of this length, which must fit the slot's room. It costs the
-    /// same for any length, but for a value that has to be dropped. Fewer loans have cells than there
-    /// are lists for, and the slot's last one has none any more.
+    /// Makes the slot an unwritten loan of this length, which must fit the slot's room. It costs
+    /// the same for any length, except that a value may have to be dropped. If there are lists of
+    /// cells, there are more of them than loans with cells, and the slot's last loan has no cells
+    /// any more.
     pub fn start(&mut self, slot: usize, len: usize)
         requires fit { SomeAt self.old slot (λ content. len ≤ content.room) }
         requires ended { SomeAt self.old slot (λ content. 0 < content.lists → content.cells ≡ []) }
@@ -121,8 +124,8 @@ impl<T: Drop, U: Default + Drop> Contents<T, U> {
         self.slots[slot].start(len);
     }
 
-    /// Drops the cells of the slot's loan, which is out no more. Their list is one that another loan may
-    /// have then.
+    /// Drops the cells of the slot's loan, which isn't out any more. Another loan may then have
+    /// their list.
     pub fn end(&mut self, slot: usize)
         requires { slot < length self.old }
         ensures { self.new ≡ with_changed self.old slot ended_content }
@@ -157,8 +160,9 @@ impl<T: Drop, U: Default + Drop> Contents<T, U> {
         self.slots[slot].write_from_fn(f);
     }
 
-    // The same of a loan whose cells have a list. It stands apart, so that nothing has to be kept over a
-    // usual write (docs/decisions/cost.md, "The contents of a publisher take 48 bytes").
+    // The same for a loan whose cells have a list. It is a function of its own, so that nothing has
+    // to be kept over a usual write
+    // (docs/decisions/cost.md, "The contents of a publisher take 48 bytes").
     #[cold]
     #[inline(never)]
     fn write_listed_from_fn<F: FnMut(usize) -> T + Drop>(&mut self, slot: usize, f: F)
@@ -171,8 +175,8 @@ impl<T: Drop, U: Default + Drop> Contents<T, U> {
         recycle_list(&mut self.slots, &mut self.lists, slot, had_list);
     }
 
-    /// Takes the cells of the slot's loan as its values, where each is written. Returns whether it
-    /// did; where some cell isn't written nothing changes.
+    /// Takes the cells of the slot's loan as its values if each is written, and returns whether it
+    /// did. If some cell isn't written, nothing changes.
     pub fn assume_init(&mut self, slot: usize) -> bool
         requires { SomeAt self.old slot (λ content. content.is_in_place ≡ true → length content.cells ≡ 1) }
         ensures { AssumesWritten self.old self.new slot result }
@@ -200,9 +204,9 @@ impl<T: Copy + Drop, U: Default + Drop> Contents<T, U> {
 }
 
 impl<T: Copy + Default + Drop, U: Default + Drop> Contents<T, U> {
-    /// Writes some value into each cell of the slot's loan, which then counts as written: what lay
-    /// there before, and default values where less lay there. So it costs the same for any length
-    /// that was there before.
+    /// Writes some value into each cell of the slot's loan, which then counts as written. The
+    /// values are those that were there before, followed by default values if there were fewer. So
+    /// it costs the same for any length that was there before.
     pub fn write_unspecified(&mut self, slot: usize)
         requires { SomeAt self.old slot (λ content. content.is_in_place ≡ false) }
         ensures { (values : List T) × WritesValues self.old self.new slot values }
@@ -213,15 +217,15 @@ impl<T: Copy + Default + Drop, U: Default + Drop> Contents<T, U> {
     }
 }
 
-// How many lists of cells there are for slots whose elements lie in lists, or don't.
+// How many lists of cells there are: `lists` for slots with elements in lists, and none for others.
 fn lists_for(in_lists: bool, lists: usize) -> usize
     ensures { result ≡ lists_for in_lists lists }
 {
     if in_lists { lists } else { 0 }
 }
 
-// How many unwritten cells a slot may have to show: all of a loan where its publisher keeps lists, and
-// else the first, unless that lies in the slot.
+// How many unwritten cells a slot may have to show: all of a loan if its publisher keeps lists. If
+// it keeps none, only the first, and not even that if the first is in the slot.
 fn shown_cells(room: usize, in_lists: bool, lists: usize) -> usize
     requires { in_lists ≡ false → lists ≡ 0 }
     ensures all { 0 < lists → room ≤ result }
@@ -233,7 +237,7 @@ fn shown_cells(room: usize, in_lists: bool, lists: usize) -> usize
     if lists == 0 { 1 } else { room.max(1) }
 }
 
-// The contents of so many slots that have no message yet.
+// The contents of `slots` slots that have no message yet.
 fn new_slots<T: Drop, U: Default + Drop>(
     alloc: Global,
     slots: usize,
@@ -263,7 +267,7 @@ impl<T, U> Contents<T, U> {
         self.slots[slot].user_header()
     }
 
-    /// The first cell of the slot's loan, which isn't written.
+    /// The first cell of the slot's loan. The loan isn't written.
     pub fn cell(&self, slot: usize) -> &Option<T>
         requires { SomeAt self.now slot (λ content. 0 < length content.cells) }
         ensures { first_cell_at self.now slot ≡ Some result.now }
@@ -271,8 +275,8 @@ impl<T, U> Contents<T, U> {
         self.slots[slot].cell(self.lists.unwritten())
     }
 
-    /// The cells of the slot's loan, and none once it is written, in contents with lists of cells. The
-    /// first cell is read by `cell` in any.
+    /// The cells of the slot's loan, and none once it is written. The contents have lists of cells;
+    /// without them `cell` reads the first cell.
     pub fn cells(&self, slot: usize) -> &[Option<T>]
         requires { SomeAt self.now slot (λ content. 0 < content.lists) }
         ensures { cells_at self.now slot ≡ Some result.now }
@@ -288,8 +292,8 @@ impl<T, U> Contents<T, U> {
         self.slots[slot].value()
     }
 
-    /// The values of the slot's loan or message, and none before it is written. A value that
-    /// lies in place is read by `value`.
+    /// The values of the slot's loan or message, and none before it is written. A value in place is
+    /// read by `value`.
     pub fn values(&self, slot: usize) -> &[T]
         requires { SomeAt self.now slot (λ content. content.is_in_place ≡ false) }
         ensures { values_at self.now slot ≡ Some result.now }
@@ -306,7 +310,7 @@ impl<T, U> Contents<T, U> {
         self.slots[slot].user_header_mut()
     }
 
-    /// The first value of the slot's loan, which is written, to be changed.
+    /// The first value of the slot's loan, to be changed. The loan is written.
     pub fn value_mut(&mut self, slot: usize) -> &mut T
         requires { SomeAt self.old slot (λ content. 0 < length content.values) }
         ensures* writes_back { sem 𝓛 (LendsValue T.row U.row self.entry slot result) }
@@ -328,7 +332,7 @@ impl<T, U> Contents<T, U> {
 impl<T: Drop, U> Contents<T, U> {
     ghost use Rattle.iox2_contents.specs.ContentsLends.{LendsCell, LendsCells};
 
-    /// The first cell of the slot's loan, which isn't written, to be changed.
+    /// The first cell of the slot's loan, to be changed. The loan isn't written.
     pub fn cell_mut(&mut self, slot: usize) -> &mut Option<T>
         requires { SomeAt self.old slot (λ content. 0 < length content.cells) }
         ensures* writes_back { sem 𝓛 (LendsCell T.row U.row self.entry slot result) }
@@ -338,8 +342,9 @@ impl<T: Drop, U> Contents<T, U> {
         self.slots[slot].cell_mut()
     }
 
-    /// The cells of the slot's loan, to be changed, and none once it is written, in contents with lists of
-    /// cells. They are listed in one of these, which they then have until the loan is written or ends.
+    /// The cells of the slot's loan, to be changed, and none once it is written. The contents have
+    /// lists of cells. The cells are put into one of these lists, and stay in it until the loan is
+    /// written or ends.
     pub fn cells_mut(&mut self, slot: usize) -> &mut [Option<T>]
         requires { SomeAt self.old slot (λ content. 0 < content.lists) }
         ensures* writes_back { sem 𝓛 (LendsCells T.row U.row self.entry slot result) }

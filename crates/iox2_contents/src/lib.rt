@@ -1,4 +1,4 @@
-//! What lies in the slots of a publisher: payloads and user headers.
+//! What is in the slots of a publisher: payloads and user headers.
 //!
 //! It names no other crate of this library, so that it is proved beside the plain types.
 #![tactic(auto)]

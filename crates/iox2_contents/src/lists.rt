@@ -6,8 +6,8 @@ ghost use Rattle.iox2_contents.specs.SlotRooms.{HasLists, HasListsBut};
 use crate::cell_lists::CellLists;
 use crate::content::Content;
 
-/// Takes back the list that a slot may have, whose cells are gone, for another loan. Whether it has one
-/// is asked before they go, while what says so is at hand.
+/// Takes back the list that a slot may have, for another loan. The slot's cells are gone. Whether
+/// it has a list is asked before they go, while what says so is at hand.
 #[inline(always)]
 pub(crate) fn recycle_list<T: Drop, U>(
     slots: &mut Vec<Content<T, U>>,
@@ -25,7 +25,7 @@ pub(crate) fn recycle_list<T: Drop, U>(
     }
 }
 
-// The same of a slot that has a list.
+// The same for a slot that has a list.
 #[cold]
 #[inline(never)]
 fn take_back<T: Drop, U>(slots: &mut Vec<Content<T, U>>, lists: &mut CellLists<T>, slot: usize)
@@ -37,7 +37,7 @@ fn take_back<T: Drop, U>(slots: &mut Vec<Content<T, U>>, lists: &mut CellLists<T
     lists.put(slots[slot].take_list());
 }
 
-/// Gives a slot a list for its cells, where these need one to be written.
+/// Gives a slot a list for its cells, if these need one to be written.
 #[inline(always)]
 pub(crate) fn ready<T: Drop, U>(
     slots: &mut Vec<Content<T, U>>,
@@ -55,7 +55,7 @@ pub(crate) fn ready<T: Drop, U>(
     }
 }
 
-// The same of a slot whose cells need one.
+// The same for a slot whose cells need one.
 #[cold]
 #[inline(never)]
 fn hand_out<T: Drop, U>(slots: &mut Vec<Content<T, U>>, lists: &mut CellLists<T>, slot: usize)

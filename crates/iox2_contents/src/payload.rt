@@ -7,7 +7,7 @@ ghost use Rattle.iox2_contents.specs.RoomLists.{with_items as with_values};
 use crate::cells::Cells;
 use crate::values::Values;
 
-/// The elements of an unwritten or a written payload. A single value lies in the payload itself.
+/// The elements of an unwritten or a written payload. A single value is in the payload itself.
 #[derive(Drop)]
 pub(crate) enum Payload<T> {
     /// There is room for one element, and none is there.
@@ -20,8 +20,8 @@ pub(crate) enum Payload<T> {
     Elements(Box<Elements<T>>),
 }
 
-/// The cells of an unwritten loan, or the values of a written loan or a sent message. What isn't
-/// used of the two is empty.
+/// The cells of an unwritten loan, or the values of a written loan or a sent message. The one that
+/// isn't used is empty.
 #[derive(Drop)]
 pub(crate) struct Elements<T> {
     pub(crate) cells: Cells<T>,
@@ -29,7 +29,8 @@ pub(crate) struct Elements<T> {
 }
 
 impl<T: Drop> Elements<T> {
-    /// Takes the cells as written. Nothing changes where some cell isn't.
+    /// Takes the cells as written, and returns whether all are. If some cell isn't, nothing
+    /// changes.
     pub(crate) fn assume_init(&mut self) -> bool
         requires { length self.old.cells.items ≤ self.old.values.room }
         ensures all { result ≡ list_all is_some self.old.cells.items }

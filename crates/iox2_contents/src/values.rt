@@ -8,13 +8,13 @@ use std::alloc::{AllocError, Global};
 use std::marker::Model;
 use std::mem;
 
-/// The values of a written loan or a sent message, and none where there is no such payload.
+/// The values of a written loan or a sent message, and none if there is no such payload.
 ///
-/// What lay there before stays until other values are written.
+/// The values that were there before stay until other values are written.
 #[derive(Drop)]
 pub(crate) struct Values<T> {
     kept: Vec<T>,
-    // So many of the kept values are the payload's.
+    // How many of the kept values are the payload's.
     written: usize,
 }
 
@@ -33,7 +33,7 @@ impl<T> Model for Values<T> {
 }
 
 impl<T: Drop> Values<T> {
-    /// No values, with room for so many.
+    /// No values, with room for `room` of them.
     pub(crate) fn new(alloc: Global, room: usize) -> Result<Self, AllocError>
         ensures items { IfOk result (λ values. values.items ≡ []) }
         ensures room { IfOk result (λ values. values.room ≡ room) }
@@ -82,8 +82,9 @@ impl<T: Drop> Values<T> {
         self.put(values);
     }
 
-    /// The list with its room, which is emptied. Loops push to a list that they own, so that its
-    /// length needn't be stored at each push (docs/decisions/slots.md, "A list of elements is taken out to be filled").
+    /// Takes out the list with its room, and empties it. Loops push to a list that they own, so
+    /// that its length needn't be stored at each push
+    /// (docs/decisions/slots.md, "A list of elements is taken out to be filled").
     pub(crate) fn take_empty(&mut self) -> Vec<T>
         ensures empty { result.items ≡ [] }
         ensures room { vec_capacity result ≡ self.old.room }
@@ -105,7 +106,7 @@ impl<T: Drop> Values<T> {
 }
 
 impl<T: Copy + Drop> Values<T> {
-    /// Writes copies of the items. Where no fewer values lie there it is one copy of memory.
+    /// Writes copies of the items. If at least as many values were there, it is one copy of memory.
     pub(crate) fn write_from_slice(&mut self, items: &[T])
         requires { length items.now ≤ self.old.room }
         ensures { self.new ≡ with_items items.now self.old }
@@ -121,8 +122,8 @@ impl<T: Copy + Drop> Values<T> {
 }
 
 impl<T: Copy + Default + Drop> Values<T> {
-    /// Writes so many values, which are those that lay there, and default values behind them where
-    /// there were fewer.
+    /// Writes `count` values: those that were there, followed by default values if there were
+    /// fewer.
     pub(crate) fn write_unspecified(&mut self, count: usize)
         requires { count ≤ self.old.room }
         ensures count { length self.new.items ≡ count }
@@ -191,7 +192,7 @@ fn push_copies<T: Copy>(mut values: Vec<T>, items: &[T]) -> Vec<T>
     values
 }
 
-// Appends default values until there are so many.
+// Appends default values until there are `count` values.
 fn fill_up<T: Default>(values: &mut Vec<T>, count: usize)
     requires room { count ≤ vec_capacity values.old }
     requires fewer { length values.old.items ≤ count }

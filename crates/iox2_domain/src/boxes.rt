@@ -10,7 +10,7 @@ use std::marker::Model;
 pub struct PortBoxes<F, G> {
     /// What it asks at a full buffer.
     pub backpressure: Option<F>,
-    /// What it asks where it can't make a connection.
+    /// What it asks when it can't make a connection.
     pub degradation: Option<G>,
 }
 
@@ -21,10 +21,10 @@ pub struct PortBox<F, G> {
     boxes: PortBoxes<F, G>,
 }
 
-/// The boxes that ports have for handlers. They stand beside the state of a domain, where a port has
-/// the mark alone that it has one, so that a port without a box pays for none.
+/// The boxes that ports have for handlers. They are beside the state of a domain. There a port has
+/// only the mark that it has one, so that a port without a box pays for none.
 ///
-/// This library's own, where iceoryx2 keeps a handler in its port.
+/// This library's own: iceoryx2 keeps a handler in its port.
 #[derive(Drop)]
 pub struct Boxes<F, G> {
     kept: Vec<PortBox<F, G>>,
@@ -57,7 +57,7 @@ impl<F: Drop, G: Drop> Boxes<F, G> {
         self.kept.try_reserve(1)
     }
 
-    /// The port with this id has these boxes from now on, for which there is room. It takes no
+    /// The port with this id has these boxes from now on. There is room for them, so it takes no
     /// memory.
     pub fn add(&mut self, id: u128, boxes: PortBoxes<F, G>)
         requires { length (self.old).boxes < (self.old).room }
@@ -98,7 +98,7 @@ impl<F: Drop, G: Drop> Boxes<F, G> {
         }
     }
 
-    /// What the port with an id asks where it can't make a connection, if it has a box for that.
+    /// What the port with an id asks when it can't make a connection, if it has a box for that.
     pub fn degradation_of(&self, id: u128) -> Option<&G>
         ensures { MatchOption result (degradation_box_of id (self.now).boxes ≡ None) (λ g. degradation_box_of id (self.now).boxes ≡ Some g.now) }
     {

@@ -1,4 +1,4 @@
-//! What a port answers where it can't make a connection.
+//! What a port answers when it can't make a connection.
 ghost use Rattle.iox2_machine.specs.machine.Connections.{DegradationAnswers};
 ghost use Rattle.iox2_domain.specs.Boxes.{answers_of};
 ghost use Rattle.iox2_domain.specs.Handlers.{handler_of};
@@ -9,8 +9,8 @@ use iox2_machine::{
     BackpressureFn, DegradationAction, DegradationCause, DegradationFn, DegradationInfo,
 };
 
-/// What a port with an id and this mark answers where memory for a connection is refused. A box is
-/// looked for now; where there is none it is warned.
+/// What a port with an id and this mark answers when memory for a connection is refused. A box is
+/// looked for now; if there is none, the answer is to warn.
 pub fn degradation_answer<F: BackpressureFn, G: DegradationFn>(
     mark: HandlerMark<DegradationAction>,
     boxes: &Boxes<F, G>,

@@ -4,9 +4,10 @@ ghost use Rattle.iox2_domain.specs.Boxes.{BoxAnswers, box_of};
 use crate::boxes::Boxes;
 use iox2_machine::{BackpressureAction, BackpressureFn, BackpressureInfo};
 
-/// What a port has for a handler. A box isn't in the port itself, but among the boxes of its domain.
+/// What a port has for a handler. A box isn't in the port itself, but among the boxes of its
+/// domain.
 ///
-/// This library's own, where iceoryx2 keeps the box in the port.
+/// This library's own: iceoryx2 keeps the box in the port.
 #[derive(Debug, Clone, Copy, PartialEq, Eq)]
 pub enum HandlerMark<A> {
     /// It always answers with this action.
@@ -15,8 +16,9 @@ pub enum HandlerMark<A> {
     Custom,
 }
 
-/// Asks the box of the publisher with an id, which is looked for each time. Where there is none the
-/// strategy is followed (docs/decisions/handlers.md, "A box that isn't there follows the strategy").
+/// Asks the box of the publisher with an id, which is looked for each time. If there is none, the
+/// strategy is followed
+/// (docs/decisions/handlers.md, "A box that isn't there follows the strategy").
 #[derive(Drop)]
 pub struct AskedBox<'a, F, G> {
     pub(crate) boxes: &'a Boxes<F, G>,

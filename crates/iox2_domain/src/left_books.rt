@@ -25,7 +25,7 @@ impl<T: Drop, U: Default + Drop> DomainState<T, U> {
         }
     }
 
-    /// The book at a key goes, with what lay in its slots.
+    /// The book at a key goes, with what was in its slots.
     pub fn remove_book(&mut self, key: usize)
         requires { CanGo self.old key }
         ensures { self.new ≡ with_book_gone self.old key }

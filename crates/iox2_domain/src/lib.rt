@@ -1,10 +1,10 @@
-//! What a domain has, what always holds of it, and where in it things lie.
+//! What a domain has, what always holds of it, and where in it things are.
 //!
-//! Its words (`specs`) say what each step comes to. Lemmas say that the step does: those of
-//! `iox2_steps`, and those here (`proofs/lemmas`), which are on loans, receives and samples, on
-//! boxes, and on the parts of the fields. The steps are functions of the crates above, `iox2_updates`,
-//! `iox2_ports` and `iox2_messages`. `iox2_pubsub` keeps the state in its `Domain`, behind the handles
-//! of ports and messages.
+//! Its words (`specs`) say what each step does. Lemmas show that the step does it: those of
+//! `iox2_steps`, and those here (`proofs/lemmas`), which are about loans, receives and samples,
+//! about boxes, and about the parts of the fields. The steps are functions of the crates above,
+//! `iox2_updates`, `iox2_ports` and `iox2_messages`. `iox2_pubsub` keeps the state in its `Domain`,
+//! behind the handles of ports and messages.
 #![tactic(auto)]
 
 mod boxes;

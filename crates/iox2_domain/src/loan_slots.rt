@@ -1,4 +1,4 @@
-//! The slots in which loans lie.
+//! The slots that loans are in.
 ghost use Rattle.std.specs.Prelude.{IsTrue, ◌≡◌, ◌↔◌, MatchOption};
 ghost use Rattle.iox2_domain.specs.Invariant.{is_lent};
 ghost use Rattle.iox2_domain.specs.LoanSlots.{IsLoanSlot, IsInNoSlot, HasNoLoan};
@@ -30,7 +30,7 @@ impl<T: Drop, U: Default + Drop> DomainState<T, U> {
     ghost use Rattle.iox2_domain.specs.Invariant.{IsDomain};
     ghost use Rattle.iox2_domain.specs.LoanSlots.{LendsAt, LiesInSlot};
 
-    /// Where a publisher's loan lies, and `None` where it isn't out.
+    /// Where a publisher's loan is, and `None` if it isn't out.
     pub fn find_loan(&self, publisher: UniquePublisherId, number: u128) -> Option<MessageSlot>
         requires { IsDomain self.now }
         ensures { MatchOption result (HoldsLoan (state_of (kept_of self.now)) publisher number → ⊥) (λ at. LiesInSlot self.now publisher number at.book at.slot) }
@@ -47,7 +47,7 @@ impl<T: Drop, U: Default + Drop> DomainState<T, U> {
         })
     }
 
-    // The same, whether the publisher stands or is gone. Every book is gone through.
+    // The same, whether the publisher is still there or gone. Every book is gone through.
     #[inline(never)]
     fn find_left_loan(&self, publisher: UniquePublisherId, number: u128) -> Option<MessageSlot>
         requires { IsDomain self.now }
@@ -62,7 +62,7 @@ impl<T: Drop, U: Default + Drop> DomainState<T, U> {
         None
     }
 
-    // Where the publisher's loan lies in the book at the key, if that is the publisher's and has it.
+    // Where the publisher's loan is in the book at the key, if that is the publisher's and has it.
     fn find_loan_in(
         &self,
         key: usize,
@@ -80,7 +80,7 @@ impl<T: Drop, U: Default + Drop> DomainState<T, U> {
         Some(MessageSlot { book: key, slot })
     }
 
-    /// Where a publisher's loan lies that is live. Its publisher's loans are gone through.
+    /// Where a publisher's live loan is. Its publisher's loans are gone through.
     #[inline(never)]
     pub fn search_loan(&self, publisher: UniquePublisherId, number: u128) -> MessageSlot
         requires domain { IsDomain self.now }
@@ -102,7 +102,7 @@ impl<T: Drop, U: Default + Drop> DomainState<T, U> {
     }
 }
 
-// The slot in which a loan with this number lies, among the slots of loans.
+// The slot with the loan that has this number, among the slots of loans.
 fn find_slot(book: &SlotBook, loans: &[usize], number: u128) -> Option<usize>
     ensures { MatchOption result (IsInNoSlot book.now loans.now number) (λ slot. IsLoanSlot book.now slot number) }
 {
@@ -115,7 +115,7 @@ fn find_slot(book: &SlotBook, loans: &[usize], number: u128) -> Option<usize>
     None
 }
 
-// The slot of the book in which a loan with this number lies.
+// The slot of the book with the loan that has this number.
 fn find_loan_slot(book: &SlotBook, number: u128) -> Option<usize>
     ensures { MatchOption result (HasNoLoan book.now number) (λ slot. IsLoanSlot book.now slot number) }
 {
@@ -127,7 +127,7 @@ fn find_loan_slot(book: &SlotBook, number: u128) -> Option<usize>
     None
 }
 
-/// Whether a loan with this number lies in the slot.
+/// Whether a loan with this number is in the slot.
 pub fn is_loan_slot(book: &SlotBook, slot: usize, number: u128) -> bool
     ensures { IsTrue result ↔ IsLoanSlot book.now slot number }
 {

@@ -1,6 +1,6 @@
-//! The slots in which messages lie.
+//! The slots that messages are in.
 
-/// Where a loan or a message that was sent lies: the key of its publisher's book, and its slot.
+/// Where a loan or a sent message is: the key of its publisher's book, and its slot.
 #[derive(Clone, Copy)]
 pub struct MessageSlot {
     pub book: usize,

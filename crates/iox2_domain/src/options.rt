@@ -6,21 +6,21 @@ use iox2_machine::{BackpressureStrategy, DegradationAction};
 /// What a publisher is made with, beside the handler that answers for it at a full buffer.
 #[derive(Clone, Copy)]
 pub struct PublisherOptions {
-    /// So many loans may be out at a time.
+    /// How many loans may be out at a time.
     pub max_loaned_samples: usize,
-    /// What it does at a full buffer where no handler answers.
+    /// What it does at a full buffer if no handler answers.
     pub strategy: BackpressureStrategy,
-    /// What answers for it where it can't make a connection.
+    /// What answers for it when it can't make a connection.
     pub degradation: HandlerMark<DegradationAction>,
-    /// A loan has so many elements at most.
+    /// How many elements a loan may have.
     pub initial_max_slice_len: usize,
 }
 
 /// What a subscriber is made with.
 #[derive(Clone, Copy)]
 pub struct SubscriberOptions {
-    /// So many messages of one publisher may wait, and one where this is none.
+    /// How many messages of one publisher may wait. Here 0 counts as 1.
     pub buffer_size: usize,
-    /// What answers for it where it can't make a connection.
+    /// What answers for it when it can't make a connection.
     pub degradation: HandlerMark<DegradationAction>,
 }

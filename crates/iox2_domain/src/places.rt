@@ -8,7 +8,7 @@ use crate::state::DomainState;
 use iox2_machine::{UniquePublisherId, UniqueSubscriberId};
 use std::alloc::AllocError;
 
-/// The lowest place at which nothing stands, where it is below the limit.
+/// The lowest empty place, if it is below the limit.
 pub fn free_place<P>(places: &[Option<P>], limit: usize) -> Option<usize>
     ensures { result ≡ cond (nat_lt (lowest_empty places.now) limit) (Some (lowest_empty places.now)) None }
 {
@@ -27,7 +27,7 @@ fn lowest_place<P>(places: &[Option<P>]) -> usize
     places.len()
 }
 
-/// Puts something at a place, for which there is room. The list grows where it is too short.
+/// Puts something at a place, for which there is room. The list grows if it is too short.
 pub fn put_at_place<P: Drop>(places: &mut Vec<Option<P>>, place: usize, value: P)
     requires { place < vec_capacity places.old }
     ensures items { places.new.items ≡ placed places.old.items place value }
@@ -39,7 +39,7 @@ pub fn put_at_place<P: Drop>(places: &mut Vec<Option<P>>, place: usize, value: P
     places[place] = Some(value);
 }
 
-/// Whether the port with this id stands at the place.
+/// Whether the port with this id is at the place.
 pub fn stands_at<P: Port>(ports: &[Option<P>], place: usize, id: u128) -> bool
     ensures { IsTrue result ↔ IsSomeAnd (slice_index_or ports.now place None) (λ x. P.number x ≡ id) }
 {
@@ -61,7 +61,7 @@ fn find_place<P: Port>(ports: &[Option<P>], id: u128, hint: usize) -> Option<usi
     search_places(ports, id)
 }
 
-// The place of a port that stands.
+// The place of a port that is there.
 fn find_live_place<P: Port>(ports: &[Option<P>], id: u128, hint: usize) -> usize
     requires { look_up (λ x. P.number x == id) ports.now ≡ None → ⊥ }
     ensures { IsSomeAnd (slice_index_or ports.now result None) (λ x. P.number x ≡ id) }
@@ -91,15 +91,15 @@ impl<T: Drop, U: Default + Drop> DomainState<T, U> {
     ghost use Rattle.iox2_domain.specs.Ports.{PublisherFields, SubscriberFields};
     ghost use Rattle.iox2_domain.specs.Invariant.{is_publisher, is_subscriber};
 
-    /// The place of the publisher with an id, and `None` where there is none. It is looked for at
-    /// the hint first.
+    /// The place of the publisher with an id, and `None` if there is none. It is looked for at the
+    /// hint first.
     pub fn find_publisher(&self, id: UniquePublisherId, hint: usize) -> Option<usize>
         ensures { MatchOption result (look_up (is_publisher id) self.now.publishers ≡ None) (λ i. (x : PublisherFields) × (slice_index_or self.now.publishers i None ≡ Some x) × (x.id ≡ id)) }
     {
         find_place(&self.publishers, id.value(), hint)
     }
 
-    /// The place of a publisher that stands. It is looked for at the hint first.
+    /// The place of a publisher that is there. It is looked for at the hint first.
     pub fn find_live_publisher(&self, id: UniquePublisherId, hint: usize) -> usize
         requires { look_up (is_publisher id) self.now.publishers ≡ None → ⊥ }
         ensures { (x : PublisherFields) × (slice_index_or self.now.publishers result None ≡ Some x) × (x.id ≡ id) }
@@ -107,8 +107,8 @@ impl<T: Drop, U: Default + Drop> DomainState<T, U> {
         find_live_place(&self.publishers, id.value(), hint)
     }
 
-    /// The place of the subscriber with an id, and `None` where there is none. It is looked for at
-    /// the hint first.
+    /// The place of the subscriber with an id, and `None` if there is none. It is looked for at the
+    /// hint first.
     pub fn find_subscriber(&self, id: UniqueSubscriberId, hint: usize) -> Option<usize>
         ensures { MatchOption result (look_up (is_subscriber id) self.now.subscribers ≡ None) (λ i. (y : SubscriberFields) × (slice_index_or self.now.subscribers i None ≡ Some y) × (y.id ≡ id)) }
     {
@@ -116,7 +116,7 @@ impl<T: Drop, U: Default + Drop> DomainState<T, U> {
     }
 }
 
-/// Makes room for a place, past the end of the list too.
+/// Makes room for a place, which may be past the end of the list.
 pub fn reserve_place<A>(places: &mut Vec<A>, place: usize) -> Result<(), AllocError>
     ensures items { places.new.items ≡ places.old.items }
     ensures grows { vec_capacity places.old ≤ vec_capacity places.new }
@@ -132,7 +132,7 @@ pub fn reserve_place<A>(places: &mut Vec<A>, place: usize) -> Result<(), AllocEr
     places.try_reserve(additional)
 }
 
-/// No key at a place any more.
+/// There is no key at a place any more.
 pub(crate) fn clear_in(keys: &mut Vec<Option<usize>>, place: usize)
     ensures items { keys.new.items ≡ slice_set keys.old.items place None }
     ensures capacity { vec_capacity keys.new ≡ vec_capacity keys.old }

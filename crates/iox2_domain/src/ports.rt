@@ -73,12 +73,13 @@ pub trait Port {
     fn set_due(&mut self, due: bool)
         ensures { self.new ≡ with_due due self.old };
 
-    /// What answers for it where it can't make a connection.
+    /// What answers for it when it can't make a connection.
     fn degradation(&self) -> HandlerMark<DegradationAction>
         ensures { degradation self.now ≡ handler_of result };
 }
 
-/// The key that the port at a place has for its connection with the other side's port at another.
+/// The key that the port at a place has for its connection with the port at another place, of the
+/// other side.
 pub fn key_at<P: Port>(ports: &[Option<P>], place: usize, other: usize) -> Option<usize>
     ensures { result ≡ key_at P.keys ports.now place other }
 {
@@ -88,8 +89,8 @@ pub fn key_at<P: Port>(ports: &[Option<P>], place: usize, other: usize) -> Optio
     }
 }
 
-/// Makes room in the port at a place for the key of its connection with the other side's port at
-/// another.
+/// Makes room in the port at a place for the key of its connection with the port at another place,
+/// of the other side.
 pub fn reserve_key_at<P: Port>(
     ports: &mut [Option<P>],
     place: usize,
@@ -106,7 +107,8 @@ pub fn reserve_key_at<P: Port>(
     }
 }
 
-/// Gives the port at a place the key of its connection with the other side's port at another.
+/// Gives the port at a place the key of its connection with the port at another place, of the other
+/// side.
 pub fn set_key_at<P: Port>(ports: &mut [Option<P>], place: usize, other: usize, key: usize)
     requires stands { place < length ports.old }
     requires room { (x : _) → slice_index_or ports.old place None ≡ Some x → other < P.key_room x }
@@ -117,7 +119,7 @@ pub fn set_key_at<P: Port>(ports: &mut [Option<P>], place: usize, other: usize, 
     }
 }
 
-/// The port at a place has no key at another of the other side any more.
+/// The port at a place no longer has a key at another place, of the other side.
 pub fn clear_key_at<P: Port>(ports: &mut [Option<P>], place: usize, other: usize)
     requires { place < length ports.old }
     ensures { ports.new ≡ changed_at (P.without_key other) ports.old place }
@@ -138,7 +140,7 @@ pub fn is_due_at<P: Port>(ports: &[Option<P>], place: usize) -> bool
     }
 }
 
-/// What answers for the port at a place where it can't make a connection.
+/// What answers for the port at a place when it can't make a connection.
 pub fn degradation_at<P: Port>(ports: &[Option<P>], place: usize) -> HandlerMark<DegradationAction>
     requires { (x : _) × (slice_index_or ports.now place None ≡ Some x) }
     ensures { (x : _) → slice_index_or ports.now place None ≡ Some x → P.degradation x ≡ handler_of result }
@@ -149,7 +151,7 @@ pub fn degradation_at<P: Port>(ports: &[Option<P>], place: usize) -> HandlerMark
     port.degradation()
 }
 
-/// The port at the place is due no more.
+/// The port at the place isn't due any more.
 pub fn clear_due<P: Port>(ports: &mut [Option<P>], place: usize)
     requires { place < length ports.old }
     ensures { ports.new ≡ changed_at (P.with_due false) ports.old place }

@@ -21,7 +21,7 @@ use std::marker::Model;
 pub struct BlockedDelivery {
     /// The slot of the message, which is a loan that is out until the delivery ends.
     pub slot: usize,
-    /// The channel into which it goes.
+    /// The channel that it goes into.
     pub channel: usize,
     /// Whether it goes to the receiver for which it waits, and to no later one.
     pub is_alone: bool,
@@ -30,8 +30,8 @@ pub struct BlockedDelivery {
 }
 
 /// A publisher that wasn't closed. It knows its slots by their numbers in its book, and its
-/// connections by their keys. It lends slots of its current segment alone, which is its last: the
-/// last slots of its book, from one on.
+/// connections by their keys. It lends only slots of its current segment, which is its last: the
+/// slots of its book from `segment_start` on.
 ///
 /// iceoryx2's `PublisherSharedState` (`src/port/publisher.rs`) and `Sender`
 /// (`src/port/details/sender.rs`).
@@ -45,7 +45,7 @@ pub struct PublisherState {
     pub strategy: BackpressureStrategy,
     // What answers for it at a full buffer.
     pub backpressure_handler: Option<HandlerMark<BackpressureAction>>,
-    // What answers for it where it can't make a connection.
+    // What answers for it when it can't make a connection.
     pub degradation: HandlerMark<DegradationAction>,
     // How its memory grows.
     pub allocation: AllocationStrategy,
@@ -109,9 +109,9 @@ impl PublisherState {
     ghost use Rattle.iox2_domain.specs.Handlers.{handler_if_any};
     ghost use Rattle.iox2_domain.specs.NewPublisher.{entering_publisher, growing_publisher};
 
-    /// A publisher that enters at a place, with a book at a key of so many slots for messages of so
-    /// many elements, and with room for all the loans and the history that it may get. These slots
-    /// are its first segment.
+    /// A publisher that enters at a place, with a book at a key. The book has `slots` slots for
+    /// messages of the length that its options say; they are its first segment. The publisher has
+    /// room for all the loans and the history that it may get.
     pub fn new(
         alloc: Global,
         config: &ServiceConfig,

@@ -27,11 +27,11 @@ pub struct SampleAt {
 pub struct Receipt {
     /// The publisher that sent it.
     pub publisher: UniquePublisherId,
-    /// Its name as a sample, and where it lies.
+    /// Its name as a sample, and where it is.
     pub sample: SampleAt,
 }
 
-/// Where a borrowed message lies: the keys of its connection and of its publisher's book, and its
+/// Where a borrowed message is: the keys of its connection and of its publisher's book, and its
 /// slot.
 #[derive(Clone, Copy)]
 pub struct SampleSlot {
@@ -62,8 +62,8 @@ impl<T: Drop, U: Default + Drop> DomainState<T, U> {
     ghost use Rattle.iox2_domain.specs.Invariant.{IsDomain};
     ghost use Rattle.iox2_domain.specs.SampleSlots.{BorrowsAt, LiesBorrowed};
 
-    /// Where the message lies that the subscriber has borrowed in the connection at the key, and `None`
-    /// where it hasn't borrowed it there. Any key will do.
+    /// Where the message is that the subscriber has borrowed in the connection at the key, and
+    /// `None` if it hasn't borrowed it there. Any key will do.
     pub fn find_sample_at(
         &self,
         key: usize,
@@ -86,7 +86,7 @@ impl<T: Drop, U: Default + Drop> DomainState<T, U> {
         })
     }
 
-    // Where the message lies that the subscriber has borrowed, and `None` where it hasn't. Every
+    // Where the message is that the subscriber has borrowed, and `None` if it hasn't. Every
     // connection is gone through.
     #[cold]
     #[inline(never)]
@@ -103,7 +103,7 @@ impl<T: Drop, U: Default + Drop> DomainState<T, U> {
         None
     }
 
-    /// Where a live sample lies, whatever it says of that.
+    /// Where a live sample is, whatever place it names.
     pub fn search_sample(&self, sample: &SampleAt) -> SampleSlot
         requires domain { IsDomain self.now }
         requires live { HoldsSample (state_of (kept_of self.now)) sample.now.subscriber sample.now.number }

@@ -22,13 +22,14 @@ pub struct DomainState<T, U> {
     pub next_port: u128,
     pub next_message: u128,
     pub warnings: Warnings,
-    // At each place the publisher that stands there.
+    // The publisher at each place.
     pub publishers: Vec<Option<PublisherState>>,
-    // At each place the subscriber that stands there.
+    // The subscriber at each place.
     pub subscribers: Vec<Option<SubscriberState>>,
     pub connections: Slab<Connection>,
     pub books: Slab<SlotBook>,
-    // At the key of each book what lies in its slots (docs/decisions/slots.md, "Book and contents aren't one record").
+    // At the key of each book what is in its slots
+    // (docs/decisions/slots.md, "Book and contents aren't one record").
     pub contents: Vec<Option<Contents<T, U>>>,
 }
 
@@ -51,7 +52,7 @@ impl<T, U> Model for DomainState<T, U> {
 }
 
 impl<T: Drop, U: Default + Drop> DomainState<T, U> {
-    /// No port, connection or message. Fails where memory for the warnings is refused.
+    /// No port, connection or message. Fails if memory for the warnings is refused.
     pub fn new(alloc: Global, config: ServiceConfig) -> Result<Self, AllocError>
         ensures { IfOk result (IsFresh config) }
     {
@@ -77,7 +78,7 @@ impl<T: Drop, U: Default + Drop> DomainState<T, U> {
         &self.config
     }
 
-    /// How many connections were refused memory: `u64::MAX` says at least so many.
+    /// How many connections were refused memory. `u64::MAX` says that many or more.
     pub fn refused_connections(&self) -> u64
         ensures { result ≡ (self.now.warnings).items.refused_connections }
     {

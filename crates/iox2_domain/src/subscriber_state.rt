@@ -18,8 +18,8 @@ use std::marker::Model;
 /// A subscriber that wasn't closed, or that was closed and has borrowed messages. It knows its
 /// connections by their keys.
 ///
-/// The small fields stand side by side: with a word of its own for one of them a subscriber takes 128
-/// bytes in place of 112, and each receive one instruction more.
+/// The small fields are side by side: if one of them had a word of its own, a subscriber would take
+/// 128 bytes in place of 112, and each receive one instruction more.
 ///
 /// iceoryx2's `SubscriberSharedState` (`src/port/subscriber.rs`) and `Receiver`
 /// (`src/port/details/receiver.rs`).
@@ -29,7 +29,7 @@ pub struct SubscriberState {
     pub place: usize,
     pub is_open: bool,
     pub is_due: bool,
-    // What answers for it where it can't make a connection.
+    // What answers for it when it can't make a connection.
     pub degradation: HandlerMark<DegradationAction>,
     pub buffer: usize,
     // At each publisher's place the key of the connection with it.
@@ -104,8 +104,8 @@ impl SubscriberState {
         }
     }
 
-    // Makes room for the key of its connection with the publisher at a place, and for one more
-    // expired key than so many.
+    // Makes room for the key of its connection with the publisher at a place, and for `count + 1`
+    // expired keys.
     fn reserve_connection(&mut self, place: usize, count: usize) -> Result<(), AllocError>
         ensures same { self.new ≡ with_receiver_rooms self.new.key_room self.new.expired_room self.old }
         ensures grows { self.old.key_room ≤ self.new.key_room }
@@ -128,7 +128,7 @@ impl SubscriberState {
     }
 }
 
-// The key at a place goes, if it is this one.
+// Clears the key at a place, if it is this one.
 fn clear_key(keys: &mut [Option<usize>], place: usize, key: usize)
     requires { (i : ℕ) → slice_index_or keys.old i None ≡ Some key → i ≡ place }
     ensures { keys.new ≡ vacated key keys.old }
@@ -176,8 +176,8 @@ impl SubscriberState {
     }
 }
 
-/// The subscriber at a place keeps the key of its connection with the publisher at another among
-/// the expired ones.
+/// The subscriber at a place keeps the key of its connection with the publisher at another place
+/// among the expired ones.
 pub fn expire_at(
     subscribers: &mut [Option<SubscriberState>],
     place: usize,
@@ -194,7 +194,7 @@ pub fn expire_at(
     }
 }
 
-/// The same, and an expired key goes in its place.
+/// The same, and an expired key goes to make room.
 pub fn replace_expired_at(
     subscribers: &mut [Option<SubscriberState>],
     place: usize,
@@ -214,7 +214,7 @@ pub fn replace_expired_at(
 }
 
 /// Makes room in the subscriber at a place for the key of its connection with the publisher at
-/// another, and for one more expired key than so many.
+/// another place, and for `count + 1` expired keys.
 pub fn reserve_connection_at(
     subscribers: &mut [Option<SubscriberState>],
     place: usize,
@@ -234,7 +234,7 @@ pub fn reserve_connection_at(
     }
 }
 
-/// Whether an open subscriber stands at the place.
+/// Whether an open subscriber is at the place.
 pub fn is_open_at(subscribers: &[Option<SubscriberState>], place: usize) -> bool
     requires { place < length subscribers.now }
     ensures { result ≡ is_open_subscriber subscribers.now place }

@@ -5,7 +5,7 @@ ghost use Rattle.iox2_domain.specs.Invariant.{lists_wanted};
 
 use iox2_machine::ServiceConfig;
 
-/// How many units so many elements have.
+/// How many units `len` elements have.
 #[inline(always)]
 pub fn units_of(len: usize, units_per_element: usize) -> usize
     requires { 1 < len → len * units_per_element < 2 ^ 64 }
@@ -14,7 +14,8 @@ pub fn units_of(len: usize, units_per_element: usize) -> usize
     len * units_per_element
 }
 
-/// The size of so many slots of so many elements of so many units. `None` where it doesn't fit `usize`.
+/// The size of `slots` slots of `len` elements, with `units` units each. `None` if it doesn't fit
+/// `usize`.
 pub fn segment_size(slots: usize, len: usize, units: usize) -> Option<usize>
     ensures { SomeIff result (IsTrue (fits (slots * len * units))) (slots * len * units) }
 {
@@ -24,7 +25,8 @@ pub fn segment_size(slots: usize, len: usize, units: usize) -> Option<usize>
     slots.checked_mul(len)?.checked_mul(units)
 }
 
-/// How many lists of cells the settings ask for, of a publisher that may have so many loans out.
+/// How many lists of cells the settings ask for, of a publisher that may have `max_loaned_samples`
+/// loans out.
 pub fn lists_wanted(config: &ServiceConfig, max_loaned_samples: usize) -> usize
     ensures { result ≡ lists_wanted config.now max_loaned_samples }
 {

@@ -10,7 +10,7 @@ use iox2_machine::Warning;
 use std::alloc::{AllocError, Global};
 use std::marker::Model;
 
-// So many warnings are kept.
+// How many warnings are kept.
 const WARNING_LIMIT: usize = 32;
 
 /// The last warnings of a domain, and how many connections were refused memory.
@@ -29,7 +29,7 @@ impl Model for Warnings {
 }
 
 impl Warnings {
-    /// No warning, and no refused connection. Fails where memory is refused.
+    /// No warning, and no refused connection. Fails if memory is refused.
     pub fn new(alloc: Global) -> Result<Self, AllocError>
         ensures { IfOk result (λ warnings. warnings ≡ warning_ring no_warnings warning_limit) }
     {
@@ -62,7 +62,7 @@ impl Warnings {
         &self.latest
     }
 
-    /// How many connections were refused memory: `u64::MAX` says at least so many.
+    /// How many connections were refused memory. `u64::MAX` says that many or more.
     pub fn refused_connections(&self) -> u64
         ensures { result ≡ self.now.items.refused_connections }
     {

@@ -1,6 +1,6 @@
 //! How the memory for a publisher's messages is laid out and grows.
 
-/// How a publisher's memory grows where a loan finds no room.
+/// How a publisher's memory grows when a loan finds no room.
 ///
 /// Example (`crates/refused_rows/src/growth.rt`):
 ///
@@ -16,8 +16,9 @@
 /// iceoryx2's `iceoryx2_cal::shm_allocator::AllocationStrategy`.
 #[derive(Debug, Clone, Copy, PartialEq, Eq)]
 pub enum AllocationStrategy {
-    /// It doesn't grow: such a loan is refused, with `LoanError::OutOfMemory` where no slot is free, and
-    /// with `ExceedsMaxLoanSize` where it is longer than its factory's `initial_max_slice_len`.
+    /// It doesn't grow. A loan that finds no room is refused: with `LoanError::OutOfMemory` if no
+    /// slot is free, and with `ExceedsMaxLoanSize` if it is longer than its factory's
+    /// `initial_max_slice_len`.
     Static,
     /// By a segment of as many slots as the first, each with room for slices of the length that is
     /// asked for, or of the length that fits so far if that is longer. Lengths count elements. There
@@ -43,7 +44,7 @@ pub enum AllocationStrategy {
 /// iceoryx2's `DataSegmentType` (`src/port/details/data_segment.rs`).
 #[derive(Debug, Clone, Copy, PartialEq, Eq)]
 pub enum DataSegmentType {
-    /// It grows where a loan finds no room.
+    /// It grows when a loan finds no room.
     Dynamic,
     /// It is allocated once.
     Static,

@@ -1,11 +1,11 @@
-//! What happens where a message finds a receiver's buffer full, in a service without safe overflow.
+//! What happens when a message finds a receiver's buffer full, in a service without safe overflow.
 ghost use Rattle.iox2_machine.specs.declared.backpressure.BackpressureAction.{BackpressureAction};
 ghost use Rattle.iox2_machine.specs.declared.backpressure.BackpressureInfo.{BackpressureInfo};
 
 use std::time::Duration;
 
-/// What a publisher does at a full buffer, where it has no handler or its handler leaves it to
-/// the strategy.
+/// What a publisher does at a full buffer if it has no handler, or if its handler leaves it to the
+/// strategy.
 ///
 /// Example (`crates/calling/src/closing.rt`):
 ///
@@ -20,7 +20,8 @@ use std::time::Duration;
 /// (`src/port/backpressure_strategy.rs`).
 #[derive(Debug, Clone, Copy, PartialEq, Eq)]
 pub enum BackpressureStrategy {
-    /// The send blocks: it is handed back as `SendOutcome::Blocked`, to be tried again or given up.
+    /// The send blocks: it is handed back as `SendOutcome::Blocked`. The caller tries it again or
+    /// gives it up.
     RetryUntilDelivered,
     /// The receiver doesn't get the message, and the send goes on to the others.
     DiscardData,
@@ -50,7 +51,7 @@ pub enum BackpressureAction {
     Retry,
     /// Skip this receiver and go on to the others.
     DiscardData,
-    /// Skip this receiver and go on to the others; at its end the send then returns
+    /// Skip this receiver and go on to the others. When it has gone over all, the send returns
     /// `SendError::UnableToDeliver`.
     DiscardDataAndFail,
 }
@@ -107,8 +108,8 @@ impl From<BackpressureAction> for BackpressureToReceiverAction {
 
 /// What a handler is told of a full buffer.
 ///
-/// Example (`crates/iox2_machine_tests/src/tests/handlers.rt`): a handler that waits so many
-/// milliseconds.
+/// Example (`crates/iox2_machine_tests/src/tests/handlers.rt`): a handler that waits for a number
+/// of milliseconds.
 ///
 /// ```rust
 /// fn call(&self, info: &BackpressureInfo) -> BackpressureAction {
@@ -132,8 +133,9 @@ pub struct BackpressureInfo {
     /// How often this delivery was tried again: 0 when the handler is first asked, then one more
     /// each time. It stays at the greatest `u64`.
     pub retries: u64,
-    /// The time since the handler was first asked about this delivery. It is zero then, and
-    /// afterwards what the caller who tries again says, since the library reads no clock.
+    /// The time since the handler was first asked about this delivery. At the first time it is
+    /// zero. Later it is the time that the caller who tries again gives, since the library reads no
+    /// clock.
     pub elapsed_time: Duration,
 }
 

@@ -1,12 +1,12 @@
-//! What happens where a port can't make one of its connections.
+//! What happens when a port can't make one of its connections.
 ghost use Rattle.iox2_machine.specs.declared.degradation.DegradationAction.{DegradationAction};
 ghost use Rattle.iox2_machine.specs.declared.degradation.DegradationCause.{DegradationCause};
 ghost use Rattle.iox2_machine.specs.declared.degradation.DegradationInfo.{DegradationInfo};
 
-/// A handler's answer where a connection can't be made.
+/// A handler's answer when a connection can't be made.
 ///
-/// Example (`crates/iox2_slice_tests/src/tests/slices.rt`): a publisher whose calls
-/// fail where a connection finds no memory.
+/// Example (`crates/iox2_slice_tests/src/tests/slices.rt`): a publisher whose calls fail if a
+/// connection finds no memory.
 ///
 /// ```rust
 /// let handler = DegradationHandler::new_with(DegradationAction::DegradeAndFail);
@@ -17,8 +17,8 @@ ghost use Rattle.iox2_machine.specs.declared.degradation.DegradationInfo.{Degrad
 /// iceoryx2's `port::DegradationAction` (`src/port/mod.rs`).
 #[derive(Debug, Clone, Copy, PartialEq, Eq)]
 pub enum DegradationAction {
-    /// Go on without the connection, which `Domain::refused_connections` counts, and nothing more. It
-    /// is tried again when ports come or go.
+    /// Go on without the connection. `Domain::refused_connections` counts it, and nothing else
+    /// happens. It is tried again when ports come or go.
     Ignore,
     /// The same, and add `Warning::ConnectionNotMade` to the domain's warnings. So does a port that has
     /// no handler.
@@ -47,8 +47,8 @@ pub enum DegradationAction {
 pub enum DegradationCause {
     /// There is no memory for the connection, or its size doesn't fit `usize`.
     FailedToEstablishConnection,
-    /// No handler of this library is ever asked with it: its connections lie in memory that
-    /// nobody else writes.
+    /// No handler of this library is ever asked with it: the connections are in memory that nobody
+    /// else writes.
     ConnectionCorrupted,
 }
 
@@ -78,7 +78,7 @@ pub struct DegradationInfo {
     pub receiver_port_id: u128,
 }
 
-/// What a port asks where it can't make a connection. `allows` says which answers it may give.
+/// What a port asks when it can't make a connection. `allows` says which answers it may give.
 ///
 /// Example (`crates/iox2_run_tests/src/tests/degradations.rt`):
 ///

@@ -4,7 +4,7 @@ ghost use Rattle.iox2_machine.specs.DegradationHandlers.{MayDegrade};
 
 use crate::degradation::{DegradationAction, DegradationCause, DegradationFn, DegradationInfo};
 
-/// What answers for a port where memory for a connection is refused.
+/// What answers for a port when memory for a connection is refused.
 ///
 /// Example (`crates/refused_rows/src/ports.rt`):
 ///

@@ -50,12 +50,12 @@ pub enum LoanError {
 pub enum SendError {
     /// The publisher that lent the message is closed. The message is lost.
     ConnectionBrokenSinceSenderNoLongerExists,
-    /// Never returned: the connections lie in memory that nobody else writes.
+    /// Never returned: the connections are in memory that nobody else writes.
     ConnectionCorrupted,
     /// A call that lends and sends in one got no loan, for this reason.
     LoanError(LoanError),
     /// The update of the connections before the delivery failed, for this reason. Nobody got the
-    /// message, whose loan is given back.
+    /// message, and its loan is given back.
     ConnectionError(ConnectionFailure),
     /// A handler answered `BackpressureAction::DiscardDataAndFail` for some receiver. The others
     /// may have got the message.
@@ -102,7 +102,7 @@ impl From<ConnectionFailure> for SendError {
 /// iceoryx2's `port::ReceiveError` (`src/port/mod.rs`).
 #[derive(Debug, Clone, Copy, PartialEq, Eq)]
 pub enum ReceiveError {
-    /// Messages wait, but of each publisher that they come from the subscriber holds as many
+    /// Messages wait, but from each of their publishers the subscriber already holds as many
     /// samples as it may. A release helps.
     ExceedsMaxBorrows,
     /// The update of the connections before the receive failed, for this reason.
@@ -136,8 +136,8 @@ impl From<ConnectionFailure> for ReceiveError {
 /// iceoryx2's `port::update_connections::ConnectionFailure` (`src/port/update_connections.rs`).
 #[derive(Debug, Clone, Copy, PartialEq, Eq, Hash)]
 pub enum ConnectionFailure {
-    /// A connection could not be made, or that of a departed publisher could not be put aside, for
-    /// this reason, which also says when it is tried again.
+    /// A connection could not be made, or a departed publisher's connection could not be put aside,
+    /// for this reason. The reason also says when it is tried again.
     FailedToEstablishConnection(ZeroCopyCreationError),
     /// Never returned: there is no shared memory to map.
     UnableToMapSendersDataSegment(SharedMemoryOpenError),
@@ -187,9 +187,10 @@ pub enum ZeroCopyCreationError {
     /// Memory for the connection was refused, or its size doesn't fit `usize`, and the handler
     /// answered `DegradationAction::DegradeAndFail`. It is tried again when ports come or go.
     OutOfMemory,
-    /// The subscriber holds samples of a departed publisher, and of all the departed publishers
-    /// whose connections fill the room for such (`subscriber_expired_connection_buffer`). The next
-    /// update tries again, and finds room once all samples of one of them are released.
+    /// Connections to departed publishers fill the room for them
+    /// (`subscriber_expired_connection_buffer`), and the subscriber holds samples of each of these
+    /// publishers and of one more that departed. The next update tries again, and finds room once
+    /// all samples of one of them are released.
     ExpiredConnectionBufferFull,
 }
 

@@ -20,8 +20,8 @@ pub struct Header {
     pub node_id: UniqueNodeId,
     /// The publisher that lent the message.
     pub publisher_id: UniquePublisherId,
-    /// How many elements the payload has: 1 for a single value, the length of a slice, and for a
-    /// custom payload its number of bytes over those of one element.
+    /// How many elements the payload has: 1 for a single value, and for a slice its length. For a
+    /// custom payload it is its number of bytes divided by those of one element.
     pub number_of_elements: u64,
 }
 

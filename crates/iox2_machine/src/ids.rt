@@ -43,8 +43,8 @@ impl UniqueNodeId {
     }
 }
 
-/// Names a publisher: 1 or more, from a counter that a domain keeps for all of its ports. No two ports
-/// of a domain have the same, also if one was closed before the other came.
+/// Names a publisher: 1 or more, from a counter that a domain keeps for all of its ports. No two
+/// ports of a domain ever have the same number, even if one was closed before the other came.
 ///
 /// Example (`crates/iox2_tests/src/tests/samples.rt`): from which publisher a message comes.
 ///

@@ -1,6 +1,6 @@
-/// Names a port, loan, sample or blocked send without being its handle. A domain says by it whether
-/// that is still live: by `holds_publisher`, `holds_subscriber`, `holds_loan`, `holds_sample` and
-/// `holds_blocked`.
+/// Names a port, loan, sample or blocked send without being its handle. With it a domain says
+/// whether that is still live: `holds_publisher`, `holds_subscriber`, `holds_loan`, `holds_sample`
+/// and `holds_blocked` take one.
 ///
 /// Example (`crates/iox2_tests/src/tests/samples.rt`):
 ///
@@ -17,7 +17,8 @@
 pub struct Key {
     /// The number of the service.
     pub service_id: u128,
-    /// The port's id: of a loan or a blocked send its publisher's, of a sample its subscriber's.
+    /// The port's id. For a loan or a blocked send it is the publisher's, for a sample the
+    /// subscriber's.
     pub port: u128,
     /// The message's number, and 0 for a port.
     pub message: u128,

@@ -27,12 +27,12 @@ pub enum TypeVariant {
     Dynamic,
 }
 
-/// The settings of a domain: the limits that all of its ports share, and what a publisher gets
-/// where its factory sets nothing else.
+/// The settings of a domain: the limits that all of its ports share, and what a publisher gets if
+/// its factory sets nothing else.
 ///
-/// `new` gives the defaults, of which `..` keeps what isn't set. A number may be anything that its
-/// type holds. Where one asks for more memory than there can be, the creation of a port is refused, or
-/// a connection isn't made, and the port's handler says what comes of that.
+/// `new` gives the defaults, and `..` keeps those that aren't set. A number may be anything that
+/// its type holds. If one asks for more memory than there can be, the creation of a port is
+/// refused, or a connection isn't made, and the port's handler decides what happens then.
 ///
 /// Example (`crates/slow_display/src/main.rt`):
 ///
@@ -59,9 +59,9 @@ pub struct ServiceConfig {
     /// size of an element in bytes.
     pub units_per_element: usize,
     /// Whether the cells of an unwritten slice are handed out, by `payload` and `payload_mut` of
-    /// `slice::SampleMutUninit`. A publisher then has lists of cells, each with an `Option` for each
-    /// element of its longest slice: one list for each loan that may be out, and one for all loans
-    /// whose cells nobody changed. A domain whose loans are written by other calls can do without.
+    /// `slice::SampleMutUninit`. A publisher then has lists of cells, each with an `Option` for
+    /// each element of its longest slice: one list for each loan that may be out, and one for all
+    /// loans whose cells nobody changed. A domain can do without if other calls write its loans.
     pub lists_cells: bool,
     /// How many publishers may be open at a time.
     pub max_publishers: usize,
@@ -75,31 +75,33 @@ pub struct ServiceConfig {
     pub subscriber_max_borrowed_samples: usize,
     /// How many of its last messages a publisher keeps for subscribers that connect later.
     pub history_size: usize,
-    /// How many channels each connection has, numbered from 0. Here 0 counts as 1. Each has a state, a
-    /// hint and a buffer of its own. A send goes through channel 0, and a loan that is sent to one
-    /// connection through the channel that its call names.
+    /// How many channels each connection has, numbered from 0. Here 0 counts as 1. Each has a
+    /// state, a hint and a buffer of its own. A send goes through channel 0. A loan that is sent to
+    /// one connection goes through the channel that the call names.
     pub number_of_channels: usize,
     /// Whether a message that finds a full buffer pushes the oldest waiting one out. If not, the
     /// publisher's handler or strategy decides.
     pub enable_safe_overflow: bool,
     /// How many connections to departed publishers a subscriber keeps while something waits or is
-    /// borrowed there. A number below `subscriber_max_borrowed_samples` counts as that one.
+    /// borrowed there. If it is below `subscriber_max_borrowed_samples`, that number counts in its
+    /// place.
     pub subscriber_expired_connection_buffer: usize,
-    /// How many loans of a publisher may be out at a time, where its factory sets no number.
+    /// How many loans of a publisher may be out at a time, if its factory sets no number.
     pub publisher_max_loaned_samples: usize,
-    /// What a publisher does at a full buffer, where its factory sets no strategy.
+    /// What a publisher does at a full buffer, if its factory sets no strategy.
     pub backpressure_strategy: BackpressureStrategy,
-    /// How a publisher's memory grows, where its factory sets no strategy.
+    /// How a publisher's memory grows, if its factory sets no strategy.
     pub publisher_allocation_strategy: AllocationStrategy,
 }
 
 impl ServiceConfig {
     /// The defaults of a service with this id: single values, of node 0; up to 2 publishers with 2
     /// loans each, and up to 8 subscribers with a buffer of 2, 2 borrowed samples and room for 128
-    /// departed publishers; no history; one channel; overflow. Where there is none a publisher retries
-    /// until its message is delivered. Its memory is static, and cells are handed out.
+    /// departed publishers; no history; one channel; overflow. If overflow is turned off, a
+    /// publisher retries until its message is delivered. Its memory is static, and cells are handed
+    /// out.
     ///
-    /// They follow iceoryx2's configuration where nothing else is set
+    /// They follow iceoryx2's configuration if nothing else is set
     /// (docs/decisions/domain.md, "The defaults of a service").
     pub fn new(service_id: u128) -> ServiceConfig
         ensures { result ≡ default_config service_id }

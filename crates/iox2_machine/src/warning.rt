@@ -19,23 +19,23 @@ use crate::ids::{UniquePublisherId, UniqueSubscriberId};
 /// }
 /// ```
 ///
-/// This library's own: a domain keeps the last of these values, where iceoryx2 writes to its log.
+/// This library's own: a domain keeps its last warnings, and iceoryx2 writes to its log.
 #[derive(Debug, Clone, Copy, PartialEq, Eq)]
 pub enum Warning {
     /// A subscriber was created in a service whose `subscriber_expired_connection_buffer` is below
-    /// its `subscriber_max_borrowed_samples`, which is taken in its place.
+    /// its `subscriber_max_borrowed_samples`. The greater number is taken.
     ExpiredBufferRaised {
         /// The new subscriber.
         subscriber: UniqueSubscriberId,
     },
-    /// A publisher was created, and the update of connections that this ends with failed.
+    /// A publisher was created, and the update of connections at the end of its creation failed.
     PublisherPartlyConnected {
         /// The new publisher.
         publisher: UniquePublisherId,
         /// The first failure of that update.
         failure: ConnectionFailure,
     },
-    /// A subscriber was created, and the update of connections that this ends with failed.
+    /// A subscriber was created, and the update of connections at the end of its creation failed.
     SubscriberPartlyConnected {
         /// The new subscriber.
         subscriber: UniqueSubscriberId,

@@ -4,9 +4,9 @@ ghost use Rattle.iox2_machine.specs.machine.Limits.{buffer_limit, worst_case, fi
 
 use crate::service_config::ServiceConfig;
 
-/// How many slots a publisher needs in a service with these settings if so many of its loans may be
-/// out at a time, whatever its subscribers hold: for each channel of each subscriber that there may
-/// be, its buffer and what it may borrow; then the history; then the loans.
+/// How many slots a publisher needs in a service with these settings if it may have `loans` loans
+/// out at a time, whatever its subscribers hold. It is a sum: for each channel of each subscriber
+/// that there may be, its buffer and what it may borrow; then the history; then the loans.
 ///
 /// Example (`crates/list_runner/src/lists.rt`):
 ///
@@ -15,9 +15,10 @@ use crate::service_config::ServiceConfig;
 /// println!(rt; "{slots} slots")?;
 /// ```
 ///
-/// With so many slots the publisher is never refused a loan for want of one; with fewer it can be,
-/// without overflow and where a connection has one channel. `None` where the number doesn't fit
-/// `usize`, and only there: no part of the sum is formed that is larger than the sum.
+/// With this number of slots the publisher is never refused a loan because no slot is free. With
+/// fewer it can be, in a service without overflow whose connections have one channel. `None` if the
+/// number doesn't fit `usize`, and only then: no part of the sum is formed that is larger than the
+/// sum.
 ///
 /// This library's own.
 pub fn worst_case_slots(config: &ServiceConfig, loans: usize) -> Option<usize>
@@ -29,7 +30,7 @@ pub fn worst_case_slots(config: &ServiceConfig, loans: usize) -> Option<usize>
     slots_for_channels(channels, config, loans)
 }
 
-// The same where the subscribers that there may be have so many channels together.
+// The same if all subscribers that there may be have `channels` channels together.
 fn slots_for_channels(channels: usize, config: &ServiceConfig, loans: usize) -> Option<usize>
     ensures { let slots = channels * (buffer_limit config.now + config.now.subscriber_max_borrowed_samples) + config.now.history_size + loans in SomeIff result (IsTrue (fits slots)) slots }
 {

@@ -33,7 +33,7 @@ impl<T, U> Content<T, U> {
         }
     }
 
-    /// The first cell of a loan that isn't written, given some unwritten ones where it lies in a list.
+    /// The first cell of a loan that isn't written. For a loan in lists `unwritten` has some cells.
     pub(crate) fn cell<'a>(&'a self, unwritten: &'a [Option<T>]) -> &'a Option<T>
         requires first { 0 < length self.now.content.cells }
         requires unwritten { unwritten.now ≡ replicate (length unwritten.now) None }
@@ -47,8 +47,8 @@ impl<T, U> Content<T, U> {
         }
     }
 
-    /// The cells, and none once they are written, given as many unwritten ones as there is room for, of
-    /// a publisher that keeps lists.
+    /// The cells of a loan, and none once they are written. The publisher keeps lists, and `unwritten` has
+    /// as many cells as there is room for, or more.
     pub(crate) fn cells<'a>(&'a self, unwritten: &'a [Option<T>]) -> &'a [Option<T>]
         requires lists { 0 < self.now.content.lists }
         requires unwritten { unwritten.now ≡ replicate (length unwritten.now) None }
@@ -72,8 +72,8 @@ impl<T, U> Content<T, U> {
         }
     }
 
-    // The first value of a list. It stands apart, so that a read of a value in place has no join with it
-    // (docs/decisions/cost.md, "A call goes on where its look-up ended").
+    // The first value of a list. It is a function of its own, so that a read of a value in place
+    // has no join with it (docs/decisions/cost.md, "A call goes on where its look-up ended").
     #[cold]
     #[inline(never)]
     fn listed_value(&self) -> &T

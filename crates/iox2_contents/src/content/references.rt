@@ -1,4 +1,4 @@
-//! What of a slot may be changed through a reference.
+//! What may be changed in a slot through a reference.
 ghost use Rattle.std.specs.Prelude.{◌≡◌, ◌<◌, length, slice_get, true, false, Some};
 ghost use Rattle.std.specs.Borrow.{sem};
 ghost use Rattle.iox2_contents.specs.SlotStates.{waits};
@@ -17,14 +17,14 @@ impl<T, U> Content<T, U> {
         &mut self.user_header
     }
 
-    // Whether the payload lies in its slot, and not in lists.
+    // Whether the payload is in its slot, and not in lists.
     fn is_in_place(&self) -> bool
         ensures { result ≡ self.now.content.is_in_place }
     {
         !matches!(&self.payload, Payload::Elements(_))
     }
 
-    /// The first cell of a loan that isn't written, to be changed, which doesn't wait for a list.
+    /// The first cell of a loan that isn't written, to be changed. It doesn't wait for a list.
     pub(crate) fn cell_mut(&mut self) -> &mut Option<T>
         requires first { 0 < length self.old.content.cells }
         requires ready { waits self.old ≡ false }
@@ -37,7 +37,7 @@ impl<T, U> Content<T, U> {
         self.listed_cell_mut()
     }
 
-    // The cell that lies in place.
+    // The cell that is in place.
     fn placed_cell_mut(&mut self) -> &mut Option<T>
         requires first { 0 < length self.old.content.cells }
         requires in_place { self.old.content.is_in_place ≡ true }
@@ -64,7 +64,7 @@ impl<T, U> Content<T, U> {
         }
     }
 
-    /// The cells, to be changed, which don't wait for a list, of a publisher that keeps some.
+    /// The cells, to be changed, of a publisher that keeps lists. They don't wait for one.
     pub(crate) fn cells_mut(&mut self) -> &mut [Option<T>]
         requires lists { 0 < self.old.content.lists }
         requires ready { waits self.old ≡ false }
@@ -89,7 +89,7 @@ impl<T, U> Content<T, U> {
         self.listed_value_mut()
     }
 
-    // The value that lies in place.
+    // The value that is in place.
     fn placed_value_mut(&mut self) -> &mut T
         requires first { 0 < length self.old.content.values }
         requires in_place { self.old.content.is_in_place ≡ true }

@@ -23,8 +23,8 @@ impl<T: Drop, U: Default + Drop> Content<T, U> {
         }
     }
 
-    /// Writes into each cell what the function returns for its index, which is called for 0, 1 and
-    /// so on.
+    /// Writes into each cell what the function returns for its index. The function is called for 0,
+    /// 1 and so on.
     pub(crate) fn write_from_fn<F: FnMut(usize) -> T + Drop>(&mut self, f: F)
         requires callable { F.IsAlwaysCallable f }
         requires in_lists { self.old.content.is_in_place ≡ false }
@@ -41,7 +41,8 @@ impl<T: Drop, U: Default + Drop> Content<T, U> {
         }
     }
 
-    /// Takes the cells as written. Nothing changes where some cell isn't.
+    /// Takes the cells as written, and returns whether all are. If some cell isn't, nothing
+    /// changes.
     pub(crate) fn assume_init(&mut self) -> bool
         requires { self.old.content.is_in_place ≡ true → length self.old.content.cells ≡ 1 }
         ensures all { result ≡ list_all is_some self.old.content.cells }

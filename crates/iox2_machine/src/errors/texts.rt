@@ -1,7 +1,7 @@
-//! What errors are for `std`: each is an `Error`, and is printed as the name of the type, two colons, and the name of the variant, with that
-//! of its cause in parentheses.
+//! What errors are for `std`: each is an `Error`. It is printed as the name of its type, two
+//! colons, and the name of its variant. If it has a cause, the cause follows in parentheses.
 //!
-//! So iceoryx2 prints them (`Display` of each, beside its declaration).
+//! iceoryx2 prints them in the same way (`Display` of each, beside its declaration).
 ghost use Rattle.std.specs.Prelude.{◌≡◌, Some};
 ghost use Rattle.iox2_machine.specs.ErrorTexts.{connection_failure_name, connection_failure_text, domain_create_error_text, loan_error_name, loan_error_text, publisher_create_error_name, publisher_create_error_text, receive_error_text, send_error_text, subscriber_create_error_name, subscriber_create_error_text};
 

@@ -9,7 +9,7 @@ use iox2_machine::{Header, UniqueNodeId, UniquePublisherId};
 use std::alloc::{AllocError, Global};
 use std::marker::Model;
 
-/// What is known of a publisher's slots beside their contents: who lent them, which message lies in
+/// What is known of a publisher's slots beside their contents: who lent them, which message is in
 /// each, how far it has come, and how many holders it has.
 ///
 /// A slot's holders are the user who has it as a loan, the publisher's history, and each connection
@@ -17,7 +17,7 @@ use std::marker::Model;
 /// is free: its number, header and mark mean nothing.
 ///
 /// iceoryx2's `SegmentState` (`src/port/details/segment_state.rs`), which has the counters of
-/// holders. There the headers lie in shared memory, and an allocator has the list of free slots.
+/// holders. There the headers are in shared memory, and an allocator has the list of free slots.
 #[derive(Drop)]
 pub struct SlotBook {
     node: UniqueNodeId,
@@ -55,8 +55,8 @@ impl Model for SlotBook {
 impl SlotBook {
     ghost use Rattle.iox2_slots.specs.SlotBook.{IsAligned, IsInUse, IsUsedFor, TakesFreeSlot, header_in, holders_at, with_holders, with_more_slots};
 
-    /// The book of a new publisher of this node, with so many slots, all of them free. Fails where
-    /// memory runs out. Of the other calls on a book `grown` alone takes memory.
+    /// The book of a new publisher of this node, with `slots` slots, all of them free. Fails if
+    /// memory runs out. Of the other calls on a book only `grown` takes memory.
     pub fn new(
         alloc: Global,
         node: UniqueNodeId,
@@ -89,8 +89,8 @@ impl SlotBook {
         })
     }
 
-    /// Gives a free slot to the message with this number and so many elements, and one holder. Its
-    /// mark is `Unwritten`. `None` if every slot has a holder; the book then stays as it is.
+    /// Gives a free slot to the message with this number and this many elements, and one holder.
+    /// Its mark is `Unwritten`. `None` if every slot has a holder; the book then stays as it is.
     #[tactic(auto, using(crate::proofs::FreeSlots::taking))]
     pub fn take(&mut self, number: u128, len: u64) -> Option<usize>
         ensures none { IsNone result ↔ All (λ n. 0 < n) self.old.holders }
@@ -107,8 +107,8 @@ impl SlotBook {
         Some(slot)
     }
 
-    /// Gives a free slot from this one on to the message with this number and so many elements, as
-    /// `take` does. `None` if each of these has a holder; the book then stays as it is.
+    /// Gives a free slot from this one on to the message with this number and this many elements,
+    /// as `take` does. `None` if each of these slots has a holder; the book then stays as it is.
     #[tactic(auto, using(crate::proofs::LaterSlots::taking_from))]
     pub fn take_from(&mut self, start: usize, number: u128, len: u64) -> Option<usize>
         ensures none { IsNone result ↔ All (λ n. 0 < n) (drop start self.old.holders) }
@@ -126,7 +126,7 @@ impl SlotBook {
         Some(slot)
     }
 
-    /// The same book with so many slots more behind its own, all of them free. Fails where memory is
+    /// The same book with `more` new slots behind its own, all of them free. Fails if memory is
     /// refused.
     pub fn grown(&self, alloc: Global, more: usize) -> Result<Self, AllocError>
         ensures { IfOk result (λ book. book ≡ with_more_slots more self.now) }
@@ -190,7 +190,8 @@ impl SlotBook {
     }
 
     /// Says how far the message with this number has come if the slot is in use for it, and returns
-    /// whether it is. Else the book stays as it is. This is `has` and `set_mark` in one call.
+    /// whether it is. If it isn't, the book stays as it is. This is `has` and `set_mark` in one
+    /// call.
     pub fn mark_message(&mut self, slot: usize, number: u128, mark: SlotMark) -> bool
         ensures used { IsTrue result ↔ IsUsedFor self.old number slot }
         ensures marked { IsTrue result → self.new ≡ record self.old { marks = slice_set self.old.marks slot mark } }
@@ -282,7 +283,7 @@ impl SlotBook {
     }
 }
 
-// So many slots more stand behind these, and among the free ones.
+// Adds `more` unused slots behind these, and adds them to the free ones.
 fn add_unused(slots: &mut Vec<Slot>, free: &mut Vec<usize>, unused: &Slot, more: usize)
     requires room { length slots.old.items + more ≤ vec_capacity slots.old }
     requires free_room { length slots.old.items + more ≤ vec_capacity free.old }
@@ -299,8 +300,8 @@ fn add_unused(slots: &mut Vec<Slot>, free: &mut Vec<usize>, unused: &Slot, more:
     }
 }
 
-// Takes the newest of the free slots from this one on out of their list. The newest of all is looked at
-// first, where no slot is older than that one.
+// Takes the newest of the free slots from this one on out of their list. The newest of all is
+// looked at first: if no slot is older than this one, it is the one.
 #[inline(always)]
 fn pop_from(free: &mut Vec<usize>, start: usize) -> Option<usize>
     ensures none { IfNone result (All (λ slot. slot < start) free.old.items) }
@@ -316,7 +317,8 @@ fn pop_from(free: &mut Vec<usize>, start: usize) -> Option<usize>
     Some(newest)
 }
 
-// The same where the newest of all, which was taken out, is older (docs/decisions/cost.md, "The newest free slot is taken first").
+// The same if the newest of all, which was taken out, is older
+// (docs/decisions/cost.md, "The newest free slot is taken first").
 #[cold]
 #[inline(never)]
 fn another_from(free: &mut Vec<usize>, newest: usize, start: usize) -> Option<usize>
@@ -332,7 +334,8 @@ fn another_from(free: &mut Vec<usize>, newest: usize, start: usize) -> Option<us
     Some(free.remove(place))
 }
 
-// The last place at which a slot from this one on stands in a list. The newest are looked at first.
+// The last place in a list at which there is a slot from this one on. The newest are looked at
+// first.
 fn last_from(slots: &[usize], start: usize) -> Option<usize>
     ensures none { IfNone result (All (λ slot. slot < start) slots.now) }
     ensures there { IfSome result (λ place. (place < length slots.now) × (start ≤ slice_index slots.now place)) }
@@ -346,7 +349,7 @@ fn last_from(slots: &[usize], start: usize) -> Option<usize>
     None
 }
 
-// The free slots where none of so many is in use.
+// The free slots of `slots` slots if none is in use.
 #[tactic(auto, using(crate::proofs::FreeSlots::free_next))]
 fn all_slots(alloc: Global, slots: usize) -> Result<Vec<usize>, AllocError>
     ensures exact { IfOk result (λ free. HasFree (replicate slots 0) free.items) }

@@ -1,7 +1,6 @@
 /// How far the message in a slot has come.
 ///
-/// This library's own, where iceoryx2 has a type for each: `SampleMutUninit`, `SampleMut` and
-/// `Sample`.
+/// This library's own. iceoryx2 has a type for each: `SampleMutUninit`, `SampleMut` and `Sample`.
 #[derive(Debug, Clone, Copy, PartialEq, Eq)]
 pub enum SlotMark {
     /// It is a loan in a user's hands and isn't written.

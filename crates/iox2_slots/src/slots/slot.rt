@@ -3,8 +3,8 @@ use iox2_machine::Header;
 
 /// What is known of a slot beside its content.
 ///
-/// This library's own, where iceoryx2 has a message's header in shared memory and its counter of
-/// holders in a `SegmentState` (`src/port/details/segment_state.rs`).
+/// This library's own. iceoryx2 has a message's header in shared memory, and its counter of holders
+/// in a `SegmentState` (`src/port/details/segment_state.rs`).
 #[derive(Clone, Copy)]
 pub(crate) struct Slot {
     /// The number of the message in it.
