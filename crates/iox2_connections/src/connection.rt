@@ -38,7 +38,7 @@ pub enum PutOutcome {
 
 /// A connection of one publisher and one subscriber. It holds numbers of the publisher's slots:
 /// those that wait in its channels, those that the subscriber has borrowed, and those that it has
-/// given back and the publisher hasn't reclaimed yet. A subscriber receives from channel 0 alone.
+/// given back and the publisher hasn't reclaimed yet. A subscriber receives only from channel 0.
 /// Only `new` allocates.
 ///
 /// iceoryx2's `zero_copy_connection`, whose two ends are the `Sender` and the `Receiver` of

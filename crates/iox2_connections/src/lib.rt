@@ -1,5 +1,5 @@
-//! Connections of ports, and their ends: a publisher delivers into those at its places, and a subscriber takes
-//! from those at its own.
+//! Connections of ports, and their ends: a publisher delivers into those at its places, and a
+//! subscriber takes from those at its own.
 #![tactic(auto)]
 
 mod channel_status;

@@ -237,7 +237,7 @@ fn has_number(book: &SlotBook, slot: usize, number: u128) -> bool
 
 /// Whether a message is where it says: the connection at the key is this subscriber's, is for slots
 /// of this book, and is marked as open, and the slot was last borrowed from it and has this number.
-/// It is mostly so. No holders are counted for that. A look-up in books that may be written tests
+/// Mostly it is. No holders are counted for that. A look-up in books that may be written tests
 /// less, and nothing is written
 /// (docs/decisions/cost.md, "Look-ups that can't fail go through `&mut`").
 #[inline(always)]

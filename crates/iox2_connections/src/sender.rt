@@ -68,7 +68,7 @@ pub struct Progress {
     pub place: usize,
     /// How often the receiver at that place was asked again.
     pub retries: u64,
-    /// The receivers that have taken the message so far.
+    /// How many receivers have taken the message so far.
     pub count: usize,
     /// Whether the handler failed the delivery at a receiver so far.
     pub has_failed: bool,
@@ -123,7 +123,7 @@ impl Delivery {
 pub enum DeliveryOutcome {
     /// It went over all receivers.
     Complete {
-        /// The receivers that took the message.
+        /// How many receivers took the message.
         count: usize,
         /// Whether the handler failed the delivery at some receiver.
         has_failed: bool,

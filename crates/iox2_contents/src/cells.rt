@@ -75,8 +75,8 @@ impl<T: Drop> Cells<T> {
         count
     }
 
-    /// Drops the cells, and frees the memory of a list of their publisher's. The room for one cell
-    /// stays.
+    /// Drops the cells. If they have one of their publisher's lists, its memory is freed. The room
+    /// for one cell stays.
     pub(crate) fn free_memory(&mut self, alloc: Global)
         ensures items { self.new.items ≡ [] }
         ensures none { 0 < self.old.lists → self.new.room ≡ 0 }

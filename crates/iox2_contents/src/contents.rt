@@ -206,7 +206,7 @@ impl<T: Copy + Drop, U: Default + Drop> Contents<T, U> {
 impl<T: Copy + Default + Drop, U: Default + Drop> Contents<T, U> {
     /// Writes some value into each cell of the slot's loan, which then counts as written. The
     /// values are those that were there before, followed by default values if there were fewer. So
-    /// it costs the same for any length that was there before.
+    /// it costs the same for any length, if as many values were there before.
     pub fn write_unspecified(&mut self, slot: usize)
         requires { SomeAt self.old slot (λ content. content.is_in_place ≡ false) }
         ensures { (values : List T) × WritesValues self.old self.new slot values }

@@ -7,7 +7,7 @@ use crate::cell_lists::CellLists;
 use crate::content::Content;
 
 /// Takes back the list that a slot may have, for another loan. The slot's cells are gone. Whether
-/// it has a list is asked before they go, while what says so is at hand.
+/// it has a list is asked before they go, while the answer is at hand.
 #[inline(always)]
 pub(crate) fn recycle_list<T: Drop, U>(
     slots: &mut Vec<Content<T, U>>,

@@ -132,7 +132,7 @@ pub fn reserve_place<A>(places: &mut Vec<A>, place: usize) -> Result<(), AllocEr
     places.try_reserve(additional)
 }
 
-/// There is no key at a place any more.
+/// Clears the key at a place.
 pub(crate) fn clear_in(keys: &mut Vec<Option<usize>>, place: usize)
     ensures items { keys.new.items ≡ slice_set keys.old.items place None }
     ensures capacity { vec_capacity keys.new ≡ vec_capacity keys.old }

@@ -110,8 +110,8 @@ impl PublisherState {
     ghost use Rattle.iox2_domain.specs.NewPublisher.{entering_publisher, growing_publisher};
 
     /// A publisher that enters at a place, with a book at a key. The book has `slots` slots for
-    /// messages of the length that its options say; they are its first segment. The publisher has
-    /// room for all the loans and the history that it may get.
+    /// messages of `initial_max_slice_len` elements; they are the publisher's first segment. The
+    /// publisher has room for all the loans and the history that it may get.
     pub fn new(
         alloc: Global,
         config: &ServiceConfig,

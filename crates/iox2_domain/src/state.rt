@@ -78,7 +78,7 @@ impl<T: Drop, U: Default + Drop> DomainState<T, U> {
         &self.config
     }
 
-    /// How many connections were refused memory. `u64::MAX` says that many or more.
+    /// How many connections were refused memory. `u64::MAX` means that many or more.
     pub fn refused_connections(&self) -> u64
         ensures { result ≡ (self.now.warnings).items.refused_connections }
     {

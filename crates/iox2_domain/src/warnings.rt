@@ -62,7 +62,7 @@ impl Warnings {
         &self.latest
     }
 
-    /// How many connections were refused memory. `u64::MAX` says that many or more.
+    /// How many connections were refused memory. `u64::MAX` means that many or more.
     pub fn refused_connections(&self) -> u64
         ensures { result ≡ self.now.items.refused_connections }
     {

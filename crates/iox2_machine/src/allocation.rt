@@ -20,10 +20,10 @@ pub enum AllocationStrategy {
     /// slot is free, and with `ExceedsMaxLoanSize` if it is longer than its factory's
     /// `initial_max_slice_len`.
     Static,
-    /// By a segment of as many slots as the first, each with room for slices of the length that is
-    /// asked for, or of the length that fits so far if that is longer. Lengths count elements. There
-    /// are at most 255 segments, the first included: a loan that needs one more is refused with
-    /// `LoanError::OutOfMemory`.
+    /// It grows by a segment with as many slots as the first. Each slot has room for slices of the
+    /// length that is asked for, or of the length that fits so far if that is longer. Lengths count
+    /// elements. There are at most 255 segments, the first included: a loan that needs one more is
+    /// refused with `LoanError::OutOfMemory`.
     BestFit,
     /// As `BestFit`, with that length rounded up to a power of two.
     PowerOfTwo,

@@ -133,9 +133,8 @@ pub struct BackpressureInfo {
     /// How often this delivery was tried again: 0 when the handler is first asked, then one more
     /// each time. It stays at the greatest `u64`.
     pub retries: u64,
-    /// The time since the handler was first asked about this delivery. At the first time it is
-    /// zero. Later it is the time that the caller who tries again gives, since the library reads no
-    /// clock.
+    /// The time since the handler was first asked about this delivery. It is zero then. Later it is
+    /// what the caller who tries again says, since the library reads no clock.
     pub elapsed_time: Duration,
 }
 

@@ -4,7 +4,7 @@ mod texts;
 
 /// Why a publisher lends no message.
 ///
-/// Example (`crates/iox2_machine_tests/src/tests/refusals.rt`): `None` where a loan may be granted
+/// Example (`crates/iox2_machine_tests/src/tests/refusals.rt`): `None` if a loan may be granted
 /// later.
 ///
 /// ```rust
@@ -102,8 +102,8 @@ impl From<ConnectionFailure> for SendError {
 /// iceoryx2's `port::ReceiveError` (`src/port/mod.rs`).
 #[derive(Debug, Clone, Copy, PartialEq, Eq)]
 pub enum ReceiveError {
-    /// Messages wait, but from each of their publishers the subscriber already holds as many
-    /// samples as it may. A release helps.
+    /// Messages wait, but the subscriber holds as many samples as it may of each publisher that
+    /// sent them. A release helps.
     ExceedsMaxBorrows,
     /// The update of the connections before the receive failed, for this reason.
     ConnectionFailure(ConnectionFailure),
@@ -167,7 +167,7 @@ impl From<SharedMemoryOpenError> for ConnectionFailure {
 
 /// Why a connection could not be made or put aside.
 ///
-/// Example (`crates/iox2_machine_tests/src/tests/refusals.rt`): what helps where a connection isn't
+/// Example (`crates/iox2_machine_tests/src/tests/refusals.rt`): what helps if a connection isn't
 /// made.
 ///
 /// ```rust
@@ -196,8 +196,8 @@ pub enum ZeroCopyCreationError {
 
 /// Why shared memory could not be opened.
 ///
-/// Example (`crates/iox2_machine_tests/src/tests/errors.rt`): why a connection isn't made, and none
-/// where memory isn't opened.
+/// Example (`crates/iox2_machine_tests/src/tests/errors.rt`): why a connection isn't made, and
+/// `None` if memory isn't opened.
 ///
 /// ```rust
 /// match failure {

@@ -1,5 +1,5 @@
-//! The machine (`specs/machine`), which says what the library means, and the plain types in its
-//! words: ids, headers, settings, answers of handlers, errors and warnings.
+//! The machine (`specs/machine`), which says what the library means, and the plain types that it
+//! uses: ids, headers, settings, answers of handlers, errors and warnings.
 #![tactic(auto)]
 
 mod allocation;
