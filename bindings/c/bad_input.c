@@ -169,9 +169,9 @@ static void end(world_t *world) {
 
 /* ---- numbers that name nothing */
 
-/* Each handle with all bits set, with all bits clear, and with one bit of its first words turned, which have its
- * service, its ids and its number; all but the words from `told` on, where a sample says its origin. What comes behind
- * are hints. */
+/* Each handle with all bits set, with all bits clear, and with one bit of its first words turned. These have
+ * its service, its ids and its number. No bit is turned in the two words from `told` on, which say the origin
+ * of a sample. What comes behind are hints. */
 #define MADE_UP(type, handle, words, told, refused)                               \
   do {                                                                            \
     type other;                                                                   \

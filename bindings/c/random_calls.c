@@ -296,7 +296,7 @@ static void update(iox2ps_domain_t *domain) {
   else reply_error(code);
 }
 
-/* Where it lay when it was received or written, it lies still. */
+/* It is still where it was when it was received or written. */
 static void read_message(iox2ps_domain_t *domain) {
   enum kind kind = one_in(3) ? LOAN : SAMPLE;
   numbers_t of = choose(kind);
@@ -340,7 +340,7 @@ static void close_port(iox2ps_domain_t *domain) {
   spend(kind, port);
 }
 
-/* What lies in each live loan and sample stays, whatever else is called. */
+/* What is in each live loan and sample stays, whatever else is called. */
 static void look_at_all_messages(void) {
   for (size_t i = 0; i < live_count[LOAN]; i++) {
     if (number_at(live[LOAN][i].bytes) != live[LOAN][i].value) fail("a loan has changed");

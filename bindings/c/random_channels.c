@@ -63,7 +63,7 @@ typedef struct connection_t {
   size_t sender_place, receiver_place;
   enum end receiver;
   size_t entry; /* among the expired ones */
-  queue_t waiting[CHANNELS]; /* of which the first is received */
+  queue_t waiting[CHANNELS]; /* its first one is received next */
   size_t borrowed;
   channel_t channels[CHANNELS];
 } connection_t;

@@ -1,5 +1,5 @@
 /* Records what it calls, and prints the recording, which tools/replay runs again. Its status is 0 where each call returns what it is to
-   return. With an argument there is room for so many commands alone, which are too few. */
+   return. With an argument there is room for only that many commands, which are too few. */
 #include "checks.h"
 #include <stdlib.h>
 

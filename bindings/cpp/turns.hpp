@@ -38,7 +38,7 @@ public:
     if (had_ < turns) too_few();
   }
 
-  /* Waits until it has had that many turns, and is before the lock. */
+  /* Waits until it has had that many turns and is before the lock. */
   void stands_after(std::size_t turns) {
     wait_until([&] { return (comes_ && had_ == turns) || has_ended_; });
     if (has_ended_) too_few();
@@ -130,7 +130,8 @@ template <typename Run> Watch asleep_after(std::size_t turns, Run run) {
   return watch;
 }
 
-/* Starts a thread, and returns when it has had the lock so often and stands before it, until it is told to go on. */
+/* Starts a thread, and returns when it has had the lock that often. The thread waits before the lock then,
+ * until it is told to go on. */
 template <typename Run> Watch stopped_after(std::size_t turns, Run run) {
   Watch watch(turns, std::move(run));
   watch.stands_after(turns);

@@ -8,8 +8,8 @@
  * is; several may read one Sample.
  *
  * blocking_.. and timed_.. calls wait for a message, for room, for a publisher's earlier send, or for a loan. Whoever waits
- * stands in the domain's list, and is woken by the call that may have brought something: one after the other, so that
- * those who are woken don't all want the lock at once. stop_waits of the domain ends all waits.
+ * is in the domain's list, and is woken by the call that may have brought something: one after the other, so
+ * that those who are woken don't all want the lock at once. stop_waits of the domain ends all waits.
  *
  * The lock is a std::mutex. Another may be brought: a class with lock() and unlock() that no other thread passes between the
  * two, as SharedDomain<P, MyLock>. One that knows priorities says `static constexpr bool wakes_all = true;`, so that nobody

@@ -1,6 +1,6 @@
-//! Says where the archive `libiox2_pubsub.a` lies, which `tools/bindings` makes: in the folder that `IOX2_PUBSUB_LIB_DIR`
-//! names, or in `lib` beside this crate's folder, or in `out/lib` there. Without it programs are checked and documented,
-//! but not linked.
+//! Says where the archive `libiox2_pubsub.a` is, which `tools/bindings` makes: in the folder that
+//! `IOX2_PUBSUB_LIB_DIR` names, or in `lib` beside this crate's folder, or in `out/lib` there. Without it
+//! programs are checked and documented, but not linked.
 
 use std::env;
 use std::path::PathBuf;

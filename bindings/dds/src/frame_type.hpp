@@ -37,7 +37,7 @@ ddsi_sertype *new_frame_type();
 /* A frame with a copy of the bytes, or null where there is no memory. Its holder lets it go by let_go. */
 ddsi_serdata *frame_of(const ddsi_sertype *type, const Frame &frame);
 
-/* Whether these are the bytes of a frame of this machine's byte order. The frame's bytes lie in the data. */
+/* Whether these are the bytes of a frame of this machine's byte order. The frame's bytes are in the data. */
 bool read_frame(const ddsi_serdata *data, Frame &frame);
 
 ddsi_serdata *one_more(ddsi_serdata *data);

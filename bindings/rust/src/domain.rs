@@ -195,7 +195,7 @@ impl<P: Payload + ?Sized, M: MayWait> Domain<P, M> {
     }
 }
 
-/// The settings of the domain that lies there.
+/// The settings of the domain that is there.
 pub(crate) fn config(place: &impl Place) -> sys::Config {
     let mut config = sys::Config::default();
     // SAFETY: see `Shared::at`.

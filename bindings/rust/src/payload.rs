@@ -13,7 +13,7 @@ mod sealed {
 /// What a message may be: any `T: Copy + 'static`, or a slice of such values.
 ///
 /// A `Domain<P>` has messages of this type alone, so whatever is received was sent as a `P`: it needs
-/// no further promise of its bits. `Copy`, since a message is never dropped; `'static`, since it lies
+/// no further promise of its bits. `Copy`, since a message is never dropped; `'static`, since it is
 /// in its slot as long as the domain likes.
 ///
 /// What has to be dropped is no message, nor what borrows:

@@ -168,7 +168,7 @@ impl Waits {
     }
 }
 
-/// A wait: for what, of which port, until when or forever, and what its calls bring to others.
+/// A wait: what it waits for, its port, until when or forever, and what its calls bring to others.
 #[doc(hidden)]
 #[derive(Clone, Copy, Debug)]
 pub struct Wait {
@@ -235,7 +235,7 @@ impl<L> Hold for Part<L> {
     }
 }
 
-/// Where a domain lies.
+/// Where a domain is.
 #[doc(hidden)]
 pub trait Place {
     /// Makes calls of the library, with no other between them, and returns the code of the last. What runs
@@ -252,7 +252,7 @@ pub trait Place {
     fn close(&self, desk: &Arc<Desk>);
 }
 
-/// Where a domain lies that several threads use.
+/// Where a domain is that several threads use.
 #[doc(hidden)]
 pub trait WaitingPlace: Place {
     /// Makes calls, and lets this task be woken when a message may have come for the subscriber, where none is

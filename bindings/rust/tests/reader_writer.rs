@@ -281,12 +281,12 @@ fn a_slot_that_a_waiting_reader_gives_back_frees_a_loan() {
     }
 }
 
-// ---- what another thread does for a reader that asks: each reader here stands before the lock, after it has asked
+// ---- what another thread does for a reader that asks: each reader here has asked, and waits before the lock
 
 // How often a reader's first wait takes the lock before it asks: that others may serve it.
 const TO_ASK: usize = 1;
 
-// A thread that reads that many messages, and stops after that many turns.
+// A thread that reads `N` messages, and stops after that many turns.
 fn stopped_reader<'s, const N: usize>(
     scope: &'s Scope<'s, '_>,
     turns: usize,
@@ -338,7 +338,7 @@ fn a_blocked_send_goes_on_when_it_has_made_room() {
     let (publisher, subscriber) = (domain.publisher().unwrap(), domain.subscriber().unwrap());
     assert!(is_delivered(publisher.send_copy(0)));
     thread::scope(|scope| {
-        // It has lent and is blocked, and stands before the retry.
+        // It has lent and is blocked, and waits before the retry.
         let send = || is_delivered(publisher.writer().blocking_send(1));
         let sends = stopped_after(scope, 2, send);
         let reads = stopped_reader(scope, TO_ASK, &subscriber);

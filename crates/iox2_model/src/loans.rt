@@ -7,7 +7,7 @@ use iox2_commands::Reply;
 use iox2_machine::{AllocationStrategy, LoanError, SendError, TypeVariant};
 
 impl Model {
-    // The publisher of whom a loan may be asked, where messages are of this variant. It waits for no
+    // The publisher that may be asked for a loan, if messages are of this variant. It waits for no
     // receiver.
     fn lender_at(&self, of: usize, variant: TypeVariant) -> Option<usize> {
         if self.config.units_per_element != 1 || self.config.variant != variant {

@@ -28,7 +28,7 @@ pub fn push_reply(text: &mut String, reply: &Reply<u64, u64>) -> Result<(), Allo
     }
 }
 
-// The text of a reply that has nothing but its kind.
+// The text of a reply that has only its kind.
 fn word_of(reply: &Reply<u64, u64>) -> &'static str {
     match reply {
         Reply::Done => "done",

@@ -49,7 +49,7 @@ impl Scale {
     }
 }
 
-/// How much room the longest command needs that stands upright.
+/// How much room the longest command needs, written upright.
 pub(crate) fn label_height(story: &Story) -> usize {
     let mut longest = 6usize;
     for command in story.commands.iter() {

@@ -59,7 +59,7 @@ pub fn correct_first(domain: &mut Domain<u32, u32>, batch: &mut SampleMut, celsi
     }
 }
 
-/// Says of which sensor a batch is. Its temperatures are the same as before, and what waits still
+/// Says which sensor a batch is of. Its temperatures are the same as before, and what waits still
 /// does.
 pub fn label_batch(domain: &mut Domain<u32, u32>, batch: &mut SampleMut, sensor: u32)
     requires { IsWrittenLoan domain.old (as_written batch.old) }

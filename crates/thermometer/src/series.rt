@@ -60,7 +60,7 @@ fn send_both(
     pass_copied(domain, publisher, subscriber)
 }
 
-// Sends a series of the hours 0, 1 and 2, the first of which is set to 12 where it lies. Its loan
+// Sends a series of the hours 0, 1 and 2. The first hour is set to 12 where it is. The loan
 // can't be refused, so there is no case for that.
 fn send_made(domain: &mut Domain<u64, ()>, publisher: &Publisher) -> Result<(), Failure>
     requires series { HasSeries domain.old }

@@ -50,7 +50,7 @@ pub fn replace_and_receive(
     Ok(Some(received))
 }
 
-/// Says of which sensor a written reading is. The reading is the same as before, and what waits still
+/// Says which sensor a written reading is of. The reading is the same as before, and what waits still
 /// does.
 pub fn label(domain: &mut Domain<Reading, u32>, message: &mut SampleMut, sensor: u32)
     requires message { IsWrittenLoan domain.old message.old }

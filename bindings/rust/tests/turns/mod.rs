@@ -136,7 +136,7 @@ impl<T> Watch<'_, T> {
         assert!(had >= turns, "it has ended after {had} turns");
     }
 
-    /// Lets a thread that stands go on.
+    /// Lets a stopped thread go on.
     pub fn go_on(&self) {
         self.gate.open();
     }
@@ -181,7 +181,8 @@ pub fn asleep_after<'s, T: Send + 's>(
     watch
 }
 
-/// Starts a thread, and returns when it has had the lock so often and stands before it, until it is told to go on.
+/// Starts a thread, and returns when it has had the lock that often. The thread waits before the lock then,
+/// until it is told to go on.
 #[track_caller]
 pub fn stopped_after<'s, T: Send + 's>(
     scope: &'s Scope<'s, '_>,

@@ -32,8 +32,8 @@ const KINDS: [Kind; 6] = [
 ];
 
 // A publisher and a subscriber of this service, in which there may be one more of each. The publisher has
-// one slot, so that each of its loans lies where the one before it lay. Where a send is to be blocked it
-// has another, with a message that waits.
+// one slot, so that each of its loans is where the one before it was. If a send is to be blocked it has
+// another, with a message that waits.
 fn ports_of(rt: &impl Abort, alloc: Global, service_id: u128, kind: Kind) -> Ports {
     let config = ServiceConfig {
         service_id,

@@ -1,4 +1,4 @@
-//! What a domain is asked that changes nothing but connections.
+//! What a domain is asked that changes only connections.
 ghost use Rattle.std.specs.Prelude.{Bool, cond, drop, length, slice_get, ◌≡◌, ◌<◌, ◌≤◌, ◌⊎◌, ◌↔◌, IfErr, IfOk, IfSome, None};
 ghost use Rattle.std.specs.declared.result.Result.{Result};
 ghost use Rattle.std.specs.List.{count_by};
