@@ -44,7 +44,7 @@ settings_of it = record {
   publisher_allocation_strategy = Static;
 }
 
--- The settings of the domain, but that its publishers have memory that doesn't grow, as C's have without options.
+-- The settings of the domain, except that its publishers have memory that doesn't grow, as C's have without options.
 abbrev pub settings_in : KeptBytes → ServiceConfig
 settings_in kept = record (kept.config) { publisher_allocation_strategy = Static }
 

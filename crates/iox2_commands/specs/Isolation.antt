@@ -124,8 +124,8 @@ CallsLeaveOthersViews T U =
     → Step ample_memory default_value default_header m s handles command o
     → SameView q m s (handles ++ No_handle ∷ []) (messages_after o.event m) o.state (handles ++ o.handle ∷ [])
 
--- One command from two independent states that look alike to a subscriber ends in states that do, where it closes no other
--- subscriber that has borrowed anything, and where the replies are alike if it is a receive of that subscriber.
+-- One command from two independent states that look alike to a subscriber ends in states that do, if it closes no other
+-- subscriber that has borrowed anything, and if the replies are alike when it is a receive of that subscriber.
 abbrev pub AlikeStatesStayAlike : Type 0 → Type 0 → Type 0
 AlikeStatesStayAlike T U =
     (default_value : T) (default_header : U) (q : ℕ) (m m' : Messages T U) (s s' : State T U) (handles handles' : List Handle) (command : Command T U) (o o' : Outcome T U)

@@ -43,8 +43,8 @@ pub record HasLoanToGive {T U : Type 0} (s : State T U) (x : Publisher) : Type 0
   pub few : length x.loans < x.max_loaned_samples
   pub more : s.next_message < last_number
 
--- The run has a point before each of its commands, and one after all. Where a command asks an unblocked publisher that has a
--- loan to give there for one that it permits, the loan is out.
+-- The run has a point before each of its commands, and one after all. If a command asks an unblocked publisher that has
+-- a loan to give there for one that it permits, the loan is out.
 pub record GrantsLoans {T U : Type 0} (environment : Environment) (defaults : Defaults T U) (m : Messages T U) (s : State T U) (commands : List (Command T U)) (replies : List (Reply T U))
     (events : List (Event T U)) (m' : Messages T U) (s' : State T U) : Type 0 where
   pub points : (n : ℕ) → PointOf environment defaults m s commands replies events m' s' n

@@ -31,7 +31,7 @@ use Rattle.iox2_commands.specs.declared.command.Command.TheVariants.{Nothing, Cr
 use Rattle.iox2_commands.specs.declared.reply.Reply.TheVariants.{PublisherMade, PublisherRefused, SubscriberMade, SubscriberRefused, Loaned, LoanRefused, Unwritten, Delivered, Blocked, SendRefused, UpdateRefused, Sample, NoSample, ReceiveRefused, Has, Cell, Header as HeaderRead, UserHeader}
 
 module _ {T U : Type 0} where
-  -- ---- what a position names, where it is live
+  -- ---- what a position names, if it is live
 
   -- A publisher that wasn't closed, with its id.
   abbrev pub publisher_at : State T U → List Handle → (of : ℕ) → Option (ℕ × Publisher)
@@ -66,7 +66,7 @@ module _ {T U : Type 0} where
   abbrev pub written_at : State T U → List Handle → (of : ℕ) → Option (ℕ × Loan T U)
   written_at s handles of = option_and_then (λ named. cond named.1.is_written (Some named) None) (loan_at s handles of)
 
-  -- The loan, where it has a cell there.
+  -- The loan, if it has a cell there.
   abbrev pub with_cell_at : (at : ℕ) → Option (ℕ × Loan T U) → Option (ℕ × Loan T U)
   with_cell_at at loan = option_and_then (λ named. cond (nat_lt at (length named.1.cells)) (Some named) None) loan
 

@@ -18,7 +18,7 @@ pub record PublicPart : Type 0 where
 abbrev pub public_part : Option Subscriber → Option PublicPart
 public_part o = option_map {T = Subscriber} {U = PublicPart} (λ y. record { is_open = y.is_open; place = y.place; buffer = y.buffer }) o
 
--- The handle, or none where it is another subscriber's sample.
+-- The handle, or none if it is another subscriber's sample.
 abbrev pub seen_handle : (q : ℕ) → Handle → Handle
 seen_handle q (Sample_handle p q' n) = cond (q' == q) (Sample_handle p q' n) No_handle
 seen_handle q handle = handle

@@ -108,7 +108,7 @@ DropsFirst old (Some slot) new = (channel : ℕ) × (old ≡ record { channel = 
 abbrev pub IsOtherDropped : Link → Option ℕ → Link → Type 0
 IsOtherDropped old slot new = DropsFirst old.others slot new.others × (new ≡ record old { others = new.others })
 
--- Nothing but what is borrowed stands in the connection.
+-- Only what is borrowed stands in the connection.
 abbrev pub borrowed_alone : Link → Link
 borrowed_alone c = record c { waiting = []; returned = []; others = [] }
 

@@ -19,7 +19,7 @@ use Rattle.iox2_connections.specs.declared.receiver.BorrowedMessage.{BorrowedMes
 use Rattle.iox2_connections.specs.declared.receiver.Found.{Found}
 use Rattle.iox2_connections.specs.declared.receiver.Taken.{Taken}
 
--- Every connection but the one at the key stays as it is.
+-- Every connection except the one at the key stays as it is.
 pub record KeepsOtherKeys (key : ℕ) (old new : Slab Link) : Type 0 where
   pub others : (other : ℕ) → other ≢ key → get new other ≡ get old other
 

@@ -6,7 +6,7 @@ use Rattle.iox2_contents.specs.SlotContents.{open_count}
 use Rattle.iox2_contents.specs.SlotStates.{SlotState, contents_of, has_list}
 
 module _ {T U : Type 0} where
-  -- So many unwritten cells are enough to be shown as those of a slot.
+  -- That many unwritten cells are enough to be shown as those of a slot.
   abbrev pub ShowsAtMost : (most : ℕ) → SlotState T U → Type 0
   ShowsAtMost most slot = (0 < slot.content.lists → (slot.content.room ≤ most) × (0 < most)) × (slot.content.is_in_place ≡ false → 0 < most)
 

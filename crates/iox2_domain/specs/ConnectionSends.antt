@@ -41,5 +41,5 @@ pub record SendsLoanTo {T U : Type 0} (environment : Environment) (old new : Fie
   pub sends : SendToConnection environment (state_of (kept_of old)) n loan channel connection (state_of (kept_of new)) result
   pub entries : (m : ℕ) (entry : Entry T U) → entries_of (kept_of new) m ≡ Some entry
       → ((m ≡ n) × (entry ≡ entry_of loan)) ⊎ (entries_of (kept_of old) m ≡ Some entry)
-  -- After an error no entry is newly kept, but where a handler failed the send.
+  -- After an error no entry is newly kept, except if a handler failed the send.
   pub lost : (error : SendError) → error ≢ UnableToDeliver → result ≡ Send_error error → (m : ℕ) (entry : Entry T U) → entries_of (kept_of new) m ≡ Some entry → entries_of (kept_of old) m ≡ Some entry

@@ -42,9 +42,9 @@ module _ {T U : Type 0} where
   SenderChannelsFollow f x f' = ChannelsFollow (λ home. home.publisher ≡ x.id) (λ p q. (state_of (kept_of f)).subscribers q ≡ None) f.connections f'.connections
 
 module _ {T U : Type 0} (environment : Environment) where
-  -- The publisher x at the place i, which isn't due, has got its end at the subscriber's place j, through the connection at
-  -- the key, in which no slot stands. The machine lets the last of the history wait there. Nothing changed but its keys,
-  -- connections and the room for keys.
+  -- The publisher x at the place i, which isn't due, has got its end at the subscriber's place j, through the
+  -- connection at the key, in which no slot stands. The machine lets the last of the history wait there. Nothing
+  -- changed except its keys, connections and the room for keys.
   pub record MakesSenderEnd (f : Fields T U) (i j : ℕ) (x : PublisherFields) (key : ℕ) (f' : Fields T U) : Type 0 where
     pub agrees : IsDomain f'
     pub keys : List (Option ℕ)
@@ -64,7 +64,7 @@ module _ {T U : Type 0} (environment : Environment) where
     pub channels : SenderChannelsFollow f x f'
 
   -- The publisher x at the place i, which isn't due, has done the machine's step at the subscriber's place j, with this failure
-  -- if any, and nothing changed but its keys, connections, counters of slots, warnings and the room for keys.
+  -- if any, and nothing changed except its keys, connections, counters of slots, warnings and the room for keys.
   pub record ConnectsSender (f : Fields T U) (i j : ℕ) (x : PublisherFields) (f' : Fields T U) (failure : Option ConnectionFailure) : Type 0 where
     pub agrees : IsDomain f'
     pub keys : List (Option ℕ)
@@ -79,7 +79,7 @@ module _ {T U : Type 0} (environment : Environment) where
     pub channels : SenderChannelsFollow f x f'
     pub entries : (n : ℕ) (entry : Entry T U) → entries_of (kept_of f') n ≡ Some entry → entries_of (kept_of f) n ≡ Some entry
 
-  -- The publisher x at the place i is updated, with this failure if any, and nothing changed but its keys, its mark,
+  -- The publisher x at the place i is updated, with this failure if any, and nothing changed except its keys, its mark,
   -- connections, counters of slots, warnings and the room for keys.
   pub record UpdatesPublisher (f : Fields T U) (i : ℕ) (x : PublisherFields) (f' : Fields T U) (failure : Option ConnectionFailure) : Type 0 where
     pub after : State T U

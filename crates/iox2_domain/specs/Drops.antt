@@ -50,7 +50,7 @@ module _ {T U : Type 0} where
     pub entries : (n : ℕ) (entry : Entry T U) → entries_of (kept_of f') n ≡ Some entry → entries_of (kept_of f) n ≡ Some entry
 
   -- The publisher x at the place i, which isn't due, has lost its end at the subscriber's place j as the machine takes it
-  -- away: what waited there is lost, and nothing changed but its keys, connections and counters of slots.
+  -- away: what waited there is lost, and nothing changed except its keys, connections and counters of slots.
   pub record LosesSenderEnd (f : Fields T U) (i j : ℕ) (x : PublisherFields) (f' : Fields T U) : Type 0 where
     pub agrees : IsDomain f'
     pub fields : f' ≡ record f { publishers = slice_set f.publishers i (Some (record x { keys = set_place x.keys j None })); connections = f'.connections; books = f'.books }

@@ -97,7 +97,7 @@ pub record IsLinked {T U : Type 0} (f : Fields T U) : Type 0 where
       → x.id ≡ c.home.publisher → c.home.subscriber_place < x.key_room
   pub receiver_rooms : (key i : ℕ) (c : Link) (y : SubscriberFields) → get f.connections key ≡ Some c → slice_index_or f.subscribers i None ≡ Some y
       → y.id ≡ c.home.subscriber → c.home.publisher_place < y.key_room
-  -- So many messages may be borrowed in each connection.
+  -- As many messages may be borrowed in each connection as the settings say.
   pub limits : (key : ℕ) (c : Link) → get f.connections key ≡ Some c → c.limit ≡ (f.config).subscriber_max_borrowed_samples
   -- Each connection has as many channels as the settings say.
   pub channel_counts : (key : ℕ) (c : Link) → get f.connections key ≡ Some c → length c.channels ≡ channel_count f.config

@@ -28,6 +28,6 @@ module _ {T U : Type 0} where
     pub entries : (n : ℕ) (entry : Entry T U) → entries_of (kept_of new) n ≡ Some entry → entries_of (kept_of old) n ≡ Some entry
     pub complete : KeepsEntries (kept_of new)
 
-  -- Nothing changed but books and what lies in their slots.
+  -- Nothing changed except books and what lies in their slots.
   abbrev pub ChangesBooks : (old new : Fields T U) → Type 0
   ChangesBooks old new = new ≡ record old { books = new.books; contents = new.contents }

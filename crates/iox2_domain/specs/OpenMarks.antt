@@ -15,7 +15,7 @@ pub record IsUnmarkedSender (connections : Slab Link) (i : ℕ) : Type 0 where
 pub record IsUnmarkedReceiver (connections : Slab Link) (j : ℕ) : Type 0 where
   pub at : (key : ℕ) (c : Link) → get connections key ≡ Some c → c.is_open ≡ true → c.home.subscriber_place ≢ j
 
--- Nothing changed but marks of connections, which nothing that is kept knows of.
+-- Nothing changed except marks of connections, which nothing that is kept knows of.
 pub record ChangesMarks {T U : Type 0} (f f' : Fields T U) : Type 0 where
   pub agrees : IsDomain f'
   pub fields : f' ≡ record f { connections = f'.connections }

@@ -25,10 +25,10 @@ pub record PublisherFields : Type 0 where
   pub segment_start : ℕ  -- the first slot of its current segment, which is the last
   pub segment_length : ℕ  -- the length for which that segment was made
   pub loans : List ℕ  -- the slots of the loans that are out
-  pub loan_room : ℕ  -- so many fit with no allocation
+  pub loan_room : ℕ  -- that many fit with no allocation
   pub history : Buffer ℕ  -- the slots of the last messages sent
   pub keys : List (Option ℕ)  -- by the subscriber's place, the keys of its connections
-  pub key_room : ℕ  -- so many fit with no allocation
+  pub key_room : ℕ  -- that many fit with no allocation
   pub is_due : Bool
   pub blocked : Option BlockedDelivery
 
@@ -39,9 +39,9 @@ pub record SubscriberFields : Type 0 where
   pub buffer : ℕ
   pub degradation_handler : Handler DegradationAction
   pub keys : List (Option ℕ)  -- by the publisher's place, the keys of its connections
-  pub key_room : ℕ  -- so many fit with no allocation
+  pub key_room : ℕ  -- that many fit with no allocation
   pub expired : List ℕ  -- the keys of its connections with departed publishers, in order of entry
-  pub expired_room : ℕ  -- so many fit with no allocation
+  pub expired_room : ℕ  -- that many fit with no allocation
   pub is_due : Bool
 
 -- How many elements each slot of a segment of that length has room for: as many, and one at least.

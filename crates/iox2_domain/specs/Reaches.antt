@@ -16,8 +16,8 @@ pub record Reaches {T U : Type 0} (old new : Fields T U) (s : State T U) : Type 
   pub state : state_of (kept_of new) ≡ s
   pub entries : (n : ℕ) (entry : Entry T U) → entries_of (kept_of new) n ≡ Some entry → entries_of (kept_of old) n ≡ Some entry
 
--- The fields keep this state afterwards, and no entry that they didn't keep before. They agree, but that nobody may hold a
--- slot of the book at the key. Each connection was there before, with the same channels.
+-- The fields keep this state afterwards, and no entry that they didn't keep before. They agree, except that maybe
+-- nobody holds a slot of the book at the key. Each connection was there before, with the same channels.
 pub record ReachesBut {T U : Type 0} (key : ℕ) (old new : Fields T U) (s : State T U) : Type 0 where
   pub agrees : IsDomainBut key new
   pub state : state_of (kept_of new) ≡ s

@@ -64,8 +64,8 @@ module _ {T U : Type 0} where
     pub link : get f.connections key ≡ Some c
     pub gone : (x : PublisherFields) → slice_index_or f.publishers i None ≡ Some x → x.id ≢ c.home.publisher
 
-  -- The subscriber y at the place j has this side now, and the fields agree so. Nothing changed but its keys, its mark,
-  -- connections, what departed publishers left, warnings and the room for keys.
+  -- The subscriber y at the place j has this side now, and the fields agree so. Nothing changed except its keys, its
+  -- mark, connections, what departed publishers left, warnings and the room for keys.
   pub record ChangesReceiverTo (Agrees : Fields T U → Type 0) (f : Fields T U) (j : ℕ) (y : SubscriberFields) (side : ReceiverSide) (f' : Fields T U) : Type 0 where
     pub agrees : Agrees f'
     pub keys : List (Option ℕ)

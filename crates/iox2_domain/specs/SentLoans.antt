@@ -47,7 +47,7 @@ pub record SendsLoan {T U : Type 0} (environment : Environment) (old new : Field
   pub loans : (state_of (kept_of new)).loans ≡ put_at (state_of (kept_of old)).loans n None
   pub entries : (m : ℕ) (entry : Entry T U) → entries_of (kept_of new) m ≡ Some entry
       → ((m ≡ n) × (entry ≡ entry_of loan)) ⊎ (entries_of (kept_of old) m ≡ Some entry)
-  -- After an error no entry is newly kept, but where the message was sent and a handler failed the send.
+  -- After an error no entry is newly kept, except if the message was sent and a handler failed the send.
   pub lost : (error : SendError) → error ≢ UnableToDeliver → result ≡ Send_error error → (m : ℕ) (entry : Entry T U) → entries_of (kept_of new) m ≡ Some entry → entries_of (kept_of old) m ≡ Some entry
   -- A handler that fails no send fails none.
   pub unfailed : ((x : Publisher) → (state_of (kept_of old)).publishers loan.publisher ≡ Some x → may_fail x.backpressure_handler ≡ false) → result ≡ Send_error UnableToDeliver → ⊥

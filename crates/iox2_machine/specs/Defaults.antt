@@ -1,4 +1,4 @@
--- The settings that a service has where nothing else is asked for.
+-- The settings that a service has if nothing else is asked for.
 use Rattle.std.specs.Prelude.{ℕ, true}
 use Rattle.iox2_machine.specs.declared.service_config.ServiceConfig.{ServiceConfig}
 use Rattle.iox2_machine.specs.declared.service_config.TypeVariant.TheVariants.{FixedSize}

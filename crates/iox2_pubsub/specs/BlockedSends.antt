@@ -17,23 +17,24 @@ use Rattle.iox2_pubsub.specs.declared.send_outcome.SendOutcome.{SendOutcome}
 
 module _ {T U : Type 0} where
   -- At how many places the publisher p has receivers before it from the one on that it waits for, empty places counted; at none
-  -- where no send of it is blocked.
+  -- if no send of it is blocked.
   abbrev pub places_ahead : State T U → (p : ℕ) → ℕ
   places_ahead s p = option_map_or (λ (x : MachinePublisher). option_map_or (λ (b : MachineBlocked). length b.ends) x.blocked 0) (s.publishers p) 0
 
 module _ {T U F G : Type 0} where
-  -- At how many places the blocked send may meet a receiver yet, the one that it waits for among them; at none where it isn't
-  -- blocked.
+  -- At how many places the blocked send may meet a receiver yet, the one that it waits for among them; at none if it
+  -- isn't blocked.
   unfoldable pub receivers_ahead : Kept T U F G → BlockedSend → ℕ
   receivers_ahead domain blocked = places_ahead (state_of domain) blocked.loan.publisher
 
   -- What was live before a send blocked is live and reads as it did then: before means a state in which no send of its publisher
-  -- was blocked, and from which all but the blocked send stayed.
+  -- was blocked, and from which all except the blocked send stayed.
   unfoldable pub StaysSince : BlockedSend → (old new : Kept T U F G) → Type 0
   StaysSince blocked old new = (before : Kept T U F G) → IsUnblocked before (lender_key (blocked_key blocked)) → StaysBut (blocked_send blocked) before old → Stays before new
 
-  -- The blocked send went on, and ended so or is blocked again, under the same key. It fails only where a handler fails it. When it
-  -- has ended its publisher is free again and has one loan more left, and what was live before the send blocked is live.
+  -- The blocked send went on, and ended so or is blocked again, under the same key. It fails only if a handler fails
+  -- it. When it has ended its publisher is free again and has one loan more left, and what was live before the send
+  -- blocked is live.
   pub record GoesOn (waited : BlockedSend) (result : Result SendOutcome SendError) (old new : Kept T U F G) : Type 0 where
     pub blocked : IfOk result (λ outcome. IfBlocked outcome (λ again. IsBlockedSend new again × (blocked_key again ≡ blocked_key waited)))
     pub ok : NeverFails old (blocked_sender waited) → IsOk result

@@ -19,7 +19,7 @@ pub record Connects {T U : Type 0} (s : State T U) (p q : ℕ) : Type 0 where
   pub takes : is_closed (s.channels p q 0) ≡ false
 
 -- The publisher p is due, and q, which is open, has its end of the mailbox with it or is due too. Their channel
--- isn't closed. So p's next update connects the two, where memory isn't refused.
+-- isn't closed. So p's next update connects the two, if memory isn't refused.
 pub record Awaits {T U : Type 0} (s : State T U) (p q : ℕ) : Type 0 where
   pub publisher : Publisher
   pub stands : s.publishers p ≡ Some publisher

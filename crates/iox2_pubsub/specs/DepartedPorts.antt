@@ -17,7 +17,7 @@ module _ {T U : Type 0} where
   abbrev pub departed_of : State T U → Subscriber → ℕ
   departed_of s y = length y.expired + length (filter (is_gone s) (occupants y.ends))
 
-  -- How many closed publishers the subscriber q has a connection with, and none where it is gone.
+  -- How many closed publishers the subscriber q has a connection with, and none if it is gone.
   abbrev pub departed_at : State T U → (q : ℕ) → ℕ
   departed_at s q = option_map_or (departed_of s) (s.subscribers q) 0
 

@@ -14,9 +14,9 @@ use Rattle.iox2_connections.specs.Handlers.{mark_of}
 use Rattle.iox2_ports.specs.Handlers.{custom_box}
 use Rattle.iox2_pubsub.specs.declared.port_factory.preallocation.PreallocatedSamplesOverride.{PreallocatedSamplesOverride}
 
--- The settings of the publishers that it makes, the box that answers full buffers for them, and the one that answers refused
--- connections, where there are such; and what says how many slots they have. Of that the settings say nothing yet: it is asked
--- when a publisher is made.
+-- The settings of the publishers that it makes, the box that answers full buffers for them, and the one that answers
+-- refused connections, if there are such; and what says how many slots they have. Of that the settings say nothing yet:
+-- it is asked when a publisher is made.
 pub record PublisherFactory (F G O : Type 0) : Type 0 where
   pub settings : PublisherSettings
   pub box : Option F
@@ -35,8 +35,8 @@ with_callback factory callback = record { settings = factory.settings; box = fac
 abbrev pub with_slots : PublisherSettings → Option ℕ → PublisherSettings
 with_slots settings asked = record settings { asked_slots = asked }
 
--- What is asked for, by an override that may answer so: it is given the worst case. Where that doesn't fit a machine word it
--- isn't asked, and no publisher is made.
+-- What is asked for, by an override that may answer so: it is given the worst case. If that doesn't fit a machine word
+-- it isn't asked, and no publisher is made.
 abbrev pub AsksFor : (answers : ℕ → ℕ → Type 0) → (worst : ℕ) → Option ℕ → Type 0
 AsksFor answers worst asked = MatchBool (fits worst) ((slots : ℕ) × answers worst slots × (asked ≡ Some slots)) (asked ≡ None)
 
@@ -44,18 +44,19 @@ AsksFor answers worst asked = MatchBool (fits worst) ((slots : ℕ) × answers w
 abbrev pub AsksForAll : (answers : ℕ → ℕ → Type 0) → (worst : ℕ) → Type 0
 AsksForAll answers worst = IsTrue (fits worst) → (slots : ℕ) → answers worst slots → worst ≤ slots
 
--- The settings of the subscribers that it makes, and the box that answers refused connections for them, where there is one.
+-- The settings of the subscribers that it makes, and the box that answers refused connections for them, if there is
+-- one.
 pub record SubscriberFactory (G : Type 0) : Type 0 where
   pub settings : SubscriberSettings
   pub box : Option G
 
 module _ {G : Type 0} where
-  -- What answers where a connection can't be made, as the machine knows it.
+  -- What answers if a connection can't be made, as the machine knows it.
   abbrev pub answer_of : DegradationHandler G → Handler DegradationAction
   answer_of (degradation.Fixed action) = machine.Fixed action
   answer_of (degradation.Custom function) = machine.Custom
 
-  -- The box of the handler, where it is one.
+  -- The box of the handler, if it is one.
   abbrev pub degrading_box : DegradationHandler G → Option G
   degrading_box (degradation.Fixed action) = None
   degrading_box (degradation.Custom function) = Some function

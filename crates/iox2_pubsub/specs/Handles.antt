@@ -19,7 +19,7 @@ use Rattle.iox2_pubsub.specs.declared.slice.sample.Sample.{Sample as SliceSample
 abbrev pub publisher_id : Publisher → ℕ
 publisher_id publisher = publisher.id
 
--- What the publisher does where a receiver is full.
+-- What the publisher does if a receiver is full.
 abbrev pub strategy_of : Publisher → BackpressureStrategy
 strategy_of publisher = publisher.strategy
 

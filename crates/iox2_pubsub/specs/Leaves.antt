@@ -59,7 +59,8 @@ pub record LeavesWithout {T U F G : Type 0} (subscriber : Subscriber) (old new :
   pub room : RoomStays old new
   pub loans_left : LoansLeftStay old new
 
--- The call leaves all as it was, but channels: a publisher and a subscriber that were connected are, where their channel stays open.
+-- The call leaves all as it was, except channels: a publisher and a subscriber that were connected are, if their
+-- channel stays open.
 pub record LeavesButChannels {T U F G : Type 0} (StaysOpen : (publisher : ℕ) → Subscriber → Type 0) (old new : Kept T U F G) : Type 0 where
   pub stays : Stays old new
   pub waits : WaitingStays old new

@@ -65,12 +65,13 @@ module _ {T U F G : Type 0} (domain : Kept T U F G) where
   unfoldable pub IsSingleValued : Type 0
   IsSingleValued = ((domain.config).variant ≡ FixedSize) × ((domain.config).units_per_element ≡ 1)
 
-  -- The service overflows: each open subscriber takes a message, also where its buffer is full.
+  -- The service overflows: each open subscriber takes a message, even if its buffer is full.
   abbrev pub Overflows : Type 0
   Overflows = (domain.config).enable_safe_overflow ≡ true
 
-  -- No handler of the publisher with this id fails a send, at a full buffer or where it can't make a connection, nor has it failed
-  -- the one that is blocked: none is asked of full buffers in a service that overflows, and a publisher that was closed has none.
+  -- No handler of the publisher with this id fails a send, at a full buffer or if it can't make a connection, nor has
+  -- it failed the one that is blocked: none is asked of full buffers in a service that overflows, and a publisher that
+  -- was closed has none.
   unfoldable pub NeverFails : (publisher : ℕ) → Type 0
   NeverFails publisher =
       (publisher < (state_of domain).next_port)
@@ -235,8 +236,9 @@ module _ {T U F G : Type 0} (domain : Kept T U F G) where
 
   -- ---- what waits
 
-  -- The payloads of the messages that wait for the subscriber, each the list of its values: by publisher, and of each the
-  -- oldest first. They wait in the connections that it has, and where it is due for an update, in those too that this makes.
+  -- The payloads of the messages that wait for the subscriber, each the list of its values: by publisher, and of each
+  -- the oldest first. They wait in the connections that it has, and if it is due for an update, in those too that this
+  -- makes.
   unfoldable pub payloads : Subscriber → List (List T)
   payloads subscriber = payloads_for (state_of domain) (entries_of domain) subscriber.id
 
@@ -252,8 +254,8 @@ module _ {T U F G : Type 0} (domain : Kept T U F G) where
   unfoldable pub IsUpToDate : Subscriber → Type 0
   IsUpToDate subscriber = (y : MachineSubscriber) × ((state_of domain).subscribers subscriber.id ≡ Some y) × (y.is_open ≡ true) × (y.is_due ≡ false)
 
-  -- So many publishers more can be closed, and the subscriber still has room for the connections with all that were: as many as its
-  -- domain keeps for a subscriber.
+  -- That many more publishers can be closed, and the subscriber still has room for the connections with all that were:
+  -- as many as its domain keeps for a subscriber.
   unfoldable pub HasRoomFor : Subscriber → (closes : ℕ) → Type 0
   HasRoomFor subscriber closes = HasRoom (state_of domain) subscriber.id closes
 
@@ -267,7 +269,7 @@ module _ {T U F G : Type 0} (domain : Kept T U F G) where
   unfoldable pub IsConnected : (publisher : ℕ) → Subscriber → Type 0
   IsConnected publisher subscriber = Connects (state_of domain) publisher subscriber.id
 
-  -- The publisher with this id is due for an update, and connected with the subscriber by it, where memory isn't refused.
+  -- The publisher with this id is due for an update, and connected with the subscriber by it, if memory isn't refused.
   unfoldable pub IsAwaited : (publisher : ℕ) → Subscriber → Type 0
   IsAwaited publisher subscriber = Awaits (state_of domain) publisher subscriber.id
 
@@ -304,8 +306,8 @@ ConnectionsStay old new = (publisher : ℕ) (subscriber : Subscriber) → IsConn
 abbrev pub NoneRefused : {T U F G : Type 0} → (old new : Kept T U F G) → Type 0
 NoneRefused old new = ((new.warnings).refused_connections ≡ (old.warnings).refused_connections) × ((old.warnings).refused_connections < refusal_limit)
 
--- An update of the publisher with this id connects it with each subscriber that awaits it, where no port is refused memory for a
--- connection, and who awaits another publisher still does.
+-- An update of the publisher with this id connects it with each subscriber that awaits it, if no port is refused memory
+-- for a connection, and who awaits another publisher still does.
 pub record Connected {T U F G : Type 0} (publisher : ℕ) (old new : Kept T U F G) : Type 0 where
   pub awaited : (subscriber : Subscriber) → IsAwaited old publisher subscriber → NoneRefused old new → IsConnected new publisher subscriber
   pub others : (other : ℕ) (subscriber : Subscriber) → other ≢ publisher → IsAwaited old other subscriber → IsAwaited new other subscriber
@@ -315,8 +317,9 @@ pub record IsFull {T U F G : Type 0} (domain : Kept T U F G) (publisher : ℕ) (
   pub some : 0 < length (payloads_from domain publisher subscriber)
   pub full : HasItsBuffer domain subscriber → subscriber.buffer_size ≤ length (payloads_from domain publisher subscriber)
 
--- The publisher's message with these values waits for the subscriber, behind all others of that publisher. Where the buffer was
--- full, the oldest of them went in its place, with overflow; without overflow this message did, and they wait still.
+-- The publisher's message with these values waits for the subscriber, behind all others of that publisher. If the
+-- buffer was full, the oldest of them went in its place, with overflow; without overflow this message did, and they
+-- wait still.
 unfoldable pub IsServed : {T U F G : Type 0} → (old new : Kept T U F G) → (publisher : ℕ) → Subscriber → List T → Type 0
 IsServed old new publisher subscriber values =
     ((payloads_from new publisher subscriber ≡ payloads_from old publisher subscriber ++ values ∷ []) × (waiting new subscriber ≡ suc (waiting old subscriber)))
@@ -339,7 +342,7 @@ abbrev pub TakesOldest : {T U F G : Type 0} → Subscriber → Sample → (old n
 TakesOldest {T} subscriber sample old new =
     (values : List T) × (payloads_from old sample.origin subscriber ≡ values ∷ payloads_from new sample.origin subscriber) × SampleHasValues new (sample_key sample) values
 
--- Where all that waits for the subscriber is of one publisher, the sample is the first of it.
+-- If all that waits for the subscriber is of one publisher, the sample is the first of it.
 abbrev pub TakesFirst : {T U F G : Type 0} → Subscriber → Sample → (old new : Kept T U F G) → Type 0
 TakesFirst {T} subscriber sample old new =
     (publisher : ℕ) (payload : List T) (later : List (List T)) → AllFrom old publisher subscriber (payload ∷ later) → SampleHasValues new (sample_key sample) payload

@@ -20,7 +20,7 @@ use Rattle.iox2_pubsub.specs.declared.sample_mut_uninit.SampleMutUninit.{SampleM
 
 module _ {T U F G : Type 0} where
   -- The loan with this key was given back unsent, and all else is left as it was: the machine discards it, it's out no more, and its
-  -- publisher, where it wasn't closed, has one loan more left.
+  -- publisher, if it wasn't closed, has one loan more left.
   pub record IsDiscarded (loan : Key) (old new : Kept T U F G) : Type 0 where
     pub discarded : (m : Messages T U) (s : State T U) (l : Loan T U) → Shows old m s → s.loans loan.message ≡ Some l → Shows new m (loan_discarded s loan.message l)
     pub spent : IsLoanKey new loan → ⊥
@@ -33,8 +33,9 @@ module _ {T U F G : Type 0} where
       (m : Messages T U) (s : State T U) → Shows old m s
       → (l : Loan T U) × (s.loans number ≡ Some l) × (s' : State T U) × WriteAllFrom s number l values s' × Shows new m s'
 
-  -- The unwritten loan became this written one, which may be sent, and all else is left as it was: the loan has the same key, headers
-  -- and number of elements, its publisher is there if it was, and no send of that one is blocked, or ever is, where none was.
+  -- The unwritten loan became this written one, which may be sent, and all else is left as it was: the loan has the
+  -- same key, headers and number of elements, its publisher is there if it was, and no send of that one is blocked, or
+  -- ever is, if none was.
   pub record BecomesWritten (loan : SampleMutUninit) (written : SampleMut) (old new : Kept T U F G) : Type 0 where
     pub out : IsWritten new written
     pub live : NeverWaits old (unwritten_key loan) → IsWrittenLoan new written

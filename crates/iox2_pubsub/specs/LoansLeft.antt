@@ -12,7 +12,8 @@ use Rattle.iox2_machine.specs.declared.service_config.TypeVariant.TheVariants.{F
 use Rattle.iox2_domain.specs.Kept.{Kept, state_of}
 use Rattle.iox2_pubsub.specs.declared.publisher.Publisher.{Publisher}
 
--- A publisher with these settings lends single values, where messages are such, from its first segment, if its memory grows.
+-- A publisher with these settings lends single values, if messages are such, from its first segment, if its memory
+-- grows.
 abbrev pub LendsFirst : ServiceConfig → PublisherSettings → Type 0
 LendsFirst c given = is_static given.allocation_strategy ≡ false → c.variant ≡ FixedSize → 1 ≤ given.initial_max_slice_len
 
@@ -27,8 +28,8 @@ module _ {T U F G : Type 0} where
   unfoldable pub HasLoansLeft : Kept T U F G → Publisher → (n : ℕ) → Type 0
   HasLoansLeft domain publisher n = CanLend (state_of domain) publisher.id n × LendsUpTo (state_of domain) publisher.id publisher.initial_max_slice_len
 
-  -- The publisher wasn't closed, and its memory grows by this strategy: not at all, where that is `Static`. Then no loan of its
-  -- takes memory.
+  -- The publisher wasn't closed, and its memory grows by this strategy: not at all, if that is `Static`. Then no loan
+  -- of its takes memory.
   unfoldable pub GrowsBy : Kept T U F G → Publisher → AllocationStrategy → Type 0
   GrowsBy domain publisher strategy = (x : MachinePublisher) × ((state_of domain).publishers publisher.id ≡ Some x) × (x.allocation_strategy ≡ strategy)
 
@@ -49,7 +50,7 @@ module _ {T U F G : Type 0} where
   abbrev pub OthersLoansLeftStay : Publisher → (old new : Kept T U F G) → Type 0
   OthersLoansLeftStay publisher old new = (other : Publisher) (n : ℕ) → other.id ≢ publisher.id → HasLoansLeft old other n → HasLoansLeft new other n
 
-  -- The publisher with this id, where it wasn't closed, has one loan more left than before.
+  -- The publisher with this id, if it wasn't closed, has one loan more left than before.
   abbrev pub HasOneMoreLeft : (id : ℕ) → (old new : Kept T U F G) → Type 0
   HasOneMoreLeft id old new = (publisher : Publisher) (n : ℕ) → publisher.id ≡ id → HasLoansLeft old publisher n → HasLoansLeft new publisher (n + 1)
 

@@ -16,7 +16,7 @@ use Rattle.iox2_pubsub.specs.declared.sample.Sample.{Sample}
 use Rattle.iox2_pubsub.specs.declared.slice.sample.Sample.{Sample as SliceSample}
 use Rattle.iox2_pubsub.specs.declared.subscriber.Subscriber.{Subscriber}
 
--- The machine's result where a receive returns this.
+-- The machine's result if a receive returns this.
 abbrev pub received_result : Result (Option Sample) ReceiveError → ReceiveResult
 received_result (Ok None) = No_sample
 received_result (Ok (Some sample)) = Got_sample sample.origin sample.sample.number

@@ -33,7 +33,7 @@ abbrev pub IsDelivered : SendOutcome → Type 0
 IsDelivered (Delivered count) = Unit {0}
 IsDelivered (Blocked blocked) = ⊥
 
--- Where the send is blocked this is so of it.
+-- If the send is blocked, this is so of it.
 abbrev pub IfBlocked : SendOutcome → (BlockedSend → Type 0) → Type 0
 IfBlocked (Delivered count) P = Unit {0}
 IfBlocked (Blocked blocked) P = P blocked
@@ -43,11 +43,11 @@ abbrev pub is_blocked_send : Result SendOutcome SendError → Bool
 is_blocked_send (Ok (Blocked blocked)) = true
 is_blocked_send _ = false
 
--- What a send of the loan spends: the loan, and where it is blocked, that its publisher isn't.
+-- What a send of the loan spends: the loan, and if it is blocked, that its publisher isn't.
 abbrev pub spent_by_send : SampleMut → Result SendOutcome SendError → Item
 spent_by_send loan result = A_sent_loan loan.loan.number loan.loan.publisher (is_blocked_send result)
 
--- What a copy that the publisher sends spends: where it is blocked, that the publisher isn't.
+-- What a copy that the publisher sends spends: if it is blocked, that the publisher isn't.
 abbrev pub spent_by_copy : Publisher → Result SendOutcome SendError → Item
 spent_by_copy publisher result = A_sent_copy publisher.id (is_blocked_send result)
 
@@ -60,8 +60,8 @@ result_of_send (Err error) = Send_error error
 abbrev pub Sends : {T U : Type 0} → Environment → State T U → (n : ℕ) → Loan T U → Result SendOutcome SendError → State T U → Type 0
 Sends environment s n l result s' = Send environment s n l s' (result_of_send result)
 
--- The messages after a send of the loan n, which is one of them from then on. After an error it is none, but where a handler
--- failed the send.
+-- The messages after a send of the loan n, which is one of them from then on. After an error it is none, except if a
+-- handler failed the send.
 abbrev pub messages_after : {T U : Type 0} → Messages T U → (n : ℕ) → Loan T U → Result SendOutcome SendError → Messages T U
 messages_after m n l (Ok outcome) = put_at m n (Some (entry_of l))
 messages_after m n l (Err UnableToDeliver) = put_at m n (Some (entry_of l))
@@ -92,9 +92,9 @@ module _ {T U F G : Type 0} (domain : Kept T U F G) where
   FailsCopy publisher error = ((reason : LoanError) × (error ≡ Not_lent reason)) ⊎ (IsOfHandler error × (NeverFails domain publisher.id → ⊥))
 
 module _ {T U F G : Type 0} where
-  -- A send spent the loan, with this outcome or error. It succeeds where the publisher is there and no handler fails it; it isn't
-  -- blocked where the publisher never waits, and else is blocked under the loan's key. What other publishers sent waits as it did,
-  -- and when the send has ended the publisher has one loan more left.
+  -- A send spent the loan, with this outcome or error. It succeeds if the publisher is there and no handler fails it;
+  -- it isn't blocked if the publisher never waits, and else is blocked under the loan's key. What other publishers sent
+  -- waits as it did, and when the send has ended the publisher has one loan more left.
   pub record SpendsLoan (loan : SampleMut) (result : Result SendOutcome SendError) (old new : Kept T U F G) : Type 0 where
     pub ok : HasLender old (written_key loan) → NeverFails old (written_lender loan) → IsOk result
     pub delivered : NeverWaits old (written_key loan) → IfOk result IsDelivered

@@ -15,7 +15,7 @@ returned_failure (Ok answer) = None
 returned_failure (Err failure) = Some failure
 
 module _ {T U F G : Type 0} (old new : Kept T U F G) where
-  -- A publisher that is ready stays so where everything does.
+  -- A publisher that is ready stays so if everything does.
   pub ready_stays : (publisher : Publisher) → Stays old new → IsReadyPublisher old publisher → IsReadyPublisher new publisher
   ready_stays publisher stays ready = record {
     there = stays.publishers (publisher_key publisher) ready.there tt;
@@ -23,7 +23,7 @@ module _ {T U F G : Type 0} (old new : Kept T U F G) where
     unblocked = stays.unblocked (publisher_key publisher) ready.unblocked tt;
   }
 
-  -- A subscriber that is live stays so where everything does.
+  -- A subscriber that is live stays so if everything does.
   pub subscriber_stays : (subscriber : Subscriber) → Stays old new → IsLiveSubscriber old subscriber → IsLiveSubscriber new subscriber
   subscriber_stays subscriber stays live = record {
     there = stays.subscribers (subscriber_key subscriber) live.there tt;

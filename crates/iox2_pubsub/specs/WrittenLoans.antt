@@ -49,8 +49,8 @@ module _ {T U : Type 0} where
     pub state : s' ≡ s
     pub refused : (value : T) (user_header : U) → GrantWrittenLoan (loan_memory s p) value user_header false 1 s p s' (Some reason)
 
-  -- The publisher p is asked to send this value: a loan with it is granted and sent, or refused. Where a handler failed the
-  -- send, it was granted.
+  -- The publisher p is asked to send this value: a loan with it is granted and sent, or refused. If a handler failed
+  -- the send, it was granted.
   abbrev pub SendsCopy : Environment → (is_default : U → Type 0) → Messages T U → State T U → (p : ℕ) → (value : T) → Result SendOutcome SendError → Messages T U → State T U → Type 0
   SendsCopy environment is_default m s p value result m' s' =
       MatchResult result

@@ -32,19 +32,19 @@ pub record RanAfresh {T U F G : Type 0} (defaults : Defaults T U) (c : ServiceCo
   pub faithful : IsFaithful commands replies events
   pub grants : GrantsLoans fixed_handlers defaults no_messages (fresh c) commands replies events messages state
 
--- Where only one value of each type is a default, the run used that one throughout.
+-- If only one value of each type is a default, the run used that one throughout.
 abbrev pub RanWithOneDefault : {T U F G : Type 0} → Defaults T U → ServiceConfig → List (Command T U) → Domain T U F G → List (Reply T U) → Type 0
 RanWithOneDefault {T} {U} defaults c commands new replies =
     HasOneDefault defaults → (default_value : T) (default_header : U) → defaults.IsDefaultValue default_value → defaults.IsDefaultHeader default_header
     → RunsOnDomain (only_defaults default_value default_header) new no_messages (fresh c) commands replies
 
--- Both lists ran, each on a new domain with these settings. Where neither list asks for publishers whose memory grows,
--- the second leaves out calls of other subscribers than the one made at `position`, publishers are independent, each
--- other subscriber that was closed had released its samples in both runs, and neither run tells of refused memory, by a
--- reply or by its count of refused connections: if that subscriber's receives got the same replies, then it sees the
--- same at the end of both, and reads of its samples got the same replies. It sees the same after each number of
--- commands too, at any point that each run has there. Each run has such a point after each number of commands (`grants`
--- of both runs).
+-- Both lists ran, each on a new domain with these settings. The rest holds under six conditions: neither list asks for
+-- publishers whose memory grows; the second leaves out calls of other subscribers than the one made at `position`;
+-- publishers are independent; each other subscriber that was closed had released its samples in both runs; neither run
+-- tells of refused memory, by a reply or by its count of refused connections; and the subscriber made at `position` got
+-- the same replies to its receives. Then this subscriber sees the same at the end of both runs, and reads of its
+-- samples got the same replies. It also sees the same after each number of commands, at any point that each run has
+-- there. Each run has such a point after each number of commands (`grants` of both runs).
 pub record AreCompared {T U F G : Type 0} (default_value : T) (default_header : U) (c : ServiceConfig) (commands reduced : List (Command T U))
     (new : Domain T U F G) (replies : List (Reply T U)) (new' : Domain T U F G) (replies' : List (Reply T U)) : Type 0 where
   pub first : RunsOnDomain (only_defaults default_value default_header) new no_messages (fresh c) commands replies

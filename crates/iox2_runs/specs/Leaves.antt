@@ -22,8 +22,8 @@ module _ {T U F G : Type 0} where
   abbrev pub AreNewIn : Domain T U F G → List Made → Type 0
   AreNewIn start table = (of : ℕ) → IsNewIn start (item_of (slice_index_or table of Nothing))
 
-  -- Where all that was live in an earlier domain is live and the table has nothing of it, this is so afterwards too, also of
-  -- what is made. And the ports of the table stand where their handles say, if they did, as one does that is made.
+  -- If all that was live in an earlier domain is live and the table has nothing of it, this is so afterwards too, also
+  -- of what is made. And the ports of the table stand where their handles say, if they did, as one does that is made.
   pub record Leaves (old new : Domain T U F G) (table table' : List Made) (made : Made) : Type 0 where
     pub live : (start : Domain T U F G) → Stays start old → AreNewIn start table → Stays start new × AreNewIn start table' × IsNewIn start (item_of made)
     pub placed : ArePlaced old table → ArePlaced new table' × IsPlacedMade new made

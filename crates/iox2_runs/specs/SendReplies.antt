@@ -15,7 +15,7 @@ reply_to_send (Ok (WasDelivered count)) = Delivered count
 reply_to_send (Ok (IsBlocked blocked)) = Blocked
 reply_to_send (Err error) = SendRefused error
 
--- What it made: the blocked send, where it is blocked.
+-- What it made: the blocked send, if it is blocked.
 abbrev pub made_by_send : Result SendOutcome SendError → Made
 made_by_send (Ok (WasDelivered count)) = Nothing
 made_by_send (Ok (IsBlocked blocked)) = MadeBlocked blocked

@@ -10,7 +10,7 @@ use Rattle.iox2_machine.specs.machine.State.{State}
 use Rattle.iox2_commands.specs.Outcomes.{Handle, No_handle, Publisher_handle, Subscriber_handle, Loan_handle, Blocked_handle, Sample_handle, Event}
 use Rattle.iox2_commands.specs.Runs.{received}
 
--- What the handle names that a command made, with the service's number; no entry where it made none or it is spent.
+-- What the handle names that a command made, with the service's number; no entry if it made none or it is spent.
 pub data TableEntry : Type 0 where
   No_entry : TableEntry
   Publisher_entry : (service id : ℕ) → TableEntry
@@ -36,11 +36,11 @@ module _ {T U : Type 0} (s : State T U) where
   IsSpent (Blocked_handle p n) = HoldsBlocked s p n → ⊥
   IsSpent (Sample_handle p q n) = is_borrowed n (s.mailboxes p q) ≡ false
 
-  -- No send of the publisher is blocked, where it is there.
+  -- No send of the publisher is blocked, if it is there.
   abbrev pub IsUnblocked : (p : ℕ) → Type 0
   IsUnblocked p = (x : Publisher) → s.publishers p ≡ Some x → x.blocked ≡ None
 
-  -- No box answers for the publisher, where it is there.
+  -- No box answers for the publisher, if it is there.
   abbrev pub HasNoBox : (p : ℕ) → Type 0
   HasNoBox p = (x : Publisher) → s.publishers p ≡ Some x → (x.backpressure_handler ≡ Some Custom → ⊥) × (x.degradation_handler ≡ Custom → ⊥)
 

@@ -4,7 +4,8 @@ use Rattle.iox2_domain.specs.Fields.{Fields}
 use Rattle.iox2_domain.specs.OpenMarks.{ClearsMarks, IsUnmarkedReceiver, IsUnmarkedSender}
 
 module _ {T U : Type 0} where
-  -- Nothing changed but marks, none is newly set, and no connection of the publisher at the place i is marked as open.
+  -- Nothing changed except marks, none is newly set, and no connection of the publisher at the place i is marked as
+  -- open.
   pub record UnmarksSender (f : Fields T U) (i : ℕ) (f' : Fields T U) : Type 0 where
     pub clears : ClearsMarks f f'
     pub unmarked : IsUnmarkedSender f'.connections i

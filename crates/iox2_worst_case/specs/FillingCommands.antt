@@ -56,7 +56,7 @@ subscriber_filled c value position =
 abbrev pub filling_length : ServiceConfig → ℕ
 filling_length c = 2 + 4 * c.subscriber_max_borrowed_samples + 3 * (buffer_limit c + c.history_size)
 
--- So many subscribers are made and filled, one after another.
+-- That many subscribers are made and filled, one after another.
 abbrev pub subscribers_filled : {T U : Type 0} → ServiceConfig → (value : T) → (position count : ℕ) → List (Command T U)
 subscribers_filled c value position zero = []
 subscribers_filled c value position (suc count) =

@@ -46,7 +46,7 @@ PrintsReplies input output output' warning_text =
 abbrev pub PrintsAll : (input output output' errors errors' : Option (List ℕ)) → Type 0
 PrintsAll input output output' errors errors' = (lines : List ℕ) × PrintsReplies input output output' lines × Appends errors errors' lines
 
--- The same, but of the lines of its warnings the errors have some first bytes alone.
+-- The same, except that the errors have only some first bytes of the lines of its warnings.
 abbrev pub PrintsRepliesAlone : (input output output' errors errors' : Option (List ℕ)) → Type 0
 PrintsRepliesAlone input output output' errors errors' =
     (lines : List ℕ) × PrintsReplies input output output' lines × AppendsPart errors errors' lines

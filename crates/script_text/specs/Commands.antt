@@ -167,7 +167,7 @@ IsCommandLine words (command.Update of) = HasForm words (codes "update") 2 × Is
 IsCommandLine words (command.Receive of) = HasForm words (codes "recv") 2 × IsNameAt words 1 of
 IsCommandLine words (command.HasSamples of) = HasForm words (codes "has") 2 × IsNameAt words 1 of
 IsCommandLine words (command.Close of) = HasForm words (codes "close") 2 × IsNameAt words 1 of
--- `read ..`, `header N`, `user N`, `release N`: calls of a sample; all but the last of a loan too.
+-- `read ..`, `header N`, `user N`, `release N`: calls of a sample; all except the last of a loan too.
 IsCommandLine words (command.Read of at) = IsReadLine words of at
 IsCommandLine words (command.ReadHeader of) = HasForm words (codes "header") 2 × IsNameAt words 1 of
 IsCommandLine words (command.ReadUserHeader of) = HasForm words (codes "user") 2 × IsNameAt words 1 of

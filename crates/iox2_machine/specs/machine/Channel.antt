@@ -43,7 +43,7 @@ with_state state channel = cond (is_in_state state channel) channel (record { st
 abbrev pub with_hint : Channel → Channel
 with_hint channel = record channel { has_hint = true }
 
--- The channel with that number, where it is in the state `expected`, is changed so.
+-- The channel with that number, if it is in the state `expected`, is changed so.
 abbrev pub changed_if : (number expected : ℕ) → (Channel → Channel) → (ℕ → Channel) → ℕ → Channel
 changed_if number expected change channels =
     cond (is_in_state expected (channels number)) (put_at channels number (change (channels number))) channels

@@ -29,7 +29,8 @@ module _ {T U : Type 0} where
     channels = λ p. put_at (s.channels p) q (cond (contains (senders_of s q) p) (changed_if number expected change (s.channels p q)) (s.channels p q));
   }
 
-  -- `set_channel_state`: where the channel is closed it comes into the state. It is told whether it was closed at each connection.
+  -- `set_channel_state`: if the channel is closed, it comes into the state. It is told whether it was closed at each
+  -- connection.
   abbrev pub SetChannelState : State T U → (q number state : ℕ) → State T U → (result : Bool) → Type 0
   SetChannelState s q number state s' result =
       (s' ≡ received_changed s q number closed_state (with_state state))
@@ -39,11 +40,11 @@ module _ {T U : Type 0} where
   abbrev pub some_channel_has_state : State T U → (q number state : ℕ) → Bool
   some_channel_has_state s q number state = list_any (λ p. is_in_state state (s.channels p q number)) (senders_of s q)
 
-  -- `close_channel` of a subscriber: where the channel is in the state it is closed.
+  -- `close_channel` of a subscriber: if the channel is in the state, it is closed.
   abbrev pub received_closed : State T U → (q number expected : ℕ) → State T U
   received_closed s q number expected = received_changed s q number expected (with_state closed_state)
 
-  -- `set_disconnect_hint`: where the channel is in the state it has a hint.
+  -- `set_disconnect_hint`: if the channel is in the state, it has a hint.
   abbrev pub received_hinted : State T U → (q number expected : ℕ) → State T U
   received_hinted s q number expected = received_changed s q number expected with_hint
 
@@ -65,7 +66,8 @@ module _ {T U : Type 0} where
   abbrev pub has_disconnect_hint : State T U → (p number place state : ℕ) → Bool
   has_disconnect_hint s p number place state = option_map_or (λ q. is_hinted state (s.channels p q number)) (receiver_at s p place) false
 
-  -- `close_channel` of a publisher: where there is an end at the place, and the channel is in the state there, it is closed.
+  -- `close_channel` of a publisher: if there is an end at the place, and the channel is in the state there, it is
+  -- closed.
   abbrev pub sent_closed : State T U → (p number place expected : ℕ) → State T U
   sent_closed s p number place expected =
       option_map_or (λ q. with_channels s p q (changed_if number expected (with_state closed_state) (s.channels p q))) (receiver_at s p place) s

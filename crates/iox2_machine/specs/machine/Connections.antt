@@ -1,4 +1,5 @@
--- What both ports' updates share: a walk over the other side's places, and what is returned where memory for a connection is refused.
+-- What both ports' updates share: a walk over the other side's places, and what is returned if memory for a connection
+-- is refused.
 use Rattle.std.specs.Prelude.{ℕ, List, [], ◌∷◌, ◌≡◌, ◌+◌}
 use Rattle.std.specs.declared.option.Option.{Option}
 use Rattle.std.specs.declared.option.Option.TheVariants.{None, Some}
@@ -34,7 +35,7 @@ abbrev pub DegradationAnswers : Environment → (port : ℕ) → Handler Degrada
 DegradationAnswers environment port (Fixed answer) info action = action ≡ answer
 DegradationAnswers environment port Custom info action = environment.degradation_answers port NotEstablished info action
 
--- The update fails only where the handler says so.
+-- The update fails only if the handler says so.
 abbrev pub failure_of : DegradationAction → Option ConnectionFailure
 failure_of Ignore = None
 failure_of Warn = None

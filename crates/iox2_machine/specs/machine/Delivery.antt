@@ -60,7 +60,7 @@ by_action strategy Retry = Would_block
 by_action strategy Discard = Skipped
 by_action strategy DiscardDataAndFail = Failed
 
--- With a full receiver the handler's answer decides, or the strategy where there is no handler.
+-- With a full receiver the handler's answer decides, or the strategy if there is no handler.
 abbrev pub Decides : Environment → (p : ℕ) → Option (Handler BackpressureAction) → BackpressureStrategy → BackpressureInfo → PutResult → Type 0
 Decides environment p None strategy info result = result ≡ by_strategy strategy
 Decides environment p (Some (Fixed action)) strategy info result = result ≡ by_action strategy action
@@ -84,8 +84,8 @@ module _ (environment : Environment) (c : ServiceConfig) (p : ℕ) (strategy : B
     elapsed_time = elapsed;
   }
 
-  -- A receiver that takes nothing is skipped. Any other takes the message into the channel where it has room, or where safe
-  -- overflow is on. Else the handler decides, or the strategy where there is no handler.
+  -- A receiver that takes nothing is skipped. Any other takes the message into the channel if it has room, or if safe
+  -- overflow is on. Else the handler decides, or the strategy if there is no handler.
   abbrev pub Put : (channel q retries : ℕ) → Duration → (buffer : Option ℕ) → Mailbox → PutResult → Mailbox → Type 0
   Put channel q retries elapsed None box result box' = (result ≡ Skipped) × (box' ≡ box)
   Put channel q retries elapsed (Some buffer) box result box' =
@@ -93,7 +93,7 @@ module _ (environment : Environment) (c : ServiceConfig) (p : ℕ) (strategy : B
       ((result ≡ Accepted) × (box' ≡ with_appended channel buffer n box))
       (Decides environment p handler strategy (info_of q retries elapsed) result × (box' ≡ box))
 
-  -- The message is put into the channel of the mailbox to which the end leads; where there is none nothing happens.
+  -- The message is put into the channel of the mailbox to which the end leads; if there is none, nothing happens.
   abbrev pub PutAtEnd : (channel retries : ℕ) → Duration → (end : Option ℕ) → (ℕ → Mailbox) → PutResult → (ℕ → Mailbox) → Type 0
   PutAtEnd channel retries elapsed end boxes result boxes' =
       MatchOption end

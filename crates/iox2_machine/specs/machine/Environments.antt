@@ -1,4 +1,4 @@
--- What the machine can't decide, where no port has a boxed handler.
+-- What the machine can't decide, if no port has a boxed handler.
 use Rattle.iox2_machine.specs.machine.Records.{Environment}
 
 -- No port has a boxed handler, and memory may be refused.

@@ -61,8 +61,8 @@ module _ {T U : Type 0} where
     }));
   }
 
-  -- Past the limits, a static publisher's loan is refused exactly where it holds as many different messages and loans as
-  -- it has slots, or where the message counter is at its end.
+  -- Past the limits, a static publisher's loan is refused exactly if it holds as many different messages and loans as
+  -- it has slots, or if the message counter is at its end.
   abbrev pub StaticLoan : (default_header : U) → State T U → (p : ℕ) → Publisher → (len : ℕ) → State T U → Option LoanError → Type 0
   StaticLoan default_header s p x len s' refusal =
       MatchBool (size (held s p x) == x.slots)
@@ -76,9 +76,9 @@ module _ {T U : Type 0} where
   IsGuaranteed s p x len = (size (held s p x) < x.slots) × (len ≤ known_length x)
 
   -- Past the limits, a dynamic publisher grants a loan with the segments that it has, or with one more. A guaranteed loan
-  -- needs no further segment, and is refused only where the message counter is at its end. A loan that isn't guaranteed is
-  -- granted only where a segment of its length fits. `OutOfMemory` is returned only where all segments were made, and
-  -- `InternalFailure` only where memory is refused, no segment fits or the counter is at its end.
+  -- needs no further segment, and is refused only if the message counter is at its end. A loan that isn't guaranteed is
+  -- granted only if a segment of its length fits. `OutOfMemory` is returned only if all segments were made, and
+  -- `InternalFailure` only if memory is refused, no segment fits or the counter is at its end.
   abbrev pub DynamicLoan : Environment → (default_header : U) → State T U → (p : ℕ) → Publisher → (len : ℕ) → State T U → Option LoanError → Type 0
   DynamicLoan environment default_header s p x len s' None =
       (s.next_message < last_number) × (IsGuaranteed s p x len ⊎ (segment_fits s.config x.slots len ≡ true)) × (segments : ℕ)

@@ -12,7 +12,7 @@ abbrev pub LendsValues : {T U : Type 0} → State T U → Publisher → Type 0
 LendsValues s x = is_static x.allocation_strategy ≡ false → (s.config).variant ≡ FixedSize → 1 ≤ x.initial_max_slice_len
 
 -- The publisher p stands, has at least as many slots in each segment as the worst case for its limit of loans, lends single
--- values where messages are such, and has at least n loans fewer out than that limit.
+-- values if messages are such, and has at least n loans fewer out than that limit.
 pub record CanLend {T U : Type 0} (s : State T U) (p n : ℕ) : Type 0 where
   pub port : Publisher
   pub stands : s.publishers p ≡ Some port

@@ -85,7 +85,7 @@ abbrev pub with_waiting_in : (channel : ℕ) → List ℕ → Mailbox → Mailbo
 with_waiting_in zero ns box = record box { waiting = ns }
 with_waiting_in (suc k) ns box = record box { others = with_numbers_of (suc k) ns box.others }
 
--- The number waits as the last in the channel; where there was no room the first leaves.
+-- The number waits as the last in the channel; if there was no room, the first leaves.
 abbrev pub with_appended : (channel buffer n : ℕ) → Mailbox → Mailbox
 with_appended channel buffer n box =
     with_waiting_in channel (cond (has_room channel buffer box) (waiting_in channel box) (drop 1 (waiting_in channel box)) ++ n ∷ []) box

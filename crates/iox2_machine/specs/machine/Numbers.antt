@@ -19,7 +19,7 @@ abbrev pub is_nil : List ℕ → Bool
 is_nil [] = true
 is_nil (n ∷ ns) = false
 
--- The last n elements of the list, or all where there are fewer.
+-- The last n elements of the list, or all if there are fewer.
 abbrev pub last_n : {X : Type 0} → (n : ℕ) → List X → List X
 last_n n xs = drop (length xs - n) xs
 

@@ -26,11 +26,11 @@ lowest_free [] = 0
 lowest_free (None ∷ xs) = 0
 lowest_free (Some id ∷ xs) = suc (lowest_free xs)
 
--- The lowest place at which nothing stands, where it is below the limit.
+-- The lowest place at which nothing stands, if it is below the limit.
 abbrev pub free_place : (limit : ℕ) → List (Option ℕ) → Option ℕ
 free_place limit places = cond (nat_lt (lowest_free places) limit) (Some (lowest_free places)) None
 
--- The list with this at a place; it grows where it is too short.
+-- The list with this at a place; it grows if it is too short.
 abbrev pub set_place : List (Option ℕ) → (place : ℕ) → Option ℕ → List (Option ℕ)
 set_place [] zero x = x ∷ []
 set_place [] (suc place) x = None ∷ set_place [] place x

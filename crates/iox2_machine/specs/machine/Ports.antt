@@ -41,8 +41,8 @@ default_publisher_settings c = record {
 abbrev pub default_subscriber_settings : ServiceConfig → SubscriberSettings
 default_subscriber_settings c = record { buffer_size = buffer_limit c; degradation_handler = Fixed Warn }
 
--- A publisher has the worst case of slots, or fewer where the override of the preallocation asks for fewer, but at least
--- one where the worst case isn't none.
+-- A publisher has the worst case of slots, or fewer if the override of the preallocation asks for fewer, but at least
+-- one if the worst case isn't none.
 -- (iceoryx2: `service/port_factory/publisher.rs`, `override_sample_preallocation`.)
 abbrev pub slots_for : ServiceConfig → PublisherSettings → ℕ
 slots_for c given = option_map_or (λ asked. min (worst_case c given.max_loaned_samples) (max 1 asked)) given.asked_slots (worst_case c given.max_loaned_samples)
@@ -96,7 +96,7 @@ module _ {T U : Type 0} where
     publisher_places = set_place s.publisher_places place (Some s.next_port);
   })
 
-  -- It is warned where the service's setting for expired publishers is too small for the borrowed messages.
+  -- It is warned if the service's setting for expired publishers is too small for the borrowed messages.
   abbrev pub with_buffer_warning : State T U → (q : ℕ) → State T U
   with_buffer_warning s q =
       record s {
@@ -119,7 +119,7 @@ module _ {T U : Type 0} where
 
   -- ---- close
 
-  -- The mailbox of a publisher that closes and q: what is borrowed stays, and what waits stays where q is open and has
+  -- The mailbox of a publisher that closes and q: what is borrowed stays, and what waits stays if q is open and has
   -- its end.
   abbrev pub mailbox_after_publisher : State T U → (p : ℕ) → Publisher → (q : ℕ) → Mailbox
   mailbox_after_publisher s p x q =
@@ -154,7 +154,7 @@ module _ {T U : Type 0} where
     mailboxes = λ p. put_at (s.mailboxes p) q (mailbox_after_subscriber s q p);
   })
 
-  -- The subscriber q is closed. It is gone at once where it has borrowed nothing.
+  -- The subscriber q is closed. It is gone at once if it has borrowed nothing.
   -- (iceoryx2: `port/subscriber.rs`, `Subscriber`'s drop.)
   abbrev pub subscriber_closed : State T U → (q : ℕ) → Subscriber → State T U
   subscriber_closed s q y = receiver_channels_reset (freed_if_unused (subscriber_pruned (subscriber_shut s q y) q) q) q

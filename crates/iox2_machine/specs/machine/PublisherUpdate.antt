@@ -27,7 +27,7 @@ pub data SenderAction : Type 0 where
   Disconnect : SenderAction  -- the end goes, if there is one
   Connect : (q buffer : ℕ) → SenderAction  -- the end goes, if there is one, and one to q is made
 
--- An end to the subscriber that stands at the place stays, and what waits for it is lost where it is closed. Any other
+-- An end to the subscriber that stands at the place stays, and what waits for it is lost if it is closed. Any other
 -- end goes, and one to an open subscriber is made.
 abbrev pub sender_action : (buffers : ℕ → Option ℕ) → (at end : Option ℕ) → SenderAction
 sender_action buffers None end = Disconnect
@@ -57,7 +57,7 @@ connected history side place q buffer = record side {
 -- The update of the publisher p with that handler; `histories` has what is handed out to a new receiver, `buffers` has those
 -- of open subscribers, and `has_receiver_end` says which subscribers have their end of the mailbox already.
 module _ (environment : Environment) (service_id p : ℕ) (handler : Handler DegradationAction) (histories : ℕ → List ℕ) (buffers : ℕ → Option ℕ) (has_receiver_end : ℕ → Bool) where
-  -- The end to q is made. Where q has no end either, memory may be refused in place of that.
+  -- The end to q is made. If q has no end either, memory may be refused instead.
   abbrev pub ConnectSender : SenderSide → (place q buffer : ℕ) → SenderSide → Option ConnectionFailure → Type 0
   ConnectSender side place q buffer side' failure =
       ((side' ≡ connected (histories q) side place q buffer) × (failure ≡ None))
@@ -91,12 +91,12 @@ module _ {T U : Type 0} where
     warnings = side.warnings;
   }
 
-  -- What the publisher p hands out to a new receiver q: its history, or nothing where channel 0 is closed, which q may have
-  -- done if it has its end already.
+  -- What the publisher p hands out to a new receiver q: its history, or nothing if channel 0 is closed, which q may
+  -- have done if it has its end already.
   abbrev pub history_for : State T U → (p : ℕ) → Publisher → (q : ℕ) → List ℕ
   history_for s p x q = cond (is_closed (s.channels p q 0)) [] x.history
 
-  -- The publisher p, where it is due, goes over the subscribers' places.
+  -- The publisher p, if it is due, goes over the subscribers' places.
   abbrev pub UpdatePublisher : Environment → State T U → (p : ℕ) → State T U → Option ConnectionFailure → Type 0
   UpdatePublisher environment s p s' failure =
       MatchOption (s.publishers p) ⊥ (λ x.

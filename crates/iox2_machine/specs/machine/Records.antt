@@ -38,7 +38,7 @@ pub record Environment : Type 1 where
   pub backpressure_answers : (port : ℕ) → BackpressureInfo → BackpressureAction → Type 0
   pub degradation_answers : (port : ℕ) → DegradationCause → DegradationInfo → DegradationAction → Type 0
 
--- A send that waits for the receiver at a place. Its message was sent: it is in the history, where one is kept, and with
+-- A send that waits for the receiver at a place. Its message was sent: it is in the history, if one is kept, and with
 -- the receivers that have taken it.
 pub record BlockedSend : Type 0 where
   pub message : ℕ

@@ -42,7 +42,7 @@ module _ {T U : Type 0} where
   subscriber_pruned s q = subscriber_changed s q (pruned s q)
 
   -- q releases the message n of p. A departed publisher that it has no message of is forgotten, and q is gone with its
-  -- last borrowed message where it was closed.
+  -- last borrowed message if it was closed.
   -- (iceoryx2: `sample.rs`, `Sample`'s drop, and `port/details/receiver.rs`, `release_offset`.)
   abbrev pub released : State T U → (p q n : ℕ) → State T U
   released s p q n = receiver_channels_reset (freed_if_unused (subscriber_pruned (unborrowed s p q n) q) q) q

@@ -25,12 +25,12 @@ abbrev pub more_retries : ℕ → ℕ
 more_retries n = cond (nat_lt n (2 ^ 64 - 1)) (n + 1) n
 
 module _ {T U : Type 0} where
-  -- The message n stands last in the history of p, whose oldest message leaves where it is full.
+  -- The message n stands last in the history of p, whose oldest message leaves if it is full.
   -- (iceoryx2: `port/publisher.rs`, `add_sample_to_history`.)
   abbrev pub with_history : State T U → (p n : ℕ) → State T U
   with_history s p n = publisher_changed s p (λ x. record x { history = last_n (s.config).history_size (x.history ++ n ∷ []) })
 
-  -- The loan n is a message from now on: it leaves its user's hands, and enters the history of p, where one is kept.
+  -- The loan n is a message from now on: it leaves its user's hands, and enters the history of p, if one is kept.
   abbrev pub published : State T U → (p n : ℕ) → State T U
   published s p n = with_history (with_loan s n None) p n
 
@@ -42,7 +42,7 @@ module _ {T U : Type 0} where
   abbrev pub send_blocked : State T U → (p : ℕ) → BlockedSend → State T U
   send_blocked s p b = publisher_changed s p (λ x. record x { blocked = Some b })
 
-  -- A send that reached all receivers ends, with an error where one failed; a suspended one is blocked.
+  -- A send that reached all receivers ends, with an error if one failed; a suspended one is blocked.
   abbrev pub ConcludeSend : State T U → (p n : ℕ) → DeliveryEnd → State T U → SendResult → Type 0
   ConcludeSend s p n (Complete count has_failed) s' result =
       (s' ≡ send_ended s p n) × (result ≡ cond has_failed (Send_error UnableToDeliver) (Delivered_to count))
@@ -69,7 +69,7 @@ module _ {T U : Type 0} (environment : Environment) where
       MatchOption (s.publishers p) ⊥ (λ x.
       DeliverAndConclude (published s p n) p n 0 0 no_time 0 x.ends 0 false s' result)
 
-  -- The loan n is sent. Of a closed publisher it is lost. Else connections are updated first: where that fails the loan is
+  -- The loan n is sent. Of a closed publisher it is lost. Else connections are updated first: if that fails the loan is
   -- given back, and no message was sent.
   -- (iceoryx2: `port/publisher.rs`, `send_sample`.)
   abbrev pub Send : State T U → (n : ℕ) → Loan T U → State T U → SendResult → Type 0

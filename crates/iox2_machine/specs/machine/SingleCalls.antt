@@ -11,7 +11,7 @@ use Rattle.iox2_machine.specs.machine.Loans.{GrantLoan, written}
 use Rattle.iox2_machine.specs.declared.errors.LoanError.{LoanError}
 
 module _ {T U : Type 0} where
-  -- A loan is asked of the publisher p. Where it is granted, `Then` says what becomes of it at once.
+  -- A loan is asked of the publisher p. If it is granted, `Then` says what becomes of it at once.
   abbrev GrantLoanThen : Environment → (default_header : U) → (checks_length : Bool) → (len : ℕ) → State T U → (p : ℕ) → State T U → Option LoanError → (Then : State T U → Loan T U → Type 0) → Type 0
   GrantLoanThen environment default_header checks_length len s p s' refusal Then =
       (mid : State T U) × GrantLoan environment default_header checks_length len s p mid refusal
@@ -19,7 +19,7 @@ module _ {T U : Type 0} where
       (MatchOption (mid.loans s.next_message) ⊥ (λ l. Then mid l))
       (λ e. s' ≡ mid)
 
-  -- `loan` and `send_copy`: a loan with that value in its cells, where it is granted; they loan a single value.
+  -- `loan` and `send_copy`: a loan with that value in its cells, if it is granted; they loan a single value.
   -- (`loan_custom_payload` is `GrantLoan` as it is, with the length checked; `receive_custom_payload` is `Receive`.)
   abbrev pub GrantWrittenLoan : Environment → (default_value : T) → (default_header : U) → (checks_length : Bool) → (len : ℕ) → State T U → (p : ℕ) → State T U → Option LoanError → Type 0
   GrantWrittenLoan environment default_value default_header checks_length len s p s' refusal =
@@ -31,7 +31,7 @@ module _ {T U : Type 0} where
   WriteAllFrom s n l values s' =
       (length values ≡ length l.cells) × (s' ≡ with_loan s n (Some (record l { cells = map Some values; is_written = true })))
 
-  -- `loan_slice`: a loan in whose cells these default values lie, one made for each cell, where it is granted. The values
+  -- `loan_slice`: a loan in whose cells these default values lie, one made for each cell, if it is granted. The values
   -- need not be alike, for they aren't copied.
   abbrev pub GrantDefaultSlice : Environment → (IsDefaultValue : T → Type 0) → (values : List T) → (default_header : U) → (len : ℕ) → State T U → (p : ℕ) → State T U → Option LoanError → Type 0
   GrantDefaultSlice environment IsDefaultValue values default_header len s p s' refusal =

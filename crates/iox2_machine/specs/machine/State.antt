@@ -18,7 +18,7 @@ pub record Warnings : Type 0 where
   pub latest : List Warning  -- oldest first
   pub refused_connections : ℕ  -- how many connections were refused memory
 
--- All but the messages that were sent. A port that is gone has no record: ids are never used again.
+-- All except the messages that were sent. A port that is gone has no record: ids are never used again.
 pub record State (T U : Type 0) : Type 0 where
   pub config : ServiceConfig
   pub next_port : ℕ  -- the id of the next port
@@ -60,7 +60,7 @@ fresh c = record {
 abbrev pub no_messages : {T U : Type 0} → Messages T U
 no_messages = λ _. None
 
--- The warnings with one more, the oldest left out where they are too many.
+-- The warnings with one more, the oldest left out if they are too many.
 abbrev pub warned : Warnings → Warning → Warnings
 warned ws w = record ws { latest = last_n warning_limit (ws.latest ++ w ∷ []) }
 
@@ -79,7 +79,7 @@ module _ {T U : Type 0} where
   abbrev pub is_present : State T U → (p : ℕ) → Bool
   is_present s p = is_some (s.publishers p)
 
-  -- The buffer of a subscriber that takes messages, or none where it is closed: a message put there is skipped.
+  -- The buffer of a subscriber that takes messages, or none if it is closed: a message put there is skipped.
   abbrev pub receiving_buffer : State T U → (q : ℕ) → Option ℕ
   receiving_buffer s q = option_and_then (λ (y : Subscriber). cond y.is_open (Some y.buffer) None) (s.subscribers q)
 
@@ -87,7 +87,7 @@ module _ {T U : Type 0} where
   abbrev pub is_open : State T U → (q : ℕ) → Bool
   is_open s q = is_some (receiving_buffer s q)
 
-  -- The buffer of a subscriber that takes messages of p in that channel, or none where it is closed or the channel is.
+  -- The buffer of a subscriber that takes messages of p in that channel, or none if it is closed or the channel is.
   abbrev pub channel_buffer : State T U → (p channel q : ℕ) → Option ℕ
   channel_buffer s p channel q = cond (is_closed (s.channels p q channel)) None (receiving_buffer s q)
 
@@ -125,15 +125,15 @@ module _ {T U : Type 0} where
   abbrev pub with_channels : State T U → (p q : ℕ) → (ℕ → Channel) → State T U
   with_channels s p q channels = record s { channels = put_at s.channels p (put_at (s.channels p) q channels) }
 
-  -- The channels of p and q where these are connected; else new ones, for what was set while they were is forgotten.
+  -- The channels of p and q if these are connected; else new ones, for what was set while they were is forgotten.
   abbrev pub channels_if_linked : State T U → (p q : ℕ) → ℕ → Channel
   channels_if_linked s p q = cond (is_linked s p q) (s.channels p q) new_channels
 
-  -- The publisher p's channels are new where it isn't connected any more. No two ports are connected twice.
+  -- The publisher p's channels are new if it isn't connected any more. No two ports are connected twice.
   abbrev pub sender_channels_reset : State T U → (p : ℕ) → State T U
   sender_channels_reset s p = record s { channels = put_at s.channels p (channels_if_linked s p) }
 
-  -- The subscriber q's channels are new where it isn't connected any more.
+  -- The subscriber q's channels are new if it isn't connected any more.
   abbrev pub receiver_channels_reset : State T U → (q : ℕ) → State T U
   receiver_channels_reset s q = record s { channels = λ p. put_at (s.channels p) q (channels_if_linked s p q) }
 
@@ -145,11 +145,11 @@ module _ {T U : Type 0} where
   abbrev pub with_warning : State T U → Warning → State T U
   with_warning s w = record s { warnings = warned s.warnings w }
 
-  -- The publisher p, where it is present, is changed so.
+  -- The publisher p, if it is present, is changed so.
   abbrev pub publisher_changed : State T U → (p : ℕ) → (Publisher → Publisher) → State T U
   publisher_changed s p change = record s { publishers = put_at s.publishers p (option_map change (s.publishers p)) }
 
-  -- The subscriber q, where it has a record, is changed so.
+  -- The subscriber q, if it has a record, is changed so.
   abbrev pub subscriber_changed : State T U → (q : ℕ) → (Subscriber → Subscriber) → State T U
   subscriber_changed s q change = record s { subscribers = put_at s.subscribers q (option_map change (s.subscribers q)) }
 

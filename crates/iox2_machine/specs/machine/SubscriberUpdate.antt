@@ -35,7 +35,7 @@ abbrev pub first_without_borrows : (ℕ → Mailbox) → List ℕ → Option ℕ
 first_without_borrows boxes [] = None
 first_without_borrows boxes (p ∷ ps) = cond (has_borrows (boxes p)) (first_without_borrows boxes ps) (Some p)
 
--- The first one is evicted; where there is none, the retirement is refused.
+-- The first one is evicted; if there is none, the retirement is refused.
 abbrev pub evict_or_refuse : Option ℕ → Retirement
 evict_or_refuse None = Refuse
 evict_or_refuse (Some first) = Evict first
@@ -77,7 +77,7 @@ with_end side place end = record side { ends = set_place side.ends place end }
 -- The update of the subscriber q, which has that handler and keeps at most `limit` expired publishers. `has_sender_end`
 -- says which publishers have their end of the mailbox already.
 module _ (environment : Environment) (service_id q : ℕ) (handler : Handler DegradationAction) (limit : ℕ) (has_sender_end : ℕ → Bool) where
-  -- The end to p is made. Where p has no end either, memory may be refused in place of that.
+  -- The end to p is made. If p has no end either, memory may be refused instead.
   abbrev pub ConnectReceiver : ReceiverSide → (place p : ℕ) → ReceiverSide → Option ConnectionFailure → Type 0
   ConnectReceiver side place p side' failure =
       ((side' ≡ with_end side place (Some p)) × (failure ≡ None))
@@ -134,7 +134,7 @@ module _ {T U : Type 0} where
     warnings = side.warnings;
   }
 
-  -- The subscriber q, where it is due, goes over the publishers' places.
+  -- The subscriber q, if it is due, goes over the publishers' places.
   abbrev pub UpdateSubscriber : Environment → State T U → (q : ℕ) → State T U → Option ConnectionFailure → Type 0
   UpdateSubscriber environment s q s' failure =
       MatchOption (s.subscribers q) ⊥ (λ y.

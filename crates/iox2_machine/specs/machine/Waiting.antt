@@ -11,6 +11,6 @@ abbrev pub receives_from : Subscriber → (p : ℕ) → Bool
 receives_from y p = y.is_open && (y.is_due || contains (connected_publishers y) p)
 
 module _ {T U : Type 0} where
-  -- The messages of p that wait for q, oldest first: none where q doesn't receive from p.
+  -- The messages of p that wait for q, oldest first: none if q doesn't receive from p.
   abbrev pub waiting_from : State T U → (p q : ℕ) → List ℕ
   waiting_from s p q = cond (option_map_or (λ (y : Subscriber). receives_from y p) (s.subscribers q) false) (s.mailboxes p q).waiting []
