@@ -1,0 +1,98 @@
+//! A request that a server has received.
+
+use crate::server::Server;
+use crate::service::RequestResponse;
+use crate::tags::ResponseTag;
+use iox2_pubsub::{Sample, SampleMutUninit, SendError, SendOutcome, UniquePublisherId};
+
+/// A request, to which its server may send responses.
+///
+/// iceoryx2's `ActiveRequest` (`src/active_request.rs`).
+pub struct ActiveRequest {
+    pub(crate) sample: Sample,
+    // The place at which the server's publisher knows the subscriber that waits for the responses.
+    pub(crate) place: usize,
+    pub(crate) number: u64,
+}
+
+impl ActiveRequest {
+    /// The request's value.
+    pub fn payload<'a, Q: Drop, P: Drop>(&self, service: &'a RequestResponse<Q, P>) -> &'a Q {
+        self.sample.payload(&service.requests)
+    }
+
+    /// Which client sent it.
+    pub fn origin(&self) -> UniquePublisherId {
+        self.sample.origin()
+    }
+
+    // The sample of the request.
+    pub(crate) fn sample_of(self) -> Sample {
+        let ActiveRequest {
+            sample,
+            place: _,
+            number: _,
+        } = self;
+        sample
+    }
+
+    /// Whether the client still waits for responses.
+    pub fn is_connected<Q: Drop, P: Drop>(
+        &self,
+        server: &Server,
+        service: &RequestResponse<Q, P>,
+    ) -> bool {
+        server
+            .responses
+            .has_channel_state(&service.responses, 0, self.place, self.number)
+    }
+
+    /// Whether the client has said that it is about to let the request go.
+    pub fn has_disconnect_hint<Q: Drop, P: Drop>(
+        &self,
+        server: &Server,
+        service: &RequestResponse<Q, P>,
+    ) -> bool {
+        server
+            .responses
+            .has_disconnect_hint(&service.responses, 0, self.place, self.number)
+    }
+
+    /// Sends a response. Returns whether it was taken: it isn't if the client has let the request go, or if
+    /// the buffer is full and the service doesn't overflow.
+    pub fn send_copy<Q: Drop, P: Drop>(
+        &self,
+        server: &Server,
+        service: &mut RequestResponse<Q, P>,
+        value: P,
+    ) -> Result<bool, SendError> {
+        if !self.is_connected(server, service) {
+            return Ok(false);
+        }
+        let mut loan = server.responses.loan_uninit(&mut service.responses)?;
+        *SampleMutUninit::user_header_mut(&mut service.responses, &mut loan) = ResponseTag {
+            number: self.number,
+        };
+        let message = loan.write_payload(&mut service.responses, value);
+        match message.deliver_offset_to_connection(&mut service.responses, 0, self.place)? {
+            SendOutcome::Delivered(count) => Ok(count == 1),
+            SendOutcome::Blocked(blocked) => {
+                blocked.disown();
+                unreachable!()
+            }
+        }
+    }
+
+    /// Ends the request: no response is sent to it any more, and the client sees it.
+    pub fn finish<Q: Drop, P: Drop>(self, server: &Server, service: &mut RequestResponse<Q, P>) {
+        let ActiveRequest {
+            sample,
+            place,
+            number,
+        } = self;
+        server
+            .responses
+            .close_channel(&mut service.responses, 0, place, number);
+        sample.release(&mut service.requests);
+    }
+}

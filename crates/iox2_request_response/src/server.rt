@@ -1,0 +1,107 @@
+//! A server.
+
+use crate::active_request::ActiveRequest;
+use crate::errors::ServerCreateError;
+use crate::service::RequestResponse;
+use iox2_pubsub::{
+    ConnectionFailure, Publisher, ReceiveError, Sample, Subscriber, UpdateConnections,
+};
+
+/// Receives requests, and sends responses to them.
+///
+/// iceoryx2's `Server` (`src/port/server.rs`).
+pub struct Server {
+    pub(crate) requests: Subscriber,
+    pub(crate) responses: Publisher,
+}
+
+impl<Q: Drop, P: Drop> RequestResponse<Q, P> {
+    /// A server.
+    pub fn create_server(&mut self) -> Result<Server, ServerCreateError> {
+        let requests = match self
+            .requests
+            .subscriber_builder()
+            .create(&mut self.requests)
+        {
+            Ok(requests) => requests,
+            Err(error) => return Err(ServerCreateError::Requests(error)),
+        };
+        match self
+            .responses
+            .publisher_builder()
+            .create(&mut self.responses)
+        {
+            Ok(responses) => Ok(Server {
+                requests,
+                responses,
+            }),
+            Err(error) => {
+                requests.close(&mut self.requests);
+                Err(ServerCreateError::Responses(error))
+            }
+        }
+    }
+}
+
+impl Server {
+    /// Whether some request waits, also one that its client has let go.
+    pub fn has_requests<Q: Drop, P: Drop>(
+        &self,
+        service: &mut RequestResponse<Q, P>,
+    ) -> Result<bool, ConnectionFailure> {
+        self.requests.has_samples(&mut service.requests)
+    }
+
+    /// Receives the next request that its client still waits for. Those that are let go are released.
+    pub fn receive<Q: Drop, P: Drop>(
+        &self,
+        service: &mut RequestResponse<Q, P>,
+    ) -> Result<Option<ActiveRequest>, ReceiveError> {
+        self.responses.update_connections(&mut service.responses)?;
+        while let Some(sample) = self.requests.receive(&mut service.requests)? {
+            match self.activate(service, sample) {
+                Ok(active) => return Ok(Some(active)),
+                Err(sample) => sample.release(&mut service.requests),
+            }
+        }
+        Ok(None)
+    }
+
+    // The request of the sample, or the sample if its client has let it go.
+    fn activate<Q: Drop, P: Drop>(
+        &self,
+        service: &RequestResponse<Q, P>,
+        sample: Sample,
+    ) -> Result<ActiveRequest, Sample> {
+        let tag = sample.user_header(&service.requests);
+        let number = tag.number;
+        match self
+            .responses
+            .get_connection_id_of(&service.responses, tag.slot)
+        {
+            Some(place) => {
+                let active = ActiveRequest {
+                    sample,
+                    place,
+                    number,
+                };
+                if active.is_connected(self, service) {
+                    Ok(active)
+                } else {
+                    Err(active.sample_of())
+                }
+            }
+            None => Err(sample),
+        }
+    }
+
+    /// Closes the server. Requests that it has received have to be finished before.
+    pub fn close<Q: Drop, P: Drop>(self, service: &mut RequestResponse<Q, P>) {
+        let Server {
+            requests,
+            responses,
+        } = self;
+        requests.close(&mut service.requests);
+        responses.close(&mut service.responses);
+    }
+}

@@ -1,0 +1,5 @@
+//! Tests of requests and responses.
+#![tactic(auto)]
+
+#[cfg(test)]
+mod tests;
