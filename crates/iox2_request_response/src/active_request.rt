@@ -1,4 +1,12 @@
 //! A request that a server has received.
+ghost use Rattle.std.specs.Prelude.{◌≡◌};
+ghost use Rattle.iox2_machine.specs.machine.ChannelCalls.{has_channel_state, has_disconnect_hint};
+ghost use Rattle.iox2_machine.specs.machine.State.{State, Messages};
+ghost use Rattle.iox2_domain.specs.Shows.{Shows};
+ghost use Rattle.iox2_pubsub.specs.Live.{No_item, received_sample};
+ghost use Rattle.iox2_request_response.specs.Handles.{IsLiveActive, IsLiveServer};
+ghost use Rattle.iox2_request_response.specs.Service.{IsService, StaysBoth, StaysService};
+ghost use Rattle.iox2_request_response.specs.declared.tags.ResponseTag.{ResponseTag as Tag};
 
 use crate::server::Server;
 use crate::service::RequestResponse;
@@ -17,7 +25,10 @@ pub struct ActiveRequest {
 
 impl ActiveRequest {
     /// The request's value.
-    pub fn payload<'a, Q: Drop, P: Drop>(&self, service: &'a RequestResponse<Q, P>) -> &'a Q {
+    pub fn payload<'a, Q: Drop, P: Drop>(&self, service: &'a RequestResponse<Q, P>) -> &'a Q
+        requires service { IsService service.now }
+        requires live { IsLiveActive service.now self.now }
+    {
         self.sample.payload(&service.requests)
     }
 
@@ -27,7 +38,9 @@ impl ActiveRequest {
     }
 
     // The sample of the request.
-    pub(crate) fn sample_of(self) -> Sample {
+    pub(crate) fn sample_of(self) -> Sample
+        ensures { result ≡ self.sample }
+    {
         let ActiveRequest {
             sample,
             place: _,
@@ -41,7 +54,10 @@ impl ActiveRequest {
         &self,
         server: &Server,
         service: &RequestResponse<Q, P>,
-    ) -> bool {
+    ) -> bool
+        requires server { IsLiveServer service.now server.now }
+        ensures { (m : Messages P Tag) (s : State P Tag) → Shows service.now.responses m s → result ≡ has_channel_state s server.now.responses.id 0 self.now.place self.now.number }
+    {
         server
             .responses
             .has_channel_state(&service.responses, 0, self.place, self.number)
@@ -52,7 +68,10 @@ impl ActiveRequest {
         &self,
         server: &Server,
         service: &RequestResponse<Q, P>,
-    ) -> bool {
+    ) -> bool
+        requires server { IsLiveServer service.now server.now }
+        ensures { (m : Messages P Tag) (s : State P Tag) → Shows service.now.responses m s → result ≡ has_disconnect_hint s server.now.responses.id 0 self.now.place self.now.number }
+    {
         server
             .responses
             .has_disconnect_hint(&service.responses, 0, self.place, self.number)
@@ -65,7 +84,11 @@ impl ActiveRequest {
         server: &Server,
         service: &mut RequestResponse<Q, P>,
         value: P,
-    ) -> Result<bool, SendError> {
+    ) -> Result<bool, SendError>
+        requires service { IsService service.old }
+        requires server { IsLiveServer service.old server.now }
+        ensures stays { StaysService service.old service.new }
+    {
         if !self.is_connected(server, service) {
             return Ok(false);
         }
@@ -84,7 +107,11 @@ impl ActiveRequest {
     }
 
     /// Ends the request: no response is sent to it any more, and the client sees it.
-    pub fn finish<Q: Drop, P: Drop>(self, server: &Server, service: &mut RequestResponse<Q, P>) {
+    pub fn finish<Q: Drop, P: Drop>(self, server: &Server, service: &mut RequestResponse<Q, P>)
+        requires live { IsLiveActive service.old self }
+        requires server { IsLiveServer service.old server.now }
+        ensures stays { StaysBoth (received_sample self.sample) No_item service.old service.new }
+    {
         let ActiveRequest {
             sample,
             place,

@@ -1,4 +1,8 @@
 //! A client.
+ghost use Rattle.std.specs.Prelude.{◌≡◌, IfOk, length};
+ghost use Rattle.iox2_pubsub.specs.Live.{IsLivePublisher, IsLiveSubscriber, publisher_port};
+ghost use Rattle.iox2_request_response.specs.Handles.{IsLiveClient, IsLivePending};
+ghost use Rattle.iox2_request_response.specs.Service.{IsService, StaysService};
 
 use crate::errors::{ClientCreateError, RequestSendError};
 use crate::pending_response::PendingResponse;
@@ -16,7 +20,11 @@ pub struct Client {
 
 impl<Q: Drop, P: Drop> RequestResponse<Q, P> {
     /// A client.
-    pub fn create_client(&mut self, alloc: Global) -> Result<Client, ClientCreateError> {
+    pub fn create_client(&mut self, alloc: Global) -> Result<Client, ClientCreateError>
+        requires service { IsService self.old }
+        ensures client { IfOk result (IsLiveClient self.new) }
+        ensures stays { StaysService self.old self.new }
+    {
         let slots = Vec::with_capacity(alloc, self.max_active_requests)?;
         match self.requests.publisher_builder().create(&mut self.requests) {
             Ok(requests) => {
@@ -31,7 +39,12 @@ impl<Q: Drop, P: Drop> RequestResponse<Q, P> {
     }
 
     // The client with all of its subscribers, which has none yet.
-    fn with_slots(&mut self, mut client: Client) -> Result<Client, ClientCreateError> {
+    fn with_slots(&mut self, mut client: Client) -> Result<Client, ClientCreateError>
+        requires service { IsService self.old }
+        requires client { IsLiveClient self.old client }
+        ensures client { IfOk result (IsLiveClient self.new) }
+        ensures stays { StaysService self.old self.new }
+    {
         for _ in 0..self.max_active_requests {
             match self
                 .responses
@@ -59,7 +72,13 @@ impl Client {
         &mut self,
         service: &mut RequestResponse<Q, P>,
         value: Q,
-    ) -> Result<PendingResponse, RequestSendError> {
+    ) -> Result<PendingResponse, RequestSendError>
+        requires service { IsService service.old }
+        requires client { IsLiveClient service.old self.old }
+        ensures pending { IfOk result (IsLivePending service.new) }
+        ensures client { IsLiveClient service.new self.new }
+        ensures stays { StaysService service.old service.new }
+    {
         let Some((index, slot)) = take_idle(&mut self.slots) else {
             return Err(RequestSendError::ExceedsMaxActiveRequests);
         };
@@ -83,14 +102,21 @@ impl Client {
         service: &mut RequestResponse<Q, P>,
         index: usize,
         slot: Subscriber,
-    ) {
+    )
+        requires client { IsLiveClient service.old self.old }
+        requires slot { IsLiveSubscriber service.old.responses slot }
+        ensures client { IsLiveClient service.new self.new }
+        ensures stays { StaysService service.old service.new }
+    {
         if let Some(other) = put_back(&mut self.slots, index, slot) {
             other.close(&mut service.responses);
         }
     }
 
     /// Closes the client. Requests of it that still wait for responses may be waited for.
-    pub fn close<Q: Drop, P: Drop>(self, service: &mut RequestResponse<Q, P>) {
+    pub fn close<Q: Drop, P: Drop>(self, service: &mut RequestResponse<Q, P>)
+        requires client { IsLiveClient service.old self }
+    {
         let Client { requests, slots } = self;
         let mut slots = slots;
         while let Some(slot) = slots.pop() {
@@ -111,7 +137,12 @@ fn send_request<Q: Drop, P: Drop>(
     requests: &Publisher,
     slot: &Subscriber,
     value: Q,
-) -> Result<(u64, usize), RequestSendError> {
+) -> Result<(u64, usize), RequestSendError>
+    requires service { IsService service.old }
+    requires requests { IsLivePublisher service.old.requests requests.now }
+    requires slot { IsLiveSubscriber service.old.responses slot.now }
+    ensures stays { StaysService service.old service.new }
+{
     let number = service.next_request;
     if number == u64::MAX {
         return Err(RequestSendError::NoNumberLeft);

@@ -1,4 +1,12 @@
 //! What waits for the responses to a request.
+ghost use Rattle.std.specs.Prelude.{◌≡◌, IfOk, IfSome};
+ghost use Rattle.iox2_machine.specs.machine.ChannelCalls.{some_channel_has_state};
+ghost use Rattle.iox2_machine.specs.machine.State.{State, Messages};
+ghost use Rattle.iox2_domain.specs.Shows.{Shows};
+ghost use Rattle.iox2_pubsub.specs.Live.{IsLiveSubscriber, SampleHasUserHeader, sample_key};
+ghost use Rattle.iox2_request_response.specs.Handles.{IsLiveClient, IsLivePending, IsLiveResponse};
+ghost use Rattle.iox2_request_response.specs.Service.{IsService, StaysService};
+ghost use Rattle.iox2_request_response.specs.declared.tags.ResponseTag.{ResponseTag as Tag};
 
 use crate::client::Client;
 use crate::response::Response;
@@ -24,7 +32,10 @@ impl PendingResponse {
     }
 
     /// Whether some server may still respond.
-    pub fn is_connected<Q: Drop, P: Drop>(&self, service: &RequestResponse<Q, P>) -> bool {
+    pub fn is_connected<Q: Drop, P: Drop>(&self, service: &RequestResponse<Q, P>) -> bool
+        requires live { IsLivePending service.now self.now }
+        ensures { (m : Messages P Tag) (s : State P Tag) → Shows service.now.responses m s → result ≡ some_channel_has_state s self.now.slot.id 0 self.now.number }
+    {
         self.slot
             .at_least_one_channel_has_state(&service.responses, 0, self.number)
     }
@@ -33,12 +44,18 @@ impl PendingResponse {
     pub fn has_response<Q: Drop, P: Drop>(
         &self,
         service: &mut RequestResponse<Q, P>,
-    ) -> Result<bool, ConnectionFailure> {
+    ) -> Result<bool, ConnectionFailure>
+        requires live { IsLivePending service.old self.now }
+        ensures stays { StaysService service.old service.new }
+    {
         self.slot.has_samples(&mut service.responses)
     }
 
     /// Tells the servers that the client is about to let the request go.
-    pub fn set_disconnect_hint<Q: Drop, P: Drop>(&self, service: &mut RequestResponse<Q, P>) {
+    pub fn set_disconnect_hint<Q: Drop, P: Drop>(&self, service: &mut RequestResponse<Q, P>)
+        requires live { IsLivePending service.old self.now }
+        ensures stays { StaysService service.old service.new }
+    {
         self.slot
             .set_disconnect_hint(&mut service.responses, 0, self.number);
     }
@@ -47,7 +64,12 @@ impl PendingResponse {
     pub fn receive<Q: Drop, P: Drop>(
         &self,
         service: &mut RequestResponse<Q, P>,
-    ) -> Result<Option<Response>, ReceiveError> {
+    ) -> Result<Option<Response>, ReceiveError>
+        requires live { IsLivePending service.old self.now }
+        ensures response { IfOk result (λ response. IfSome response (IsLiveResponse service.new)) }
+        ensures its { IfOk result (λ response. IfSome response (λ it. (tag : Tag) × SampleHasUserHeader service.new.responses (sample_key it.sample) tag × (tag.number ≡ self.now.number))) }
+        ensures stays { StaysService service.old service.new }
+    {
         while let Some(sample) = self.slot.receive(&mut service.responses)? {
             if sample.user_header(&service.responses).number == self.number {
                 return Ok(Some(Response { sample }));
@@ -59,7 +81,12 @@ impl PendingResponse {
 
     /// Lets the request go. Servers see it (`ActiveRequest::is_connected`). What waits is lost; what was
     /// received stays until it is released.
-    pub fn close<Q: Drop, P: Drop>(self, client: &mut Client, service: &mut RequestResponse<Q, P>) {
+    pub fn close<Q: Drop, P: Drop>(self, client: &mut Client, service: &mut RequestResponse<Q, P>)
+        requires live { IsLivePending service.old self }
+        requires client { IsLiveClient service.old client.old }
+        ensures client { IsLiveClient service.new client.new }
+        ensures stays { StaysService service.old service.new }
+    {
         let PendingResponse {
             slot,
             index,
@@ -72,7 +99,9 @@ impl PendingResponse {
     }
 
     /// The same, if the client was closed.
-    pub fn abandon<Q: Drop, P: Drop>(self, service: &mut RequestResponse<Q, P>) {
+    pub fn abandon<Q: Drop, P: Drop>(self, service: &mut RequestResponse<Q, P>)
+        requires live { IsLivePending service.old self }
+    {
         let PendingResponse {
             slot,
             index: _,
@@ -84,7 +113,10 @@ impl PendingResponse {
 }
 
 // Releases what waits for the subscriber, as long as it may receive.
-fn empty<Q: Drop, P: Drop>(slot: &Subscriber, service: &mut RequestResponse<Q, P>) {
+fn empty<Q: Drop, P: Drop>(slot: &Subscriber, service: &mut RequestResponse<Q, P>)
+    requires slot { IsLiveSubscriber service.old.responses slot.now }
+    ensures stays { StaysService service.old service.new }
+{
     while let Ok(Some(sample)) = slot.receive(&mut service.responses) {
         sample.release(&mut service.responses);
     }

@@ -1,4 +1,8 @@
 //! A server.
+ghost use Rattle.std.specs.Prelude.{◌≡◌, IfErr, IfOk, IfSome};
+ghost use Rattle.iox2_pubsub.specs.Live.{Both, IsLiveSample, No_item, publisher_port, subscriber_port};
+ghost use Rattle.iox2_request_response.specs.Handles.{IsLiveActive, IsLiveServer};
+ghost use Rattle.iox2_request_response.specs.Service.{IsService, StaysBoth, StaysService};
 
 use crate::active_request::ActiveRequest;
 use crate::errors::ServerCreateError;
@@ -17,7 +21,11 @@ pub struct Server {
 
 impl<Q: Drop, P: Drop> RequestResponse<Q, P> {
     /// A server.
-    pub fn create_server(&mut self) -> Result<Server, ServerCreateError> {
+    pub fn create_server(&mut self) -> Result<Server, ServerCreateError>
+        requires service { IsService self.old }
+        ensures server { IfOk result (IsLiveServer self.new) }
+        ensures stays { StaysService self.old self.new }
+    {
         let requests = match self
             .requests
             .subscriber_builder()
@@ -48,7 +56,10 @@ impl Server {
     pub fn has_requests<Q: Drop, P: Drop>(
         &self,
         service: &mut RequestResponse<Q, P>,
-    ) -> Result<bool, ConnectionFailure> {
+    ) -> Result<bool, ConnectionFailure>
+        requires live { IsLiveServer service.old self.now }
+        ensures stays { StaysService service.old service.new }
+    {
         self.requests.has_samples(&mut service.requests)
     }
 
@@ -56,7 +67,11 @@ impl Server {
     pub fn receive<Q: Drop, P: Drop>(
         &self,
         service: &mut RequestResponse<Q, P>,
-    ) -> Result<Option<ActiveRequest>, ReceiveError> {
+    ) -> Result<Option<ActiveRequest>, ReceiveError>
+        requires live { IsLiveServer service.old self.now }
+        ensures active { IfOk result (λ active. IfSome active (IsLiveActive service.new)) }
+        ensures stays { StaysService service.old service.new }
+    {
         self.responses.update_connections(&mut service.responses)?;
         while let Some(sample) = self.requests.receive(&mut service.requests)? {
             match self.activate(service, sample) {
@@ -72,7 +87,12 @@ impl Server {
         &self,
         service: &RequestResponse<Q, P>,
         sample: Sample,
-    ) -> Result<ActiveRequest, Sample> {
+    ) -> Result<ActiveRequest, Sample>
+        requires live { IsLiveServer service.now self.now }
+        requires sample { IsLiveSample service.now.requests sample }
+        ensures active { IfOk result (λ active. active.sample ≡ sample) }
+        ensures back { IfErr result (λ back. back ≡ sample) }
+    {
         let tag = sample.user_header(&service.requests);
         let number = tag.number;
         match self
@@ -96,7 +116,10 @@ impl Server {
     }
 
     /// Closes the server. Requests that it has received have to be finished before.
-    pub fn close<Q: Drop, P: Drop>(self, service: &mut RequestResponse<Q, P>) {
+    pub fn close<Q: Drop, P: Drop>(self, service: &mut RequestResponse<Q, P>)
+        requires live { IsLiveServer service.old self }
+        ensures stays { StaysBoth (subscriber_port self.requests) (publisher_port self.responses) service.old service.new }
+    {
         let Server {
             requests,
             responses,
