@@ -1,7 +1,5 @@
 //! The subscribers of a client's responses: one for each request that may wait for responses.
-ghost use Rattle.std.specs.Prelude.{IfSome};
-ghost use Rattle.iox2_pubsub.specs.declared.subscriber.Subscriber.{Subscriber as AnySubscriber};
-ghost use Rattle.iox2_request_response.specs.Handles.{AllIdle};
+ghost use Rattle.iox2_request_response.specs.Slots.{IsTakenOut, IsPutBack};
 
 use iox2_pubsub::Subscriber;
 use std::mem;
@@ -14,8 +12,7 @@ pub(crate) enum Slot {
 
 /// Takes an idle subscriber out, with its index. `None` if all are in use.
 pub(crate) fn take_idle(slots: &mut Vec<Slot>) -> Option<(usize, Subscriber)>
-    ensures slots { (Good : AnySubscriber → Type 0) → AllIdle Good slots.old.items → AllIdle Good slots.new.items }
-    ensures taken { (Good : AnySubscriber → Type 0) → AllIdle Good slots.old.items → IfSome result (λ it. Good it.1) }
+    ensures { IsTakenOut slots.old.items result slots.new.items }
 {
     for index in 0..slots.len() {
         match mem::replace(&mut slots[index], Slot::InUse) {
@@ -32,8 +29,7 @@ pub(crate) fn put_back(
     index: usize,
     subscriber: Subscriber,
 ) -> Option<Subscriber>
-    ensures slots { (Good : AnySubscriber → Type 0) → AllIdle Good slots.old.items → Good subscriber → AllIdle Good slots.new.items }
-    ensures other { (Good : AnySubscriber → Type 0) → AllIdle Good slots.old.items → Good subscriber → IfSome result Good }
+    ensures { IsPutBack slots.old.items index subscriber result slots.new.items }
 {
     if index >= slots.len() {
         return Some(subscriber);
