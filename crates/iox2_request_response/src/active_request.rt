@@ -122,4 +122,12 @@ impl ActiveRequest {
             .close_channel(&mut service.responses, 0, place, number);
         sample.release(&mut service.requests);
     }
+
+    /// The same, if the server was closed.
+    pub fn abandon<Q: Drop, P: Drop>(self, service: &mut RequestResponse<Q, P>)
+        requires live { IsLiveActive service.old self }
+        ensures stays { StaysBoth (received_sample self.sample) No_item service.old service.new }
+    {
+        self.sample_of().release(&mut service.requests);
+    }
 }

@@ -105,9 +105,11 @@ impl PendingResponse {
         let PendingResponse {
             slot,
             index: _,
-            number: _,
+            number,
             servers: _,
         } = self;
+        // A publisher sees the state until it makes its connections anew, also of a closed subscriber.
+        slot.close_channel(&mut service.responses, 0, number);
         slot.close(&mut service.responses);
     }
 }

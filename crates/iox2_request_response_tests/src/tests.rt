@@ -329,3 +329,133 @@ fn what_was_left_of_an_earlier_request_is_passed_over(rt: HostRuntime) {
     assert!(rt; value == 10 && taken == [true, true]);
     assert!(rt; read == [Some(20), Some(21), None] && left == [0, 0, 0, 0]);
 }
+
+// A client that comes at the place of a closed one, and whose request comes into the same channel, isn't
+// reached by the responses to the closed one's.
+#[test]
+fn a_client_at_the_same_place_gets_no_response_of_the_one_before(rt: HostRuntime) {
+    let config = RequestResponseConfig {
+        max_clients: 1,
+        max_active_requests_per_client: 1,
+        ..RequestResponseConfig::new(7)
+    };
+    let mut service = service_of(&rt, rt.alloc(), &config);
+    let mut before = client_of(&rt, rt.alloc(), &mut service);
+    let server = server_of(&rt, &mut service);
+    let old = sent(&rt, &mut before, &mut service, 1);
+    let active = active_of(&rt, &server, &mut service);
+    before.close(&mut service);
+    let waits = active.is_connected(&server, &service);
+    old.abandon(&mut service);
+    let gone = active.is_connected(&server, &service);
+    let mut after = client_of(&rt, rt.alloc(), &mut service);
+    let new = sent(&rt, &mut after, &mut service, 2);
+    let late = respond(&rt, &active, &server, &mut service, 10);
+    let none = next_response(&rt, &new, &mut service);
+    active.finish(&server, &mut service);
+    let still = new.is_connected(&service);
+    let next = active_of(&rt, &server, &mut service);
+    let asked = *next.payload(&service);
+    let taken = respond(&rt, &next, &server, &mut service, 20);
+    let read = next_response(&rt, &new, &mut service);
+    next.finish(&server, &mut service);
+    new.close(&mut after, &mut service);
+    after.close(&mut service);
+    server.close(&mut service);
+    let left = service.counts();
+    drop(service);
+    assert!(rt; waits && !gone && !late && none.is_none() && still);
+    assert!(rt; asked == 2 && taken && read == Some(20) && left == [0, 0, 0, 0]);
+}
+
+// What a server sent before it was closed is received, and after that nobody is connected.
+#[test]
+fn a_closed_servers_responses_are_received(rt: HostRuntime) {
+    let mut service = service_of(&rt, rt.alloc(), &RequestResponseConfig::new(7));
+    let mut client = client_of(&rt, rt.alloc(), &mut service);
+    let server = server_of(&rt, &mut service);
+    let pending = sent(&rt, &mut client, &mut service, 1);
+    let active = active_of(&rt, &server, &mut service);
+    let taken = respond(&rt, &active, &server, &mut service, 10);
+    server.close(&mut service);
+    active.abandon(&mut service);
+    let before = pending.is_connected(&service);
+    let read = next_response(&rt, &pending, &mut service);
+    let after = pending.is_connected(&service);
+    let none = next_response(&rt, &pending, &mut service);
+    pending.close(&mut client, &mut service);
+    client.close(&mut service);
+    let left = service.counts();
+    drop(service);
+    assert!(rt; taken && before && read == Some(10) && !after && none.is_none());
+    assert!(rt; left == [0, 0, 0, 0]);
+}
+
+// Where everything that may wait or be borrowed is, a server still lends; and no request below the limit is refused.
+#[test]
+fn all_that_may_be_held_leaves_a_loan(rt: HostRuntime) {
+    let config = RequestResponseConfig {
+        max_clients: 2,
+        max_servers: 1,
+        max_active_requests_per_client: 2,
+        max_response_buffer_size: 2,
+        max_borrowed_responses_per_pending_response: 2,
+        enable_safe_overflow_for_responses: false,
+        ..RequestResponseConfig::new(7)
+    };
+    let mut service = service_of(&rt, rt.alloc(), &config);
+    let server = server_of(&rt, &mut service);
+    let mut clients = [
+        client_of(&rt, rt.alloc(), &mut service),
+        client_of(&rt, rt.alloc(), &mut service),
+    ];
+    let mut taken = 0;
+    let mut held = Vec::with_capacity(rt.alloc(), 8).expect(&rt, "a list");
+    let mut waiting = Vec::with_capacity(rt.alloc(), 4).expect(&rt, "a list");
+    let mut refused = 0;
+    for round in 0..2usize {
+        for index in 0..2usize {
+            let pending = clients[index]
+                .send_copy(&mut service, 1)
+                .expect(&rt, "a request");
+            let active = active_of(&rt, &server, &mut service);
+            for value in 0..2u64 {
+                if respond(&rt, &active, &server, &mut service, value) {
+                    taken += 1;
+                }
+            }
+            for _ in 0..2usize {
+                let response = pending.receive(&mut service).expect(&rt, "an answer");
+                held.push_reserved(response.expect(&rt, "a response"));
+            }
+            for value in 0..3u64 {
+                if respond(&rt, &active, &server, &mut service, value) {
+                    taken += 1;
+                } else {
+                    refused += 1;
+                }
+            }
+            waiting.push_reserved((pending, active));
+            assert!(rt; round < 2);
+        }
+    }
+    while let Some((pending, active)) = waiting.pop() {
+        if respond(&rt, &active, &server, &mut service, 9) {
+            taken += 100;
+        }
+        active.finish(&server, &mut service);
+        pending.abandon(&mut service);
+    }
+    waiting.destroy_empty();
+    while let Some(response) = held.pop() {
+        response.release(&mut service);
+    }
+    held.destroy_empty();
+    let [one, two] = clients;
+    one.close(&mut service);
+    two.close(&mut service);
+    server.close(&mut service);
+    let left = service.counts();
+    drop(service);
+    assert!(rt; taken == 16 && refused == 4 && left == [0, 0, 0, 0]);
+}
