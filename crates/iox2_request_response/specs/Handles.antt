@@ -1,31 +1,22 @@
 -- When handles of a service are live.
-use Rattle.std.specs.Prelude.{ℕ, List}
-use Rattle.std.specs.List.{All}
+use Rattle.std.specs.Prelude.{◌≢◌, ℕ}
+use Rattle.iox2_pubsub.specs.Handles.{subscriber_id}
 use Rattle.iox2_pubsub.specs.Live.{IsLivePublisher, IsLiveSample, IsLiveSubscriber}
 use Rattle.iox2_pubsub.specs.declared.subscriber.Subscriber.{Subscriber}
+use Rattle.iox2_request_response.specs.Slots.{AreDistinct, AreOthers, HasIdle, IsInUse}
 use Rattle.iox2_request_response.specs.declared.active_request.ActiveRequest.{ActiveRequest}
 use Rattle.iox2_request_response.specs.declared.client.Client.{Client}
 use Rattle.iox2_request_response.specs.declared.pending_response.PendingResponse.{PendingResponse}
 use Rattle.iox2_request_response.specs.declared.response.Response.{Response}
 use Rattle.iox2_request_response.specs.declared.server.Server.{Server}
 use Rattle.iox2_request_response.specs.declared.service.RequestResponse.{RequestResponse}
-use Rattle.iox2_request_response.specs.declared.slots.Slot.{Slot}
-use Rattle.iox2_request_response.specs.declared.slots.Slot.TheVariants.{Idle, InUse}
 
--- The subscriber, if the slot has one, is so.
-abbrev pub IfIdle : (Subscriber → Type 0) → Slot → Type 0
-IfIdle Good (Idle subscriber) = Good subscriber
-IfIdle Good InUse = Unit {0}
-
--- Each idle subscriber of these slots is so.
-abbrev pub AllIdle : (Subscriber → Type 0) → List Slot → Type 0
-AllIdle Good slots = All (IfIdle Good) slots
-
-module _ {Q P : Type 0} (service : RequestResponse Q P) where
-  -- The client's publisher of requests is live, and so are its subscribers of responses that no request uses.
+module _ {Q P F G : Type 0} (service : RequestResponse Q P F G) where
+  -- The client's publisher of requests is live, and so are its subscribers of responses that no request uses, no two of which are the same.
   pub record IsLiveClient (client : Client) : Type 0 where
     pub requests : IsLivePublisher service.requests client.requests
-    pub slots : AllIdle (IsLiveSubscriber service.responses) (client.slots).items
+    pub slots : (index : ℕ) (subscriber : Subscriber) → HasIdle (client.slots).items index subscriber → IsLiveSubscriber service.responses subscriber
+    pub distinct : AreDistinct (client.slots).items
 
   -- Both ports of the server are live.
   pub record IsLiveServer (server : Server) : Type 0 where
@@ -43,3 +34,12 @@ module _ {Q P : Type 0} (service : RequestResponse Q P) where
   -- The response is borrowed.
   abbrev pub IsLiveResponse : Response → Type 0
   IsLiveResponse response = IsLiveSample service.responses response.sample
+
+-- The pending response is one of this client's: its place is in use, and its subscriber is none of the idle ones.
+pub record IsPendingOf (client : Client) (pending : PendingResponse) : Type 0 where
+  pub place : IsInUse (client.slots).items pending.index
+  pub apart : AreOthers (client.slots).items (subscriber_id pending.slot)
+
+-- The two have places and subscribers of their own.
+abbrev pub AreApart : (first second : PendingResponse) → Type 0
+AreApart first second = (first.index ≢ second.index) × (subscriber_id first.slot ≢ subscriber_id second.slot)

@@ -3,6 +3,7 @@ ghost use Rattle.std.specs.Prelude.{◌≡◌};
 ghost use Rattle.iox2_machine.specs.machine.ChannelCalls.{has_channel_state, has_disconnect_hint};
 ghost use Rattle.iox2_machine.specs.machine.State.{State, Messages};
 ghost use Rattle.iox2_domain.specs.Shows.{Shows};
+ghost use Rattle.iox2_pubsub.specs.Handles.{publisher_id};
 ghost use Rattle.iox2_pubsub.specs.Live.{No_item, received_sample};
 ghost use Rattle.iox2_request_response.specs.Handles.{IsLiveActive, IsLiveServer};
 ghost use Rattle.iox2_request_response.specs.Service.{IsService, StaysBoth, StaysService};
@@ -11,7 +12,9 @@ ghost use Rattle.iox2_request_response.specs.declared.tags.ResponseTag.{Response
 use crate::server::Server;
 use crate::service::RequestResponse;
 use crate::tags::ResponseTag;
-use iox2_pubsub::{Sample, SampleMutUninit, SendError, SendOutcome, UniquePublisherId};
+use iox2_pubsub::{
+    BackpressureFn, DegradationFn, Sample, SampleMutUninit, SendError, UniquePublisherId,
+};
 
 /// A request, to which its server may send responses.
 ///
@@ -25,7 +28,10 @@ pub struct ActiveRequest {
 
 impl ActiveRequest {
     /// The request's value.
-    pub fn payload<'a, Q: Drop, P: Drop>(&self, service: &'a RequestResponse<Q, P>) -> &'a Q
+    pub fn payload<'a, Q: Drop, P: Drop, F: BackpressureFn, G: DegradationFn>(
+        &self,
+        service: &'a RequestResponse<Q, P, F, G>,
+    ) -> &'a Q
         requires service { IsService service.now }
         requires live { IsLiveActive service.now self.now }
     {
@@ -50,13 +56,13 @@ impl ActiveRequest {
     }
 
     /// Whether the client still waits for responses.
-    pub fn is_connected<Q: Drop, P: Drop>(
+    pub fn is_connected<Q: Drop, P: Drop, F: BackpressureFn, G: DegradationFn>(
         &self,
         server: &Server,
-        service: &RequestResponse<Q, P>,
+        service: &RequestResponse<Q, P, F, G>,
     ) -> bool
         requires server { IsLiveServer service.now server.now }
-        ensures { (m : Messages P Tag) (s : State P Tag) → Shows service.now.responses m s → result ≡ has_channel_state s server.now.responses.id 0 self.now.place self.now.number }
+        ensures { (m : Messages P Tag) (s : State P Tag) → Shows service.now.responses m s → result ≡ has_channel_state s (publisher_id server.now.responses) 0 self.now.place self.now.number }
     {
         server
             .responses
@@ -64,13 +70,13 @@ impl ActiveRequest {
     }
 
     /// Whether the client has said that it is about to let the request go.
-    pub fn has_disconnect_hint<Q: Drop, P: Drop>(
+    pub fn has_disconnect_hint<Q: Drop, P: Drop, F: BackpressureFn, G: DegradationFn>(
         &self,
         server: &Server,
-        service: &RequestResponse<Q, P>,
+        service: &RequestResponse<Q, P, F, G>,
     ) -> bool
         requires server { IsLiveServer service.now server.now }
-        ensures { (m : Messages P Tag) (s : State P Tag) → Shows service.now.responses m s → result ≡ has_disconnect_hint s server.now.responses.id 0 self.now.place self.now.number }
+        ensures { (m : Messages P Tag) (s : State P Tag) → Shows service.now.responses m s → result ≡ has_disconnect_hint s (publisher_id server.now.responses) 0 self.now.place self.now.number }
     {
         server
             .responses
@@ -79,10 +85,10 @@ impl ActiveRequest {
 
     /// Sends a response. Returns whether it was taken: it isn't if the client has let the request go, or if
     /// the buffer is full and the service doesn't overflow.
-    pub fn send_copy<Q: Drop, P: Drop>(
+    pub fn send_copy<Q: Drop, P: Drop, F: BackpressureFn, G: DegradationFn>(
         &self,
         server: &Server,
-        service: &mut RequestResponse<Q, P>,
+        service: &mut RequestResponse<Q, P, F, G>,
         value: P,
     ) -> Result<bool, SendError>
         requires service { IsService service.old }
@@ -97,17 +103,16 @@ impl ActiveRequest {
             number: self.number,
         };
         let message = loan.write_payload(&mut service.responses, value);
-        match message.deliver_offset_to_connection(&mut service.responses, 0, self.place)? {
-            SendOutcome::Delivered(count) => Ok(count == 1),
-            SendOutcome::Blocked(blocked) => {
-                blocked.disown();
-                unreachable!()
-            }
-        }
+        let outcome = message.deliver_offset_to_connection(&mut service.responses, 0, self.place)?;
+        Ok(outcome.delivered() == 1)
     }
 
     /// Ends the request: no response is sent to it any more, and the client sees it.
-    pub fn finish<Q: Drop, P: Drop>(self, server: &Server, service: &mut RequestResponse<Q, P>)
+    pub fn finish<Q: Drop, P: Drop, F: BackpressureFn, G: DegradationFn>(
+        self,
+        server: &Server,
+        service: &mut RequestResponse<Q, P, F, G>,
+    )
         requires live { IsLiveActive service.old self }
         requires server { IsLiveServer service.old server.now }
         ensures stays { StaysBoth (received_sample self.sample) No_item service.old service.new }
@@ -124,7 +129,10 @@ impl ActiveRequest {
     }
 
     /// The same, if the server was closed.
-    pub fn abandon<Q: Drop, P: Drop>(self, service: &mut RequestResponse<Q, P>)
+    pub fn abandon<Q: Drop, P: Drop, F: BackpressureFn, G: DegradationFn>(
+        self,
+        service: &mut RequestResponse<Q, P, F, G>,
+    )
         requires live { IsLiveActive service.old self }
         ensures stays { StaysBoth (received_sample self.sample) No_item service.old service.new }
     {

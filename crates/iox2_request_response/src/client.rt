@@ -1,15 +1,20 @@
 //! A client.
-ghost use Rattle.std.specs.Prelude.{◌≡◌, IfOk, length};
-ghost use Rattle.iox2_pubsub.specs.Live.{IsLivePublisher, IsLiveSubscriber, publisher_port};
-ghost use Rattle.iox2_request_response.specs.Handles.{IsLiveClient, IsLivePending};
-ghost use Rattle.iox2_request_response.specs.Service.{IsService, StaysService};
+ghost use Rattle.std.specs.Prelude.{◌≡◌, ◌≤◌, [], IfOk, slice_set, vec_capacity};
+ghost use Rattle.iox2_pubsub.specs.Live.{IsLivePublisher, IsLiveSubscriber, No_item, publisher_port};
+ghost use Rattle.iox2_request_response.specs.Handles.{AreApart, IsLiveClient, IsLivePending, IsPendingOf};
+ghost use Rattle.iox2_request_response.specs.Service.{IsService, StaysBoth, StaysService};
+ghost use Rattle.iox2_request_response.specs.Slots.{IsInUse, idle_ports};
+ghost use Rattle.iox2_request_response.specs.declared.pending_response.PendingResponse.{PendingResponse as Pending};
+ghost use Rattle.iox2_request_response.specs.declared.slots.Slot.TheVariants.{Idle};
 
 use crate::errors::{ClientCreateError, RequestSendError};
 use crate::pending_response::PendingResponse;
 use crate::service::RequestResponse;
 use crate::slots::{Slot, put_back, take_idle};
 use crate::tags::RequestTag;
-use iox2_pubsub::{Publisher, SampleMutUninit, SendOutcome, Subscriber, UpdateConnections};
+use iox2_pubsub::{
+    BackpressureFn, DegradationFn, Publisher, SampleMutUninit, Subscriber, UpdateConnections,
+};
 use std::alloc::Global;
 
 /// Sends requests, and receives the responses to each of them.
@@ -18,7 +23,7 @@ pub struct Client {
     pub(crate) slots: Vec<Slot>,
 }
 
-impl<Q: Drop, P: Drop> RequestResponse<Q, P> {
+impl<Q: Drop, P: Drop, F: BackpressureFn, G: DegradationFn> RequestResponse<Q, P, F, G> {
     /// A client.
     pub fn create_client(&mut self, alloc: Global) -> Result<Client, ClientCreateError>
         requires service { IsService self.old }
@@ -38,12 +43,13 @@ impl<Q: Drop, P: Drop> RequestResponse<Q, P> {
         }
     }
 
-    // The client with all of its subscribers, which has none yet.
+    // The client with all of its subscribers, which has none yet. It is closed if one of them isn't made.
     fn with_slots(&mut self, mut client: Client) -> Result<Client, ClientCreateError>
-        requires service { IsService self.old }
-        requires client { IsLiveClient self.old client }
+        requires client { IsLivePublisher self.old.requests client.requests }
+        requires empty { client.slots.items ≡ [] }
+        requires room { self.old.max_active_requests ≤ vec_capacity client.slots }
         ensures client { IfOk result (IsLiveClient self.new) }
-        ensures stays { StaysService self.old self.new }
+        ensures stays { StaysBoth (publisher_port client.requests) No_item self.old self.new }
     {
         for _ in 0..self.max_active_requests {
             match self
@@ -68,14 +74,16 @@ impl Client {
     /// Fails with `ExceedsMaxActiveRequests` if as many requests of the client wait for responses as may.
     ///
     /// iceoryx2's `Client::send_copy` (`src/port/client.rs`).
-    pub fn send_copy<Q: Drop, P: Drop>(
+    pub fn send_copy<Q: Drop, P: Drop, F: BackpressureFn, G: DegradationFn>(
         &mut self,
-        service: &mut RequestResponse<Q, P>,
+        service: &mut RequestResponse<Q, P, F, G>,
         value: Q,
     ) -> Result<PendingResponse, RequestSendError>
         requires service { IsService service.old }
         requires client { IsLiveClient service.old self.old }
         ensures pending { IfOk result (IsLivePending service.new) }
+        ensures its { IfOk result (IsPendingOf self.new) }
+        ensures others { (other : Pending) → IsPendingOf self.old other → IsPendingOf self.new other × IfOk result (AreApart other) }
         ensures client { IsLiveClient service.new self.new }
         ensures stays { StaysService service.old service.new }
     {
@@ -90,32 +98,28 @@ impl Client {
                 servers,
             }),
             Err(error) => {
-                self.give_back(service, index, slot);
+                self.give_back(index, slot);
                 Err(error)
             }
         }
     }
 
-    // The subscriber is idle again. One that isn't the client's is closed.
-    pub(crate) fn give_back<Q: Drop, P: Drop>(
-        &mut self,
-        service: &mut RequestResponse<Q, P>,
-        index: usize,
-        slot: Subscriber,
-    )
-        requires client { IsLiveClient service.old self.old }
-        requires slot { IsLiveSubscriber service.old.responses slot }
-        ensures client { IsLiveClient service.new self.new }
-        ensures stays { StaysService service.old service.new }
+    // The subscriber is idle again.
+    pub(crate) fn give_back(&mut self, index: usize, slot: Subscriber)
+        requires { IsInUse self.old.slots.items index }
+        ensures requests { self.new.requests ≡ self.old.requests }
+        ensures slots { self.new.slots.items ≡ slice_set self.old.slots.items index (Idle slot) }
     {
-        if let Some(other) = put_back(&mut self.slots, index, slot) {
-            other.close(&mut service.responses);
-        }
+        put_back(&mut self.slots, index, slot);
     }
 
     /// Closes the client. Requests of it that still wait for responses may be waited for.
-    pub fn close<Q: Drop, P: Drop>(self, service: &mut RequestResponse<Q, P>)
+    pub fn close<Q: Drop, P: Drop, F: BackpressureFn, G: DegradationFn>(
+        self,
+        service: &mut RequestResponse<Q, P, F, G>,
+    )
         requires client { IsLiveClient service.old self }
+        ensures stays { StaysBoth (publisher_port self.requests) (idle_ports self.slots.items) service.old service.new }
     {
         let Client { requests, slots } = self;
         let mut slots = slots;
@@ -132,8 +136,8 @@ impl Client {
 
 // Sends a request whose responses the subscriber receives. Returns its number, and to how many servers
 // it was sent.
-fn send_request<Q: Drop, P: Drop>(
-    service: &mut RequestResponse<Q, P>,
+fn send_request<Q: Drop, P: Drop, F: BackpressureFn, G: DegradationFn>(
+    service: &mut RequestResponse<Q, P, F, G>,
     requests: &Publisher,
     slot: &Subscriber,
     value: Q,
@@ -158,11 +162,7 @@ fn send_request<Q: Drop, P: Drop>(
     slot.close_channel(&mut service.responses, 0, 0);
     slot.set_channel_state(&mut service.responses, 0, number);
     match message.send(&mut service.requests) {
-        Ok(SendOutcome::Delivered(servers)) => Ok((number, servers)),
-        Ok(SendOutcome::Blocked(blocked)) => {
-            blocked.disown();
-            unreachable!()
-        }
+        Ok(outcome) => Ok((number, outcome.delivered())),
         Err(error) => {
             slot.close_channel(&mut service.responses, 0, number);
             Err(RequestSendError::from(error))

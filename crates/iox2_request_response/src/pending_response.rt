@@ -3,15 +3,17 @@ ghost use Rattle.std.specs.Prelude.{◌≡◌, IfOk, IfSome};
 ghost use Rattle.iox2_machine.specs.machine.ChannelCalls.{some_channel_has_state};
 ghost use Rattle.iox2_machine.specs.machine.State.{State, Messages};
 ghost use Rattle.iox2_domain.specs.Shows.{Shows};
-ghost use Rattle.iox2_pubsub.specs.Live.{IsLiveSubscriber, SampleHasUserHeader, sample_key};
-ghost use Rattle.iox2_request_response.specs.Handles.{IsLiveClient, IsLivePending, IsLiveResponse};
-ghost use Rattle.iox2_request_response.specs.Service.{IsService, StaysService};
+ghost use Rattle.iox2_pubsub.specs.Handles.{subscriber_id};
+ghost use Rattle.iox2_pubsub.specs.Live.{IsLiveSubscriber, No_item, SampleHasUserHeader, sample_key, subscriber_port};
+ghost use Rattle.iox2_request_response.specs.Handles.{AreApart, IsLiveClient, IsLivePending, IsLiveResponse, IsPendingOf};
+ghost use Rattle.iox2_request_response.specs.Service.{StaysBoth, StaysService};
+ghost use Rattle.iox2_request_response.specs.declared.pending_response.PendingResponse.{PendingResponse as Pending};
 ghost use Rattle.iox2_request_response.specs.declared.tags.ResponseTag.{ResponseTag as Tag};
 
 use crate::client::Client;
 use crate::response::Response;
 use crate::service::RequestResponse;
-use iox2_pubsub::{ConnectionFailure, ReceiveError, Subscriber};
+use iox2_pubsub::{BackpressureFn, ConnectionFailure, DegradationFn, ReceiveError, Subscriber};
 
 /// Receives the responses to one request.
 ///
@@ -32,18 +34,21 @@ impl PendingResponse {
     }
 
     /// Whether some server may still respond.
-    pub fn is_connected<Q: Drop, P: Drop>(&self, service: &RequestResponse<Q, P>) -> bool
+    pub fn is_connected<Q: Drop, P: Drop, F: BackpressureFn, G: DegradationFn>(
+        &self,
+        service: &RequestResponse<Q, P, F, G>,
+    ) -> bool
         requires live { IsLivePending service.now self.now }
-        ensures { (m : Messages P Tag) (s : State P Tag) → Shows service.now.responses m s → result ≡ some_channel_has_state s self.now.slot.id 0 self.now.number }
+        ensures { (m : Messages P Tag) (s : State P Tag) → Shows service.now.responses m s → result ≡ some_channel_has_state s (subscriber_id self.now.slot) 0 self.now.number }
     {
         self.slot
             .at_least_one_channel_has_state(&service.responses, 0, self.number)
     }
 
     /// Whether some response waits.
-    pub fn has_response<Q: Drop, P: Drop>(
+    pub fn has_response<Q: Drop, P: Drop, F: BackpressureFn, G: DegradationFn>(
         &self,
-        service: &mut RequestResponse<Q, P>,
+        service: &mut RequestResponse<Q, P, F, G>,
     ) -> Result<bool, ConnectionFailure>
         requires live { IsLivePending service.old self.now }
         ensures stays { StaysService service.old service.new }
@@ -52,7 +57,10 @@ impl PendingResponse {
     }
 
     /// Tells the servers that the client is about to let the request go.
-    pub fn set_disconnect_hint<Q: Drop, P: Drop>(&self, service: &mut RequestResponse<Q, P>)
+    pub fn set_disconnect_hint<Q: Drop, P: Drop, F: BackpressureFn, G: DegradationFn>(
+        &self,
+        service: &mut RequestResponse<Q, P, F, G>,
+    )
         requires live { IsLivePending service.old self.now }
         ensures stays { StaysService service.old service.new }
     {
@@ -61,9 +69,9 @@ impl PendingResponse {
     }
 
     /// Receives the next response to the request. Those to an earlier request are released.
-    pub fn receive<Q: Drop, P: Drop>(
+    pub fn receive<Q: Drop, P: Drop, F: BackpressureFn, G: DegradationFn>(
         &self,
-        service: &mut RequestResponse<Q, P>,
+        service: &mut RequestResponse<Q, P, F, G>,
     ) -> Result<Option<Response>, ReceiveError>
         requires live { IsLivePending service.old self.now }
         ensures response { IfOk result (λ response. IfSome response (IsLiveResponse service.new)) }
@@ -79,12 +87,18 @@ impl PendingResponse {
         Ok(None)
     }
 
-    /// Lets the request go. Servers see it (`ActiveRequest::is_connected`). What waits is lost; what was
-    /// received stays until it is released.
-    pub fn close<Q: Drop, P: Drop>(self, client: &mut Client, service: &mut RequestResponse<Q, P>)
+    /// Lets the request go, and gives its place back to its client. Servers see it
+    /// (`ActiveRequest::is_connected`). What waits is lost; what was received stays until it is released.
+    pub fn close<Q: Drop, P: Drop, F: BackpressureFn, G: DegradationFn>(
+        self,
+        client: &mut Client,
+        service: &mut RequestResponse<Q, P, F, G>,
+    )
         requires live { IsLivePending service.old self }
         requires client { IsLiveClient service.old client.old }
+        requires its { IsPendingOf client.old self }
         ensures client { IsLiveClient service.new client.new }
+        ensures others { (other : Pending) → IsPendingOf client.old other → AreApart self other → IsPendingOf client.new other }
         ensures stays { StaysService service.old service.new }
     {
         let PendingResponse {
@@ -95,12 +109,16 @@ impl PendingResponse {
         } = self;
         slot.close_channel(&mut service.responses, 0, number);
         empty(&slot, service);
-        client.give_back(service, index, slot);
+        client.give_back(index, slot);
     }
 
     /// The same, if the client was closed.
-    pub fn abandon<Q: Drop, P: Drop>(self, service: &mut RequestResponse<Q, P>)
+    pub fn abandon<Q: Drop, P: Drop, F: BackpressureFn, G: DegradationFn>(
+        self,
+        service: &mut RequestResponse<Q, P, F, G>,
+    )
         requires live { IsLivePending service.old self }
+        ensures stays { StaysBoth No_item (subscriber_port self.slot) service.old service.new }
     {
         let PendingResponse {
             slot,
@@ -115,7 +133,10 @@ impl PendingResponse {
 }
 
 // Releases what waits for the subscriber, as long as it may receive.
-fn empty<Q: Drop, P: Drop>(slot: &Subscriber, service: &mut RequestResponse<Q, P>)
+fn empty<Q: Drop, P: Drop, F: BackpressureFn, G: DegradationFn>(
+    slot: &Subscriber,
+    service: &mut RequestResponse<Q, P, F, G>,
+)
     requires slot { IsLiveSubscriber service.old.responses slot.now }
     ensures stays { StaysService service.old service.new }
 {

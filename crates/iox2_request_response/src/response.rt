@@ -4,7 +4,7 @@ ghost use Rattle.iox2_request_response.specs.Handles.{IsLiveResponse};
 ghost use Rattle.iox2_request_response.specs.Service.{IsService, StaysBoth};
 
 use crate::service::RequestResponse;
-use iox2_pubsub::{Sample, UniquePublisherId};
+use iox2_pubsub::{BackpressureFn, DegradationFn, Sample, UniquePublisherId};
 
 /// A response to a request that was received.
 ///
@@ -15,7 +15,10 @@ pub struct Response {
 
 impl Response {
     /// The response's value.
-    pub fn payload<'a, Q: Drop, P: Drop>(&self, service: &'a RequestResponse<Q, P>) -> &'a P
+    pub fn payload<'a, Q: Drop, P: Drop, F: BackpressureFn, G: DegradationFn>(
+        &self,
+        service: &'a RequestResponse<Q, P, F, G>,
+    ) -> &'a P
         requires service { IsService service.now }
         requires live { IsLiveResponse service.now self.now }
     {
@@ -28,7 +31,10 @@ impl Response {
     }
 
     /// Gives the response back.
-    pub fn release<Q: Drop, P: Drop>(self, service: &mut RequestResponse<Q, P>)
+    pub fn release<Q: Drop, P: Drop, F: BackpressureFn, G: DegradationFn>(
+        self,
+        service: &mut RequestResponse<Q, P, F, G>,
+    )
         requires live { IsLiveResponse service.old self }
         ensures stays { StaysBoth No_item (received_sample self.sample) service.old service.new }
     {

@@ -8,7 +8,8 @@ use crate::active_request::ActiveRequest;
 use crate::errors::ServerCreateError;
 use crate::service::RequestResponse;
 use iox2_pubsub::{
-    ConnectionFailure, Publisher, ReceiveError, Sample, Subscriber, UpdateConnections,
+    BackpressureFn, ConnectionFailure, DegradationFn, Publisher, ReceiveError, Sample, Subscriber,
+    UpdateConnections,
 };
 
 /// Receives requests, and sends responses to them.
@@ -19,7 +20,7 @@ pub struct Server {
     pub(crate) responses: Publisher,
 }
 
-impl<Q: Drop, P: Drop> RequestResponse<Q, P> {
+impl<Q: Drop, P: Drop, F: BackpressureFn, G: DegradationFn> RequestResponse<Q, P, F, G> {
     /// A server.
     pub fn create_server(&mut self) -> Result<Server, ServerCreateError>
         requires service { IsService self.old }
@@ -53,9 +54,9 @@ impl<Q: Drop, P: Drop> RequestResponse<Q, P> {
 
 impl Server {
     /// Whether some request waits, also one that its client has let go.
-    pub fn has_requests<Q: Drop, P: Drop>(
+    pub fn has_requests<Q: Drop, P: Drop, F: BackpressureFn, G: DegradationFn>(
         &self,
-        service: &mut RequestResponse<Q, P>,
+        service: &mut RequestResponse<Q, P, F, G>,
     ) -> Result<bool, ConnectionFailure>
         requires live { IsLiveServer service.old self.now }
         ensures stays { StaysService service.old service.new }
@@ -64,9 +65,9 @@ impl Server {
     }
 
     /// Receives the next request that its client still waits for. Those that are let go are released.
-    pub fn receive<Q: Drop, P: Drop>(
+    pub fn receive<Q: Drop, P: Drop, F: BackpressureFn, G: DegradationFn>(
         &self,
-        service: &mut RequestResponse<Q, P>,
+        service: &mut RequestResponse<Q, P, F, G>,
     ) -> Result<Option<ActiveRequest>, ReceiveError>
         requires live { IsLiveServer service.old self.now }
         ensures active { IfOk result (λ active. IfSome active (IsLiveActive service.new)) }
@@ -83,9 +84,9 @@ impl Server {
     }
 
     // The request of the sample, or the sample if its client has let it go.
-    fn activate<Q: Drop, P: Drop>(
+    fn activate<Q: Drop, P: Drop, F: BackpressureFn, G: DegradationFn>(
         &self,
-        service: &RequestResponse<Q, P>,
+        service: &RequestResponse<Q, P, F, G>,
         sample: Sample,
     ) -> Result<ActiveRequest, Sample>
         requires live { IsLiveServer service.now self.now }
@@ -116,7 +117,10 @@ impl Server {
     }
 
     /// Closes the server. Requests that it has received have to be finished before.
-    pub fn close<Q: Drop, P: Drop>(self, service: &mut RequestResponse<Q, P>)
+    pub fn close<Q: Drop, P: Drop, F: BackpressureFn, G: DegradationFn>(
+        self,
+        service: &mut RequestResponse<Q, P, F, G>,
+    )
         requires live { IsLiveServer service.old self }
         ensures stays { StaysBoth (subscriber_port self.requests) (publisher_port self.responses) service.old service.new }
     {

@@ -1,9 +1,11 @@
 //! A service of requests and responses.
 ghost use Rattle.std.specs.Prelude.{◌≡◌, IfOk};
-ghost use Rattle.iox2_request_response.specs.Service.{IsService};
+ghost use Rattle.iox2_request_response.specs.Service.{IsOfService, IsService};
 
 use crate::tags::{RequestTag, ResponseTag};
-use iox2_pubsub::{BackpressureStrategy, Domain, DomainCreateError, ServiceConfig};
+use iox2_pubsub::{
+    BackpressureFn, BackpressureStrategy, DegradationFn, Domain, DomainCreateError, ServiceConfig,
+};
 use std::alloc::Global;
 
 /// The settings of a service, by iceoryx2's names.
@@ -43,7 +45,9 @@ impl RequestResponseConfig {
     }
 
     // Of the domain of requests.
-    fn requests(&self) -> ServiceConfig {
+    fn requests(&self) -> ServiceConfig
+        ensures { IsOfService result }
+    {
         ServiceConfig {
             max_publishers: self.max_clients,
             max_subscribers: self.max_servers,
@@ -56,7 +60,9 @@ impl RequestResponseConfig {
     }
 
     // Of the domain of responses, in which a client has a subscriber for each of its requests.
-    fn responses(&self, subscribers: usize) -> ServiceConfig {
+    fn responses(&self, subscribers: usize) -> ServiceConfig
+        ensures { IsOfService result }
+    {
         ServiceConfig {
             max_publishers: self.max_servers,
             max_subscribers: subscribers,
@@ -71,9 +77,9 @@ impl RequestResponseConfig {
 
 /// A service and its ports: requests are values of `Q`, responses values of `P`.
 #[derive(Drop)]
-pub struct RequestResponse<Q, P> {
-    pub(crate) requests: Domain<Q, RequestTag>,
-    pub(crate) responses: Domain<P, ResponseTag>,
+pub struct RequestResponse<Q, P, F = Box<dyn BackpressureFn>, G = Box<dyn DegradationFn>> {
+    pub(crate) requests: Domain<Q, RequestTag, F, G>,
+    pub(crate) responses: Domain<P, ResponseTag, F, G>,
     // The number of the next request. 0 is the state of a new channel, and `u64::MAX` that of a closed
     // one.
     pub(crate) next_request: u64,
@@ -85,10 +91,21 @@ impl<Q: Drop, P: Drop> RequestResponse<Q, P> {
     ///
     /// Fails with `DomainCreateError::OutOfMemory` if memory is refused, or if the clients can't have as many
     /// requests as they may.
-    pub fn new(
+    pub fn new(alloc: Global, config: &RequestResponseConfig) -> Result<Self, DomainCreateError>
+        ensures { IfOk result IsService }
+    {
+        Self::with_handlers(alloc, config)
+    }
+}
+
+impl<Q: Drop, P: Drop, F: BackpressureFn, G: DegradationFn> RequestResponse<Q, P, F, G> {
+    /// As `new`, for a service whose ports may have handlers of these types.
+    ///
+    /// Fails with `DomainCreateError::OutOfMemory` as `new` does.
+    pub fn with_handlers(
         alloc: Global,
         config: &RequestResponseConfig,
-    ) -> Result<RequestResponse<Q, P>, DomainCreateError>
+    ) -> Result<Self, DomainCreateError>
         ensures { IfOk result IsService }
     {
         let slots = config
@@ -97,8 +114,8 @@ impl<Q: Drop, P: Drop> RequestResponse<Q, P> {
         let Some(slots) = slots else {
             return Err(DomainCreateError::OutOfMemory);
         };
-        let requests = Domain::new(alloc, config.requests())?;
-        let responses = Domain::new(alloc, config.responses(slots))?;
+        let requests = Domain::with_handlers(alloc, config.requests())?;
+        let responses = Domain::with_handlers(alloc, config.responses(slots))?;
         Ok(RequestResponse {
             requests,
             responses,

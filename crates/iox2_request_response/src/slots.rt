@@ -1,5 +1,7 @@
 //! The subscribers of a client's responses: one for each request that may wait for responses.
-ghost use Rattle.iox2_request_response.specs.Slots.{IsTakenOut, IsPutBack};
+ghost use Rattle.std.specs.Prelude.{◌≡◌, slice_set};
+ghost use Rattle.iox2_request_response.specs.Slots.{IsInUse, IsTakenOut};
+ghost use Rattle.iox2_request_response.specs.declared.slots.Slot.TheVariants.{Idle};
 
 use iox2_pubsub::Subscriber;
 use std::mem;
@@ -23,19 +25,16 @@ pub(crate) fn take_idle(slots: &mut Vec<Slot>) -> Option<(usize, Subscriber)>
     None
 }
 
-/// Puts a subscriber back. Returns it if its slot isn't in use, or isn't there.
-pub(crate) fn put_back(
-    slots: &mut Vec<Slot>,
-    index: usize,
-    subscriber: Subscriber,
-) -> Option<Subscriber>
-    ensures { IsPutBack slots.old.items index subscriber result slots.new.items }
+/// Puts a subscriber back, where its slot is in use.
+pub(crate) fn put_back(slots: &mut Vec<Slot>, index: usize, subscriber: Subscriber)
+    requires { IsInUse slots.old.items index }
+    ensures { slots.new.items ≡ slice_set slots.old.items index (Idle subscriber) }
 {
-    if index >= slots.len() {
-        return Some(subscriber);
-    }
     match mem::replace(&mut slots[index], Slot::Idle(subscriber)) {
-        Slot::Idle(other) => Some(other),
-        Slot::InUse => None,
+        Slot::Idle(other) => {
+            other.disown();
+            unreachable!()
+        }
+        Slot::InUse => {}
     }
 }
