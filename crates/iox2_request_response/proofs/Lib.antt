@@ -1,0 +1,4 @@
+pub mod ClientSteps
+pub mod Closing
+pub mod Frames
+pub mod SlotSteps

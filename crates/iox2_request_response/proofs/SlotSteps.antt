@@ -1,6 +1,6 @@
 -- Steps on a client's list of subscribers.
 use Rattle.std.proofs.Common.{◌≡◌, ◌≢◌, ◌⊎◌, inl, inr, ℕ, zero, suc, ◌<◌, List, [], ◌∷◌, ◌++◌, length, refl, sym, ap, subst, ◌∙◌, arith, get_or, set, slice_index_or, slice_set}
-use Rattle.std.proofs.lemmas.List.{set-get_or}
+use Rattle.std.proofs.lemmas.List.{get_or-set_other, get_or-set_same, set-get_or}
 use Rattle.iox2_pubsub.specs.Handles.{subscriber_id}
 use Rattle.iox2_pubsub.specs.Live.{Both, IsOtherSubscriber, Item, No_item, subscriber_port}
 use Rattle.iox2_pubsub.specs.declared.subscriber.Subscriber.{Subscriber}
@@ -63,10 +63,63 @@ module _ (slots : List Slot) (index : ℕ) (taken : Subscriber) (stands : HasIdl
       let there = taken-idle at subscriber idle in
       there.0 (sym (distinct index at taken subscriber stands there.1 same))
 
+-- ---- what is in use
+
+-- a place that is in use stays so where another is brought into use
+set-used : (slots : List Slot) (index at : ℕ) → slice_index_or slots at InUse ≡ InUse → slice_index_or (slice_set slots index InUse) at InUse ≡ InUse
+set-used [] index at used = used
+set-used (slot ∷ slots) zero zero used = refl
+set-used (slot ∷ slots) zero (suc at) used = used
+set-used (slot ∷ slots) (suc index) zero used = used
+set-used (slot ∷ slots) (suc index) (suc at) used = set-used slots index at used
+
+-- there are as many places
+set-length : (slots : List Slot) (index : ℕ) (put : Slot) → length (slice_set slots index put) ≡ length slots
+set-length [] index put = refl
+set-length (slot ∷ slots) zero put = refl
+set-length (slot ∷ slots) (suc index) put = ap suc (set-length slots index put)
+
+pub taken-used : (slots : List Slot) (index at : ℕ) → IsInUse slots at → IsInUse (slice_set slots index InUse) at
+taken-used slots index at used = record {
+  there = subst (λ (n : ℕ). at < n) (sym (set-length slots index InUse)) used.there;
+  in_use = set-used slots index at used.in_use;
+}
+
+-- a place from which one is taken is in use then
+taken-free : (slots : List Slot) (index : ℕ) → slice_index_or (slice_set slots index InUse) index InUse ≡ InUse
+taken-free [] index = refl
+taken-free (slot ∷ slots) zero = refl
+taken-free (slot ∷ slots) (suc index) = taken-free slots index
+
+pub taken-place : (slots : List Slot) (index : ℕ) → index < length slots → IsInUse (slice_set slots index InUse) index
+taken-place slots index there = record {
+  there = subst (λ (n : ℕ). index < n) (sym (set-length slots index InUse)) there;
+  in_use = taken-free slots index;
+}
+
+-- and it was another than each that was in use
+pub taken-other : (slots : List Slot) (index at : ℕ) (taken : Subscriber) → HasIdle slots index taken → IsInUse slots at → at ≢ index
+taken-other slots index at taken stands used same =
+    let free : slice_index_or slots index InUse ≡ InUse = subst (λ (k : ℕ). slice_index_or slots k InUse ≡ InUse) same used.in_use in
+    cc
+
+-- another place stays in use where one is put
+pub put-used : (slots : List Slot) (index at : ℕ) (put : Slot) → at ≢ index → IsInUse slots at → IsInUse (slice_set slots index put) at
+put-used slots index at put other used = record {
+  there = subst (λ (n : ℕ). at < n) (sym (set-length slots index put)) used.there;
+  in_use = get_or-set_other slots index at put InUse other ∙ used.in_use;
+}
+
+-- one that is taken and put back
+pub back-same : (slots : List Slot) (index : ℕ) (taken : Subscriber) → HasIdle slots index taken → slice_set (slice_set slots index InUse) index (Idle taken) ≡ slots
+back-same [] index taken stands = refl
+back-same (slot ∷ slots) zero taken stands = ap (λ (x : Slot). x ∷ slots) (sym stands)
+back-same (slot ∷ slots) (suc index) taken stands = ap (λ (xs : List Slot). slot ∷ xs) (back-same slots index taken stands)
+
 -- ---- one is put in
 
 -- a subscriber that was put is the one that is idle there
-put-same : (put subscriber : Subscriber) → Idle put ≡ Idle subscriber → subscriber_id put ≡ subscriber_id subscriber
+pub put-same : (put subscriber : Subscriber) → Idle put ≡ Idle subscriber → subscriber_id put ≡ subscriber_id subscriber
 put-same put subscriber is = let e : put ≡ subscriber = cc in ap subscriber_id e
 
 module _ (slots : List Slot) (put : Subscriber) (distinct : AreDistinct slots) (apart : AreOthers slots (subscriber_id put)) where
@@ -131,3 +184,9 @@ pub other-ports : (slots : List Slot) (id : ℕ) → AreOthers slots id → IsOt
 other-ports [] id others = tt
 other-ports (Idle subscriber ∷ slots) id others = (others zero subscriber refl, other-ports slots id (λ at it idle. others (suc at) it idle))
 other-ports (InUse ∷ slots) id others = other-ports slots id (λ at it idle. others (suc at) it idle)
+
+-- ---- what a call leaves of them
+
+-- who was put where there is a place is idle there
+pub put-idle : (slots : List Slot) (index : ℕ) (put : Subscriber) → index < length slots → HasIdle (slice_set slots index (Idle put)) index put
+put-idle slots index put there = get_or-set_same slots index (Idle put) InUse there

@@ -1,9 +1,9 @@
 //! A client.
-ghost use Rattle.std.specs.Prelude.{◌≡◌, ◌≤◌, [], IfOk, slice_set, vec_capacity};
+ghost use Rattle.std.specs.Prelude.{◌≡◌, ◌≤◌, ◌↔◌, [], Err, IfErr, IfOk, slice_set, vec_capacity};
 ghost use Rattle.iox2_pubsub.specs.Live.{IsLivePublisher, IsLiveSubscriber, No_item, publisher_port};
 ghost use Rattle.iox2_request_response.specs.Handles.{AreApart, IsLiveClient, IsLivePending, IsPendingOf};
 ghost use Rattle.iox2_request_response.specs.Service.{IsService, StaysBoth, StaysService};
-ghost use Rattle.iox2_request_response.specs.Slots.{IsInUse, idle_ports};
+ghost use Rattle.iox2_request_response.specs.Slots.{AllInUse, IsInUse, idle_ports};
 ghost use Rattle.iox2_request_response.specs.declared.pending_response.PendingResponse.{PendingResponse as Pending};
 ghost use Rattle.iox2_request_response.specs.declared.slots.Slot.TheVariants.{Idle};
 
@@ -81,6 +81,8 @@ impl Client {
     ) -> Result<PendingResponse, RequestSendError>
         requires service { IsService service.old }
         requires client { IsLiveClient service.old self.old }
+        ensures refused { (result ≡ Err RequestSendError.ExceedsMaxActiveRequests) ↔ AllInUse self.old.slots.items }
+        ensures kept { IfErr result (λ _. self.new.slots.items ≡ self.old.slots.items) }
         ensures pending { IfOk result (IsLivePending service.new) }
         ensures its { IfOk result (IsPendingOf self.new) }
         ensures others { (other : Pending) → IsPendingOf self.old other → IsPendingOf self.new other × IfOk result (AreApart other) }
@@ -145,6 +147,7 @@ fn send_request<Q: Drop, P: Drop, F: BackpressureFn, G: DegradationFn>(
     requires service { IsService service.old }
     requires requests { IsLivePublisher service.old.requests requests.now }
     requires slot { IsLiveSubscriber service.old.responses slot.now }
+    ensures errors { result ≡ Err RequestSendError.ExceedsMaxActiveRequests → ⊥ }
     ensures stays { StaysService service.old service.new }
 {
     let number = service.next_request;

@@ -19,18 +19,30 @@ pub enum RequestSendError {
 }
 
 impl From<SendError> for RequestSendError {
+    ghost use Rattle.std.specs.Prelude.{◌≡◌};
+
+    ghost from_gives = { λ cause error. error ≡ RequestSendError.SendError cause };
+
     fn from(error: SendError) -> Self {
         RequestSendError::SendError(error)
     }
 }
 
 impl From<LoanError> for RequestSendError {
+    ghost use Rattle.std.specs.Prelude.{◌≡◌};
+
+    ghost from_gives = { λ cause error. error ≡ RequestSendError.SendError (SendError.LoanError cause) };
+
     fn from(error: LoanError) -> Self {
         RequestSendError::SendError(SendError::LoanError(error))
     }
 }
 
 impl From<ConnectionFailure> for RequestSendError {
+    ghost use Rattle.std.specs.Prelude.{◌≡◌};
+
+    ghost from_gives = { λ cause error. error ≡ RequestSendError.SendError (SendError.ConnectionError cause) };
+
     fn from(error: ConnectionFailure) -> Self {
         RequestSendError::SendError(SendError::ConnectionError(error))
     }

@@ -7,6 +7,7 @@ ghost use Rattle.iox2_pubsub.specs.Handles.{subscriber_id};
 ghost use Rattle.iox2_pubsub.specs.Live.{IsLiveSubscriber, No_item, SampleHasUserHeader, sample_key, subscriber_port};
 ghost use Rattle.iox2_request_response.specs.Handles.{AreApart, IsLiveClient, IsLivePending, IsLiveResponse, IsPendingOf};
 ghost use Rattle.iox2_request_response.specs.Service.{StaysBoth, StaysService};
+ghost use Rattle.iox2_request_response.specs.Slots.{HasIdle};
 ghost use Rattle.iox2_request_response.specs.declared.pending_response.PendingResponse.{PendingResponse as Pending};
 ghost use Rattle.iox2_request_response.specs.declared.tags.ResponseTag.{ResponseTag as Tag};
 
@@ -98,6 +99,7 @@ impl PendingResponse {
         requires client { IsLiveClient service.old client.old }
         requires its { IsPendingOf client.old self }
         ensures client { IsLiveClient service.new client.new }
+        ensures given { HasIdle client.new.slots.items self.index self.slot }
         ensures others { (other : Pending) → IsPendingOf client.old other → AreApart self other → IsPendingOf client.new other }
         ensures stays { StaysService service.old service.new }
     {

@@ -1,0 +1,49 @@
+-- What of a service stays from one state to the next.
+use Rattle.std.proofs.Common.{◌≡◌, refl, subst, sym}
+use Rattle.iox2_domain.specs.Kept.{Kept}
+use Rattle.iox2_pubsub.specs.Live.{Both, IsLivePublisher, IsLiveSubscriber, IsOtherSubscriber, Item, No_item, Stays, StaysBut, publisher_key, subscriber_key}
+use Rattle.iox2_pubsub.specs.UpdateCalls.{ready_stays}
+use Rattle.iox2_pubsub.specs.declared.publisher.Publisher.{Publisher}
+use Rattle.iox2_pubsub.specs.declared.subscriber.Subscriber.{Subscriber}
+use Rattle.iox2_pubsub.proofs.StaysBut.{first-part, second-part, stays-but-whole, stays-twice, unchanged-stays}
+use Rattle.iox2_request_response.specs.Service.{StaysBoth, StaysService}
+use Rattle.iox2_request_response.specs.declared.service.RequestResponse.{RequestResponse}
+
+module _ {T U F G : Type 0} (old new : Kept T U F G) where
+  -- a port that is live stays so, if it isn't the item
+  pub subscriber-live : (item : Item) (subscriber : Subscriber) → StaysBut item old new → IsOtherSubscriber item subscriber.id → IsLiveSubscriber old subscriber → IsLiveSubscriber new subscriber
+  subscriber-live item subscriber stays other live = record {
+    there = stays.subscribers (subscriber_key subscriber) live.there other;
+    placed = stays.placed_subscribers subscriber live.placed;
+  }
+
+  pub publisher-live : (publisher : Publisher) → Stays old new → IsLivePublisher old publisher → IsLivePublisher new publisher
+  publisher-live publisher stays live = record {
+    ready = ready_stays old new publisher stays live.ready;
+    never_waits = stays.never_wait (publisher_key publisher) live.never_waits;
+  }
+
+-- two items one after the other
+pub stays-both : {T U F G : Type 0} (first second : Item) (start old new : Kept T U F G) → StaysBut first start old → StaysBut second old new → StaysBut (Both second first) start new
+stays-both first second start old new before next =
+    stays-twice (Both second first) start old new (stays-but-whole first (Both second first) (second-part second first) start old before)
+    (stays-but-whole second (Both second first) (first-part second first) old new next)
+
+module _ {Q P F G : Type 0} where
+  -- nothing changed
+  pub service-itself : (asked answered : Item) (service : RequestResponse Q P F G) → StaysBoth asked answered service service
+  service-itself asked answered service = record { requests = unchanged-stays asked service.requests; responses = unchanged-stays answered service.responses }
+
+  -- one domain alone changed
+  pub responses-stay : (asked answered : Item) (old new : RequestResponse Q P F G) → new.requests ≡ old.requests → StaysBut answered old.responses new.responses → StaysBoth asked answered old new
+  responses-stay asked answered old new same stays = record {
+    requests = subst (λ (d : Kept Q _ F G). StaysBut asked old.requests d) (sym same) (unchanged-stays asked old.requests);
+    responses = stays;
+  }
+
+  -- twice
+  pub service-twice : (asked answered : Item) (start old new : RequestResponse Q P F G) → StaysBoth asked answered start old → StaysBoth asked answered old new → StaysBoth asked answered start new
+  service-twice asked answered start old new before next = record {
+    requests = stays-twice asked start.requests old.requests new.requests before.requests next.requests;
+    responses = stays-twice answered start.responses old.responses new.responses before.responses next.responses;
+  }
