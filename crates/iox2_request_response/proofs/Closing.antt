@@ -110,6 +110,17 @@ module _ {Q P F G : Type 0} (requests : Publisher) (start : RequestResponse Q P 
         same : Stays start.requests now.requests
         same = subst (λ d. Stays start.requests d) (sym filling.requests_stay) (stays-itself start.requests)
 
+    -- what changes nothing of theirs
+    pub still-filling : (new : RequestResponse Q P F G) → new.requests ≡ now.requests → Stays now.responses new.responses → IsFilling requests start client new
+    still-filling new same stays = record {
+      publisher = filling.publisher;
+      requests_stay = same ∙ filling.requests_stay;
+      stays = stays-twice No_item start.responses now.responses new.responses filling.stays stays;
+      slots = λ at subscriber idle. subscriber-live now.responses new.responses No_item subscriber stays tt (filling.slots at subscriber idle);
+      distinct = filling.distinct;
+      are_new = filling.are_new;
+    }
+
     -- one more
     pub one-more : (more : Client) (new : RequestResponse Q P F G) (made : Subscriber) → more.requests ≡ client.requests → (more.slots).items ≡ (client.slots).items ++ Idle made ∷ []
         → new.requests ≡ now.requests → Stays now.responses new.responses → IsLiveSubscriber new.responses made → IsNewIn now.responses (subscriber_port made) → IsFilling requests start more new

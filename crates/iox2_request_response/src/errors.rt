@@ -20,8 +20,9 @@ pub enum RequestSendError {
 
 impl From<SendError> for RequestSendError {
     ghost use Rattle.std.specs.Prelude.{◌≡◌};
+    ghost use Rattle.iox2_request_response.specs.declared.errors.RequestSendError.TheVariants.{SendError as Unsent};
 
-    ghost from_gives = { λ cause error. error ≡ RequestSendError.SendError cause };
+    ghost from_gives = { λ cause error. error ≡ Unsent cause };
 
     fn from(error: SendError) -> Self {
         RequestSendError::SendError(error)
@@ -30,8 +31,10 @@ impl From<SendError> for RequestSendError {
 
 impl From<LoanError> for RequestSendError {
     ghost use Rattle.std.specs.Prelude.{◌≡◌};
+    ghost use Rattle.iox2_machine.specs.declared.errors.SendError.TheVariants.{LoanError as Unlent};
+    ghost use Rattle.iox2_request_response.specs.declared.errors.RequestSendError.TheVariants.{SendError as Unsent};
 
-    ghost from_gives = { λ cause error. error ≡ RequestSendError.SendError (SendError.LoanError cause) };
+    ghost from_gives = { λ cause error. error ≡ Unsent (Unlent cause) };
 
     fn from(error: LoanError) -> Self {
         RequestSendError::SendError(SendError::LoanError(error))
@@ -40,8 +43,10 @@ impl From<LoanError> for RequestSendError {
 
 impl From<ConnectionFailure> for RequestSendError {
     ghost use Rattle.std.specs.Prelude.{◌≡◌};
+    ghost use Rattle.iox2_machine.specs.declared.errors.SendError.TheVariants.{ConnectionError as Unconnected};
+    ghost use Rattle.iox2_request_response.specs.declared.errors.RequestSendError.TheVariants.{SendError as Unsent};
 
-    ghost from_gives = { λ cause error. error ≡ RequestSendError.SendError (SendError.ConnectionError cause) };
+    ghost from_gives = { λ cause error. error ≡ Unsent (Unconnected cause) };
 
     fn from(error: ConnectionFailure) -> Self {
         RequestSendError::SendError(SendError::ConnectionError(error))

@@ -1,7 +1,7 @@
 use Rattle.std.proofs.Common.{◌≡◌, ◌≤◌, length}
 use Rattle.std.specs.Prelude.{vec_capacity}
 use Rattle.iox2_request_response.proofs.Closing.{IsFilling}
-use Rattle.iox2_request_response.proofs.client.RequestResponse.with_slots.Given as goal
+use Rattle.iox2_request_response.proofs.service.RequestResponse.with_slots.Given as goal
 
 abbrev pub invariant-loop : goal.invariant-loop
 invariant-loop g l =
