@@ -1,9 +1,9 @@
 -- Clients stay live.
-use Rattle.std.proofs.Common.{◌≡◌, ◌≢◌, ℕ, ◌<◌, List, [], ◌∷◌, ◌++◌, length, refl, sym, ap, subst, ◌∙◌, inl, inr, slice_index_or, slice_set}
+use Rattle.std.proofs.Common.{◌≡◌, ◌≢◌, ℕ, ◌<◌, List, length, refl, sym, ap, subst, ◌∙◌, inl, inr, slice_index_or, slice_set}
 use Rattle.iox2_pubsub.specs.Handles.{subscriber_id}
 use Rattle.iox2_pubsub.specs.Live.{IsLivePublisher, IsLiveSubscriber, No_item}
 use Rattle.iox2_pubsub.specs.declared.subscriber.Subscriber.{Subscriber}
-use Rattle.iox2_request_response.specs.Handles.{AreApart, IsLiveClient, IsLivePending, IsPendingOf}
+use Rattle.iox2_request_response.specs.Handles.{AreApart, IsLiveClient, IsPendingOf}
 use Rattle.iox2_request_response.specs.Service.{StaysService}
 use Rattle.iox2_request_response.specs.Slots.{AreDistinct, AreOthers, HasIdle, IsInUse}
 use Rattle.iox2_request_response.specs.declared.client.Client.{Client}
@@ -12,7 +12,7 @@ use Rattle.iox2_request_response.specs.declared.service.RequestResponse.{Request
 use Rattle.iox2_request_response.specs.declared.slots.Slot.{Slot}
 use Rattle.iox2_request_response.specs.declared.slots.Slot.TheVariants.{Idle, InUse}
 use Rattle.iox2_request_response.proofs.Frames.{publisher-live, subscriber-live}
-use Rattle.iox2_request_response.proofs.SlotSteps.{back-same, put-distinct, put-same, put-used, set-idle, taken-apart, taken-distinct, taken-idle, taken-other, taken-place, taken-used}
+use Rattle.iox2_request_response.proofs.SlotSteps.{put-distinct, put-same, put-used, set-idle, taken-apart, taken-distinct, taken-idle, taken-other, taken-place, taken-used}
 
 module _ {Q P F G : Type 0} (old new : RequestResponse Q P F G) (stays : StaysService old new) where
   -- a client is live where all that it has was live before

@@ -1,5 +1,5 @@
 -- A client's subscribers are closed one after the other, or made.
-use Rattle.std.proofs.Common.{◌≡◌, ℕ, ◌<◌, List, [], ◌∷◌, ◌++◌, length, refl, sym, ap, subst, ◌∙◌, inl, inr, slice_index_or, append_assoc}
+use Rattle.std.proofs.Common.{◌≡◌, ℕ, List, [], ◌∷◌, ◌++◌, length, refl, sym, ap, subst, ◌∙◌, inl, inr, slice_index_or, append_assoc}
 use Rattle.iox2_pubsub.specs.Handles.{subscriber_id}
 use Rattle.iox2_pubsub.specs.Live.{Both, IsLivePublisher, IsLiveSubscriber, IsNewIn, No_item, Stays, StaysBut, publisher_port, subscriber_key, subscriber_port}
 use Rattle.iox2_pubsub.specs.declared.publisher.Publisher.{Publisher}

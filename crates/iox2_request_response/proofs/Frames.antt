@@ -1,12 +1,12 @@
 -- What of a service stays from one state to the next.
-use Rattle.std.proofs.Common.{◌≡◌, refl, subst, sym}
+use Rattle.std.proofs.Common.{◌≡◌, subst, sym}
 use Rattle.iox2_domain.specs.Kept.{Kept}
-use Rattle.iox2_pubsub.specs.Live.{Both, IsLivePublisher, IsLiveSubscriber, IsOtherSubscriber, Item, No_item, Stays, StaysBut, publisher_key, subscriber_key}
+use Rattle.iox2_pubsub.specs.Live.{Both, IsLivePublisher, IsLiveSubscriber, IsOtherSubscriber, Item, Stays, StaysBut, publisher_key, subscriber_key}
 use Rattle.iox2_pubsub.specs.UpdateCalls.{ready_stays}
 use Rattle.iox2_pubsub.specs.declared.publisher.Publisher.{Publisher}
 use Rattle.iox2_pubsub.specs.declared.subscriber.Subscriber.{Subscriber}
 use Rattle.iox2_pubsub.proofs.StaysBut.{first-part, second-part, stays-but-whole, stays-twice, unchanged-stays}
-use Rattle.iox2_request_response.specs.Service.{StaysBoth, StaysService}
+use Rattle.iox2_request_response.specs.Service.{StaysBoth}
 use Rattle.iox2_request_response.specs.declared.service.RequestResponse.{RequestResponse}
 
 module _ {T U F G : Type 0} (old new : Kept T U F G) where

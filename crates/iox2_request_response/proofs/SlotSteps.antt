@@ -2,9 +2,9 @@
 use Rattle.std.proofs.Common.{◌≡◌, ◌≢◌, ◌⊎◌, inl, inr, ℕ, zero, suc, ◌<◌, List, [], ◌∷◌, ◌++◌, length, refl, sym, ap, subst, ◌∙◌, arith, get_or, set, slice_index_or, slice_set}
 use Rattle.std.proofs.lemmas.List.{get_or-set_other, get_or-set_same, set-get_or}
 use Rattle.iox2_pubsub.specs.Handles.{subscriber_id}
-use Rattle.iox2_pubsub.specs.Live.{Both, IsOtherSubscriber, Item, No_item, subscriber_port}
+use Rattle.iox2_pubsub.specs.Live.{IsOtherSubscriber}
 use Rattle.iox2_pubsub.specs.declared.subscriber.Subscriber.{Subscriber}
-use Rattle.iox2_request_response.specs.Slots.{AllInUse, AreDistinct, AreOthers, HasIdle, IsInUse, idle_ports}
+use Rattle.iox2_request_response.specs.Slots.{AreDistinct, AreOthers, HasIdle, IsInUse, idle_ports}
 use Rattle.iox2_request_response.specs.declared.slots.Slot.{Slot}
 use Rattle.iox2_request_response.specs.declared.slots.Slot.TheVariants.{Idle, InUse}
 

@@ -1,4 +1,4 @@
-use Rattle.std.proofs.Common.{◌≡◌, below_more, sym, ◌∙◌}
+use Rattle.std.proofs.Common.{below_more, sym, ◌∙◌}
 use Rattle.iox2_request_response.proofs.SlotSteps.{used-kept, used-there}
 use Rattle.iox2_request_response.proofs.slots.take_idle.Goals as goal
 

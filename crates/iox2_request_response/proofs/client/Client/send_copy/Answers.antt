@@ -30,5 +30,5 @@ returns-in-Err-clause-client g c =
     client-same {Q = g.row.Q.Denot} {P = g.row.P.Denot} {F = g.row.F.Denot} {G = g.row.G.Denot} c.args.service.now c.send_request.new.service c.send_request.ensures.stays c.args.self.now c.give_back.new.self
     c.give_back.ensures.requests
     (c.give_back.ensures.slots ∙ ap (λ (xs : List Slot). slice_set xs c.in-Some.index (Idle c.in-Some.slot)) c.in-Some.ensures.2
-        ∙ back-same c.args.self.now.slots.items c.in-Some.index c.in-Some.slot c.in-Some.ensures.1)
+    ∙ back-same c.args.self.now.slots.items c.in-Some.index c.in-Some.slot c.in-Some.ensures.1)
     c.requires.client

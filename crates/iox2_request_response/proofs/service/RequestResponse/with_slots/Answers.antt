@@ -12,7 +12,7 @@ close-requires g c = record {
 pub loop-preserved : goal.loop-preserved
 loop-preserved g c = (
   one-more {Q = g.row.Q.Denot} {P = g.row.P.Denot} {F = g.row.F.Denot} {G = g.row.G.Denot} c.args.client.requests c.args.self.now c.loop.client c.loop.self c.loop.invariant.0 _ _ c.in-Ok.subscriber refl
-  c.push_reserved.ensures.items refl c.create.ensures.leaves.stays c.in-Ok.ensures.live c.in-Ok.ensures.new,
+      c.push_reserved.ensures.items refl c.create.ensures.leaves.stays c.in-Ok.ensures.live c.in-Ok.ensures.new,
   (let len = c.push_reserved.ensures.len in let before = c.loop.invariant.1 in omega (arith, len, before)),
   (let capacity = c.push_reserved.ensures.capacity in let room = c.loop.invariant.2 in omega (arith, capacity, room)),
 )
