@@ -1,9 +1,10 @@
 -- When handles of a service are live.
 use Rattle.std.specs.Prelude.{◌≢◌, ℕ}
 use Rattle.iox2_pubsub.specs.Handles.{subscriber_id}
-use Rattle.iox2_pubsub.specs.Live.{IsLivePublisher, IsLiveSample, IsLiveSubscriber}
+use Rattle.iox2_pubsub.specs.Live.{IsLivePublisher, IsLiveSample, IsLiveSubscriber, IsNewIn, No_item, publisher_port, received_sample, subscriber_port}
 use Rattle.iox2_pubsub.specs.declared.subscriber.Subscriber.{Subscriber}
-use Rattle.iox2_request_response.specs.Slots.{AreDistinct, AreOthers, HasIdle, IsInUse}
+use Rattle.iox2_request_response.specs.Service.{StaysBoth}
+use Rattle.iox2_request_response.specs.Slots.{AreDistinct, AreOthers, HasIdle, IsInUse, idle_ports}
 use Rattle.iox2_request_response.specs.declared.active_request.ActiveRequest.{ActiveRequest}
 use Rattle.iox2_request_response.specs.declared.client.Client.{Client}
 use Rattle.iox2_request_response.specs.declared.pending_response.PendingResponse.{PendingResponse}
@@ -34,6 +35,51 @@ module _ {Q P F G : Type 0} (service : RequestResponse Q P F G) where
   -- The response is borrowed.
   abbrev pub IsLiveResponse : Response → Type 0
   IsLiveResponse response = IsLiveSample service.responses response.sample
+
+  -- ---- what a call made
+
+  -- No port of the client was there.
+  pub record IsNewClient (client : Client) : Type 0 where
+    pub requests : IsNewIn service.requests (publisher_port client.requests)
+    pub slots : IsNewIn service.responses (idle_ports (client.slots).items)
+
+  -- No port of the server was there.
+  pub record IsNewServer (server : Server) : Type 0 where
+    pub requests : IsNewIn service.requests (subscriber_port server.requests)
+    pub responses : IsNewIn service.responses (publisher_port server.responses)
+
+  -- The request wasn't borrowed.
+  abbrev pub IsNewActive : ActiveRequest → Type 0
+  IsNewActive active = IsNewIn service.requests (received_sample active.sample)
+
+  -- The response wasn't borrowed.
+  abbrev pub IsNewResponse : Response → Type 0
+  IsNewResponse response = IsNewIn service.responses (received_sample response.sample)
+
+-- ---- what a call spent: all that was live in either domain is and reads as it did, but this
+
+module _ {Q P F G : Type 0} (old new : RequestResponse Q P F G) where
+  -- The client, with its idle subscribers.
+  abbrev pub StaysButClient : Client → Type 0
+  StaysButClient client = StaysBoth (publisher_port client.requests) (idle_ports (client.slots).items) old new
+
+  -- The server.
+  abbrev pub StaysButServer : Server → Type 0
+  StaysButServer server = StaysBoth (subscriber_port server.requests) (publisher_port server.responses) old new
+
+  -- The subscriber of the responses to a request.
+  abbrev pub StaysButPending : PendingResponse → Type 0
+  StaysButPending pending = StaysBoth No_item (subscriber_port pending.slot) old new
+
+  -- The request.
+  abbrev pub StaysButActive : ActiveRequest → Type 0
+  StaysButActive active = StaysBoth (received_sample active.sample) No_item old new
+
+  -- The response.
+  abbrev pub StaysButResponse : Response → Type 0
+  StaysButResponse response = StaysBoth No_item (received_sample response.sample) old new
+
+-- ---- a client and its requests
 
 -- The pending response is one of this client's: its place is in use, and its subscriber is none of the idle ones.
 pub record IsPendingOf (client : Client) (pending : PendingResponse) : Type 0 where

@@ -4,9 +4,8 @@ ghost use Rattle.iox2_machine.specs.machine.ChannelCalls.{has_channel_state, has
 ghost use Rattle.iox2_machine.specs.machine.State.{State, Messages};
 ghost use Rattle.iox2_domain.specs.Shows.{Shows};
 ghost use Rattle.iox2_pubsub.specs.Handles.{publisher_id};
-ghost use Rattle.iox2_pubsub.specs.Live.{No_item, received_sample};
-ghost use Rattle.iox2_request_response.specs.Handles.{IsLiveActive, IsLiveServer};
-ghost use Rattle.iox2_request_response.specs.Service.{IsService, StaysBoth, StaysService};
+ghost use Rattle.iox2_request_response.specs.Handles.{IsLiveActive, IsLiveServer, StaysButActive};
+ghost use Rattle.iox2_request_response.specs.Service.{IsService, StaysService};
 ghost use Rattle.iox2_request_response.specs.declared.tags.ResponseTag.{ResponseTag as Tag};
 
 use crate::server::Server;
@@ -115,7 +114,7 @@ impl ActiveRequest {
     )
         requires live { IsLiveActive service.old self }
         requires server { IsLiveServer service.old server.now }
-        ensures stays { StaysBoth (received_sample self.sample) No_item service.old service.new }
+        ensures stays { StaysButActive service.old service.new self }
     {
         let ActiveRequest {
             sample,
@@ -134,7 +133,7 @@ impl ActiveRequest {
         service: &mut RequestResponse<Q, P, F, G>,
     )
         requires live { IsLiveActive service.old self }
-        ensures stays { StaysBoth (received_sample self.sample) No_item service.old service.new }
+        ensures stays { StaysButActive service.old service.new self }
     {
         self.sample_of().release(&mut service.requests);
     }

@@ -1,7 +1,7 @@
 //! A client.
 ghost use Rattle.std.specs.Prelude.{◌≡◌, ◌≤◌, ◌↔◌, [], Err, IfErr, IfOk, slice_set, vec_capacity};
-ghost use Rattle.iox2_pubsub.specs.Live.{IsLivePublisher, IsLiveSubscriber, No_item, publisher_port};
-ghost use Rattle.iox2_request_response.specs.Handles.{AreApart, IsLiveClient, IsLivePending, IsPendingOf};
+ghost use Rattle.iox2_pubsub.specs.Live.{IsLivePublisher, IsLiveSubscriber, IsNewIn, No_item, publisher_port};
+ghost use Rattle.iox2_request_response.specs.Handles.{AreApart, IsLiveClient, IsLivePending, IsNewClient, IsPendingOf, StaysButClient};
 ghost use Rattle.iox2_request_response.specs.Service.{IsService, StaysBoth, StaysService};
 ghost use Rattle.iox2_request_response.specs.Slots.{AllInUse, IsInUse, idle_ports};
 ghost use Rattle.iox2_request_response.specs.declared.pending_response.PendingResponse.{PendingResponse as Pending};
@@ -28,6 +28,7 @@ impl<Q: Drop, P: Drop, F: BackpressureFn, G: DegradationFn> RequestResponse<Q, P
     pub fn create_client(&mut self, alloc: Global) -> Result<Client, ClientCreateError>
         requires service { IsService self.old }
         ensures client { IfOk result (IsLiveClient self.new) }
+        ensures is_new { IfOk result (IsNewClient self.old) }
         ensures stays { StaysService self.old self.new }
     {
         let slots = Vec::with_capacity(alloc, self.max_active_requests)?;
@@ -49,6 +50,8 @@ impl<Q: Drop, P: Drop, F: BackpressureFn, G: DegradationFn> RequestResponse<Q, P
         requires empty { client.slots.items ≡ [] }
         requires room { self.old.max_active_requests ≤ vec_capacity client.slots }
         ensures client { IfOk result (IsLiveClient self.new) }
+        ensures requests { IfOk result (λ it. it.requests ≡ client.requests) }
+        ensures are_new { IfOk result (λ it. IsNewIn self.old.responses (idle_ports it.slots.items)) }
         ensures stays { StaysBoth (publisher_port client.requests) No_item self.old self.new }
     {
         for _ in 0..self.max_active_requests {
@@ -121,7 +124,7 @@ impl Client {
         service: &mut RequestResponse<Q, P, F, G>,
     )
         requires client { IsLiveClient service.old self }
-        ensures stays { StaysBoth (publisher_port self.requests) (idle_ports self.slots.items) service.old service.new }
+        ensures stays { StaysButClient service.old service.new self }
     {
         let Client { requests, slots } = self;
         let mut slots = slots;

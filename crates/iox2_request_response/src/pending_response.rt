@@ -4,9 +4,9 @@ ghost use Rattle.iox2_machine.specs.machine.ChannelCalls.{some_channel_has_state
 ghost use Rattle.iox2_machine.specs.machine.State.{State, Messages};
 ghost use Rattle.iox2_domain.specs.Shows.{Shows};
 ghost use Rattle.iox2_pubsub.specs.Handles.{subscriber_id};
-ghost use Rattle.iox2_pubsub.specs.Live.{IsLiveSubscriber, No_item, SampleHasUserHeader, sample_key, subscriber_port};
-ghost use Rattle.iox2_request_response.specs.Handles.{AreApart, IsLiveClient, IsLivePending, IsLiveResponse, IsPendingOf};
-ghost use Rattle.iox2_request_response.specs.Service.{StaysBoth, StaysService};
+ghost use Rattle.iox2_pubsub.specs.Live.{IsLiveSubscriber, SampleHasUserHeader, sample_key};
+ghost use Rattle.iox2_request_response.specs.Handles.{AreApart, IsLiveClient, IsLivePending, IsLiveResponse, IsNewResponse, IsPendingOf, StaysButPending};
+ghost use Rattle.iox2_request_response.specs.Service.{StaysService};
 ghost use Rattle.iox2_request_response.specs.Slots.{HasIdle};
 ghost use Rattle.iox2_request_response.specs.declared.pending_response.PendingResponse.{PendingResponse as Pending};
 ghost use Rattle.iox2_request_response.specs.declared.tags.ResponseTag.{ResponseTag as Tag};
@@ -76,6 +76,7 @@ impl PendingResponse {
     ) -> Result<Option<Response>, ReceiveError>
         requires live { IsLivePending service.old self.now }
         ensures response { IfOk result (λ response. IfSome response (IsLiveResponse service.new)) }
+        ensures is_new { IfOk result (λ response. IfSome response (IsNewResponse service.old)) }
         ensures its { IfOk result (λ response. IfSome response (λ it. (tag : Tag) × SampleHasUserHeader service.new.responses (sample_key it.sample) tag × (tag.number ≡ self.now.number))) }
         ensures stays { StaysService service.old service.new }
     {
@@ -120,7 +121,7 @@ impl PendingResponse {
         service: &mut RequestResponse<Q, P, F, G>,
     )
         requires live { IsLivePending service.old self }
-        ensures stays { StaysBoth No_item (subscriber_port self.slot) service.old service.new }
+        ensures stays { StaysButPending service.old service.new self }
     {
         let PendingResponse {
             slot,

@@ -1,7 +1,6 @@
 //! A response.
-ghost use Rattle.iox2_pubsub.specs.Live.{No_item, received_sample};
-ghost use Rattle.iox2_request_response.specs.Handles.{IsLiveResponse};
-ghost use Rattle.iox2_request_response.specs.Service.{IsService, StaysBoth};
+ghost use Rattle.iox2_request_response.specs.Handles.{IsLiveResponse, StaysButResponse};
+ghost use Rattle.iox2_request_response.specs.Service.{IsService};
 
 use crate::service::RequestResponse;
 use iox2_pubsub::{BackpressureFn, DegradationFn, Sample, UniquePublisherId};
@@ -36,7 +35,7 @@ impl Response {
         service: &mut RequestResponse<Q, P, F, G>,
     )
         requires live { IsLiveResponse service.old self }
-        ensures stays { StaysBoth No_item (received_sample self.sample) service.old service.new }
+        ensures stays { StaysButResponse service.old service.new self }
     {
         let Response { sample } = self;
         sample.release(&mut service.responses);

@@ -1,8 +1,8 @@
 //! A server.
 ghost use Rattle.std.specs.Prelude.{◌≡◌, IfErr, IfOk, IfSome};
-ghost use Rattle.iox2_pubsub.specs.Live.{Both, IsLiveSample, No_item, publisher_port, subscriber_port};
-ghost use Rattle.iox2_request_response.specs.Handles.{IsLiveActive, IsLiveServer};
-ghost use Rattle.iox2_request_response.specs.Service.{IsService, StaysBoth, StaysService};
+ghost use Rattle.iox2_pubsub.specs.Live.{IsLiveSample};
+ghost use Rattle.iox2_request_response.specs.Handles.{IsLiveActive, IsLiveServer, IsNewActive, IsNewServer, StaysButServer};
+ghost use Rattle.iox2_request_response.specs.Service.{IsService, StaysService};
 
 use crate::active_request::ActiveRequest;
 use crate::errors::ServerCreateError;
@@ -25,6 +25,7 @@ impl<Q: Drop, P: Drop, F: BackpressureFn, G: DegradationFn> RequestResponse<Q, P
     pub fn create_server(&mut self) -> Result<Server, ServerCreateError>
         requires service { IsService self.old }
         ensures server { IfOk result (IsLiveServer self.new) }
+        ensures is_new { IfOk result (IsNewServer self.old) }
         ensures stays { StaysService self.old self.new }
     {
         let requests = match self
@@ -71,6 +72,7 @@ impl Server {
     ) -> Result<Option<ActiveRequest>, ReceiveError>
         requires live { IsLiveServer service.old self.now }
         ensures active { IfOk result (λ active. IfSome active (IsLiveActive service.new)) }
+        ensures is_new { IfOk result (λ active. IfSome active (IsNewActive service.old)) }
         ensures stays { StaysService service.old service.new }
     {
         self.responses.update_connections(&mut service.responses)?;
@@ -122,7 +124,7 @@ impl Server {
         service: &mut RequestResponse<Q, P, F, G>,
     )
         requires live { IsLiveServer service.old self }
-        ensures stays { StaysBoth (subscriber_port self.requests) (publisher_port self.responses) service.old service.new }
+        ensures stays { StaysButServer service.old service.new self }
     {
         let Server {
             requests,
