@@ -53,6 +53,7 @@ pub fn next_answer(
 }
 
 /// Asks a question, has the server answer one, and returns the answer that came.
+#[tactic(auto, using(iox2_request_response::proofs::Calling::calling))]
 pub fn ask(
     service: &mut RequestResponse<u32, u32>,
     client: &mut Client,
@@ -74,6 +75,7 @@ pub fn ask(
 }
 
 /// Asks two questions at a time, and returns the answers that came.
+#[tactic(auto, using(iox2_request_response::proofs::Calling::calling))]
 pub fn ask_twice(
     service: &mut RequestResponse<u32, u32>,
     client: &mut Client,

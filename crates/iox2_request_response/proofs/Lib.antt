@@ -1,3 +1,4 @@
+pub mod Calling
 pub mod ClientSteps
 pub mod Closing
 pub mod Frames
