@@ -1,9 +1,10 @@
 //! A request that a server has received.
 ghost use Rattle.std.specs.Prelude.{◌≡◌};
-ghost use Rattle.iox2_machine.specs.machine.ChannelCalls.{has_channel_state, has_disconnect_hint};
+ghost use Rattle.iox2_machine.specs.machine.ChannelCalls.{has_channel_state, has_disconnect_hint, sent_closed};
 ghost use Rattle.iox2_machine.specs.machine.State.{State, Messages};
 ghost use Rattle.iox2_domain.specs.Shows.{Shows};
-ghost use Rattle.iox2_pubsub.specs.Handles.{publisher_id};
+ghost use Rattle.iox2_pubsub.specs.Handles.{origin_of, publisher_id};
+ghost use Rattle.iox2_pubsub.specs.Live.{SampleReads};
 ghost use Rattle.iox2_request_response.specs.Handles.{IsLiveActive, IsLiveServer, StaysButActive};
 ghost use Rattle.iox2_request_response.specs.Service.{IsService, StaysService};
 ghost use Rattle.iox2_request_response.specs.declared.tags.ResponseTag.{ResponseTag as Tag};
@@ -33,12 +34,16 @@ impl ActiveRequest {
     ) -> &'a Q
         requires service { IsService service.now }
         requires live { IsLiveActive service.now self.now }
+        ensures reads { SampleReads service.now.requests self.now.sample result.now }
+        ensures same { (value : Q) → SampleReads service.now.requests self.now.sample value → result.now ≡ value }
     {
         self.sample.payload(&service.requests)
     }
 
     /// Which client sent it.
-    pub fn origin(&self) -> UniquePublisherId {
+    pub fn origin(&self) -> UniquePublisherId
+        ensures { result ≡ origin_of self.now.sample }
+    {
         self.sample.origin()
     }
 
@@ -114,6 +119,8 @@ impl ActiveRequest {
     )
         requires live { IsLiveActive service.old self }
         requires server { IsLiveServer service.old server.now }
+        ensures finished { (m : Messages P Tag) (s : State P Tag) → Shows service.old.responses m s → Shows service.new.responses m (sent_closed s (publisher_id server.now.responses) 0 self.place self.number) }
+        ensures spent { IsLiveActive service.new self → ⊥ }
         ensures stays { StaysButActive service.old service.new self }
     {
         let ActiveRequest {
@@ -133,6 +140,7 @@ impl ActiveRequest {
         service: &mut RequestResponse<Q, P, F, G>,
     )
         requires live { IsLiveActive service.old self }
+        ensures spent { IsLiveActive service.new self → ⊥ }
         ensures stays { StaysButActive service.old service.new self }
     {
         self.sample_of().release(&mut service.requests);

@@ -124,6 +124,7 @@ impl Client {
         service: &mut RequestResponse<Q, P, F, G>,
     )
         requires client { IsLiveClient service.old self }
+        ensures spent { IsLiveClient service.new self → ⊥ }
         ensures stays { StaysButClient service.old service.new self }
     {
         let Client { requests, slots } = self;

@@ -1,10 +1,10 @@
 //! What waits for the responses to a request.
-ghost use Rattle.std.specs.Prelude.{◌≡◌, IfOk, IfSome};
-ghost use Rattle.iox2_machine.specs.machine.ChannelCalls.{some_channel_has_state};
+ghost use Rattle.std.specs.Prelude.{◌≡◌, ◌<◌, ◌↔◌, IfOk, IfSome, IsTrue};
+ghost use Rattle.iox2_machine.specs.machine.ChannelCalls.{received_hinted, some_channel_has_state};
 ghost use Rattle.iox2_machine.specs.machine.State.{State, Messages};
 ghost use Rattle.iox2_domain.specs.Shows.{Shows};
 ghost use Rattle.iox2_pubsub.specs.Handles.{subscriber_id};
-ghost use Rattle.iox2_pubsub.specs.Live.{IsLiveSubscriber, SampleHasUserHeader, sample_key};
+ghost use Rattle.iox2_pubsub.specs.Live.{IsLiveSubscriber, SampleHasUserHeader, sample_key, waiting};
 ghost use Rattle.iox2_request_response.specs.Handles.{AreApart, IsLiveClient, IsLivePending, IsLiveResponse, IsNewResponse, IsPendingOf, StaysButPending};
 ghost use Rattle.iox2_request_response.specs.Service.{StaysService};
 ghost use Rattle.iox2_request_response.specs.Slots.{HasIdle};
@@ -30,7 +30,9 @@ pub struct PendingResponse {
 
 impl PendingResponse {
     /// To how many servers the request was sent.
-    pub fn number_of_server_connections(&self) -> usize {
+    pub fn number_of_server_connections(&self) -> usize
+        ensures { result ≡ self.now.servers }
+    {
         self.servers
     }
 
@@ -52,6 +54,7 @@ impl PendingResponse {
         service: &mut RequestResponse<Q, P, F, G>,
     ) -> Result<bool, ConnectionFailure>
         requires live { IsLivePending service.old self.now }
+        ensures waits { IfOk result (λ waits. IsTrue waits ↔ (0 < waiting service.new.responses self.now.slot)) }
         ensures stays { StaysService service.old service.new }
     {
         self.slot.has_samples(&mut service.responses)
@@ -63,6 +66,7 @@ impl PendingResponse {
         service: &mut RequestResponse<Q, P, F, G>,
     )
         requires live { IsLivePending service.old self.now }
+        ensures hinted { (m : Messages P Tag) (s : State P Tag) → Shows service.old.responses m s → Shows service.new.responses m (received_hinted s (subscriber_id self.now.slot) 0 self.now.number) }
         ensures stays { StaysService service.old service.new }
     {
         self.slot
@@ -121,6 +125,7 @@ impl PendingResponse {
         service: &mut RequestResponse<Q, P, F, G>,
     )
         requires live { IsLivePending service.old self }
+        ensures spent { IsLivePending service.new self → ⊥ }
         ensures stays { StaysButPending service.old service.new self }
     {
         let PendingResponse {

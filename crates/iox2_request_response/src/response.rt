@@ -1,4 +1,7 @@
 //! A response.
+ghost use Rattle.std.specs.Prelude.{◌≡◌};
+ghost use Rattle.iox2_pubsub.specs.Handles.{origin_of};
+ghost use Rattle.iox2_pubsub.specs.Live.{SampleReads};
 ghost use Rattle.iox2_request_response.specs.Handles.{IsLiveResponse, StaysButResponse};
 ghost use Rattle.iox2_request_response.specs.Service.{IsService};
 
@@ -20,12 +23,16 @@ impl Response {
     ) -> &'a P
         requires service { IsService service.now }
         requires live { IsLiveResponse service.now self.now }
+        ensures reads { SampleReads service.now.responses self.now.sample result.now }
+        ensures same { (value : P) → SampleReads service.now.responses self.now.sample value → result.now ≡ value }
     {
         self.sample.payload(&service.responses)
     }
 
     /// Which server sent it.
-    pub fn origin(&self) -> UniquePublisherId {
+    pub fn origin(&self) -> UniquePublisherId
+        ensures { result ≡ origin_of self.now.sample }
+    {
         self.sample.origin()
     }
 
@@ -35,6 +42,7 @@ impl Response {
         service: &mut RequestResponse<Q, P, F, G>,
     )
         requires live { IsLiveResponse service.old self }
+        ensures spent { IsLiveResponse service.new self → ⊥ }
         ensures stays { StaysButResponse service.old service.new self }
     {
         let Response { sample } = self;

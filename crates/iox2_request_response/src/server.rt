@@ -1,6 +1,6 @@
 //! A server.
-ghost use Rattle.std.specs.Prelude.{◌≡◌, IfErr, IfOk, IfSome};
-ghost use Rattle.iox2_pubsub.specs.Live.{IsLiveSample};
+ghost use Rattle.std.specs.Prelude.{◌≡◌, IfErr, IfOk, IfSome, ◌<◌, ◌↔◌, IsTrue};
+ghost use Rattle.iox2_pubsub.specs.Live.{IsLiveSample, waiting};
 ghost use Rattle.iox2_request_response.specs.Handles.{IsLiveActive, IsLiveServer, IsNewActive, IsNewServer, StaysButServer};
 ghost use Rattle.iox2_request_response.specs.Service.{IsService, StaysService};
 
@@ -60,6 +60,7 @@ impl Server {
         service: &mut RequestResponse<Q, P, F, G>,
     ) -> Result<bool, ConnectionFailure>
         requires live { IsLiveServer service.old self.now }
+        ensures waits { IfOk result (λ waits. IsTrue waits ↔ (0 < waiting service.new.requests self.now.requests)) }
         ensures stays { StaysService service.old service.new }
     {
         self.requests.has_samples(&mut service.requests)
@@ -124,6 +125,7 @@ impl Server {
         service: &mut RequestResponse<Q, P, F, G>,
     )
         requires live { IsLiveServer service.old self }
+        ensures spent { IsLiveServer service.new self → ⊥ }
         ensures stays { StaysButServer service.old service.new self }
     {
         let Server {
