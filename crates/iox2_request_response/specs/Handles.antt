@@ -1,7 +1,11 @@
 -- When handles of a service are live.
-use Rattle.std.specs.Prelude.{◌≢◌, ℕ}
-use Rattle.iox2_pubsub.specs.Handles.{subscriber_id}
-use Rattle.iox2_pubsub.specs.Live.{IsLivePublisher, IsLiveSample, IsLiveSubscriber, IsNewIn, No_item, publisher_port, received_sample, subscriber_port}
+use Rattle.std.specs.Prelude.{◌≡◌, ◌≢◌, ℕ}
+use Rattle.std.specs.declared.option.Option.TheVariants.{Some}
+use Rattle.iox2_machine.specs.machine.ChannelCalls.{connection_place}
+use Rattle.iox2_machine.specs.machine.State.{State, Messages}
+use Rattle.iox2_domain.specs.Shows.{Shows}
+use Rattle.iox2_pubsub.specs.Handles.{publisher_id, subscriber_id}
+use Rattle.iox2_pubsub.specs.Live.{IsLivePublisher, IsLiveSample, IsLiveSubscriber, IsNewIn, No_item, SampleHasUserHeader, publisher_port, received_sample, sample_key, subscriber_port}
 use Rattle.iox2_pubsub.specs.declared.subscriber.Subscriber.{Subscriber}
 use Rattle.iox2_request_response.specs.Service.{StaysBoth}
 use Rattle.iox2_request_response.specs.Slots.{AreDistinct, AreOthers, HasIdle, IsInUse, idle_ports}
@@ -11,6 +15,8 @@ use Rattle.iox2_request_response.specs.declared.pending_response.PendingResponse
 use Rattle.iox2_request_response.specs.declared.response.Response.{Response}
 use Rattle.iox2_request_response.specs.declared.server.Server.{Server}
 use Rattle.iox2_request_response.specs.declared.service.RequestResponse.{RequestResponse}
+use Rattle.iox2_request_response.specs.declared.tags.RequestTag.{RequestTag}
+use Rattle.iox2_request_response.specs.declared.tags.ResponseTag.{ResponseTag}
 
 module _ {Q P F G : Type 0} (service : RequestResponse Q P F G) where
   -- The client's publisher of requests is live, and so are its subscribers of responses that no request uses, no two of which are the same.
@@ -35,6 +41,14 @@ module _ {Q P F G : Type 0} (service : RequestResponse Q P F G) where
   -- The response is borrowed.
   abbrev pub IsLiveResponse : Response → Type 0
   IsLiveResponse response = IsLiveSample service.responses response.sample
+
+  -- The request has the number that its tag says, and its place is that of the server's connection to the subscriber that the tag
+  -- names.
+  pub record IsTagged (server : Server) (active : ActiveRequest) : Type 0 where
+    pub tag : RequestTag
+    pub reads : SampleHasUserHeader service.requests (sample_key active.sample) tag
+    pub number : active.number ≡ tag.number
+    pub place : (m : Messages P ResponseTag) (s : State P ResponseTag) → Shows service.responses m s → connection_place s (publisher_id server.responses) tag.slot ≡ Some active.place
 
   -- ---- what a call made
 

@@ -1,5 +1,5 @@
 //! A request that a server has received.
-ghost use Rattle.std.specs.Prelude.{◌≡◌};
+ghost use Rattle.std.specs.Prelude.{◌≡◌, false, Ok};
 ghost use Rattle.iox2_machine.specs.machine.ChannelCalls.{has_channel_state, has_disconnect_hint, sent_closed};
 ghost use Rattle.iox2_machine.specs.machine.State.{State, Messages};
 ghost use Rattle.iox2_domain.specs.Shows.{Shows};
@@ -97,6 +97,7 @@ impl ActiveRequest {
     ) -> Result<bool, SendError>
         requires service { IsService service.old }
         requires server { IsLiveServer service.old server.now }
+        ensures let_go { (m : Messages P Tag) (s : State P Tag) → Shows service.old.responses m s → has_channel_state s (publisher_id server.now.responses) 0 self.now.place self.now.number ≡ false → result ≡ Ok false }
         ensures stays { StaysService service.old service.new }
     {
         if !self.is_connected(server, service) {

@@ -1,7 +1,12 @@
 //! A server.
-ghost use Rattle.std.specs.Prelude.{◌≡◌, IfErr, IfOk, IfSome, ◌<◌, ◌↔◌, IsTrue};
+ghost use Rattle.std.specs.Prelude.{◌≡◌, true, IfErr, IfOk, IfSome, ◌<◌, ◌↔◌, IsTrue};
+ghost use Rattle.iox2_machine.specs.machine.ChannelCalls.{has_channel_state};
+ghost use Rattle.iox2_machine.specs.machine.State.{State, Messages};
+ghost use Rattle.iox2_domain.specs.Shows.{Shows};
+ghost use Rattle.iox2_pubsub.specs.Handles.{publisher_id};
+ghost use Rattle.iox2_request_response.specs.declared.tags.ResponseTag.{ResponseTag as Answered};
 ghost use Rattle.iox2_pubsub.specs.Live.{IsLiveSample, waiting};
-ghost use Rattle.iox2_request_response.specs.Handles.{IsLiveActive, IsLiveServer, IsNewActive, IsNewServer, StaysButServer};
+ghost use Rattle.iox2_request_response.specs.Handles.{IsLiveActive, IsLiveServer, IsNewActive, IsNewServer, IsTagged, StaysButServer};
 ghost use Rattle.iox2_request_response.specs.Service.{IsService, StaysService};
 
 use crate::active_request::ActiveRequest;
@@ -74,6 +79,8 @@ impl Server {
         requires live { IsLiveServer service.old self.now }
         ensures active { IfOk result (λ active. IfSome active (IsLiveActive service.new)) }
         ensures is_new { IfOk result (λ active. IfSome active (IsNewActive service.old)) }
+        ensures tagged { IfOk result (λ active. IfSome active (λ it. IsTagged service.new self.now it)) }
+        ensures connected { IfOk result (λ active. IfSome active (λ it. (m : Messages P Answered) (s : State P Answered) → Shows service.new.responses m s → has_channel_state s (publisher_id self.now.responses) 0 it.place it.number ≡ true)) }
         ensures stays { StaysService service.old service.new }
     {
         self.responses.update_connections(&mut service.responses)?;
@@ -95,6 +102,8 @@ impl Server {
         requires live { IsLiveServer service.now self.now }
         requires sample { IsLiveSample service.now.requests sample }
         ensures active { IfOk result (λ active. active.sample ≡ sample) }
+        ensures tagged { IfOk result (IsTagged service.now self.now) }
+        ensures connected { IfOk result (λ it. (m : Messages P Answered) (s : State P Answered) → Shows service.now.responses m s → has_channel_state s (publisher_id self.now.responses) 0 it.place it.number ≡ true) }
         ensures back { IfErr result (λ back. back ≡ sample) }
     {
         let tag = sample.user_header(&service.requests);
