@@ -3,7 +3,7 @@ use Rattle.std.proofs.Common.{◌≡◌, ◌≢◌, ℕ, ◌<◌, List, length, 
 use Rattle.iox2_pubsub.specs.Handles.{subscriber_id}
 use Rattle.iox2_pubsub.specs.Live.{IsLivePublisher, IsLiveSubscriber, No_item}
 use Rattle.iox2_pubsub.specs.declared.subscriber.Subscriber.{Subscriber}
-use Rattle.iox2_request_response.specs.Handles.{AreApart, IsLiveClient, IsPendingOf}
+use Rattle.iox2_request_response.specs.Handles.{AreApart, HasPortsOf, IsLiveClient, IsPendingOf}
 use Rattle.iox2_request_response.specs.Service.{StaysService}
 use Rattle.iox2_request_response.specs.Slots.{AreDistinct, AreOthers, HasIdle, IsInUse}
 use Rattle.iox2_request_response.specs.declared.client.Client.{Client}
@@ -88,3 +88,33 @@ module _ (before client : Client) (index : ℕ) where
           | inr there ↦ its.apart at subscriber there.1 same
         ]);
   }
+
+  -- where one is given back that a client had before, it has that one's ports
+  pub given-ports : (first : Client) (put : Subscriber) → client.requests ≡ before.requests → (client.slots).items ≡ slice_set (before.slots).items index (Idle put) → HasPortsOf first before
+      → HasIdle (first.slots).items index put → HasPortsOf first client
+  given-ports first put same is ports stood = record {
+    requests = same ∙ ports.requests;
+    slots = λ at subscriber idle. elim (set-idle (before.slots).items index (Idle put) at subscriber (ap (λ (xs : List Slot). slice_index_or xs at InUse) (sym is) ∙ idle)) [
+      | inl here ↦ subst (λ (k : ℕ). HasIdle (first.slots).items k subscriber) (sym here.0) (stood ∙ here.1)
+      | inr there ↦ ports.slots at subscriber there.1
+    ];
+  }
+
+-- where one was taken, those that are idle were so
+pub taken-ports : (before client : Client) (index : ℕ) (taken : Subscriber) → HasIdle (before.slots).items index taken → client.requests ≡ before.requests
+    → (client.slots).items ≡ slice_set (before.slots).items index InUse → HasPortsOf before client
+taken-ports before client index taken stands same is = record {
+  requests = same;
+  slots = λ at subscriber idle. (taken-idle (before.slots).items index taken stands at subscriber (ap (λ (xs : List Slot). slice_index_or xs at InUse) (sym is) ∙ idle)).1;
+}
+
+-- the same ones
+pub same-ports : (before client : Client) → client.requests ≡ before.requests → (client.slots).items ≡ (before.slots).items → HasPortsOf before client
+same-ports before client same is = record { requests = same; slots = λ at subscriber idle. ap (λ (xs : List Slot). slice_index_or xs at InUse) (sym is) ∙ idle }
+
+-- one after the other
+pub ports_then : (first before client : Client) → HasPortsOf first before → HasPortsOf before client → HasPortsOf first client
+ports_then first before client earlier later = record {
+  requests = later.requests ∙ earlier.requests;
+  slots = λ at subscriber idle. earlier.slots at subscriber (later.slots at subscriber idle);
+}

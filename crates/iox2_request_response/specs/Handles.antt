@@ -103,3 +103,8 @@ pub record IsPendingOf (client : Client) (pending : PendingResponse) : Type 0 wh
 -- The two have places and subscribers of their own.
 abbrev pub AreApart : (first second : PendingResponse) → Type 0
 AreApart first second = (first.index ≢ second.index) × (subscriber_id first.slot ≢ subscriber_id second.slot)
+
+-- The client has the ports that it had before: its publisher is the same one, and who is idle was so at the same place.
+pub record HasPortsOf (before client : Client) : Type 0 where
+  pub requests : client.requests ≡ before.requests
+  pub slots : (index : ℕ) (subscriber : Subscriber) → HasIdle (client.slots).items index subscriber → HasIdle (before.slots).items index subscriber

@@ -1,9 +1,9 @@
 //! A client.
 ghost use Rattle.std.specs.Prelude.{◌≡◌, ◌≤◌, ◌↔◌, [], Err, IfErr, IfOk, slice_set, vec_capacity};
 ghost use Rattle.iox2_pubsub.specs.Live.{IsLivePublisher, IsLiveSubscriber, IsNewIn, No_item, publisher_port};
-ghost use Rattle.iox2_request_response.specs.Handles.{AreApart, IsLiveClient, IsLivePending, IsNewClient, IsPendingOf, StaysButClient};
+ghost use Rattle.iox2_request_response.specs.Handles.{AreApart, HasPortsOf, IsLiveClient, IsLivePending, IsNewClient, IsPendingOf, StaysButClient};
 ghost use Rattle.iox2_request_response.specs.Service.{IsService, StaysBoth, StaysService};
-ghost use Rattle.iox2_request_response.specs.Slots.{AllInUse, IsInUse, idle_ports};
+ghost use Rattle.iox2_request_response.specs.Slots.{AllInUse, HasIdle, IsInUse, idle_ports};
 ghost use Rattle.iox2_request_response.specs.declared.pending_response.PendingResponse.{PendingResponse as Pending};
 ghost use Rattle.iox2_request_response.specs.declared.slots.Slot.TheVariants.{Idle};
 
@@ -89,6 +89,8 @@ impl Client {
         ensures pending { IfOk result (IsLivePending service.new) }
         ensures its { IfOk result (IsPendingOf self.new) }
         ensures others { (other : Pending) → IsPendingOf self.old other → IsPendingOf self.new other × IfOk result (AreApart other) }
+        ensures ports { HasPortsOf self.old self.new }
+        ensures was_idle { IfOk result (λ pending. HasIdle self.old.slots.items pending.index pending.slot) }
         ensures client { IsLiveClient service.new self.new }
         ensures stays { StaysService service.old service.new }
     {

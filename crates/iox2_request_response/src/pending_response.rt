@@ -5,9 +5,10 @@ ghost use Rattle.iox2_machine.specs.machine.State.{State, Messages};
 ghost use Rattle.iox2_domain.specs.Shows.{Shows};
 ghost use Rattle.iox2_pubsub.specs.Handles.{subscriber_id};
 ghost use Rattle.iox2_pubsub.specs.Live.{IsLiveSubscriber, SampleHasUserHeader, sample_key, waiting};
-ghost use Rattle.iox2_request_response.specs.Handles.{AreApart, IsLiveClient, IsLivePending, IsLiveResponse, IsNewResponse, IsPendingOf, StaysButPending};
+ghost use Rattle.iox2_request_response.specs.Handles.{AreApart, HasPortsOf, IsLiveClient, IsLivePending, IsLiveResponse, IsNewResponse, IsPendingOf, StaysButPending};
 ghost use Rattle.iox2_request_response.specs.Service.{StaysService};
 ghost use Rattle.iox2_request_response.specs.Slots.{HasIdle};
+ghost use Rattle.iox2_request_response.specs.declared.client.Client.{Client as ItsClient};
 ghost use Rattle.iox2_request_response.specs.declared.pending_response.PendingResponse.{PendingResponse as Pending};
 ghost use Rattle.iox2_request_response.specs.declared.tags.ResponseTag.{ResponseTag as Tag};
 
@@ -106,6 +107,7 @@ impl PendingResponse {
         ensures client { IsLiveClient service.new client.new }
         ensures given { HasIdle client.new.slots.items self.index self.slot }
         ensures others { (other : Pending) → IsPendingOf client.old other → AreApart self other → IsPendingOf client.new other }
+        ensures ports { (before : ItsClient) → HasPortsOf before client.old → HasIdle before.slots.items self.index self.slot → HasPortsOf before client.new }
         ensures stays { StaysService service.old service.new }
     {
         let PendingResponse {
