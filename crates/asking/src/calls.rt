@@ -1,5 +1,5 @@
 //! Questions go to a server, and answers come back.
-ghost use Rattle.iox2_request_response.specs.Handles.{IsLiveActive, IsLiveClient, IsLivePending, IsLiveServer, StaysButActive};
+ghost use Rattle.iox2_request_response.specs.Handles.{HasPortsOf, IsLiveActive, IsLiveClient, IsLivePending, IsLiveServer, StaysButActive};
 ghost use Rattle.iox2_request_response.specs.Service.{IsService, StaysService};
 
 use crate::failure::Failure;
@@ -64,6 +64,7 @@ pub fn ask(
     requires client { IsLiveClient service.old client.old }
     requires server { IsLiveServer service.old server.now }
     ensures client { IsLiveClient service.new client.new }
+    ensures ports { HasPortsOf client.old client.new }
     ensures stays { StaysService service.old service.new }
 {
     let pending = client.send_copy(service, question)?;
@@ -107,6 +108,7 @@ pub fn ask_twice(
 }
 
 /// Makes a client and a server, asks a question, and closes both.
+#[tactic(auto, using(iox2_request_response::proofs::Calling::calling))]
 pub fn serve_once(
     alloc: Global,
     service: &mut RequestResponse<u32, u32>,
