@@ -12,7 +12,7 @@ use Rattle.iox2_request_response.specs.declared.service.RequestResponse.{Request
 use Rattle.iox2_request_response.specs.declared.slots.Slot.{Slot}
 use Rattle.iox2_request_response.specs.declared.slots.Slot.TheVariants.{Idle, InUse}
 use Rattle.iox2_request_response.proofs.Frames.{publisher-live, subscriber-live}
-use Rattle.iox2_request_response.proofs.SlotSteps.{put-distinct, put-same, put-used, set-idle, taken-apart, taken-distinct, taken-idle, taken-other, taken-place, taken-used}
+use Rattle.iox2_request_response.proofs.SlotSteps.{put-distinct, put-same, set-idle, taken-distinct, taken-idle}
 
 module _ {Q P F G : Type 0} (old new : RequestResponse Q P F G) (stays : StaysService old new) where
   -- a client is live where all that it has was live before
@@ -54,63 +54,6 @@ module _ {Q P F G : Type 0} (old new : RequestResponse Q P F G) (stays : StaysSe
 
 module _ (before client : Client) (index : ℕ) where
   module _ (taken : Subscriber) (stands : HasIdle (before.slots).items index taken) (is : (client.slots).items ≡ slice_set (before.slots).items index InUse) where
-    -- the request that the subscriber was taken for is the client's
-    pub taken-pending : (pending : PendingResponse) → pending.index ≡ index → pending.slot ≡ taken → index < length (before.slots).items → AreDistinct (before.slots).items → IsPendingOf client pending
-    taken-pending pending at whose there distinct = record {
-      place = subst (λ (k : ℕ). IsInUse (client.slots).items k) (sym at) (subst (λ (xs : List Slot). IsInUse xs index) (sym is) (taken-place (before.slots).items index there));
-      apart = subst (λ (s : Subscriber). AreOthers (client.slots).items (subscriber_id s)) (sym whose)
-          (subst (λ (xs : List Slot). AreOthers xs (subscriber_id taken)) (sym is) (taken-apart (before.slots).items index taken stands distinct));
-    }
-
-    -- its others are so still
-    pub taken-others : (other : PendingResponse) → IsPendingOf before other → IsPendingOf client other
-    taken-others other its = record {
-      place = subst (λ (xs : List Slot). IsInUse xs other.index) (sym is) (taken-used (before.slots).items index other.index its.place);
-      apart = subst (λ (xs : List Slot). AreOthers xs (subscriber_id other.slot)) (sym is)
-          (λ at subscriber idle. its.apart at subscriber (taken-idle (before.slots).items index taken stands at subscriber idle).1);
-    }
-
-    -- and apart from this one
-    pub others-apart : (other pending : PendingResponse) → pending.index ≡ index → pending.slot ≡ taken → IsPendingOf before other → AreApart other pending
-    others-apart other pending at whose its = (
-      subst (λ (k : ℕ). other.index ≢ k) (sym at) (taken-other (before.slots).items index other.index taken stands its.place),
-      subst (λ (s : Subscriber). subscriber_id other.slot ≢ subscriber_id s) (sym whose) (its.apart index taken stands),
-    )
-
-  -- where one is given back, its others are so still
-  pub given-others : (put : Subscriber) → (client.slots).items ≡ slice_set (before.slots).items index (Idle put) → (other : PendingResponse) → index ≢ other.index
-      → subscriber_id put ≢ subscriber_id other.slot → IsPendingOf before other → IsPendingOf client other
-  given-others put is other away apart its = record {
-    place = subst (λ (xs : List Slot). IsInUse xs other.index) (sym is) (put-used (before.slots).items index other.index (Idle put) (λ same. away (sym same)) its.place);
-    apart = subst (λ (xs : List Slot). AreOthers xs (subscriber_id other.slot)) (sym is)
-        (λ at subscriber idle same. elim (set-idle (before.slots).items index (Idle put) at subscriber idle) [
-          | inl here ↦ apart (put-same put subscriber here.1 ∙ sym same)
-          | inr there ↦ its.apart at subscriber there.1 same
-        ]);
-  }
-
-  -- where one is given back that a client had before, it has that one's ports
-  pub given-ports : (first : Client) (put : Subscriber) → client.requests ≡ before.requests → (client.slots).items ≡ slice_set (before.slots).items index (Idle put) → HasPortsOf first before
-      → HasIdle (first.slots).items index put → HasPortsOf first client
-  given-ports first put same is ports stood = record {
-    requests = same ∙ ports.requests;
-    slots = λ at subscriber idle. elim (set-idle (before.slots).items index (Idle put) at subscriber (ap (λ (xs : List Slot). slice_index_or xs at InUse) (sym is) ∙ idle)) [
-      | inl here ↦ subst (λ (k : ℕ). HasIdle (first.slots).items k subscriber) (sym here.0) (stood ∙ here.1)
-      | inr there ↦ ports.slots at subscriber there.1
-    ];
-  }
-
--- where one was taken, those that are idle were so
-pub taken-ports : (before client : Client) (index : ℕ) (taken : Subscriber) → HasIdle (before.slots).items index taken → client.requests ≡ before.requests
-    → (client.slots).items ≡ slice_set (before.slots).items index InUse → HasPortsOf before client
-taken-ports before client index taken stands same is = record {
-  requests = same;
-  slots = λ at subscriber idle. (taken-idle (before.slots).items index taken stands at subscriber (ap (λ (xs : List Slot). slice_index_or xs at InUse) (sym is) ∙ idle)).1;
-}
-
--- the same ones
-pub same-ports : (before client : Client) → client.requests ≡ before.requests → (client.slots).items ≡ (before.slots).items → HasPortsOf before client
-same-ports before client same is = record { requests = same; slots = λ at subscriber idle. ap (λ (xs : List Slot). slice_index_or xs at InUse) (sym is) ∙ idle }
 
 -- one after the other
 pub ports_then : (first before client : Client) → HasPortsOf first before → HasPortsOf before client → HasPortsOf first client

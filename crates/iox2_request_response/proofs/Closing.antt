@@ -12,7 +12,7 @@ use Rattle.iox2_request_response.specs.declared.client.Client.{Client}
 use Rattle.iox2_request_response.specs.declared.service.RequestResponse.{RequestResponse}
 use Rattle.iox2_request_response.specs.declared.slots.Slot.{Slot}
 use Rattle.iox2_request_response.specs.declared.slots.Slot.TheVariants.{Idle, InUse}
-use Rattle.iox2_request_response.proofs.Frames.{publisher-live, stays-both, subscriber-live}
+use Rattle.iox2_request_response.proofs.Frames.{publisher-live, subscriber-live}
 use Rattle.iox2_request_response.proofs.SlotSteps.{middle-apart, middle-idle, other-ports, push-distinct, push-idle}
 
 append-none : (slots : List Slot) → slots ++ [] ≡ slots
@@ -30,19 +30,10 @@ module _ {Q P F G : Type 0} (all : List Slot) (start : RequestResponse Q P F G) 
   pub none-closed : IsClosing all start all start
   none-closed = record { closed = []; splits = sym (append-none all); requests = refl; responses = unchanged-stays No_item start.responses }
 
-  -- all of them
-  pub all-closed : (rest : List Slot) (now : RequestResponse Q P F G) → IsClosing all start rest now → rest ≡ [] → StaysBut (idle_ports all) start.responses now.responses
-  all-closed rest now closing none =
-      subst (λ (xs : List Slot). StaysBut (idle_ports xs) start.responses now.responses) (sym (closing.splits ∙ ap (λ (xs : List Slot). xs ++ closing.closed) none)) closing.responses
-
   module _ (rest left : List Slot) (now : RequestResponse Q P F G) (closing : IsClosing all start rest now) where
     -- the last of the rest goes to those that are closed
     moves : (slot : Slot) → rest ≡ left ++ slot ∷ [] → all ≡ left ++ slot ∷ closing.closed
     moves slot last = closing.splits ∙ ap (λ (xs : List Slot). xs ++ closing.closed) last ∙ append_assoc left (slot ∷ []) closing.closed
-
-    -- where it was in use, nothing is to be done
-    pub used-closed : rest ≡ left ++ InUse ∷ [] → IsClosing all start left now
-    used-closed last = record { closed = InUse ∷ closing.closed; splits = moves InUse last; requests = closing.requests; responses = closing.responses }
 
     module _ (subscriber : Subscriber) (last : rest ≡ left ++ Idle subscriber ∷ []) where
       -- it is live still
@@ -53,15 +44,6 @@ module _ {Q P F G : Type 0} (all : List Slot) (start : RequestResponse Q P F G) 
           let apart = middle-apart left closing.closed subscriber (subst AreDistinct is distinct) in
           subscriber-live start.responses now.responses (idle_ports closing.closed) subscriber closing.responses (other-ports closing.closed (subscriber_id subscriber) apart)
           (live (length left) subscriber stood)
-
-      -- and then closed
-      pub idle-closed : (new : RequestResponse Q P F G) → new.requests ≡ now.requests → StaysBut (subscriber_port subscriber) now.responses new.responses → IsClosing all start left new
-      idle-closed new same stays = record {
-        closed = Idle subscriber ∷ closing.closed;
-        splits = moves (Idle subscriber) last;
-        requests = same ∙ closing.requests;
-        responses = stays-both (idle_ports closing.closed) (subscriber_port subscriber) start.responses now.responses new.responses closing.responses stays;
-      }
 
 -- ---- they are made
 
@@ -74,10 +56,6 @@ pub record IsFilling {Q P F G : Type 0} (requests : Publisher) (start : RequestR
   pub distinct : AreDistinct (client.slots).items
   pub are_new : IsNewIn start.responses (idle_ports (client.slots).items)
 
--- nobody is idle where there is no place
-no-idle : (slots : List Slot) → slots ≡ [] → (at : ℕ) (subscriber : Subscriber) → HasIdle slots at subscriber → ⊥
-no-idle slots none at subscriber idle = let is : slice_index_or [] at InUse ≡ Idle subscriber = ap (λ (xs : List Slot). slice_index_or xs at InUse) (sym none) ∙ idle in cc
-
 module _ {Q P F G : Type 0} (requests : Publisher) (start : RequestResponse Q P F G) where
   -- those that are new, and one more
   push-new : (slots : List Slot) (made : Subscriber) → IsNewIn start.responses (idle_ports slots) → IsNewIn start.responses (subscriber_port made) → IsNewIn start.responses (idle_ports (slots ++ Idle made ∷ []))
@@ -87,16 +65,6 @@ module _ {Q P F G : Type 0} (requests : Publisher) (start : RequestResponse Q P 
       (part-new start.responses (subscriber_port subscriber) (Both (subscriber_port subscriber) (idle_ports slots)) (first-part (subscriber_port subscriber) (idle_ports slots)) are)
       (push-new slots made (part-new start.responses (idle_ports slots) (Both (subscriber_port subscriber) (idle_ports slots)) (second-part (subscriber_port subscriber) (idle_ports slots)) are) is)
   push-new (InUse ∷ slots) made are is = push-new slots made are is
-
-  pub none-made : (client : Client) → client.requests ≡ requests → (client.slots).items ≡ [] → IsFilling requests start client start
-  none-made client publisher none = record {
-    publisher = publisher;
-    requests_stay = refl;
-    stays = stays-itself start.responses;
-    slots = λ at subscriber idle. absurd (no-idle (client.slots).items none at subscriber idle);
-    distinct = λ at other first second one two same. absurd (no-idle (client.slots).items none at first one);
-    are_new = subst (λ (xs : List Slot). IsNewIn start.responses (idle_ports xs)) (sym none) (nothing-is-new start.responses);
-  }
 
   module _ (client : Client) (now : RequestResponse Q P F G) (filling : IsFilling requests start client now) where
     -- the client is live with those that it has
@@ -139,18 +107,3 @@ module _ {Q P F G : Type 0} (requests : Publisher) (start : RequestResponse Q P 
       where
         apart : AreOthers (client.slots).items (subscriber_id made)
         apart at subscriber idle same-id = is-new.subscribers (subscriber_key subscriber) (filling.slots at subscriber idle).there (sym same-id)
-
-    -- those that were made are closed again
-    pub closed-again : (new : RequestResponse Q P F G) → StaysBoth (publisher_port client.requests) (idle_ports (client.slots).items) now new → StaysBoth (publisher_port requests) No_item start new
-    closed-again new closed = record {
-      requests = subst (λ (p : Publisher). StaysBut (publisher_port p) start.requests new.requests) filling.publisher
-          (subst (λ d. StaysBut (publisher_port client.requests) d new.requests) filling.requests_stay closed.requests);
-      responses = stays-on start.responses now.responses filling.stays (idle_ports (client.slots).items) new.responses filling.are_new closed.responses;
-    }
-
-    -- and if they stay, all stays
-    pub filled-stays : StaysBoth (publisher_port requests) No_item start now
-    filled-stays = record {
-      requests = subst (λ d. StaysBut (publisher_port requests) start.requests d) (sym filling.requests_stay) (unchanged-stays (publisher_port requests) start.requests);
-      responses = filling.stays;
-    }

@@ -23,23 +23,7 @@ module _ {T U F G : Type 0} (old new : Kept T U F G) where
     never_waits = stays.never_wait (publisher_key publisher) live.never_waits;
   }
 
--- two items one after the other
-pub stays-both : {T U F G : Type 0} (first second : Item) (start old new : Kept T U F G) → StaysBut first start old → StaysBut second old new → StaysBut (Both second first) start new
-stays-both first second start old new before next =
-    stays-twice (Both second first) start old new (stays-but-whole first (Both second first) (second-part second first) start old before)
-    (stays-but-whole second (Both second first) (first-part second first) old new next)
-
 module _ {Q P F G : Type 0} where
-  -- nothing changed
-  pub service-itself : (asked answered : Item) (service : RequestResponse Q P F G) → StaysBoth asked answered service service
-  service-itself asked answered service = record { requests = unchanged-stays asked service.requests; responses = unchanged-stays answered service.responses }
-
-  -- one domain alone changed
-  pub responses-stay : (asked answered : Item) (old new : RequestResponse Q P F G) → new.requests ≡ old.requests → StaysBut answered old.responses new.responses → StaysBoth asked answered old new
-  responses-stay asked answered old new same stays = record {
-    requests = subst (λ (d : Kept Q _ F G). StaysBut asked old.requests d) (sym same) (unchanged-stays asked old.requests);
-    responses = stays;
-  }
 
   -- twice
   pub service-twice : (asked answered : Item) (start old new : RequestResponse Q P F G) → StaysBoth asked answered start old → StaysBoth asked answered old new → StaysBoth asked answered start new

@@ -57,58 +57,7 @@ module _ (slots : List Slot) (index : ℕ) (taken : Subscriber) (stands : HasIdl
   pub taken-distinct : AreDistinct slots → AreDistinct (slice_set slots index InUse)
   taken-distinct distinct at other first second one two = distinct at other first second (taken-idle at first one).1 (taken-idle other second two).1
 
-  -- and the one that was taken is another
-  pub taken-apart : AreDistinct slots → AreOthers (slice_set slots index InUse) (subscriber_id taken)
-  taken-apart distinct at subscriber idle same =
-      let there = taken-idle at subscriber idle in
-      there.0 (sym (distinct index at taken subscriber stands there.1 same))
-
 -- ---- what is in use
-
--- a place that is in use stays so where another is brought into use
-set-used : (slots : List Slot) (index at : ℕ) → slice_index_or slots at InUse ≡ InUse → slice_index_or (slice_set slots index InUse) at InUse ≡ InUse
-set-used [] index at used = used
-set-used (slot ∷ slots) zero zero used = refl
-set-used (slot ∷ slots) zero (suc at) used = used
-set-used (slot ∷ slots) (suc index) zero used = used
-set-used (slot ∷ slots) (suc index) (suc at) used = set-used slots index at used
-
--- there are as many places
-set-length : (slots : List Slot) (index : ℕ) (put : Slot) → length (slice_set slots index put) ≡ length slots
-set-length [] index put = refl
-set-length (slot ∷ slots) zero put = refl
-set-length (slot ∷ slots) (suc index) put = ap suc (set-length slots index put)
-
-pub taken-used : (slots : List Slot) (index at : ℕ) → IsInUse slots at → IsInUse (slice_set slots index InUse) at
-taken-used slots index at used = record {
-  there = subst (λ (n : ℕ). at < n) (sym (set-length slots index InUse)) used.there;
-  in_use = set-used slots index at used.in_use;
-}
-
--- a place from which one is taken is in use then
-taken-free : (slots : List Slot) (index : ℕ) → slice_index_or (slice_set slots index InUse) index InUse ≡ InUse
-taken-free [] index = refl
-taken-free (slot ∷ slots) zero = refl
-taken-free (slot ∷ slots) (suc index) = taken-free slots index
-
-pub taken-place : (slots : List Slot) (index : ℕ) → index < length slots → IsInUse (slice_set slots index InUse) index
-taken-place slots index there = record {
-  there = subst (λ (n : ℕ). index < n) (sym (set-length slots index InUse)) there;
-  in_use = taken-free slots index;
-}
-
--- and it was another than each that was in use
-pub taken-other : (slots : List Slot) (index at : ℕ) (taken : Subscriber) → HasIdle slots index taken → IsInUse slots at → at ≢ index
-taken-other slots index at taken stands used same =
-    let free : slice_index_or slots index InUse ≡ InUse = subst (λ (k : ℕ). slice_index_or slots k InUse ≡ InUse) same used.in_use in
-    cc
-
--- another place stays in use where one is put
-pub put-used : (slots : List Slot) (index at : ℕ) (put : Slot) → at ≢ index → IsInUse slots at → IsInUse (slice_set slots index put) at
-put-used slots index at put other used = record {
-  there = subst (λ (n : ℕ). at < n) (sym (set-length slots index put)) used.there;
-  in_use = get_or-set_other slots index at put InUse other ∙ used.in_use;
-}
 
 -- one that is taken and put back
 pub back-same : (slots : List Slot) (index : ℕ) (taken : Subscriber) → HasIdle slots index taken → slice_set (slice_set slots index InUse) index (Idle taken) ≡ slots
@@ -186,7 +135,3 @@ other-ports (Idle subscriber ∷ slots) id others = (others zero subscriber refl
 other-ports (InUse ∷ slots) id others = other-ports slots id (λ at it idle. others (suc at) it idle)
 
 -- ---- what a call leaves of them
-
--- who was put where there is a place is idle there
-pub put-idle : (slots : List Slot) (index : ℕ) (put : Subscriber) → index < length slots → HasIdle (slice_set slots index (Idle put)) index put
-put-idle slots index put there = get_or-set_same slots index (Idle put) InUse there
