@@ -1,18 +1,17 @@
 -- Clients stay live.
-use Rattle.std.proofs.Common.{◌≡◌, ◌≢◌, ℕ, ◌<◌, List, length, refl, sym, ap, subst, ◌∙◌, inl, inr, slice_index_or, slice_set}
+use Rattle.std.proofs.Common.{◌≡◌, ℕ, List, refl, sym, ap, subst, ◌∙◌, inl, inr, slice_index_or, slice_set}
 use Rattle.iox2_pubsub.specs.Handles.{subscriber_id}
 use Rattle.iox2_pubsub.specs.Live.{IsLivePublisher, IsLiveSubscriber, No_item}
 use Rattle.iox2_pubsub.specs.declared.subscriber.Subscriber.{Subscriber}
-use Rattle.iox2_request_response.specs.Handles.{AreApart, HasPortsOf, IsLiveClient, IsPendingOf}
+use Rattle.iox2_request_response.specs.Handles.{HasPortsOf, IsLiveClient}
 use Rattle.iox2_request_response.specs.Service.{StaysService}
-use Rattle.iox2_request_response.specs.Slots.{AreDistinct, AreOthers, HasIdle, IsInUse}
+use Rattle.iox2_request_response.specs.Slots.{AreDistinct, AreOthers, HasIdle}
 use Rattle.iox2_request_response.specs.declared.client.Client.{Client}
-use Rattle.iox2_request_response.specs.declared.pending_response.PendingResponse.{PendingResponse}
 use Rattle.iox2_request_response.specs.declared.service.RequestResponse.{RequestResponse}
 use Rattle.iox2_request_response.specs.declared.slots.Slot.{Slot}
 use Rattle.iox2_request_response.specs.declared.slots.Slot.TheVariants.{Idle, InUse}
 use Rattle.iox2_request_response.proofs.Frames.{publisher-live, subscriber-live}
-use Rattle.iox2_request_response.proofs.SlotSteps.{put-distinct, put-same, set-idle, taken-distinct, taken-idle}
+use Rattle.iox2_request_response.proofs.SlotSteps.{put-distinct, set-idle, taken-distinct, taken-idle}
 
 module _ {Q P F G : Type 0} (old new : RequestResponse Q P F G) (stays : StaysService old new) where
   -- a client is live where all that it has was live before
@@ -51,9 +50,6 @@ module _ {Q P F G : Type 0} (old new : RequestResponse Q P F G) (stays : StaysSe
   -- one to which it was given back at once
   pub client-same : (before client : Client) → client.requests ≡ before.requests → (client.slots).items ≡ (before.slots).items → IsLiveClient old before → IsLiveClient new client
   client-same before client same is live = live-client client (before.slots).items is (subst (IsLivePublisher old.requests) (sym same) live.requests) live.slots live.distinct
-
-module _ (before client : Client) (index : ℕ) where
-  module _ (taken : Subscriber) (stands : HasIdle (before.slots).items index taken) (is : (client.slots).items ≡ slice_set (before.slots).items index InUse) where
 
 -- one after the other
 pub ports_then : (first before client : Client) → HasPortsOf first before → HasPortsOf before client → HasPortsOf first client

@@ -1,12 +1,11 @@
 -- A client's subscribers are closed one after the other, or made.
 use Rattle.std.proofs.Common.{◌≡◌, ℕ, List, [], ◌∷◌, ◌++◌, length, refl, sym, ap, subst, ◌∙◌, inl, inr, slice_index_or, append_assoc}
 use Rattle.iox2_pubsub.specs.Handles.{subscriber_id}
-use Rattle.iox2_pubsub.specs.Live.{Both, IsLivePublisher, IsLiveSubscriber, IsNewIn, No_item, Stays, StaysBut, publisher_port, subscriber_key, subscriber_port}
+use Rattle.iox2_pubsub.specs.Live.{Both, IsLivePublisher, IsLiveSubscriber, IsNewIn, No_item, Stays, StaysBut, subscriber_key, subscriber_port}
 use Rattle.iox2_pubsub.specs.declared.publisher.Publisher.{Publisher}
 use Rattle.iox2_pubsub.specs.declared.subscriber.Subscriber.{Subscriber}
-use Rattle.iox2_pubsub.proofs.StaysBut.{both-new, first-part, new-since, nothing-is-new, part-new, second-part, stays-itself, stays-on, stays-twice, unchanged-stays}
+use Rattle.iox2_pubsub.proofs.StaysBut.{both-new, first-part, new-since, part-new, second-part, stays-itself, stays-twice, unchanged-stays}
 use Rattle.iox2_request_response.specs.Handles.{IsLiveClient}
-use Rattle.iox2_request_response.specs.Service.{StaysBoth}
 use Rattle.iox2_request_response.specs.Slots.{AreDistinct, AreOthers, HasIdle, idle_ports}
 use Rattle.iox2_request_response.specs.declared.client.Client.{Client}
 use Rattle.iox2_request_response.specs.declared.service.RequestResponse.{RequestResponse}

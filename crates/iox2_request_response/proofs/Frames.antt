@@ -1,11 +1,10 @@
 -- What of a service stays from one state to the next.
-use Rattle.std.proofs.Common.{◌≡◌, subst, sym}
 use Rattle.iox2_domain.specs.Kept.{Kept}
-use Rattle.iox2_pubsub.specs.Live.{Both, IsLivePublisher, IsLiveSubscriber, IsOtherSubscriber, Item, Stays, StaysBut, publisher_key, subscriber_key}
+use Rattle.iox2_pubsub.specs.Live.{IsLivePublisher, IsLiveSubscriber, IsOtherSubscriber, Item, Stays, StaysBut, publisher_key, subscriber_key}
 use Rattle.iox2_pubsub.specs.UpdateCalls.{ready_stays}
 use Rattle.iox2_pubsub.specs.declared.publisher.Publisher.{Publisher}
 use Rattle.iox2_pubsub.specs.declared.subscriber.Subscriber.{Subscriber}
-use Rattle.iox2_pubsub.proofs.StaysBut.{first-part, second-part, stays-but-whole, stays-twice, unchanged-stays}
+use Rattle.iox2_pubsub.proofs.StaysBut.{stays-twice}
 use Rattle.iox2_request_response.specs.Service.{StaysBoth}
 use Rattle.iox2_request_response.specs.declared.service.RequestResponse.{RequestResponse}
 
@@ -24,7 +23,6 @@ module _ {T U F G : Type 0} (old new : Kept T U F G) where
   }
 
 module _ {Q P F G : Type 0} where
-
   -- twice
   pub service-twice : (asked answered : Item) (start old new : RequestResponse Q P F G) → StaysBoth asked answered start old → StaysBoth asked answered old new → StaysBoth asked answered start new
   service-twice asked answered start old new before next = record {

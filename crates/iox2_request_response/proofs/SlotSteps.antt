@@ -1,10 +1,10 @@
 -- Steps on a client's list of subscribers.
-use Rattle.std.proofs.Common.{◌≡◌, ◌≢◌, ◌⊎◌, inl, inr, ℕ, zero, suc, ◌<◌, List, [], ◌∷◌, ◌++◌, length, refl, sym, ap, subst, ◌∙◌, arith, get_or, set, slice_index_or, slice_set}
-use Rattle.std.proofs.lemmas.List.{get_or-set_other, get_or-set_same, set-get_or}
+use Rattle.std.proofs.Common.{◌≡◌, ◌≢◌, ◌⊎◌, inl, inr, ℕ, zero, suc, ◌<◌, List, [], ◌∷◌, ◌++◌, length, refl, sym, ap, subst, ◌∙◌, arith, get_or, set, slice_set}
+use Rattle.std.proofs.lemmas.List.{set-get_or}
 use Rattle.iox2_pubsub.specs.Handles.{subscriber_id}
 use Rattle.iox2_pubsub.specs.Live.{IsOtherSubscriber}
 use Rattle.iox2_pubsub.specs.declared.subscriber.Subscriber.{Subscriber}
-use Rattle.iox2_request_response.specs.Slots.{AreDistinct, AreOthers, HasIdle, IsInUse, idle_ports}
+use Rattle.iox2_request_response.specs.Slots.{AreDistinct, AreOthers, HasIdle, idle_ports}
 use Rattle.iox2_request_response.specs.declared.slots.Slot.{Slot}
 use Rattle.iox2_request_response.specs.declared.slots.Slot.TheVariants.{Idle, InUse}
 
@@ -57,7 +57,7 @@ module _ (slots : List Slot) (index : ℕ) (taken : Subscriber) (stands : HasIdl
   pub taken-distinct : AreDistinct slots → AreDistinct (slice_set slots index InUse)
   taken-distinct distinct at other first second one two = distinct at other first second (taken-idle at first one).1 (taken-idle other second two).1
 
--- ---- what is in use
+-- ---- one is taken out and put back
 
 -- one that is taken and put back
 pub back-same : (slots : List Slot) (index : ℕ) (taken : Subscriber) → HasIdle slots index taken → slice_set (slice_set slots index InUse) index (Idle taken) ≡ slots
@@ -133,5 +133,3 @@ pub other-ports : (slots : List Slot) (id : ℕ) → AreOthers slots id → IsOt
 other-ports [] id others = tt
 other-ports (Idle subscriber ∷ slots) id others = (others zero subscriber refl, other-ports slots id (λ at it idle. others (suc at) it idle))
 other-ports (InUse ∷ slots) id others = other-ports slots id (λ at it idle. others (suc at) it idle)
-
--- ---- what a call leaves of them
