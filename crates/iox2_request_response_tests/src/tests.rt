@@ -1,3 +1,6 @@
+ghost use Rattle.iox2_request_response.specs.Handles.{HasPortsOf, IsLiveActive, IsLiveClient, IsLivePending, IsLiveServer, IsNewActive, IsNewClient, IsNewServer, IsPendingOf};
+ghost use Rattle.iox2_request_response.specs.Service.{IsService, StaysService};
+
 use iox2_request_response::{
     ActiveRequest, Client, PendingResponse, RequestResponse, RequestResponseConfig,
     RequestSendError, Server,
@@ -7,28 +10,47 @@ use std::process::Abort;
 
 type Service = RequestResponse<u64, u64>;
 
-fn service_of(rt: &impl Abort, alloc: Global, config: &RequestResponseConfig) -> Service {
+fn service_of(rt: &impl Abort, alloc: Global, config: &RequestResponseConfig) -> Service
+    ensures { IsService result }
+{
     Service::new(alloc, config).expect(rt, "a service")
 }
 
-fn client_of(rt: &impl Abort, alloc: Global, service: &mut Service) -> Client {
+fn client_of(rt: &impl Abort, alloc: Global, service: &mut Service) -> Client
+    requires service { IsService service.old }
+    ensures client { IsLiveClient service.new result }
+    ensures is_new { IsNewClient service.old result }
+    ensures stays { StaysService service.old service.new }
+{
     service.create_client(alloc).expect(rt, "a client")
 }
 
-fn server_of(rt: &impl Abort, service: &mut Service) -> Server {
+fn server_of(rt: &impl Abort, service: &mut Service) -> Server
+    requires service { IsService service.old }
+    ensures server { IsLiveServer service.new result }
+    ensures is_new { IsNewServer service.old result }
+    ensures stays { StaysService service.old service.new }
+{
     service.create_server().expect(rt, "a server")
 }
 
-fn sent(
-    rt: &impl Abort,
-    client: &mut Client,
-    service: &mut Service,
-    value: u64,
-) -> PendingResponse {
+fn sent(rt: &impl Abort, client: &mut Client, service: &mut Service, value: u64) -> PendingResponse
+    requires service { IsService service.old }
+    requires client { IsLiveClient service.old client.old }
+    ensures pending { IsLivePending service.new result }
+    ensures its { IsPendingOf client.new result }
+    ensures client { IsLiveClient service.new client.new }
+    ensures stays { StaysService service.old service.new }
+{
     client.send_copy(service, value).expect(rt, "a request")
 }
 
-fn active_of(rt: &impl Abort, server: &Server, service: &mut Service) -> ActiveRequest {
+fn active_of(rt: &impl Abort, server: &Server, service: &mut Service) -> ActiveRequest
+    requires server { IsLiveServer service.old server.now }
+    ensures active { IsLiveActive service.new result }
+    ensures is_new { IsNewActive service.old result }
+    ensures stays { StaysService service.old service.new }
+{
     let received = server.receive(service).expect(rt, "an answer");
     received.expect(rt, "a request")
 }
@@ -39,13 +61,21 @@ fn respond(
     server: &Server,
     service: &mut Service,
     value: u64,
-) -> bool {
+) -> bool
+    requires service { IsService service.old }
+    requires server { IsLiveServer service.old server.now }
+    ensures stays { StaysService service.old service.new }
+{
     active
         .send_copy(server, service, value)
         .expect(rt, "an outcome")
 }
 
-fn next_response(rt: &impl Abort, pending: &PendingResponse, service: &mut Service) -> Option<u64> {
+fn next_response(rt: &impl Abort, pending: &PendingResponse, service: &mut Service) -> Option<u64>
+    requires service { IsService service.old }
+    requires pending { IsLivePending service.old pending.now }
+    ensures stays { StaysService service.old service.new }
+{
     let response = pending.receive(service).expect(rt, "an answer")?;
     let value = *response.payload(service);
     response.release(service);
@@ -53,7 +83,10 @@ fn next_response(rt: &impl Abort, pending: &PendingResponse, service: &mut Servi
 }
 
 // Whether the server has another request. It has to have none.
-fn has_more(rt: &impl Abort, server: &Server, service: &mut Service) -> bool {
+fn has_more(rt: &impl Abort, server: &Server, service: &mut Service) -> bool
+    requires server { IsLiveServer service.old server.now }
+    ensures stays { StaysService service.old service.new }
+{
     match server.receive(service).expect(rt, "an answer") {
         Some(active) => {
             active.finish(server, service);
