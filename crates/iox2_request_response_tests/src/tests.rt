@@ -10,12 +10,6 @@ use std::process::Abort;
 
 type Service = RequestResponse<u64, u64>;
 
-fn service_of(rt: &impl Abort, alloc: Global, config: &RequestResponseConfig) -> Service
-    ensures { IsService result }
-{
-    Service::new(alloc, config).expect(rt, "a service")
-}
-
 fn client_of(rt: &impl Abort, alloc: Global, service: &mut Service) -> Client
     requires service { IsService service.old }
     ensures client { IsLiveClient service.new result }
@@ -98,7 +92,10 @@ fn has_more(rt: &impl Abort, server: &Server, service: &mut Service) -> bool
 
 #[test]
 fn two_requests_of_two_clients_get_streams_of_their_own(rt: HostRuntime) {
-    let mut service = service_of(&rt, rt.alloc(), &RequestResponseConfig::new(7));
+    let mut service = Service::new(rt.alloc(), &RequestResponseConfig::new(7)).expect(
+        &rt,
+        "a service",
+    );
     let mut first = client_of(&rt, rt.alloc(), &mut service);
     let mut second = client_of(&rt, rt.alloc(), &mut service);
     let server = server_of(&rt, &mut service);
@@ -166,7 +163,7 @@ fn a_request_that_is_let_go_is_seen_and_its_slot_is_used_again(rt: HostRuntime) 
         max_active_requests_per_client: 1,
         ..RequestResponseConfig::new(7)
     };
-    let mut service = service_of(&rt, rt.alloc(), &config);
+    let mut service = Service::new(rt.alloc(), &config).expect(&rt, "a service");
     let mut client = client_of(&rt, rt.alloc(), &mut service);
     let server = server_of(&rt, &mut service);
     let mut passed = 0;
@@ -222,7 +219,10 @@ fn a_request_that_is_let_go_is_seen_and_its_slot_is_used_again(rt: HostRuntime) 
 // Of two servers each gets the request, and both respond.
 #[test]
 fn two_servers_respond_to_one_request(rt: HostRuntime) {
-    let mut service = service_of(&rt, rt.alloc(), &RequestResponseConfig::new(7));
+    let mut service = Service::new(rt.alloc(), &RequestResponseConfig::new(7)).expect(
+        &rt,
+        "a service",
+    );
     let mut client = client_of(&rt, rt.alloc(), &mut service);
     let one = server_of(&rt, &mut service);
     let two = server_of(&rt, &mut service);
@@ -255,7 +255,10 @@ fn two_servers_respond_to_one_request(rt: HostRuntime) {
 // A server that comes after the request doesn't get it, nor can it respond; the next request reaches it.
 #[test]
 fn a_later_server_gets_later_requests(rt: HostRuntime) {
-    let mut service = service_of(&rt, rt.alloc(), &RequestResponseConfig::new(7));
+    let mut service = Service::new(rt.alloc(), &RequestResponseConfig::new(7)).expect(
+        &rt,
+        "a service",
+    );
     let mut client = client_of(&rt, rt.alloc(), &mut service);
     let early = sent(&rt, &mut client, &mut service, 1);
     let reached = early.number_of_server_connections();
@@ -287,7 +290,7 @@ fn lost_with(rt: &impl Abort, alloc: Global, overflow: bool) -> (usize, [Option<
         enable_safe_overflow_for_requests: overflow,
         ..RequestResponseConfig::new(7)
     };
-    let mut service = service_of(rt, alloc, &config);
+    let mut service = Service::new(alloc, &config).expect(rt, "a service");
     let mut client = client_of(rt, alloc, &mut service);
     let server = server_of(rt, &mut service);
     let first = sent(rt, &mut client, &mut service, 1);
@@ -327,7 +330,7 @@ fn what_was_left_of_an_earlier_request_is_passed_over(rt: HostRuntime) {
         max_borrowed_responses_per_pending_response: 1,
         ..RequestResponseConfig::new(7)
     };
-    let mut service = service_of(&rt, rt.alloc(), &config);
+    let mut service = Service::new(rt.alloc(), &config).expect(&rt, "a service");
     let mut client = client_of(&rt, rt.alloc(), &mut service);
     let server = server_of(&rt, &mut service);
     let old = sent(&rt, &mut client, &mut service, 1);
@@ -372,7 +375,7 @@ fn a_client_at_the_same_place_gets_no_response_of_the_one_before(rt: HostRuntime
         max_active_requests_per_client: 1,
         ..RequestResponseConfig::new(7)
     };
-    let mut service = service_of(&rt, rt.alloc(), &config);
+    let mut service = Service::new(rt.alloc(), &config).expect(&rt, "a service");
     let mut before = client_of(&rt, rt.alloc(), &mut service);
     let server = server_of(&rt, &mut service);
     let old = sent(&rt, &mut before, &mut service, 1);
@@ -404,7 +407,10 @@ fn a_client_at_the_same_place_gets_no_response_of_the_one_before(rt: HostRuntime
 // What a server sent before it was closed is received, and after that nobody is connected.
 #[test]
 fn a_closed_servers_responses_are_received(rt: HostRuntime) {
-    let mut service = service_of(&rt, rt.alloc(), &RequestResponseConfig::new(7));
+    let mut service = Service::new(rt.alloc(), &RequestResponseConfig::new(7)).expect(
+        &rt,
+        "a service",
+    );
     let mut client = client_of(&rt, rt.alloc(), &mut service);
     let server = server_of(&rt, &mut service);
     let pending = sent(&rt, &mut client, &mut service, 1);
@@ -436,7 +442,7 @@ fn all_that_may_be_held_leaves_a_loan(rt: HostRuntime) {
         enable_safe_overflow_for_responses: false,
         ..RequestResponseConfig::new(7)
     };
-    let mut service = service_of(&rt, rt.alloc(), &config);
+    let mut service = Service::new(rt.alloc(), &config).expect(&rt, "a service");
     let server = server_of(&rt, &mut service);
     let mut clients = [
         client_of(&rt, rt.alloc(), &mut service),
