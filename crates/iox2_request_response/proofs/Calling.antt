@@ -1,12 +1,12 @@
 -- What a caller's functions are proved by: what is live stays so, and one call follows another.
 use Rattle.iox2_domain.specs.Kept.{Kept}
-use Rattle.iox2_pubsub.specs.Handles.{publisher_id, receiver_of, sample_number}
-use Rattle.iox2_pubsub.specs.Live.{Both, IsNewIn, IsOtherBlocked, IsOtherPublisher, IsOtherSample, No_item, publisher_key, publisher_port, sample_key, subscriber_port}
+use Rattle.iox2_pubsub.specs.Handles.{publisher_id, receiver_of, sample_number, subscriber_id}
+use Rattle.iox2_pubsub.specs.Live.{Both, IsNewIn, IsOtherBlocked, IsOtherPublisher, IsOtherSample, IsOtherSubscriber, Item, No_item, publisher_key, publisher_port, received_sample, sample_key, subscriber_port}
 use Rattle.iox2_pubsub.specs.declared.publisher.Publisher.{Publisher}
 use Rattle.iox2_pubsub.specs.declared.subscriber.Subscriber.{Subscriber}
 use Rattle.iox2_pubsub.proofs.StaysBut.{both-new, first-part, new-since, nothing-is-new, part-new, second-part, stays-on}
-use Rattle.iox2_request_response.specs.Handles.{HasPortsOf, IsLiveActive, IsLiveClient, IsLivePending, IsLiveResponse, IsLiveServer, IsNewClient, IsNewServer, StaysButClient, StaysButServer}
-use Rattle.iox2_request_response.specs.Service.{IsService, StaysService}
+use Rattle.iox2_request_response.specs.Handles.{HasPortsOf, IsLiveActive, IsLiveClient, IsLivePending, IsLiveResponse, IsLiveServer, IsNewClient, IsNewServer, StaysButActive, StaysButClient, StaysButResponse, StaysButServer}
+use Rattle.iox2_request_response.specs.Service.{IsService, StaysBoth, StaysService}
 use Rattle.iox2_request_response.specs.Slots.{HasIdle, idle_ports}
 use Rattle.iox2_request_response.specs.declared.slots.Slot.{Slot}
 use Rattle.iox2_request_response.specs.declared.slots.Slot.TheVariants.{Idle, InUse}
@@ -111,6 +111,31 @@ module _ {Q P F G : Type 0} where
   response_but_client old new client stays response live =
       stays.responses.samples (sample_key response.sample) live (ports-sample (client.slots).items (receiver_of response.sample) (sample_number response.sample))
 
+  -- where what is spent is neither its publisher nor one of its subscribers, a client stays
+  client-apart : (asked answered : Item) (old new : RequestResponse Q P F G) → StaysBoth asked answered old new → ((id : ℕ) → IsOtherPublisher asked id) → ((id : ℕ) → IsOtherBlocked asked id)
+      → ((id : ℕ) → IsOtherSubscriber answered id) → (client : Client) → IsLiveClient old client → IsLiveClient new client
+  client-apart asked answered old new stays publisher unblocked apart client live = record {
+    requests = record {
+      ready = record {
+        there = stays.requests.publishers (publisher_key client.requests) live.requests.ready.there (publisher (publisher_id client.requests));
+        placed = stays.requests.placed_publishers client.requests live.requests.ready.placed;
+        unblocked = stays.requests.unblocked (publisher_key client.requests) live.requests.ready.unblocked (unblocked (publisher_id client.requests));
+      };
+      never_waits = stays.requests.never_wait (publisher_key client.requests) live.requests.never_waits;
+    };
+    slots = λ at it idle. subscriber-live old.responses new.responses answered it stays.responses (apart (subscriber_id it)) (live.slots at it idle);
+    distinct = live.distinct;
+  }
+
+  pub client_but_server : (old new : RequestResponse Q P F G) (server : Server) → StaysButServer old new server → (client : Client) → IsLiveClient old client → IsLiveClient new client
+  client_but_server old new server stays = client-apart (subscriber_port server.requests) (publisher_port server.responses) old new stays (λ id. tt) (λ id. tt) (λ id. tt)
+
+  pub client_but_active : (old new : RequestResponse Q P F G) (active : ActiveRequest) → StaysButActive old new active → (client : Client) → IsLiveClient old client → IsLiveClient new client
+  client_but_active old new active stays = client-apart (received_sample active.sample) No_item old new stays (λ id. tt) (λ id. tt) (λ id. tt)
+
+  pub client_but_response : (old new : RequestResponse Q P F G) (response : Response) → StaysButResponse old new response → (client : Client) → IsLiveClient old client → IsLiveClient new client
+  client_but_response old new response stays = client-apart No_item (received_sample response.sample) old new stays (λ id. tt) (λ id. tt) (λ id. tt)
+
   -- what was new is spent again: all that was there before stays
   pub client_ends : (start old new : RequestResponse Q P F G) (client : Client) → StaysService start old → IsNewClient start client → StaysButClient old new client → StaysService start new
   client_ends start old new client before is stays = record {
@@ -144,4 +169,4 @@ module _ {Q P F G : Type 0} where
     slots = all-new start.responses (client.slots).items (λ at subscriber idle. one-new start.responses (before.slots).items is.slots at subscriber (ports.slots at subscriber idle));
   }
 
-pub ruleset calling = (service_then, service_stays, client_stays, server_stays, pending_stays, active_stays, response_stays, server_but_client, active_but_client, response_but_client, client_ends, server_ends, client_is_new, server_is_new, client_new_still, ports_then)
+pub ruleset calling = (service_then, service_stays, client_stays, server_stays, pending_stays, active_stays, response_stays, server_but_client, active_but_client, response_but_client, client_but_server, client_but_active, client_but_response, client_ends, server_ends, client_is_new, server_is_new, client_new_still, ports_then)
