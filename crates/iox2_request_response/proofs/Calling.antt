@@ -169,4 +169,4 @@ module _ {Q P F G : Type 0} where
     slots = all-new start.responses (client.slots).items (λ at subscriber idle. one-new start.responses (before.slots).items is.slots at subscriber (ports.slots at subscriber idle));
   }
 
-pub ruleset calling = (service_then, service_stays, client_stays, server_stays, pending_stays, active_stays, response_stays, server_but_client, active_but_client, response_but_client, client_but_server, client_but_active, client_but_response, client_ends, server_ends, client_is_new, server_is_new, client_new_still, ports_then)
+pub ruleset calling = (service_then, service_stays, client_stays, server_stays, pending_stays, active_stays, response_stays, server_but_client, active_but_client, response_but_client, client_ends, server_ends, client_is_new, server_is_new, client_new_still, ports_then)
