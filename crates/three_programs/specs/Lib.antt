@@ -1,0 +1,4 @@
+pub mod Values
+pub mod Moves
+pub mod Votes
+pub mod Queues

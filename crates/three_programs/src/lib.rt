@@ -1,0 +1,19 @@
+//! Three programs over `iox2_pubsub`, whose promises are proved: a relay between two domains, a voter
+//! over three publishers, and a queue with a bound.
+#![tactic(auto)]
+
+mod failure;
+mod passing;
+mod queues;
+mod relaying;
+mod voter;
+
+pub use failure::Failure;
+use iox2_pubsub::Domain;
+pub use passing::{read_all, read_one, send_all, send_one};
+pub use queues::Queue;
+pub use relaying::{relay, relay_all};
+pub use voter::{median, vote};
+
+/// A service whose messages are numbers.
+pub type Numbers = Domain<u32, ()>;
