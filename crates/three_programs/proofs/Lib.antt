@@ -8,3 +8,6 @@ pub mod Granted
 pub mod Borrows
 pub mod Moved
 pub mod QueueItems
+pub mod Stopped
+pub mod Pending
+pub mod Retried

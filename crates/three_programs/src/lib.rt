@@ -2,12 +2,14 @@
 //! over three publishers, and a queue with a bound.
 #![tactic(auto)]
 
+mod blocking;
 mod failure;
 mod passing;
 mod queues;
 mod relaying;
 mod voter;
 
+pub use blocking::{push_again, push_or_wait};
 pub use failure::Failure;
 use iox2_pubsub::Domain;
 pub use passing::{read_all, read_one, send_all, send_one};
