@@ -11,3 +11,4 @@ pub mod QueueItems
 pub mod Stopped
 pub mod Pending
 pub mod Retried
+pub mod PendingStays

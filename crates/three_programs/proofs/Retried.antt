@@ -146,22 +146,22 @@ module _ {U F G : Type 0} (old new : Kept ℕ U F G) (shown : (m : Messages ℕ 
       let was : m b.message ≡ Some pending.reads.0 = ap m held.message ∙ shown.1.entries blocked.loan.number pending.reads.0 pending.reads.1 in
       let reads : en b.message ≡ value ∷ [] = payload-is new m s' step.1 p q b.message last pending.reads.0 was ∙ pending.reads.2 in
       let from : payloads_from new p subscriber ≡ singles (earlier ++ value ∷ []) =
-          new-from ∙ ap (map en) now ∙ map-append en before (b.message ∷ []) ∙ ap (λ (l : List (List ℕ)). l ++ en b.message ∷ []) (kept ∙ sym old-from ∙ wait.from)
-          ∙ ap (λ (v : List ℕ). singles earlier ++ v ∷ []) reads ∙ sym (singles-append earlier value) in
+      new-from ∙ ap (map en) now ∙ map-append en before (b.message ∷ []) ∙ ap (λ (l : List (List ℕ)). l ++ en b.message ∷ []) (kept ∙ sym old-from ∙ wait.from)
+      ∙ ap (λ (v : List ℕ). singles earlier ++ v ∷ []) reads ∙ sym (singles-append earlier value) in
       let known : p < s.next_port = (w.publishers p held.publisher held.stands).is_known in
       let longer : suc (length (waiting_from s p q)) ≡ length (waiting_from s' p q) =
-          let e : length (waiting_from s' p q) ≡ length (before ++ b.message ∷ []) = ap length now in
-          let la : length (before ++ b.message ∷ []) ≡ length before + 1 = length-append before (b.message ∷ []) in
-          omega (arith, e, la) in
+      let e : length (waiting_from s' p q) ≡ length (before ++ b.message ∷ []) = ap length now in
+      let la : length (before ++ b.message ∷ []) ≡ length before + 1 = length-append before (b.message ∷ []) in
+      omega (arith, e, la) in
       let more : suc (waiting_for s q) ≡ waiting_for s' q =
-          sum_one_less (λ i. length (waiting_from s i q)) (λ i. length (waiting_from s' i q)) p s.next_port known longer (λ i away. ap length (sym (rest.others i away)))
-          ∙ ap (sum_below (λ i. length (waiting_from s' i q))) (sym rest.ports) in
+      sum_one_less (λ i. length (waiting_from s i q)) (λ i. length (waiting_from s' i q)) p s.next_port known longer (λ i away. ap length (sym (rest.others i away)))
+      ∙ ap (sum_below (λ i. length (waiting_from s' i q))) (sym rest.ports) in
       let count : waiting new subscriber ≡ length (payloads_from new p subscriber) =
-          let a : waiting new subscriber ≡ waiting_for s' q = waiting-is new m s' step.1 subscriber in
-          let o : waiting old subscriber ≡ waiting_for s q = waiting-is old m s shown.1 subscriber in
-          let e : waiting old subscriber ≡ length earlier = ap length wait.all ∙ length-singles earlier in
-          let f : length (payloads_from new p subscriber) ≡ length (earlier ++ value ∷ []) = ap length from ∙ length-singles (earlier ++ value ∷ []) in
-          let la : length (earlier ++ value ∷ []) ≡ length earlier + 1 = length-append earlier (value ∷ []) in
-          omega (arith, a, o, e, f, la, more) in
+      let a : waiting new subscriber ≡ waiting_for s' q = waiting-is new m s' step.1 subscriber in
+      let o : waiting old subscriber ≡ waiting_for s q = waiting-is old m s shown.1 subscriber in
+      let e : waiting old subscriber ≡ length earlier = ap length wait.all ∙ length-singles earlier in
+      let f : length (payloads_from new p subscriber) ≡ length (earlier ++ value ∷ []) = ap length from ∙ length-singles (earlier ++ value ∷ []) in
+      let la : length (earlier ++ value ∷ []) ≡ length earlier + 1 = length-append earlier (value ∷ []) in
+      omega (arith, a, o, e, f, la, more) in
       let well : IsWellFormed (state_of new) = subst (λ (t : State ℕ U). IsWellFormed t) step.1.state step.1.well_formed in
       record { all = only-from new well subscriber p count ∙ from; from = from }

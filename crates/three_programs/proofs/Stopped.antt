@@ -159,9 +159,9 @@ module _ {T U : Type 0} (environment : Environment) where
           let row : s'.mailboxes p q ≡ boxes q = ap (λ (t : State T U). t.mailboxes p q) k.0 ∙ ap (λ (row : ℕ → Mailbox). row q) (put_at-same s.mailboxes p boxes) in
           let itself : contains (q ∷ []) q ≡ true = ap (λ (t : Bool). t || contains [] q) (eq-eqb q q refl) in
           let serves = deliver-serves environment s.config p z.backpressure_strategy z.backpressure_handler (channel_buffer s p 0) b.message q (more_retries b.retries) elapsed b.place (Some q ∷ []) b.count b.has_failed (s.mailboxes p) all failed boxes (c.subscriber).buffer
-              (ap (λ (t : Bool). cond t None (receiving_buffer s q)) c.takes ∙ opened-buffer s q c.subscriber c.there (is-open environment s w p q c))
-              itself (refl, tt)
-              (subst (λ (l : List (Option ℕ)). Deliver environment s.config p z.backpressure_strategy z.backpressure_handler (channel_buffer s p 0) b.message 0 (more_retries b.retries) elapsed b.place l b.count b.has_failed (s.mailboxes p) (Complete all failed) boxes) one
-              (subst (λ (i : ℕ). Deliver environment s.config p z.backpressure_strategy z.backpressure_handler (channel_buffer s p i) b.message i (more_retries b.retries) elapsed b.place b.ends b.count b.has_failed (s.mailboxes p) (Complete all failed) boxes) first delivers)) in
+          (ap (λ (t : Bool). cond t None (receiving_buffer s q)) c.takes ∙ opened-buffer s q c.subscriber c.there (is-open environment s w p q c))
+          itself (refl, tt)
+          (subst (λ (l : List (Option ℕ)). Deliver environment s.config p z.backpressure_strategy z.backpressure_handler (channel_buffer s p 0) b.message 0 (more_retries b.retries) elapsed b.place l b.count b.has_failed (s.mailboxes p) (Complete all failed) boxes) one
+          (subst (λ (i : ℕ). Deliver environment s.config p z.backpressure_strategy z.backpressure_handler (channel_buffer s p i) b.message i (more_retries b.retries) elapsed b.place b.ends b.count b.has_failed (s.mailboxes p) (Complete all failed) boxes) first delivers)) in
           ap (λ (m : Mailbox). m.waiting) (row ∙ serves)
           ∙ ap (λ (t : Bool). (cond (t || (s.config).enable_safe_overflow) (record (s.mailboxes p q) { waiting = cond t (s.mailboxes p q).waiting (drop 1 (s.mailboxes p q).waiting) ++ b.message ∷ [] }) (s.mailboxes p q)).waiting) room

@@ -10,6 +10,8 @@ pub enum Failure {
     Send(SendError),
     /// Nothing is received.
     Receive(ReceiveError),
+    /// A send waits still.
+    Full,
     /// There is no memory for what was read.
     Memory,
 }

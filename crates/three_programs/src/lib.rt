@@ -9,7 +9,7 @@ mod queues;
 mod relaying;
 mod voter;
 
-pub use blocking::{push_again, push_or_wait};
+pub use blocking::{push_again, push_or_wait, push_over};
 pub use failure::Failure;
 use iox2_pubsub::Domain;
 pub use passing::{read_all, read_one, send_all, send_one};

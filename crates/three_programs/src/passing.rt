@@ -4,6 +4,8 @@ ghost use Rattle.iox2_pubsub.specs.Handles.{publisher_id, unwritten_lender};
 ghost use Rattle.iox2_pubsub.specs.Live.{HasLender, IsLivePublisher, IsLiveSubscriber, IsSingleValued, IsUnblocked, IsUnwrittenLoan, IsUpToDate, KeepsAll, Stays, StaysBut, UpToDateStay, WaitingStays, payloads_from, unwritten_key, unwritten_loan, waiting};
 ghost use Rattle.iox2_pubsub.specs.LoansLeft.{HasOneMoreLeft, LoansLeftStay};
 ghost use Rattle.iox2_pubsub.specs.declared.subscriber.Subscriber.{Subscriber as Port};
+ghost use Rattle.iox2_pubsub.specs.declared.blocked_send.BlockedSend.{BlockedSend as Waiting};
+ghost use Rattle.three_programs.specs.Blocking.{IsPending};
 ghost use Rattle.three_programs.specs.Values.{BorrowsNone, CanSend, OnNoValue, TakesMore, Wait};
 
 use crate::Numbers;
@@ -81,6 +83,7 @@ pub fn read_one(domain: &mut Numbers, subscriber: &Subscriber) -> Result<Option<
     ensures nothing { KeepsAll domain.old subscriber.now → IfOk result (λ read. IfNone read (waiting domain.old subscriber.now ≡ 0)) }
     ensures granted { IsUpToDate domain.old subscriber.now → BorrowsNone domain.old subscriber.now → 0 < (domain.old.config).subscriber_max_borrowed_samples → IsOk result }
     ensures borrows { IsUpToDate domain.old subscriber.now → BorrowsNone domain.old subscriber.now → BorrowsNone domain.new subscriber.now }
+    ensures pending { (blocked : Waiting) (reader : Port) (held : ℕ) → IsUpToDate domain.old subscriber.now → IsPending domain.old blocked reader held → IsPending domain.new blocked reader held }
     ensures kept { KeepsAll domain.old subscriber.now → OnNoValue result (WaitingStays domain.old domain.new) }
     ensures up_to_date { UpToDateStay domain.old domain.new }
     ensures updated { OnOk result (IsUpToDate domain.new subscriber.now) }

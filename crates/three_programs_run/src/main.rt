@@ -2,7 +2,7 @@
 #![tactic(auto)]
 
 use iox2_pubsub::{BackpressureStrategy, Domain, Publisher, ServiceConfig, Subscriber};
-use three_programs::{Failure, Numbers, Queue, relay, relay_all, send_all, vote};
+use three_programs::{Failure, Numbers, Queue, push_over, relay, relay_all, send_all, vote};
 
 fn config(number: u128) -> ServiceConfig {
     ServiceConfig {
@@ -33,7 +33,16 @@ fn main(rt: HostRuntime) -> Result<(), Failure> {
     let pa = publisher(&mut a);
     let sb = subscriber(&mut b);
     let pb = publisher(&mut b);
-    let read = relay_all(rt.alloc(), &mut a, &pa, &sa, &mut b, &pb, &sb, [7, 8, 9].as_slice());
+    let read = relay_all(
+        rt.alloc(),
+        &mut a,
+        &pa,
+        &sa,
+        &mut b,
+        &pb,
+        &sb,
+        [7, 8, 9].as_slice(),
+    );
     for x in read.unwrap().as_slice() {
         let _ = println!(rt; "{x}");
     }
@@ -77,5 +86,20 @@ fn main(rt: HostRuntime) -> Result<(), Failure> {
         }
     }
     queue.close();
+    let mut d = Domain::<u32, ()>::new(rt.alloc(), config(4)).unwrap();
+    let sd = subscriber(&mut d);
+    let pd = d.publisher_builder().create(&mut d).unwrap();
+    for i in 10..16 {
+        match push_over(&mut d, &pd, &sd, i).unwrap() {
+            Some(first) => {
+                let _ = println!(rt; "over {i}: out {first}");
+            }
+            None => {
+                let _ = println!(rt; "pushed {i}");
+            }
+        }
+    }
+    pd.close(&mut d);
+    sd.close(&mut d);
     Ok(())
 }
