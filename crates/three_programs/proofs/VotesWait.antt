@@ -10,7 +10,8 @@ use Rattle.iox2_domain.specs.Kept.{Kept, state_of, entries_of}
 use Rattle.iox2_laws.proofs.MailboxLemmas.{has_numbers-contains, contains_waiting_in}
 use Rattle.iox2_laws.proofs.NumberLemmas.{contains_first}
 use Rattle.iox2_laws.proofs.WaitingCounts.{cond_among, sum_below}
-use Rattle.iox2_pubsub.specs.Live.{IsFull, IsServed, OthersSend, payloads, payloads_from, waiting}
+use Rattle.iox2_pubsub.proofs.PublisherWaits.{part-of}
+use Rattle.iox2_pubsub.specs.Live.{AllFrom, IsFull, IsServed, OthersSend, payloads, payloads_from, waiting}
 use Rattle.iox2_pubsub.specs.Payloads.{payload_of}
 use Rattle.iox2_pubsub.specs.declared.subscriber.Subscriber.{Subscriber}
 use Rattle.iox2_pubsub.proofs.PayloadLists.{length-all_below}
@@ -167,3 +168,10 @@ module _ {U F G : Type 0} (old new : Kept ℕ U F G) (subscriber : Subscriber) w
           },
         ))
         (pick votes wait.each wait.apart)
+
+-- where nothing waits, nothing of anybody does: no word of the library says it
+pub wait-none : {U F G : Type 0} (kept : Kept ℕ U F G) → IsWellFormed (state_of kept) → (subscriber : Subscriber) → waiting kept subscriber ≡ 0 → (p : ℕ) → AllFrom kept p subscriber []
+wait-none kept well subscriber none p = record {
+  all = nil_from_length (payloads kept subscriber) none;
+  from = let part : length (payloads_from kept p subscriber) ≤ waiting kept subscriber = part-of kept well subscriber p in nil_from_length (payloads_from kept p subscriber) (omega (arith, part, none));
+}

@@ -1,4 +1,4 @@
-use iox2_pubsub::{LoanError, ReceiveError, SendError};
+use iox2_pubsub::{ConnectionFailure, LoanError, ReceiveError, SendError};
 use std::alloc::AllocError;
 
 /// Why a function of this crate ends early.
@@ -10,6 +10,8 @@ pub enum Failure {
     Send(SendError),
     /// Nothing is received.
     Receive(ReceiveError),
+    /// The connections aren't updated.
+    Update(ConnectionFailure),
     /// A send waits still.
     Full,
     /// There is no memory for what was read.

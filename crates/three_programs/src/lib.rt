@@ -4,6 +4,7 @@
 
 mod blocking;
 mod failure;
+mod joining;
 mod passing;
 mod queues;
 mod relaying;
@@ -12,6 +13,7 @@ mod voter;
 pub use blocking::{push_again, push_or_wait, push_over};
 pub use failure::Failure;
 use iox2_pubsub::Domain;
+pub use joining::relay_if_idle;
 pub use passing::{read_all, read_one, send_all, send_one};
 pub use queues::Queue;
 pub use relaying::{relay, relay_all};
