@@ -73,6 +73,7 @@ mod PublishersMade
 pub mod ClosesWait
 pub mod DepartedShown
 pub mod LoansLeftShown
+pub mod BorrowsLeftShown
 mod AtOnce
 pub mod SureLoans
 pub mod KeptCounts
