@@ -73,6 +73,7 @@ mod PublishersMade
 pub mod ClosesWait
 pub mod DepartedShown
 pub mod LoansLeftShown
+mod BorrowsKept
 pub mod BorrowsLeftShown
 mod AtOnce
 pub mod SureLoans

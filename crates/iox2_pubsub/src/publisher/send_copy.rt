@@ -11,6 +11,7 @@ impl Publisher {
     ghost use Rattle.iox2_domain.specs.Boxes.{answers_of};
     ghost use Rattle.iox2_domain.specs.Shows.{Shows};
     ghost use Rattle.iox2_pubsub.specs.Live.{A_blocked_send, AddAtMost, AllFrom, AreAllSlices, HasItsBuffer, IsBlockedSend, IsConnected, IsReadyPublisher, IsServed, IsSingleValued, NeverFails, NeverWaits, OthersSend, StaysBut, UpToDateStay, blocked_key, blocked_send, lender_key, payloads, publisher_key, waiting};
+    ghost use Rattle.iox2_pubsub.specs.BorrowsLeft.{BorrowsLeftStay};
     ghost use Rattle.iox2_pubsub.specs.LoansLeft.{HasLoansLeft, HasNumbersLeft, TakesOneLeft};
     ghost use Rattle.iox2_pubsub.specs.SendCalls.{FailsCopy, IfBlocked, IsDelivered, spent_by_copy};
     ghost use Rattle.iox2_pubsub.specs.WrittenLoans.{SendsCopy};
@@ -49,6 +50,7 @@ impl Publisher {
         ensures granted { (loans numbers : ℕ) → HasLoansLeft domain.old self.now (loans + 1) → HasNumbersLeft domain.old (numbers + 1)
             → NeverFails domain.old (publisher_id self.now) → IsOk result }
         ensures loans_left { TakesOneLeft self.now domain.old domain.new }
+        ensures borrows_left { BorrowsLeftStay domain.old domain.new }
         ensures given_back { IfOk result IsDelivered → (loans : ℕ) → HasLoansLeft domain.old self.now (loans + 1) → HasLoansLeft domain.new self.now (loans + 1) }
         ensures stays { StaysBut (spent_by_copy self.now result) domain.old domain.new }
     {

@@ -119,3 +119,10 @@ returns-clause-others g c =
     let waits = waits-both c.in_ok-loan.ensures.leaves.waits c.write_payload.ensures.becomes.leaves.waits in
     let lender = ap (λ (k : Key). k.port) c.write_payload.ensures.becomes.key ∙ c.in_ok-loan.ensures.loan.lent.publisher in
     copy-others c.args.domain.now _ _ waits c.args.self.now.id c.write_payload.result.loan.publisher lender c.send.ensures.spends.others
+
+pub returns-in_err-loan-clause-borrows_left : goal.returns-in_err-loan-clause-borrows_left
+returns-in_err-loan-clause-borrows_left g c = c.in_err-loan.ensures.leaves.borrows_left
+
+pub returns-clause-borrows_left : goal.returns-clause-borrows_left
+returns-clause-borrows_left g c = λ subscriber n left.
+    c.send.ensures.spends.borrows_left subscriber n (c.write_payload.ensures.becomes.leaves.borrows_left subscriber n (c.in_ok-loan.ensures.leaves.borrows_left subscriber n left))
