@@ -9,6 +9,7 @@ pub mod UpdateCalls
 pub mod Payloads
 pub mod LoansLeft
 pub mod BorrowsLeft
+pub mod RoomyPublishers
 pub mod GrantedLoans
 pub mod Leaves
 pub mod MachineSteps
