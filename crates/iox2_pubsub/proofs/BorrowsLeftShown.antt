@@ -1,12 +1,12 @@
 -- What calls leave of the messages that subscribers may still borrow, seen from outside.
-use Rattle.std.proofs.Common.{◌≡◌, ℕ, zero, suc, ◌+◌, ◌≤◌, ◌<◌, Bool, true, false, not, ◌&&◌, ◌||◌, List, [], ◌∷◌, ◌++◌, length, refl, sym, ap, subst, ◌∙◌, arith, le_refl, Option, None, Some, Result, Ok, Err, inl, inr, ⊎_elim}
+use Rattle.std.proofs.Common.{◌≡◌, ℕ, zero, suc, ◌+◌, ◌≤◌, ◌<◌, Bool, true, false, not, ◌&&◌, List, [], ◌∷◌, ◌++◌, length, refl, sym, ap, subst, ◌∙◌, arith, le_refl, Option, None, Some, Result, Ok, Err, inl, inr, ⊎_elim}
 use Rattle.std.specs.Prelude.{◌≢◌, IfErr, IsOk, nat_lt}
 use Rattle.std.specs.List.{list_any}
 use Rattle.std.specs.declared.time.Duration.{Duration}
 use Rattle.std.proofs.lemmas.Bool.{true≢false, cases_eq, ne_eqb, ltb-false, or_parts}
 use Rattle.std.proofs.lemmas.List.{length-append}
 use Rattle.iox2_machine.specs.machine.Numbers.{contains, is_nil, without, put_at}
-use Rattle.iox2_machine.specs.machine.Mailbox.{Mailbox, BorrowsFirst, can_receive, has_data, has_borrows, is_borrowed, with_released}
+use Rattle.iox2_machine.specs.machine.Mailbox.{Mailbox, BorrowsFirst, can_receive, has_data, is_borrowed, with_released}
 use Rattle.iox2_machine.specs.machine.Loans.{loan_discarded}
 use Rattle.iox2_machine.specs.machine.Ports.{CreatePublisher, CreateSubscriber, publisher_closed, subscriber_closed}
 use Rattle.iox2_machine.specs.machine.PublisherUpdate.{UpdatePublisher}
@@ -24,22 +24,21 @@ use Rattle.iox2_machine.specs.declared.errors.SubscriberCreateError.{SubscriberC
 use Rattle.iox2_machine.specs.declared.errors.ReceiveError.{ReceiveError}
 use Rattle.iox2_machine.specs.declared.errors.ReceiveError.TheVariants.{ExceedsMaxBorrows, ConnectionFailure as CouldNotConnect}
 use Rattle.iox2_machine.specs.declared.service_config.ServiceConfig.{ServiceConfig}
-use Rattle.iox2_laws.proofs.Cases.{by_option, by_bool}
+use Rattle.iox2_laws.proofs.Cases.{by_option}
 use Rattle.iox2_laws.proofs.LoanLaws.{grant_loan_advances}
 use Rattle.iox2_laws.proofs.MailboxLemmas.{has_numbers-borrows, has_numbers-data}
 use Rattle.iox2_laws.proofs.NumberLemmas.{contains_in_cons, length-without_le}
 use Rattle.iox2_laws.proofs.PortsStay.{grant_loan_stays}
 use Rattle.iox2_laws.proofs.Puts.{at_each, put_at-same, put_at-other}
 use Rattle.iox2_laws.proofs.SubscriberUpdates.{update_subscriber_keeps}
-use Rattle.iox2_laws.proofs.UpToDate.{IsUpdated}
 use Rattle.iox2_laws.proofs.WaitingCounts.{sum_below, sum_same, sum_le, sum_zero, sum_one_less, sum_part}
 use Rattle.iox2_laws.proofs.WaitingReceives.{passes_at}
-use Rattle.iox2_domain.specs.Kept.{Kept, state_of}
+use Rattle.iox2_domain.specs.Kept.{Kept}
 use Rattle.iox2_domain.specs.Lending.{LoanCall, loan_memory}
 use Rattle.iox2_domain.specs.Shows.{Shows}
 use Rattle.iox2_pubsub.specs.BorrowsLeft.{borrowed_by, CanBorrow, HasBorrowsLeft, BorrowsLeftStay, HasOneMoreBorrowLeft, TakesOneBorrow}
 use Rattle.iox2_pubsub.specs.Live.{IsUpToDate}
-use Rattle.iox2_pubsub.specs.ReceivedSamples.{received_result}
+use Rattle.iox2_pubsub.specs.ReceivedSamples.{OnNoSample, received_result}
 use Rattle.iox2_pubsub.specs.declared.publisher.Publisher.{Publisher}
 use Rattle.iox2_pubsub.specs.declared.sample.Sample.{Sample}
 use Rattle.iox2_pubsub.specs.declared.subscriber.Subscriber.{Subscriber}
@@ -145,6 +144,19 @@ module _ {T U : Type 0} (environment : Environment) (s : State T U) (w : IsWellF
   taken-others t p box j away = sum_same (part (with_mailbox t p q box) j) (part t j) t.next_port (λ i _.
       at_each t.mailboxes p (put_at (t.mailboxes p) q box) (λ i row. length (row j).borrowed ≡ part t j i) i
       (λ _. ap (λ (m : Mailbox). length m.borrowed) (put_at-other (t.mailboxes p) q box j (ne_eqb j q away))) (λ _. refl))
+
+  -- A receive that gives nothing borrows nothing.
+  none-borrowed : (s' : State T U) → Receive environment s q s' No_sample → BorrowsKept s s'
+  none-borrowed s' h =
+      by_option (BorrowsKept s s') h.1 _ _ h.3
+      (λ _ k. by_option (BorrowsKept s s') ((h.0).subscribers q) _ _ k (λ _ v. absurd v) (λ _ _ k. subst (BorrowsKept s) (sym k.1) (subscriber-update-kept environment s q h.0 h.1 h.2)))
+      (λ e _ k. let clash : No_sample ≡ Receive_error _ = k.1 in absurd cc)
+
+  failed-borrowed : (s' : State T U) (e : ReceiveError) → Receive environment s q s' (Receive_error e) → BorrowsKept s s'
+  failed-borrowed s' e h =
+      by_option (BorrowsKept s s') h.1 _ _ h.3
+      (λ _ k. by_option (BorrowsKept s s') ((h.0).subscribers q) _ _ k (λ _ v. absurd v) (λ _ _ k. subst (BorrowsKept s) (sym k.3) (subscriber-update-kept environment s q h.0 h.1 h.2)))
+      (λ _ _ k. subst (BorrowsKept s) (sym k.0) (subscriber-update-kept environment s q h.0 h.1 h.2))
 
   -- A receive borrows at most one message more, and for nobody else.
   pub record BorrowsOne (s' : State T U) : Type 0 where
@@ -350,6 +362,12 @@ module _ {T U F G : Type 0} (old new : Kept T U F G) (m m' : Messages T U) (s s'
           own = λ n has. fewer receiver 1 n takes.config (let more : count s' receiver.id ≤ suc (count s receiver.id) = takes.own in omega (arith, more)) has;
           others = λ other n away has. same-left other n takes.config (takes.others other.id away) has;
         }
+
+    -- leaves what was borrowed where it gives nothing
+    pub receive-borrows-none : (result : Result (Option Sample) ReceiveError) → Receive environment s receiver.id s' (received_result result) → OnNoSample result (BorrowsLeftStay old new)
+    receive-borrows-none (Ok None) h = borrows-stay (none-borrowed environment s shown.well_formed receiver.id s' h)
+    receive-borrows-none (Ok (Some it)) h = tt
+    receive-borrows-none (Err e) h = borrows-stay (failed-borrowed environment s shown.well_formed receiver.id s' e h)
 
     -- is refused by the limit where none is left alone
     pub receive-unlimited : (n : ℕ) → HasBorrowsLeft old receiver (n + 1) → (result : Result (Option Sample) ReceiveError) → Receive environment s receiver.id s' (received_result result)

@@ -1,19 +1,21 @@
 -- Where each subscriber has room, no send waits and no handler is asked of full buffers.
 use Rattle.std.proofs.Common.{◌≡◌, ℕ, ◌+◌, ◌≤◌, ◌<◌, ◌||◌, Bool, true, false, cond, List, [], ◌∷◌, length, refl, sym, ap, subst, ◌∙◌, arith, Option, None, Some, Result, Ok, Err}
 use Rattle.std.specs.Prelude.{◌≢◌, IfErr, IfOk}
-use Rattle.std.specs.Option.{option_and_then}
+use Rattle.std.specs.Option.{option_and_then, option_map}
 use Rattle.std.specs.declared.time.Duration.{Duration}
 use Rattle.std.proofs.lemmas.Bool.{true≢false, cond_both, lt-ltb, ne_eqb}
+use Rattle.std.proofs.lemmas.List.{length-map}
 use Rattle.std.proofs.lemmas.Option.{none-some, same_Some}
 use Rattle.iox2_machine.specs.machine.Channel.{is_closed}
-use Rattle.iox2_machine.specs.machine.Delivery.{Deliver, DeliveryEnd, Complete, PutResult, Put, PutAtEnd, accepted_count, is_blocking, is_failed, no_time}
+use Rattle.iox2_machine.specs.machine.Delivery.{Deliver, DeliveryEnd, Complete, PutResult, Put, accepted_count, is_blocking, is_failed, no_time}
 use Rattle.iox2_machine.specs.machine.Mailbox.{Mailbox, has_room}
-use Rattle.iox2_machine.specs.machine.Numbers.{contains, last_n, put_at}
-use Rattle.iox2_machine.specs.machine.Places.{occupants}
+use Rattle.iox2_machine.specs.machine.Numbers.{contains, last_n}
+use Rattle.iox2_machine.specs.machine.Places.{occupant, occupants}
 use Rattle.iox2_machine.specs.machine.PublisherUpdate.{UpdatePublisher, history_for, sender_side}
-use Rattle.iox2_machine.specs.machine.Records.{Environment, Handler, Loan, Publisher, Subscriber}
+use Rattle.iox2_machine.specs.machine.Records.{Environment, Handler, Loan, Subscriber}
 use Rattle.iox2_machine.specs.machine.Sends.{Send, SendResult, Blocked_send, Send_error, published, with_mailboxes}
 use Rattle.iox2_machine.specs.machine.State.{State, Messages, channel_buffer, has_receiver_end, is_blocked, receiving_buffer}
+use Rattle.iox2_machine.specs.machine.Waiting.{waiting_from}
 use Rattle.iox2_machine.specs.machine.WellFormed.{IsWellFormed}
 use Rattle.iox2_machine.specs.declared.backpressure.BackpressureAction.{BackpressureAction}
 use Rattle.iox2_machine.specs.declared.backpressure.BackpressureStrategy.{BackpressureStrategy}
@@ -24,17 +26,25 @@ use Rattle.iox2_machine.specs.declared.service_config.ServiceConfig.{ServiceConf
 use Rattle.iox2_laws.proofs.Cases.{by_option, by_bool}
 use Rattle.iox2_laws.proofs.MailboxWalks.{sender_side_keeps}
 use Rattle.iox2_laws.proofs.NumberLemmas.{contains_first, contains_later, length-last_n_le}
-use Rattle.iox2_laws.proofs.PlaceLemmas.{IsOnce-occupants}
+use Rattle.iox2_laws.proofs.PlaceLemmas.{IsOnce-occupants, occupied_within}
 use Rattle.iox2_laws.proofs.PublisherUpdates.{update_publisher_keeps}
 use Rattle.iox2_laws.proofs.Puts.{put_at-same, put_at-other}
 use Rattle.iox2_laws.proofs.UpToDate.{update_publisher_subscribers}
 use Rattle.iox2_machine.specs.machine.Numbers.{IsOnce}
-use Rattle.iox2_domain.specs.Kept.{Kept, state_of}
+use Rattle.iox2_domain.specs.Kept.{Kept, entries_of, state_of}
 use Rattle.iox2_domain.specs.Shows.{Shows}
-use Rattle.iox2_pubsub.specs.RoomyPublishers.{HasRoomForAll, IsRoomy}
+use Rattle.iox2_pubsub.specs.ConnectedPorts.{Connects}
+use Rattle.iox2_pubsub.specs.Live.{HasItsBuffer, IsConnected, WaitingStays, payloads_from}
+use Rattle.iox2_pubsub.specs.Payloads.{payload_of}
+use Rattle.iox2_pubsub.specs.RoomyPublishers.{HasRoomAlone, HasRoomForAll, IsRoomy}
 use Rattle.iox2_pubsub.specs.SendCalls.{IsDelivered, result_of_send}
 use Rattle.iox2_pubsub.specs.declared.send_outcome.SendOutcome.{SendOutcome}
 use Rattle.iox2_pubsub.specs.declared.send_outcome.SendOutcome.TheVariants.{Delivered, Blocked}
+use Rattle.iox2_pubsub.specs.declared.subscriber.Subscriber.{Subscriber as Handle}
+use Rattle.iox2_pubsub.proofs.LiveParts.{buffer-parts}
+use Rattle.iox2_pubsub.proofs.SendsServe.{connected-waits}
+use Rattle.iox2_pubsub.proofs.UpToDateShown.{connected-in}
+use Rattle.iox2_pubsub.proofs.WaitingShown.{payloads-from-are}
 use Rattle.iox2_pubsub.proofs.OverflowSends.{IsUnhindered, concludes-unhindered}
 
 -- The message went past no receiver that could have failed or blocked its send.
@@ -159,6 +169,54 @@ module _ {T U F G : Type 0} (kept : Kept T U F G) (m : Messages T U) (s : State 
   roomy-free environment n l publisher its free is s' result h =
       let unblocked : is_blocked s l.publisher ≡ false = ap (λ (t : State T U). is_blocked t l.publisher) shown.state ∙ ap (is_blocked (state_of kept)) its ∙ free in
       roomy-send environment s shown.well_formed n l s' result unblocked (subst (HasRoomForAll s) (sym its) (roomy-in publisher is)) h
+
+-- ---- a subscriber that is alone
+
+first-place : (length-places place most : ℕ) → place < length-places → length-places ≤ most → most ≡ 1 → place ≡ 0
+first-place length-places place most low bound one = omega (arith, low, bound, one)
+
+module _ {T U F G : Type 0} (kept : Kept T U F G) (m : Messages T U) (s : State T U) (shown : Shows kept m s) (publisher : ℕ) (subscriber : Handle) (has : HasRoomAlone kept publisher subscriber) where
+  one : (s.config).max_subscribers ≡ 1
+  one = ap (λ (t : State T U). (t.config).max_subscribers) shown.state ∙ has.alone
+
+  -- whoever is there stands at the first place
+  stands-first : (q : ℕ) (y : Subscriber) → s.subscribers q ≡ Some y → occupant s.subscriber_places 0 ≡ Some q
+  stands-first q y here =
+      let places = (shown.well_formed).subscriber_places in
+      let at : occupant s.subscriber_places y.place ≡ Some q = places.stands q y.place (ap (option_map {T = Subscriber} {U = ℕ} (λ z. z.place)) here) in
+      let first : y.place ≡ 0 = first-place (length s.subscriber_places) y.place (s.config).max_subscribers (occupied_within s.subscriber_places y.place q at) places.bound one in
+      ap (occupant s.subscriber_places) (sym first) ∙ at
+
+  alone-room : HasRoomForAll s publisher
+  alone-room q y here is =
+      let c : Connects s publisher subscriber.id = connected-in kept m s shown publisher subscriber has.connected in
+      let its : q ≡ subscriber.id = same_Some q subscriber.id (sym (stands-first q y here) ∙ stands-first subscriber.id c.subscriber c.there) in
+      let there : (state_of kept).subscribers subscriber.id ≡ Some y = ap (λ (t : State T U). t.subscribers subscriber.id) (sym shown.state) ∙ ap s.subscribers (sym its) ∙ here in
+      let size : y.buffer ≡ subscriber.buffer_size = (buffer-parts kept subscriber has.buffer).1 y there in
+      let history : (s.config).history_size ≡ (kept.config).history_size = ap (λ (t : State T U). (t.config).history_size) shown.state in
+      let small : (kept.config).history_size < subscriber.buffer_size = has.history in
+      let some : length (payloads_from kept publisher subscriber) < subscriber.buffer_size = has.room in
+      let wait : length (payloads_from kept publisher subscriber) ≡ length (s.mailboxes publisher q).waiting =
+      ap length (payloads-from-are kept publisher subscriber) ∙ length-map (waiting_from (state_of kept) publisher subscriber.id) (payload_of (entries_of kept))
+      ∙ ap (λ (t : State T U). length (waiting_from t publisher subscriber.id)) (sym shown.state)
+      ∙ ap length (connected-waits s publisher subscriber.id c) ∙ ap (λ (i : ℕ). length (s.mailboxes publisher i).waiting) (sym its) in
+      (omega (arith, history, small, size), omega (arith, wait, some, size))
+
+  pub alone-roomy : IsRoomy kept publisher
+  unfolding IsRoomy
+  alone-roomy = subst (λ (t : State T U). HasRoomForAll t publisher) shown.state alone-room
+
+-- it is so after a call that leaves this
+pub alone-since : {T U F G : Type 0} {old mid : Kept T U F G} → WaitingStays old mid → mid.config ≡ old.config → ((it : Handle) → HasItsBuffer old it → HasItsBuffer mid it)
+    → (p lender : ℕ) → lender ≡ p → (subscriber : Handle) → IsConnected mid lender subscriber → HasRoomAlone old p subscriber → HasRoomAlone mid lender subscriber
+alone-since {T} {U} {F} {G} {old} {mid} waits settings buffers p lender its subscriber connected has = record {
+  alone = ap (λ (c : ServiceConfig). c.max_subscribers) settings ∙ has.alone;
+  connected = connected;
+  buffer = buffers subscriber has.buffer;
+  history = subst (λ (c : ServiceConfig). c.history_size < subscriber.buffer_size) (sym settings) has.history;
+  room = subst (λ (ps : List (List T)). length ps < subscriber.buffer_size)
+      (sym (ap (λ i. payloads_from mid i subscriber) its ∙ ap (λ (f : ℕ → Handle → List (List T)). f p subscriber) waits.from)) has.room;
+}
 
 -- such a send is delivered, and fails at no receiver
 pub unhindered-is : (result : Result SendOutcome SendError) → IsUnhindered (result_of_send result) → IfOk result IsDelivered × IfErr result (λ error. error ≢ UnableToDeliver)

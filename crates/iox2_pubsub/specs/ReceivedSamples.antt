@@ -9,7 +9,7 @@ use Rattle.iox2_machine.specs.machine.Records.{Environment}
 use Rattle.iox2_machine.specs.declared.errors.ReceiveError.{ReceiveError}
 use Rattle.iox2_machine.specs.declared.errors.ReceiveError.TheVariants.{ExceedsMaxBorrows}
 use Rattle.iox2_domain.specs.Kept.{Kept}
-use Rattle.iox2_pubsub.specs.BorrowsLeft.{HasBorrowsLeft, TakesOneBorrow}
+use Rattle.iox2_pubsub.specs.BorrowsLeft.{BorrowsLeftStay, HasBorrowsLeft, TakesOneBorrow}
 use Rattle.iox2_pubsub.specs.Leaves.{LeavesButWaiting}
 use Rattle.iox2_pubsub.specs.Live.{AreAllSlices, IsFromOrigin, IsLiveSample, IsNewIn, IsUpToDate, KeepsAll, LeavesLater, LeavesOthers, TakesFirst, TakesOldest, WaitingStays, payloads, received_sample, sample_key, waiting}
 use Rattle.iox2_pubsub.specs.MachineSteps.{TakesStep}
@@ -65,4 +65,5 @@ pub record Receives {T U F G : Type 0} (environment : Environment) (receiver : S
   pub granted : (n : ℕ) → IsUpToDate old receiver → HasBorrowsLeft old receiver (n + 1) → IsOk result
   pub unlimited : (n : ℕ) → HasBorrowsLeft old receiver (n + 1) → IfErr result (λ error. error ≢ ExceedsMaxBorrows)
   pub takes : TakesOneBorrow receiver old new
+  pub borrows_left : OnNoSample result (BorrowsLeftStay old new)
   pub leaves : LeavesButWaiting receiver old new

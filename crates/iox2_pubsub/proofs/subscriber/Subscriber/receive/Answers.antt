@@ -16,7 +16,7 @@ use Rattle.iox2_pubsub.proofs.WaitingShown.{received-fewer, received-none, recei
 use Rattle.iox2_pubsub.proofs.UpToDateShown.{received-updated}
 use Rattle.iox2_pubsub.proofs.UpdatesLeave.{reception-left}
 use Rattle.iox2_pubsub.proofs.PublisherWaits.{one-is-all, receive-takes-first}
-use Rattle.iox2_pubsub.proofs.BorrowsLeftShown.{receive-granted, receive-takes, receive-unlimited}
+use Rattle.iox2_pubsub.proofs.BorrowsLeftShown.{receive-borrows-none, receive-granted, receive-takes, receive-unlimited}
 use Rattle.iox2_pubsub.proofs.KeptReceives.{nothing-moves, nothing-waited, one-fewer-waits, others-wait-still}
 use Rattle.iox2_pubsub.proofs.StaysBut.{same-boxes}
 use Rattle.iox2_pubsub.proofs.subscriber.Subscriber.receive.Given.{Over}
@@ -48,6 +48,7 @@ returns-in_err-receipt g c =
       granted = λ n updated left. receive-granted {T = g.row.T.Denot} {U = g.row.U.Denot} c.args.domain.now (keeping (record { publishers = (c.domain.inside.boxes).boxes; subscribers = (c.domain.inside.subscriber_boxes).boxes }) c.receive_at.new.state) it.0 it.0 it.1 step.0 it.2 step.1 (answers_of g.F.BackpressureFn.allows g.G.DegradationFn.allows c.args.domain.now.boxes.subscribers) c.args.self.now n updated left c.from_residual.result step.2;
       unlimited = λ n left. receive-unlimited {T = g.row.T.Denot} {U = g.row.U.Denot} c.args.domain.now (keeping (record { publishers = (c.domain.inside.boxes).boxes; subscribers = (c.domain.inside.subscriber_boxes).boxes }) c.receive_at.new.state) it.0 it.0 it.1 step.0 it.2 step.1 (answers_of g.F.BackpressureFn.allows g.G.DegradationFn.allows c.args.domain.now.boxes.subscribers) c.args.self.now n left c.from_residual.result step.2;
       takes = receive-takes {T = g.row.T.Denot} {U = g.row.U.Denot} c.args.domain.now (keeping (record { publishers = (c.domain.inside.boxes).boxes; subscribers = (c.domain.inside.subscriber_boxes).boxes }) c.receive_at.new.state) it.0 it.0 it.1 step.0 it.2 step.1 (answers_of g.F.BackpressureFn.allows g.G.DegradationFn.allows c.args.domain.now.boxes.subscribers) c.args.self.now (received_result c.from_residual.result) step.2;
+      borrows_left = receive-borrows-none {T = g.row.T.Denot} {U = g.row.U.Denot} c.args.domain.now (keeping (record { publishers = (c.domain.inside.boxes).boxes; subscribers = (c.domain.inside.subscriber_boxes).boxes }) c.receive_at.new.state) it.0 it.0 it.1 step.0 it.2 step.1 (answers_of g.F.BackpressureFn.allows g.G.DegradationFn.allows c.args.domain.now.boxes.subscribers) c.args.self.now c.from_residual.result step.2;
       leaves = reception-left {T = g.row.T.Denot} {U = g.row.U.Denot} c.domain.inside.state c.args.domain.now (keeping _ c.receive_at.new.state) c.domain.invariant c.domain.view_is
           (same-boxes c.domain.inside.state c.receive_at.new.state c.args.domain.now c.domain.view_is) (answers_of g.F.BackpressureFn.allows g.G.DegradationFn.allows c.args.domain.now.boxes.subscribers) c.args.self.now c.requires.live (received_result c.from_residual.result) shows;
     }
@@ -70,6 +71,7 @@ returns-in_default g c =
       granted = λ n updated left. receive-granted {T = g.row.T.Denot} {U = g.row.U.Denot} c.args.domain.now (keeping (record { publishers = (c.domain.inside.boxes).boxes; subscribers = (c.domain.inside.subscriber_boxes).boxes }) c.receive_at.new.state) it.0 it.0 it.1 step.0 it.2 step.1 (answers_of g.F.BackpressureFn.allows g.G.DegradationFn.allows c.args.domain.now.boxes.subscribers) c.args.self.now n updated left (Ok None) step.2;
       unlimited = λ n left. receive-unlimited {T = g.row.T.Denot} {U = g.row.U.Denot} c.args.domain.now (keeping (record { publishers = (c.domain.inside.boxes).boxes; subscribers = (c.domain.inside.subscriber_boxes).boxes }) c.receive_at.new.state) it.0 it.0 it.1 step.0 it.2 step.1 (answers_of g.F.BackpressureFn.allows g.G.DegradationFn.allows c.args.domain.now.boxes.subscribers) c.args.self.now n left (Ok None) step.2;
       takes = receive-takes {T = g.row.T.Denot} {U = g.row.U.Denot} c.args.domain.now (keeping (record { publishers = (c.domain.inside.boxes).boxes; subscribers = (c.domain.inside.subscriber_boxes).boxes }) c.receive_at.new.state) it.0 it.0 it.1 step.0 it.2 step.1 (answers_of g.F.BackpressureFn.allows g.G.DegradationFn.allows c.args.domain.now.boxes.subscribers) c.args.self.now (received_result (Ok None)) step.2;
+      borrows_left = receive-borrows-none {T = g.row.T.Denot} {U = g.row.U.Denot} c.args.domain.now (keeping (record { publishers = (c.domain.inside.boxes).boxes; subscribers = (c.domain.inside.subscriber_boxes).boxes }) c.receive_at.new.state) it.0 it.0 it.1 step.0 it.2 step.1 (answers_of g.F.BackpressureFn.allows g.G.DegradationFn.allows c.args.domain.now.boxes.subscribers) c.args.self.now (Ok None) step.2;
       leaves = reception-left {T = g.row.T.Denot} {U = g.row.U.Denot} c.domain.inside.state c.args.domain.now (keeping _ c.receive_at.new.state) c.domain.invariant c.domain.view_is
           (same-boxes c.domain.inside.state c.receive_at.new.state c.args.domain.now c.domain.view_is) (answers_of g.F.BackpressureFn.allows g.G.DegradationFn.allows c.args.domain.now.boxes.subscribers) c.args.self.now c.requires.live No_sample shows;
     }
@@ -111,6 +113,7 @@ returns g c =
       granted = λ n updated left. receive-granted {T = g.row.T.Denot} {U = g.row.U.Denot} c.args.domain.now (keeping (record { publishers = (c.domain.inside.boxes).boxes; subscribers = (c.domain.inside.subscriber_boxes).boxes }) c.receive_at.new.state) it.0 it.0 it.1 step.0 it.2 step.1 (answers_of g.F.BackpressureFn.allows g.G.DegradationFn.allows c.args.domain.now.boxes.subscribers) c.args.self.now n updated left (Ok (Some sample)) step.2;
       unlimited = λ n left. receive-unlimited {T = g.row.T.Denot} {U = g.row.U.Denot} c.args.domain.now (keeping (record { publishers = (c.domain.inside.boxes).boxes; subscribers = (c.domain.inside.subscriber_boxes).boxes }) c.receive_at.new.state) it.0 it.0 it.1 step.0 it.2 step.1 (answers_of g.F.BackpressureFn.allows g.G.DegradationFn.allows c.args.domain.now.boxes.subscribers) c.args.self.now n left (Ok (Some sample)) step.2;
       takes = receive-takes {T = g.row.T.Denot} {U = g.row.U.Denot} c.args.domain.now (keeping (record { publishers = (c.domain.inside.boxes).boxes; subscribers = (c.domain.inside.subscriber_boxes).boxes }) c.receive_at.new.state) it.0 it.0 it.1 step.0 it.2 step.1 (answers_of g.F.BackpressureFn.allows g.G.DegradationFn.allows c.args.domain.now.boxes.subscribers) c.args.self.now (received_result (Ok (Some sample))) step.2;
+      borrows_left = receive-borrows-none {T = g.row.T.Denot} {U = g.row.U.Denot} c.args.domain.now (keeping (record { publishers = (c.domain.inside.boxes).boxes; subscribers = (c.domain.inside.subscriber_boxes).boxes }) c.receive_at.new.state) it.0 it.0 it.1 step.0 it.2 step.1 (answers_of g.F.BackpressureFn.allows g.G.DegradationFn.allows c.args.domain.now.boxes.subscribers) c.args.self.now (Ok (Some sample)) step.2;
       leaves = reception-left {T = g.row.T.Denot} {U = g.row.U.Denot} c.domain.inside.state c.args.domain.now (keeping _ c.receive_at.new.state) c.domain.invariant c.domain.view_is
           (same-boxes c.domain.inside.state c.receive_at.new.state c.args.domain.now c.domain.view_is) (answers_of g.F.BackpressureFn.allows g.G.DegradationFn.allows c.args.domain.now.boxes.subscribers) c.args.self.now c.requires.live (Got_sample sample.origin number) shows;
     }
