@@ -8,6 +8,8 @@ pub mod QuestionCalls
 pub mod UpdateCalls
 pub mod Payloads
 pub mod LoansLeft
+pub mod BorrowsLeft
+pub mod RoomyPublishers
 pub mod GrantedLoans
 pub mod Leaves
 pub mod MachineSteps

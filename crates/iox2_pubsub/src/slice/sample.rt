@@ -28,6 +28,7 @@ impl Sample {
     ghost use Rattle.iox2_machine.specs.machine.Releases.{released};
     ghost use Rattle.iox2_machine.specs.machine.State.{State, Messages};
     ghost use Rattle.iox2_domain.specs.Shows.{Shows};
+    ghost use Rattle.iox2_pubsub.specs.BorrowsLeft.{HasOneMoreBorrowLeft};
     ghost use Rattle.iox2_pubsub.specs.Live.{IsLiveSample, received_sample, sample_key};
     ghost use Rattle.iox2_pubsub.specs.Leaves.{LeavesBut};
     ghost use Rattle.iox2_pubsub.specs.Slices.{HoldsSlices, SampleHasValues};
@@ -76,6 +77,7 @@ impl Sample {
             → (publisher : ℕ) → IsTrue (is_borrowed (sample_number (as_sample self)) (s.mailboxes publisher (receiver_of (as_sample self))))
             → (s' : State T U) × Shows domain.new m s' × (s' ≡ released s publisher (receiver_of (as_sample self)) (sample_number (as_sample self))) }
         ensures spent { IsLiveSample domain.new (as_sample self) → ⊥ }
+        ensures gives_back { HasOneMoreBorrowLeft (receiver_of (as_sample self)) domain.old domain.new }
         ensures leaves { LeavesBut (received_sample (as_sample self)) domain.old domain.new }
     {
         let Sample { sample } = self;

@@ -30,5 +30,6 @@ returns g c =
       room = it.room;
       loans_left = it.loans_left;
       numbers_left = it.numbers_left;
+      borrows_left = it.borrows_left;
       stays = it.stays (other-boxes c.domain.inside.state c.close_publisher.new.state c.args.domain.now c.domain.view_is (λ p other. c.remove.ensures.others p (λ same. other (same ∙ c.value.ensures))));
     }

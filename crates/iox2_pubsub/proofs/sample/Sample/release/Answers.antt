@@ -6,6 +6,7 @@ use Rattle.iox2_pubsub.proofs.CallsStay.{sample-shown, release-stays, release-sp
 use Rattle.iox2_pubsub.proofs.LiveParts.{sample-parts}
 use Rattle.iox2_pubsub.proofs.WaitingShown.{release-waits}
 use Rattle.iox2_pubsub.proofs.UpToDateShown.{release-leaves}
+use Rattle.iox2_pubsub.proofs.BorrowsLeftShown.{release-borrows, release-gives}
 use Rattle.iox2_pubsub.proofs.LoansLeftShown.{release-left}
 use Rattle.iox2_pubsub.proofs.StaysBut.{same-boxes}
 use Rattle.iox2_pubsub.proofs.sample.Sample.release.Goals as goal
@@ -33,5 +34,12 @@ returns-clause-leaves g c =
       stays = release-stays {T = g.row.T.Denot} {U = g.row.U.Denot} c.args.domain.now _ it.0 it.1 it.2 (it.3).0 c.args.self.sample.subscriber c.args.self.sample.number step.0 step.1 step.2 (same-boxes c.domain.inside.state c.release_sample.new.state c.args.domain.now c.domain.view_is);
       waits = release-waits {T = g.row.T.Denot} {U = g.row.U.Denot} c.args.domain.now _ it.0 it.0 it.1 step.0 it.2 step.1 (λ n entry at. at) (it.3).0 c.args.self.sample.subscriber c.args.self.sample.number step.2;
       up_to_date = release-leaves {T = g.row.T.Denot} {U = g.row.U.Denot} c.args.domain.now _ it.0 it.0 it.1 step.0 it.2 step.1 (it.3).0 c.args.self.sample.subscriber c.args.self.sample.number step.2;
+      borrows_left = release-borrows {T = g.row.T.Denot} {U = g.row.U.Denot} c.args.domain.now _ it.0 it.0 it.1 step.0 it.2 step.1 (it.3).0 c.args.self.sample.subscriber c.args.self.sample.number (it.3).1 step.2;
       loans_left = release-left {T = g.row.T.Denot} {U = g.row.U.Denot} c.args.domain.now _ it.0 it.0 it.1 step.0 it.2 step.1 (it.3).0 c.args.self.sample.subscriber c.args.self.sample.number step.2;
     }
+
+pub returns-clause-gives_back : goal.returns-clause-gives_back
+returns-clause-gives_back g c =
+    let it = sample-shown {T = g.row.T.Denot} {U = g.row.U.Denot} c.domain.inside.state c.args.domain.now c.domain.invariant c.domain.view_is _ c.requires.live in
+    let step = returns-clause-released g c it.0 it.1 it.2 (it.3).0 (it.3).1 in
+    release-gives {T = g.row.T.Denot} {U = g.row.U.Denot} c.args.domain.now _ it.0 it.0 it.1 step.0 it.2 step.1 (it.3).0 c.args.self.sample.subscriber c.args.self.sample.number (it.3).1 step.2
