@@ -8,7 +8,7 @@ use Rattle.iox2_domain.specs.Fields.{Fields, kept_of, keeping}
 use Rattle.iox2_domain.specs.Kept.{Kept, entries_of, state_of}
 use Rattle.iox2_domain.specs.Shows.{Shows}
 use Rattle.iox2_pubsub.specs.Live.{IsLiveSample}
-use Rattle.iox2_pubsub.specs.declared.sample.Sample.{Sample}
+use Rattle.iox2_pubsub.specs.Sample.{Sample}
 use Rattle.iox2_pubsub.proofs.LiveParts.{sample-parts}
 
 module _ {T U F G : Type 0} {boxes : DomainBoxes F G} (f : Fields T U) (kept : Kept T U F G) (view : keeping boxes f ≡ kept) (it : Sample) where

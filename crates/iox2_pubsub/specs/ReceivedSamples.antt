@@ -12,8 +12,7 @@ use Rattle.iox2_pubsub.specs.Leaves.{LeavesButWaiting}
 use Rattle.iox2_pubsub.specs.Live.{AreAllSlices, IsFromOrigin, IsLiveSample, IsNewIn, IsUpToDate, KeepsAll, LeavesLater, LeavesOthers, TakesFirst, TakesOldest, payloads, received_sample, sample_key, waiting}
 use Rattle.iox2_pubsub.specs.MachineSteps.{TakesStep}
 use Rattle.iox2_pubsub.specs.Slices.{SampleHasValues}
-use Rattle.iox2_pubsub.specs.declared.sample.Sample.{Sample}
-use Rattle.iox2_pubsub.specs.declared.slice.sample.Sample.{Sample as SliceSample}
+use Rattle.iox2_pubsub.specs.Sample.{Sample}
 use Rattle.iox2_pubsub.specs.declared.subscriber.Subscriber.{Subscriber}
 
 -- The machine's result if a receive returns this.
@@ -21,12 +20,6 @@ abbrev pub received_result : Result (Option Sample) ReceiveError → ReceiveResu
 received_result (Ok None) = No_sample
 received_result (Ok (Some sample)) = Got_sample sample.origin sample.sample.number
 received_result (Err e) = Receive_error e
-
--- The result of a receive of a slice, as one of a single value: a sample of a slice is that of a single value in other clothes.
-abbrev pub as_received : Result (Option SliceSample) ReceiveError → Result (Option Sample) ReceiveError
-as_received (Ok None) = Ok None
-as_received (Ok (Some it)) = Ok (Some it.sample)
-as_received (Err e) = Err e
 
 -- The subscriber is given the sample: it is borrowed from its origin, was the oldest that waited from there, reads as that did, and
 -- is none that was there before.

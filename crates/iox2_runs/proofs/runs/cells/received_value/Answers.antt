@@ -1,7 +1,7 @@
 use Rattle.std.proofs.Common.{sym, subst, ◌∙◌}
 use Rattle.iox2_pubsub.specs.Live.{sample_key}
 use Rattle.iox2_pubsub.specs.Slices.{SampleHasValues}
-use Rattle.iox2_pubsub.specs.declared.sample.Sample.{Sample}
+use Rattle.iox2_pubsub.specs.Sample.{Sample}
 use Rattle.iox2_runs.proofs.CellLists.{item-read}
 use Rattle.iox2_runs.proofs.CellViews.{message-of, message-read, messages-read}
 use Rattle.iox2_runs.proofs.Services.{single-here, holds-here}
