@@ -160,7 +160,10 @@ fn a_loan_is_had_again_by_its_mark_until_it_is_given_back(rt: HostRuntime) {
 
 // Whether the sample with the numbers is borrowed.
 fn has_sample(domain: &Weather, parts: &SampleParts) -> bool {
-    domain.sample_of::<Value>(parts).map(|it| it.disown()).is_some()
+    domain
+        .sample_of::<Value>(parts)
+        .map(|it| it.disown())
+        .is_some()
 }
 
 // Whether the sample with the numbers is there, and was borrowed last.
