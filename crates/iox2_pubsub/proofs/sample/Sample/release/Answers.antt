@@ -1,4 +1,10 @@
-use Rattle.std.proofs.Common.{refl}
+use Rattle.std.proofs.Common.{◌≡◌, ℕ, true, refl, subst}
+use Rattle.iox2_machine.specs.machine.Mailbox.{is_borrowed}
+use Rattle.iox2_machine.specs.machine.Releases.{released as machine-released}
+use Rattle.iox2_domain.specs.Fields.{kept_of}
+use Rattle.iox2_domain.specs.Kept.{state_of}
+use Rattle.iox2_domain.specs.Reaches.{Reaches}
+use Rattle.iox2_domain.specs.declared.sample_slots.SampleAt.{SampleAt}
 use Rattle.iox2_pubsub.proofs.ReleaseShows.{release-shows}
 use Rattle.iox2_pubsub.proofs.CallsStay.{sample-shown, release-stays, release-spends}
 use Rattle.iox2_pubsub.proofs.SampleReads.{its-place, sample-held}
@@ -14,7 +20,10 @@ release_sample-requires-clause-live g c =
 
 pub returns-clause-released : goal.returns-clause-released
 returns-clause-released g c =
-    let released = rw (its-place c.self.view_is) at c.release_sample.ensures.released in
+    let released =
+    subst (λ (at : SampleAt). (p : ℕ) → is_borrowed at.number ((state_of (kept_of c.domain.inside.state)).mailboxes p at.subscriber) ≡ true
+    → Reaches c.domain.inside.state c.release_sample.new.state (machine-released (state_of (kept_of c.domain.inside.state)) p at.subscriber at.number))
+    (its-place c.self.view_is) c.release_sample.ensures.released in
     release-shows {T = g.row.T.Denot} {U = g.row.U.Denot} c.args.domain.now c.domain.inside.state c.release_sample.new.state c.domain.view_is
     c.args.self.sample.subscriber c.args.self.sample.number released
 
