@@ -40,7 +40,7 @@ use Rattle.iox2_pubsub.specs.BorrowsLeft.{borrowed_by, CanBorrow, HasBorrowsLeft
 use Rattle.iox2_pubsub.specs.Live.{IsUpToDate}
 use Rattle.iox2_pubsub.specs.ReceivedSamples.{OnNoSample, received_result}
 use Rattle.iox2_pubsub.specs.declared.publisher.Publisher.{Publisher}
-use Rattle.iox2_pubsub.specs.declared.sample.Sample.{Sample}
+use Rattle.iox2_pubsub.specs.Sample.{Sample}
 use Rattle.iox2_pubsub.specs.declared.subscriber.Subscriber.{Subscriber}
 use Rattle.iox2_pubsub.proofs.BorrowsKept.{BorrowsKept, kept-itself, stays-kept, same-kept, publisher-update-kept, subscriber-update-kept, publisher-creation-kept, subscriber-creation-kept, send-kept, send-to-kept, retry-kept, give-up-kept, publisher-close-kept, subscriber-close-kept, released-kept, released-ports, shorter-without}
 use Rattle.iox2_pubsub.proofs.KeptReceives.{updated-unfailed}

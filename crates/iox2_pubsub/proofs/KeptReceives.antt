@@ -29,7 +29,7 @@ use Rattle.iox2_pubsub.specs.DepartedPorts.{HasRoom}
 use Rattle.iox2_pubsub.specs.Live.{IsLiveSubscriber, KeepsAll, OthersSend, WaitingStays, payloads_from, waiting}
 use Rattle.iox2_pubsub.specs.ReceivedSamples.{OnNoSample, received_result}
 use Rattle.iox2_pubsub.specs.SendCalls.{Sends, messages_after, result_of_send}
-use Rattle.iox2_pubsub.specs.declared.sample.Sample.{Sample}
+use Rattle.iox2_pubsub.specs.Sample.{Sample}
 use Rattle.iox2_pubsub.specs.declared.send_outcome.SendOutcome.{SendOutcome}
 use Rattle.iox2_pubsub.specs.declared.subscriber.Subscriber.{Subscriber}
 use Rattle.iox2_pubsub.proofs.ConnectedCounts.{send-others}

@@ -1,6 +1,7 @@
 pub mod ConnectedPorts
 pub mod DepartedPorts
 pub mod Live
+pub mod Sample
 pub mod Handles
 pub mod ReceivedSamples
 pub mod SendCalls

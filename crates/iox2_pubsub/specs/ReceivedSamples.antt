@@ -14,8 +14,7 @@ use Rattle.iox2_pubsub.specs.Leaves.{LeavesButWaiting}
 use Rattle.iox2_pubsub.specs.Live.{AreAllSlices, IsFromOrigin, IsLiveSample, IsNewIn, IsUpToDate, KeepsAll, LeavesLater, LeavesOthers, TakesFirst, TakesOldest, WaitingStays, payloads, received_sample, sample_key, waiting}
 use Rattle.iox2_pubsub.specs.MachineSteps.{TakesStep}
 use Rattle.iox2_pubsub.specs.Slices.{SampleHasValues}
-use Rattle.iox2_pubsub.specs.declared.sample.Sample.{Sample}
-use Rattle.iox2_pubsub.specs.declared.slice.sample.Sample.{Sample as SliceSample}
+use Rattle.iox2_pubsub.specs.Sample.{Sample}
 use Rattle.iox2_pubsub.specs.declared.subscriber.Subscriber.{Subscriber}
 
 -- The machine's result if a receive returns this.
@@ -29,12 +28,6 @@ abbrev pub OnNoSample : Result (Option Sample) ReceiveError → Type 0 → Type 
 OnNoSample (Ok None) then = then
 OnNoSample (Ok (Some sample)) then = ⊤
 OnNoSample (Err e) then = then
-
--- The result of a receive of a slice, as one of a single value: a sample of a slice is that of a single value in other clothes.
-abbrev pub as_received : Result (Option SliceSample) ReceiveError → Result (Option Sample) ReceiveError
-as_received (Ok None) = Ok None
-as_received (Ok (Some it)) = Ok (Some it.sample)
-as_received (Err e) = Err e
 
 -- The subscriber is given the sample: it is borrowed from its origin, was the oldest that waited from there, reads as that did, and
 -- is none that was there before.

@@ -14,7 +14,7 @@ use Rattle.iox2_pubsub.specs.Live.{IsUpToDate, KeepsAll, WaitingStays}
 use Rattle.iox2_pubsub.specs.Handles.{receiver_of, sample_number}
 use Rattle.iox2_pubsub.specs.ReceivedSamples.{Receives}
 use Rattle.iox2_pubsub.specs.MachineSteps.{TakesStep}
-use Rattle.iox2_pubsub.specs.declared.sample.Sample.{Sample}
+use Rattle.iox2_pubsub.specs.Sample.{Sample}
 use Rattle.iox2_pubsub.specs.declared.subscriber.Subscriber.{Subscriber}
 use Rattle.iox2_pubsub.proofs.UpToDateShown.{up-to-date-in}
 use Rattle.three_programs.specs.Values.{BorrowsNone}

@@ -16,7 +16,7 @@ use Rattle.iox2_pubsub.specs.Handles.{blocked_sender, receiver_of, sample_number
 use Rattle.iox2_pubsub.specs.Live.{IsConnected, IsFromOrigin, IsUpToDate, UpToDateStay}
 use Rattle.iox2_pubsub.specs.ReceivedSamples.{Receives}
 use Rattle.iox2_pubsub.specs.declared.blocked_send.BlockedSend.{BlockedSend}
-use Rattle.iox2_pubsub.specs.declared.sample.Sample.{Sample}
+use Rattle.iox2_pubsub.specs.Sample.{Sample}
 use Rattle.iox2_pubsub.specs.declared.subscriber.Subscriber.{Subscriber}
 use Rattle.iox2_pubsub.proofs.UpToDateShown.{up-to-date-in}
 use Rattle.three_programs.specs.Blocking.{HeldBack, IsPending}

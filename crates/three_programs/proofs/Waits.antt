@@ -12,7 +12,7 @@ use Rattle.iox2_domain.specs.Kept.{Kept, entries_of}
 use Rattle.iox2_pubsub.specs.Live.{AllFrom, HasItsBuffer, KeepsAll, SampleReads, UpToDateStay, WaitingStays, payloads_from, waiting, sample_key}
 use Rattle.iox2_pubsub.specs.ReceivedSamples.{IsReceived}
 use Rattle.iox2_pubsub.specs.Slices.{SampleHasValues}
-use Rattle.iox2_pubsub.specs.declared.sample.Sample.{Sample}
+use Rattle.iox2_pubsub.specs.Sample.{Sample}
 use Rattle.iox2_pubsub.specs.declared.subscriber.Subscriber.{Subscriber}
 use Rattle.three_programs.specs.Values.{TakesMore, Wait, singles}
 use Rattle.three_programs.proofs.Singles.{singles-append, length-singles}

@@ -7,6 +7,7 @@ use crate::parts::hints::has_sample;
 use crate::sample::Sample;
 use iox2_domain::SampleAt;
 use iox2_machine::{BackpressureFn, DegradationFn, UniquePublisherId, UniqueSubscriberId};
+use std::marker::PhantomData;
 
 impl SampleParts {
     ghost use Rattle.iox2_pubsub.specs.Parts.{sample_parts};
@@ -25,18 +26,19 @@ impl SampleParts {
     }
 
     // The handle with these numbers.
-    pub(crate) fn handle(&self) -> Sample
+    pub(crate) fn handle<K>(&self) -> Sample<K>
         ensures { sample_parts result ≡ self.now }
     {
         Sample {
             service_id: self.service_id,
             origin: UniquePublisherId::new(self.origin),
             sample: self.sample(),
+            kind: PhantomData,
         }
     }
 }
 
-impl Sample {
+impl<K> Sample<K> {
     ghost use Rattle.iox2_pubsub.specs.Parts.{sample_parts};
 
     /// The sample's numbers. Its handle is spent, and the message is borrowed still. This library's
@@ -48,6 +50,7 @@ impl Sample {
             service_id,
             origin,
             sample,
+            kind: _,
         } = self;
         SampleParts {
             service_id,
@@ -78,7 +81,7 @@ impl<T: Drop, U: Default + Drop, F: BackpressureFn, G: DegradationFn> Domain<T, 
 
     /// A handle of the sample with these numbers, and `None` if this domain has none that wasn't
     /// released. Its origin is what the numbers say, and isn't looked up. This library's own.
-    pub fn sample_of(&self, parts: &SampleParts) -> Option<Sample>
+    pub fn sample_of<K>(&self, parts: &SampleParts) -> Option<Sample<K>>
         ensures live { IfSome result (λ sample. IsLiveSample self.now sample) }
         ensures named { IfSome result (λ sample. sample_parts sample ≡ parts.now) }
         ensures none { IfNone result (IsSampleKey self.now (sample_named parts.now) → ⊥) }

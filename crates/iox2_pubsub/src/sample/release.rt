@@ -6,7 +6,7 @@ use crate::sample::Sample;
 use iox2_machine::{BackpressureFn, DegradationFn};
 use iox2_messages::release_sample;
 
-impl Sample {
+impl<K> Sample<K> {
     ghost use Rattle.std.specs.Prelude.{ℕ, IsTrue};
     ghost use Rattle.iox2_machine.specs.machine.Mailbox.{is_borrowed};
     ghost use Rattle.iox2_machine.specs.machine.Releases.{released};
@@ -38,6 +38,7 @@ impl Sample {
             service_id: _,
             origin: _,
             sample,
+            kind: _,
         } = self;
         release_sample(&mut domain.state, sample);
     }

@@ -1,9 +1,13 @@
-use Rattle.std.proofs.Common.{refl, sym, subst}
-use Rattle.iox2_machine.specs.machine.SingleCalls.{HoldsSample}
-use Rattle.iox2_domain.specs.Kept.{Kept, state_of}
+use Rattle.std.proofs.Common.{◌≡◌, ℕ, true, refl, subst}
+use Rattle.iox2_machine.specs.machine.Mailbox.{is_borrowed}
+use Rattle.iox2_machine.specs.machine.Releases.{released as machine-released}
+use Rattle.iox2_domain.specs.Fields.{kept_of}
+use Rattle.iox2_domain.specs.Kept.{state_of}
+use Rattle.iox2_domain.specs.Reaches.{Reaches}
+use Rattle.iox2_domain.specs.declared.sample_slots.SampleAt.{SampleAt}
 use Rattle.iox2_pubsub.proofs.ReleaseShows.{release-shows}
 use Rattle.iox2_pubsub.proofs.CallsStay.{sample-shown, release-stays, release-spends}
-use Rattle.iox2_pubsub.proofs.LiveParts.{sample-parts}
+use Rattle.iox2_pubsub.proofs.SampleReads.{its-place, sample-held}
 use Rattle.iox2_pubsub.proofs.WaitingShown.{release-waits}
 use Rattle.iox2_pubsub.proofs.UpToDateShown.{release-leaves}
 use Rattle.iox2_pubsub.proofs.BorrowsLeftShown.{release-borrows, release-gives}
@@ -13,12 +17,16 @@ use Rattle.iox2_pubsub.proofs.sample.Sample.release.Goals as goal
 
 pub release_sample-requires-clause-live : goal.release_sample-requires-clause-live
 release_sample-requires-clause-live g c =
-    subst (λ (k : Kept g.row.T.Denot g.row.U.Denot g.row.F.Denot g.row.G.Denot). HoldsSample (state_of k) c.args.self.sample.subscriber c.args.self.sample.number) (sym c.domain.view_is) (sample-parts c.args.domain.now _ c.requires.live).1
+    sample-held {T = g.row.T.Denot} {U = g.row.U.Denot} c.domain.inside.state c.args.domain.now c.domain.view_is c.args.self (its-place c.self.view_is) c.requires.live
 
 pub returns-clause-released : goal.returns-clause-released
 returns-clause-released g c =
+    let released =
+    subst (λ (at : SampleAt). (p : ℕ) → is_borrowed at.number ((state_of (kept_of c.domain.inside.state)).mailboxes p at.subscriber) ≡ true
+    → Reaches c.domain.inside.state c.release_sample.new.state (machine-released (state_of (kept_of c.domain.inside.state)) p at.subscriber at.number))
+    (its-place c.self.view_is) c.release_sample.ensures.released in
     release-shows {T = g.row.T.Denot} {U = g.row.U.Denot} c.args.domain.now c.domain.inside.state c.release_sample.new.state c.domain.view_is
-    c.args.self.sample.subscriber c.args.self.sample.number c.release_sample.ensures.released
+    c.args.self.sample.subscriber c.args.self.sample.number released
 
 pub returns-clause-spent : goal.returns-clause-spent
 returns-clause-spent g c = λ live.

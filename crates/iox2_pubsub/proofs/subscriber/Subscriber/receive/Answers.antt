@@ -8,7 +8,7 @@ use Rattle.iox2_pubsub.specs.Live.{A_sample, IsNewIn}
 use Rattle.iox2_pubsub.specs.ReceivedSamples.{received_result}
 use Rattle.iox2_domain.specs.Receipts.{ReceivesAs}
 use Rattle.iox2_domain.specs.declared.sample_slots.Receipt.{Receipt}
-use Rattle.iox2_pubsub.specs.declared.sample.Sample.{Sample}
+use Rattle.iox2_pubsub.specs.Sample.{Sample}
 use Rattle.iox2_pubsub.proofs.ReceptionShown.{reception-agrees, reception-at, reception-shows, reception-live, reception-origin, error-shows}
 use Rattle.iox2_pubsub.proofs.PlacedHandles.{subscriber-at-place, subscriber-there}
 use Rattle.iox2_pubsub.proofs.CallsStay.{always-shown, received-is-new}
