@@ -18,13 +18,16 @@ use Rattle.iox2_domain.specs.declared.boxes.PortBox.{PortBox}
 use Rattle.iox2_domain.specs.declared.boxes.PortBoxes.{PortBoxes}
 use Rattle.iox2_domain.specs.Fields.{Fields, keeping}
 use Rattle.iox2_domain.specs.Handlers.{may_fail, may_fail_update}
+use Rattle.iox2_domain.specs.Invariant.{IsDomain}
+use Rattle.iox2_domain.specs.KeptPlaces.{KeepsPlaces}
 use Rattle.iox2_domain.specs.Kept.{Kept, state_of, entries_of}
 use Rattle.iox2_domain.specs.Shows.{Shows}
 use Rattle.iox2_pubsub.proofs.UnfailedSends.{IsMild, HasNotFailed}
 use Rattle.iox2_pubsub.proofs.LiveParts.{loan-parts, origin-parts, sample-parts}
+use Rattle.iox2_pubsub.proofs.PlacedLoans.{placed-after}
 use Rattle.iox2_pubsub.proofs.SliceParts.{cells-parts, values-parts}
 use Rattle.iox2_pubsub.specs.Handlers.{may_wait}
-use Rattle.iox2_pubsub.specs.Live.{degradation_box, handler_box, subscriber_box, IsSingleValued, IsPlacedPublisher, IsPlacedSubscriber, HasItsBuffer, IsPublisherKey, IsSubscriberKey, IsLoanKey, IsSampleKey, IsBlockedKey, HasMark, IsFromOrigin, LoanHasHeader, LoanHasUserHeader, SampleHasHeader, SampleHasUserHeader, Item, No_item, A_publisher, A_subscriber, A_loan, A_sample, A_blocked_send, A_sent_loan, A_sent_copy, Both, IsOtherPublisher, IsOtherSubscriber, IsOtherLoan, IsOtherSample, IsUnblocked, IsUnwritten, IsWritten, PassesFull, NeverFails, NeverWaits, IsOtherBlocked, StaysBut, Stays, IsNewIn, unwritten_key, written_key}
+use Rattle.iox2_pubsub.specs.Live.{IsPlaced, degradation_box, handler_box, subscriber_box, IsSingleValued, IsPlacedPublisher, IsPlacedSubscriber, HasItsBuffer, IsPublisherKey, IsSubscriberKey, IsLoanKey, IsSampleKey, IsBlockedKey, HasMark, IsFromOrigin, LoanHasHeader, LoanHasUserHeader, SampleHasHeader, SampleHasUserHeader, Item, No_item, A_publisher, A_subscriber, A_loan, A_sample, A_blocked_send, A_sent_loan, A_sent_copy, Both, IsOtherPublisher, IsOtherSubscriber, IsOtherLoan, IsOtherSample, IsUnblocked, IsUnwritten, IsWritten, PassesFull, NeverFails, NeverWaits, IsOtherBlocked, StaysBut, Stays, IsNewIn, unwritten_key, written_key}
 use Rattle.iox2_pubsub.specs.Slices.{HoldsSlices, IsSliced, HasUnwrittenCells, HasValues, SampleHasValues}
 use Rattle.iox2_pubsub.specs.declared.publisher.Publisher.{Publisher as PublisherHandle}
 use Rattle.iox2_pubsub.specs.declared.sample.Sample.{Sample}
@@ -58,50 +61,56 @@ module _ {T U : Type 0} where
   SamplesStayBut spent s s' = (p q n : ℕ) → is_borrowed n (s.mailboxes p q) ≡ true → IsOtherSample spent q n → is_borrowed n (s'.mailboxes p q) ≡ true
 
 module _ {T U F G : Type 0} where
-  -- each port keeps its boxes, but for the item
+  -- each port keeps its boxes, but for the item, and each message its slot
   pub record BoxesStayBut (spent : Item) (old new : Kept T U F G) : Type 0 where
     pub at : (key : Key) → IsPublisherKey old key → IsOtherPublisher spent key.port → boxes_of key.port (new.boxes).publishers ≡ boxes_of key.port (old.boxes).publishers
     pub subscribers : (key : Key) → IsSubscriberKey old key → IsOtherSubscriber spent key.port → boxes_of key.port (new.boxes).subscribers ≡ boxes_of key.port (old.boxes).subscribers
+    pub placed : (n key slot : ℕ) → IsPlaced old n key slot → IsPlaced new n key slot
 
   -- where the call changes no box
-  pub same-boxes : {boxes : DomainBoxes F G} {spent : Item} (f g : Fields T U) (kept : Kept T U F G) → keeping boxes f ≡ kept → BoxesStayBut spent kept (keeping boxes g)
-  same-boxes f g kept view = record {
+  pub same-boxes : {boxes : DomainBoxes F G} {spent : Item} (f g : Fields T U) (kept : Kept T U F G) → keeping boxes f ≡ kept → IsDomain f → KeepsPlaces f g → BoxesStayBut spent kept (keeping boxes g)
+  same-boxes {boxes} f g kept view sound places = record {
     at = λ key live other. ap (λ (k : Kept T U F G). boxes_of key.port (k.boxes).publishers) view;
     subscribers = λ key live other. ap (λ (k : Kept T U F G). boxes_of key.port (k.boxes).subscribers) view;
+    placed = placed-after boxes f g kept view sound places;
   }
 
   -- where it changes no box but those of the publisher that is the item
-  pub other-boxes : {boxes : DomainBoxes F G} {publishers : List (PortBox F G)} {spent : Item} (f g : Fields T U) (kept : Kept T U F G) → keeping boxes f ≡ kept
+  pub other-boxes : {boxes : DomainBoxes F G} {publishers : List (PortBox F G)} {spent : Item} (f g : Fields T U) (kept : Kept T U F G) → keeping boxes f ≡ kept → IsDomain f → KeepsPlaces f g
       → ((p : ℕ) → IsOtherPublisher spent p → boxes_of p publishers ≡ boxes_of p boxes.publishers) → BoxesStayBut spent kept (keeping (record boxes { publishers = publishers }) g)
-  other-boxes f g kept view same = record {
+  other-boxes {boxes} {publishers} f g kept view sound places same = record {
     at = λ key live other. same key.port other ∙ ap (λ (k : Kept T U F G). boxes_of key.port (k.boxes).publishers) view;
     subscribers = λ key live other. ap (λ (k : Kept T U F G). boxes_of key.port (k.boxes).subscribers) view;
+    placed = placed-after (record boxes { publishers = publishers }) f g kept view sound places;
   }
 
   -- where it changes no box but those of the subscriber that is the item
-  pub other-subscriber-boxes : {boxes : DomainBoxes F G} {subscribers : List (PortBox F G)} {spent : Item} (f g : Fields T U) (kept : Kept T U F G) → keeping boxes f ≡ kept
+  pub other-subscriber-boxes : {boxes : DomainBoxes F G} {subscribers : List (PortBox F G)} {spent : Item} (f g : Fields T U) (kept : Kept T U F G) → keeping boxes f ≡ kept → IsDomain f → KeepsPlaces f g
       → ((q : ℕ) → IsOtherSubscriber spent q → boxes_of q subscribers ≡ boxes_of q boxes.subscribers) → BoxesStayBut spent kept (keeping (record boxes { subscribers = subscribers }) g)
-  other-subscriber-boxes f g kept view same = record {
+  other-subscriber-boxes {boxes} {subscribers} f g kept view sound places same = record {
     at = λ key live other. ap (λ (k : Kept T U F G). boxes_of key.port (k.boxes).publishers) view;
     subscribers = λ key live other. same key.port other ∙ ap (λ (k : Kept T U F G). boxes_of key.port (k.boxes).subscribers) view;
+    placed = placed-after (record boxes { subscribers = subscribers }) f g kept view sound places;
   }
 
   -- where it changes the boxes of no publisher that is there
-  pub live-boxes : {boxes : DomainBoxes F G} {publishers : List (PortBox F G)} {spent : Item} (f g : Fields T U) (kept : Kept T U F G) → keeping boxes f ≡ kept
+  pub live-boxes : {boxes : DomainBoxes F G} {publishers : List (PortBox F G)} {spent : Item} (f g : Fields T U) (kept : Kept T U F G) → keeping boxes f ≡ kept → IsDomain f → KeepsPlaces f g
       → ((key : Key) → IsPublisherKey kept key → IsOtherPublisher spent key.port → boxes_of key.port publishers ≡ boxes_of key.port boxes.publishers)
       → BoxesStayBut spent kept (keeping (record boxes { publishers = publishers }) g)
-  live-boxes f g kept view same = record {
+  live-boxes {boxes} {publishers} f g kept view sound places same = record {
     at = λ key live other. same key live other ∙ ap (λ (k : Kept T U F G). boxes_of key.port (k.boxes).publishers) view;
     subscribers = λ key live other. ap (λ (k : Kept T U F G). boxes_of key.port (k.boxes).subscribers) view;
+    placed = placed-after (record boxes { publishers = publishers }) f g kept view sound places;
   }
 
   -- where it changes the boxes of no subscriber that is there
-  pub live-subscriber-boxes : {boxes : DomainBoxes F G} {subscribers : List (PortBox F G)} {spent : Item} (f g : Fields T U) (kept : Kept T U F G) → keeping boxes f ≡ kept
+  pub live-subscriber-boxes : {boxes : DomainBoxes F G} {subscribers : List (PortBox F G)} {spent : Item} (f g : Fields T U) (kept : Kept T U F G) → keeping boxes f ≡ kept → IsDomain f → KeepsPlaces f g
       → ((key : Key) → IsSubscriberKey kept key → IsOtherSubscriber spent key.port → boxes_of key.port subscribers ≡ boxes_of key.port boxes.subscribers)
       → BoxesStayBut spent kept (keeping (record boxes { subscribers = subscribers }) g)
-  live-subscriber-boxes f g kept view same = record {
+  live-subscriber-boxes {boxes} {subscribers} f g kept view sound places same = record {
     at = λ key live other. ap (λ (k : Kept T U F G). boxes_of key.port (k.boxes).publishers) view;
     subscribers = λ key live other. same key live other ∙ ap (λ (k : Kept T U F G). boxes_of key.port (k.boxes).subscribers) view;
+    placed = placed-after (record boxes { subscribers = subscribers }) f g kept view sound places;
   }
 
   -- a port with the same boxes has the same one of each kind
@@ -345,8 +354,8 @@ module _ {T U F G : Type 0} (spent : Item) (old new : Kept T U F G) (remain : Po
     placed_subscribers = placed-subscriber;
     buffers = buffered;
     loans = loan;
-    unwritten_loans = λ it live other. record { live = loan (unwritten_key it) live.live other; unwritten = mark it.loan.number _ live.unwritten other };
-    written_loans = λ it live other. record { live = loan (written_key it) live.live other; written = mark it.loan.number _ live.written other };
+    unwritten_loans = λ it live other. record { live = loan (unwritten_key it) live.live other; unwritten = mark it.loan.number _ live.unwritten other; placed = boxes.placed it.loan.number it.loan.book it.loan.slot live.placed };
+    written_loans = λ it live other. record { live = loan (written_key it) live.live other; written = mark it.loan.number _ live.written other; placed = boxes.placed it.loan.number it.loan.book it.loan.slot live.placed };
     samples = sample;
     origins = origin;
     unblocked = free;

@@ -42,7 +42,7 @@ returns-in_err-receipt g c =
       nothing = λ keeps. rw refused.1 tt;
       updated = rw refused.1 tt;
       leaves = reception-left {T = g.row.T.Denot} {U = g.row.U.Denot} c.domain.inside.state c.args.domain.now (keeping _ c.receive_at.new.state) c.domain.invariant c.domain.view_is
-          (same-boxes c.domain.inside.state c.receive_at.new.state c.args.domain.now c.domain.view_is) (answers_of g.F.BackpressureFn.allows g.G.DegradationFn.allows c.args.domain.now.boxes.subscribers) c.args.self.now c.requires.live (received_result c.from_residual.result) shows;
+          (same-boxes c.domain.inside.state c.receive_at.new.state c.args.domain.now c.domain.view_is c.domain.invariant (let at = (subscriber-there {T = g.row.T.Denot} {U = g.row.U.Denot} c.domain.inside.state c.domain.invariant c.args.domain.now c.domain.view_is c.args.self.now c.requires.live) in (c.receive_at.ensures at.0 at.1).1.places)) (answers_of g.F.BackpressureFn.allows g.G.DegradationFn.allows c.args.domain.now.boxes.subscribers) c.args.self.now c.requires.live (received_result c.from_residual.result) shows;
     }
 
 pub returns-in_default : goal.returns-in_default
@@ -60,7 +60,7 @@ returns-in_default g c =
       nothing = λ keeps. nothing-waited {T = g.row.T.Denot} {U = g.row.U.Denot} c.args.domain.now (keeping (record { publishers = (c.domain.inside.boxes).boxes; subscribers = (c.domain.inside.subscriber_boxes).boxes }) c.receive_at.new.state) it.0 it.0 it.1 step.0 it.2 step.1 (answers_of g.F.BackpressureFn.allows g.G.DegradationFn.allows c.args.domain.now.boxes.subscribers) c.args.self.now keeps step.2;
       updated = received-updated {T = g.row.T.Denot} {U = g.row.U.Denot} c.args.domain.now (keeping (record { publishers = (c.domain.inside.boxes).boxes; subscribers = (c.domain.inside.subscriber_boxes).boxes }) c.receive_at.new.state) it.0 it.0 it.1 step.0 it.2 step.1 (answers_of g.F.BackpressureFn.allows g.G.DegradationFn.allows c.args.domain.now.boxes.subscribers) c.args.self.now c.requires.live No_sample (λ e is. let clash : No_sample ≡ Receive_error e = is in absurd cc) step.2;
       leaves = reception-left {T = g.row.T.Denot} {U = g.row.U.Denot} c.domain.inside.state c.args.domain.now (keeping _ c.receive_at.new.state) c.domain.invariant c.domain.view_is
-          (same-boxes c.domain.inside.state c.receive_at.new.state c.args.domain.now c.domain.view_is) (answers_of g.F.BackpressureFn.allows g.G.DegradationFn.allows c.args.domain.now.boxes.subscribers) c.args.self.now c.requires.live No_sample shows;
+          (same-boxes c.domain.inside.state c.receive_at.new.state c.args.domain.now c.domain.view_is c.domain.invariant (let at = (subscriber-there {T = g.row.T.Denot} {U = g.row.U.Denot} c.domain.inside.state c.domain.invariant c.args.domain.now c.domain.view_is c.args.self.now c.requires.live) in (c.receive_at.ensures at.0 at.1).1.places)) (answers_of g.F.BackpressureFn.allows g.G.DegradationFn.allows c.args.domain.now.boxes.subscribers) c.args.self.now c.requires.live No_sample shows;
     }
 
 pub returns : goal.returns
@@ -97,7 +97,7 @@ returns g c =
       nothing = λ keeps. tt;
       updated = received-updated {T = g.row.T.Denot} {U = g.row.U.Denot} c.args.domain.now (keeping (record { publishers = (c.domain.inside.boxes).boxes; subscribers = (c.domain.inside.subscriber_boxes).boxes }) c.receive_at.new.state) it.0 it.0 it.1 step.0 it.2 step.1 (answers_of g.F.BackpressureFn.allows g.G.DegradationFn.allows c.args.domain.now.boxes.subscribers) c.args.self.now c.requires.live (Got_sample sample.origin number) (λ e is. let clash : Got_sample sample.origin number ≡ Receive_error e = is in absurd cc) step.2;
       leaves = reception-left {T = g.row.T.Denot} {U = g.row.U.Denot} c.domain.inside.state c.args.domain.now (keeping _ c.receive_at.new.state) c.domain.invariant c.domain.view_is
-          (same-boxes c.domain.inside.state c.receive_at.new.state c.args.domain.now c.domain.view_is) (answers_of g.F.BackpressureFn.allows g.G.DegradationFn.allows c.args.domain.now.boxes.subscribers) c.args.self.now c.requires.live (Got_sample sample.origin number) shows;
+          (same-boxes c.domain.inside.state c.receive_at.new.state c.args.domain.now c.domain.view_is c.domain.invariant (let at = (subscriber-there {T = g.row.T.Denot} {U = g.row.U.Denot} c.domain.inside.state c.domain.invariant c.args.domain.now c.domain.view_is c.args.self.now c.requires.live) in (c.receive_at.ensures at.0 at.1).1.places)) (answers_of g.F.BackpressureFn.allows g.G.DegradationFn.allows c.args.domain.now.boxes.subscribers) c.args.self.now c.requires.live (Got_sample sample.origin number) shows;
     }
 
 pub receive_at-requires-clause-stands : goal.receive_at-requires-clause-stands
