@@ -77,6 +77,14 @@ placed-after {T} {U} {F} {G} {boxes} boxes' f g kept view sound places n key slo
     ))
 
 module _ {T U F G : Type 0} {boxes : DomainBoxes F G} (f : Fields T U) (sound : IsDomain f) (kept : Kept T U F G) (view : keeping boxes f ≡ kept) where
+  -- what has a number lies where it is placed
+  pub placed-number : (n key slot : ℕ) → IsPlaced kept n key slot → (k s : ℕ) → HasNumber f.books k s n → HasNumber f.books key slot n
+  unfolding IsPlaced
+  placed-number n key slot placed k s has =
+      let here : IsPlaced (keeping boxes f) n key slot = subst (λ (it : Kept T U F G). IsPlaced it n key slot) (sym view) placed in
+      let same = here.1 k s (numbered-lies boxes f sound k s n has) in
+      subst (λ (j : ℕ). HasNumber f.books key j n) same.1 (subst (λ (j : ℕ). HasNumber f.books j s n) same.0 has)
+
   -- a loan that is out lies where it is placed
   pub placed-lies : (p n key slot : ℕ) → HoldsLoan (state_of (kept_of f)) p n → IsPlaced kept n key slot → LiesInSlot f p n key slot
   unfolding IsPlaced

@@ -10,11 +10,28 @@ use Rattle.iox2_domain.specs.Shows.{Shows}
 use Rattle.iox2_pubsub.specs.Live.{IsLiveSample}
 use Rattle.iox2_pubsub.specs.declared.sample.Sample.{Sample}
 use Rattle.iox2_pubsub.proofs.LiveParts.{sample-parts}
+use Rattle.iox2_machine.specs.Stored.{IsHeldMessage, In_mailbox}
+use Rattle.iox2_laws.proofs.MailboxLemmas.{contains_borrowed}
+use Rattle.iox2_domain.specs.Invariant.{IsDomain}
+use Rattle.iox2_domain.specs.SampleSlots.{LiesBorrowedInSlot}
+use Rattle.iox2_domain.proofs.lemmas.samples.HintedSamples.{lies-in-slot}
+use Rattle.iox2_domain.proofs.lemmas.slots.HeldMessages.{held-message-slot}
+use Rattle.iox2_pubsub.proofs.PlacedLoans.{placed-number}
 
 module _ {T U F G : Type 0} {boxes : DomainBoxes F G} (f : Fields T U) (kept : Kept T U F G) (view : keeping boxes f ≡ kept) (it : Sample) where
   -- a live sample's message is borrowed
   pub sample-held : IsLiveSample kept it → HoldsSample (state_of (kept_of f)) it.sample.subscriber it.sample.number
-  sample-held live = subst (λ (k : Kept T U F G). HoldsSample (state_of k) it.sample.subscriber it.sample.number) (sym view) (sample-parts kept _ live).1
+  sample-held live = subst (λ (k : Kept T U F G). HoldsSample (state_of k) it.sample.subscriber it.sample.number) (sym view) (sample-parts kept _ live.there).1
+
+  -- and lies where the sample says
+  pub sample-lies : IsDomain f → IsLiveSample kept it → LiesBorrowedInSlot f it.sample.subscriber it.sample.number (record { book = it.sample.book; slot = it.sample.slot })
+  sample-lies sound live =
+      let held = sample-held live in
+      let message : IsHeldMessage (state_of (kept_of f)) held.0 it.sample.number =
+      In_mailbox it.sample.subscriber (contains_borrowed ((state_of (kept_of f)).mailboxes held.0 it.sample.subscriber) it.sample.number held.1) in
+      let there = held-message-slot f sound.parts.counted sound.parts.publisher_ids sound.parts.plain held.0 it.sample.number message in
+      lies-in-slot f sound it.sample.subscriber it.sample.number held it.sample.book it.sample.slot
+      (placed-number f sound kept view it.sample.number it.sample.book it.sample.slot live.placed there.0 there.1 there.2)
 
   module _ {Reads : Entry T U → Type 0} (read : (entry : Entry T U) × (entries_of (kept_of f) it.sample.number ≡ Some entry) × Reads entry) where
     entry-at : entries_of kept it.sample.number ≡ Some read.0

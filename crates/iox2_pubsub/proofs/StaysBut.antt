@@ -27,7 +27,7 @@ use Rattle.iox2_pubsub.proofs.LiveParts.{loan-parts, origin-parts, sample-parts}
 use Rattle.iox2_pubsub.proofs.PlacedLoans.{placed-after}
 use Rattle.iox2_pubsub.proofs.SliceParts.{cells-parts, values-parts}
 use Rattle.iox2_pubsub.specs.Handlers.{may_wait}
-use Rattle.iox2_pubsub.specs.Live.{IsPlaced, degradation_box, handler_box, subscriber_box, IsSingleValued, IsPlacedPublisher, IsPlacedSubscriber, HasItsBuffer, IsPublisherKey, IsSubscriberKey, IsLoanKey, IsSampleKey, IsBlockedKey, HasMark, IsFromOrigin, LoanHasHeader, LoanHasUserHeader, SampleHasHeader, SampleHasUserHeader, Item, No_item, A_publisher, A_subscriber, A_loan, A_sample, A_blocked_send, A_sent_loan, A_sent_copy, Both, IsOtherPublisher, IsOtherSubscriber, IsOtherLoan, IsOtherSample, IsUnblocked, IsUnwritten, IsWritten, PassesFull, NeverFails, NeverWaits, IsOtherBlocked, StaysBut, Stays, IsNewIn, unwritten_key, written_key}
+use Rattle.iox2_pubsub.specs.Live.{sample_key, IsPlaced, degradation_box, handler_box, subscriber_box, IsSingleValued, IsPlacedPublisher, IsPlacedSubscriber, HasItsBuffer, IsPublisherKey, IsSubscriberKey, IsLoanKey, IsSampleKey, IsBlockedKey, HasMark, IsFromOrigin, LoanHasHeader, LoanHasUserHeader, SampleHasHeader, SampleHasUserHeader, Item, No_item, A_publisher, A_subscriber, A_loan, A_sample, A_blocked_send, A_sent_loan, A_sent_copy, Both, IsOtherPublisher, IsOtherSubscriber, IsOtherLoan, IsOtherSample, IsUnblocked, IsUnwritten, IsWritten, PassesFull, NeverFails, NeverWaits, IsOtherBlocked, StaysBut, Stays, IsNewIn, unwritten_key, written_key}
 use Rattle.iox2_pubsub.specs.Slices.{HoldsSlices, IsSliced, HasUnwrittenCells, HasValues, SampleHasValues}
 use Rattle.iox2_pubsub.specs.declared.publisher.Publisher.{Publisher as PublisherHandle}
 use Rattle.iox2_pubsub.specs.declared.sample.Sample.{Sample}
@@ -357,6 +357,11 @@ module _ {T U F G : Type 0} (spent : Item) (old new : Kept T U F G) (remain : Po
     unwritten_loans = λ it live other. record { live = loan (unwritten_key it) live.live other; unwritten = mark it.loan.number _ live.unwritten other; placed = boxes.placed it.loan.number it.loan.book it.loan.slot live.placed };
     written_loans = λ it live other. record { live = loan (written_key it) live.live other; written = mark it.loan.number _ live.written other; placed = boxes.placed it.loan.number it.loan.book it.loan.slot live.placed };
     samples = sample;
+    live_samples = λ it live other. record {
+      there = sample (sample_key it) live.there other;
+      placed = boxes.placed it.sample.number it.sample.book it.sample.slot live.placed;
+    };
+    placed_messages = boxes.placed;
     origins = origin;
     unblocked = free;
     never_wait = λ key was. record {
@@ -410,6 +415,7 @@ new-in {T} {U} start made publishers subscribers loans samples unblocked blocked
   unwritten_loans = λ it live. out (unwritten_key it) live.live;
   written_loans = λ it live. out (written_key it) live.live;
   samples = λ key live. let has = (sample-parts start key live).1 in samples has.0 key.port key.message has.1;
+  live_samples = λ it live. let has = (sample-parts start (sample_key it) live.there).1 in samples has.0 it.sample.subscriber it.sample.number has.1;
   origins = λ it from. samples it.origin it.sample.subscriber it.sample.number (origin-parts start it from);
   cells = λ n cells has. let it = cells-parts start n cells has in loans n it.0 it.1;
   payloads = λ n values has. let it = values-parts start n values has in loans n it.0 it.1;
@@ -443,6 +449,8 @@ unchanged-stays spent kept = record {
   unwritten_loans = λ it live other. live;
   written_loans = λ it live other. live;
   samples = λ key live other. live;
+  live_samples = λ it live other. live;
+  placed_messages = λ number book slot was. was;
   origins = λ it from other. from;
   unblocked = λ key free other. free;
   never_wait = λ key was. was;
@@ -472,6 +480,7 @@ module _ {T U F G : Type 0} (start : Kept T U F G) where
     unwritten_loans = λ it live. (a.unwritten_loans it live, b.unwritten_loans it live);
     written_loans = λ it live. (a.written_loans it live, b.written_loans it live);
     samples = λ key live. (a.samples key live, b.samples key live);
+    live_samples = λ it live. (a.live_samples it live, b.live_samples it live);
     origins = λ it from. (a.origins it from, b.origins it from);
     cells = λ n cells has. (a.cells n cells has, b.cells n cells has);
     payloads = λ n values has. (a.payloads n values has, b.payloads n values has);
@@ -551,6 +560,7 @@ part-new start part whole is new = record {
   unwritten_loans = λ it live. is.loans it.loan.number (new.unwritten_loans it live);
   written_loans = λ it live. is.loans it.loan.number (new.written_loans it live);
   samples = λ key live. is.samples key.port key.message (new.samples key live);
+  live_samples = λ it live. is.samples it.sample.subscriber it.sample.number (new.live_samples it live);
   origins = λ it from. is.samples it.sample.subscriber it.sample.number (new.origins it from);
   cells = λ n cells has. is.loans n (new.cells n cells has);
   payloads = λ n values has. is.loans n (new.payloads n values has);
@@ -577,6 +587,8 @@ stays-but-whole part whole is old new stays = record {
   unwritten_loans = λ it live other. stays.unwritten_loans it live (is.loans it.loan.number other);
   written_loans = λ it live other. stays.written_loans it live (is.loans it.loan.number other);
   samples = λ key live other. stays.samples key live (is.samples key.port key.message other);
+  live_samples = λ it live other. stays.live_samples it live (is.samples it.sample.subscriber it.sample.number other);
+  placed_messages = stays.placed_messages;
   origins = λ it from other. stays.origins it from (is.samples it.sample.subscriber it.sample.number other);
   unblocked = λ key free other. stays.unblocked key free (is.blocked_sends key.port other);
   never_wait = stays.never_wait;
@@ -634,6 +646,8 @@ stays-through start old new first second spent spares before next unblocked = re
   unwritten_loans = λ it live other. let apart = spares.unwritten_loans it live other in next.unwritten_loans it (before.unwritten_loans it live apart.0) apart.1;
   written_loans = λ it live other. let apart = spares.written_loans it live other in next.written_loans it (before.written_loans it live apart.0) apart.1;
   samples = λ key live other. let apart = spares.samples key live other in next.samples key (before.samples key live apart.0) apart.1;
+  live_samples = λ it live other. let apart = spares.samples (sample_key it) live.there other in next.live_samples it (before.live_samples it live apart.0) apart.1;
+  placed_messages = λ number book slot was. next.placed_messages number book slot (before.placed_messages number book slot was);
   origins = λ it from other. let apart = spares.origins it from other in next.origins it (before.origins it from apart.0) apart.1;
   unblocked = unblocked;
   never_wait = λ key was. next.never_wait key (before.never_wait key was);
@@ -693,6 +707,7 @@ module _ {T U F G : Type 0} (start old : Kept T U F G) (before : Stays start old
     unwritten_loans = λ it live. new.unwritten_loans it (before.unwritten_loans it live tt);
     written_loans = λ it live. new.written_loans it (before.written_loans it live tt);
     samples = λ key live. new.samples key (before.samples key live tt);
+    live_samples = λ it live. new.live_samples it (before.live_samples it live tt);
     origins = λ it from. new.origins it (before.origins it from tt);
     cells = λ n cells has. new.cells n cells (before.loan_cells n cells has tt);
     payloads = λ n values has. new.payloads n values (before.loan_payloads n values has tt);

@@ -197,9 +197,10 @@ module _ {T U F G : Type 0} (domain : Kept T U F G) where
   abbrev pub HasLender : Key → Type 0
   HasLender loan = IsPublisherKey (lender_key loan)
 
-  -- The sample's message is borrowed by its subscriber.
-  abbrev pub IsLiveSample : Sample → Type 0
-  IsLiveSample sample = IsSampleKey (sample_key sample)
+  -- The sample's message is borrowed by its subscriber, and lies where the sample says.
+  pub record IsLiveSample (sample : Sample) : Type 0 where
+    pub there : IsSampleKey (sample_key sample)
+    pub placed : IsPlaced sample.sample.number sample.sample.book sample.sample.slot
 
   -- The sample's message is borrowed from the publisher that the sample names as its origin.
   unfoldable pub IsFromOrigin : Sample → Type 0
@@ -488,6 +489,8 @@ module _ {T U F G : Type 0} where
     pub unwritten_loans : (loan : SampleMutUninit) → IsUnwritten old loan → IsOtherLoan spent loan.loan.number → IsUnwritten new loan
     pub written_loans : (loan : SampleMut) → IsWritten old loan → IsOtherLoan spent loan.loan.number → IsWritten new loan
     pub samples : (key : Key) → IsSampleKey old key → IsOtherSample spent key.port key.message → IsSampleKey new key
+    pub live_samples : (sample : Sample) → IsLiveSample old sample → IsOtherSample spent sample.sample.subscriber sample.sample.number → IsLiveSample new sample
+    pub placed_messages : (number book slot : ℕ) → IsPlaced old number book slot → IsPlaced new number book slot
     pub origins : (sample : Sample) → IsFromOrigin old sample → IsOtherSample spent sample.sample.subscriber sample.sample.number → IsFromOrigin new sample
     pub unblocked : (key : Key) → IsUnblocked old key → IsOtherBlocked spent key.port → IsUnblocked new key
     pub never_wait : (key : Key) → NeverWaits old key → NeverWaits new key
@@ -517,6 +520,7 @@ module _ {T U F G : Type 0} where
     pub unwritten_loans : (loan : SampleMutUninit) → IsUnwritten old loan → IsOtherLoan made loan.loan.number
     pub written_loans : (loan : SampleMut) → IsWritten old loan → IsOtherLoan made loan.loan.number
     pub samples : (key : Key) → IsSampleKey old key → IsOtherSample made key.port key.message
+    pub live_samples : (sample : Sample) → IsLiveSample old sample → IsOtherSample made sample.sample.subscriber sample.sample.number
     pub origins : (sample : Sample) → IsFromOrigin old sample → IsOtherSample made sample.sample.subscriber sample.sample.number
     pub cells : (number : ℕ) (cells : List (Option T)) → HasUnwrittenCells old number cells → IsOtherLoan made number
     pub payloads : (number : ℕ) (values : List T) → HasValues old number values → IsOtherLoan made number

@@ -9,10 +9,11 @@ ghost use Rattle.iox2_domain.specs.Invariant.{IsDomain};
 ghost use Rattle.iox2_domain.specs.LoanCalls.{HoldsWritten};
 ghost use Rattle.iox2_domain.specs.Ports.{PublisherFields, SubscriberFields};
 ghost use Rattle.iox2_domain.specs.LoanSlots.{IsLoanSlot, LiesInSlot};
+ghost use Rattle.iox2_domain.specs.SampleSlots.{LiesBorrowed};
 ghost use Rattle.iox2_slots.specs.declared.slots.mark.SlotMark.{SlotMark};
 ghost use Rattle.iox2_pubsub.specs.Parts.{HoldsMarked, written_mark};
 
-use iox2_domain::{DomainState, LoanAt, MessageSlot, SampleAt, is_loan_slot};
+use iox2_domain::{DomainState, LoanAt, MessageSlot, SampleAt, SampleSlot, is_loan_slot};
 use iox2_machine::{AllocationStrategy, UniquePublisherId, UniqueSubscriberId};
 use iox2_slots::{SlotBook, SlotMark};
 
@@ -256,18 +257,22 @@ pub(crate) fn find_marked<T: Drop, U: Default + Drop>(
     Some(at)
 }
 
-/// Whether the subscriber has borrowed the message.
-pub(crate) fn has_sample<T: Drop, U: Default + Drop>(
+/// Where the message is that the subscriber has borrowed. The connection that is named is looked at first.
+pub(crate) fn find_borrowed<T: Drop, U: Default + Drop>(
     state: &DomainState<T, U>,
     sample: &SampleAt,
-) -> bool
+) -> Option<SampleSlot>
     requires { IsDomain state.now }
-    ensures { IsTrue result ↔ HoldsSample (state_of (kept_of state.now)) sample.now.subscriber sample.now.number }
+    ensures { MatchOption result (HoldsSample (state_of (kept_of state.now)) sample.now.subscriber sample.now.number → ⊥) (LiesBorrowed state.now sample.now.subscriber sample.now.number) }
 {
-    match state.find_sample_at(sample.connection, sample.subscriber, sample.number) {
-        Some(_) => true,
-        None => state.has_sample(sample.subscriber, sample.number),
+    let found = state.find_sample_at(sample.connection, sample.subscriber, sample.number);
+    if found.is_some() {
+        return found;
     }
+    if !state.has_sample(sample.subscriber, sample.number) {
+        return None;
+    }
+    Some(state.search_sample(sample))
 }
 
 /// Whether a subscriber has this id, wasn't closed and stands at the place.

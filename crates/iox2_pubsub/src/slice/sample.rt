@@ -3,7 +3,7 @@ ghost use Rattle.std.specs.Prelude.{◌≡◌};
 
 use crate::domain::Domain;
 use iox2_machine::{BackpressureFn, DegradationFn};
-use iox2_messages::{sample_payloads, sample_values_at_hint};
+use iox2_messages::sample_payloads;
 
 /// A slice that a subscriber has received and not yet released. It is a value to be spent, as the
 /// sample of a single value is, and is that sample with another view of its payload. All other
@@ -60,7 +60,7 @@ impl Sample {
         ensures reads { IfSome result (λ values. SampleHasValues domain.now (sample_key (as_sample self.now)) values.now) }
         ensures same { IfSome result (λ found. (values : List T) → SampleHasValues domain.now (sample_key (as_sample self.now)) values → found.now ≡ values) }
     {
-        sample_values_at_hint(&domain.state, &self.sample.sample)
+        Some(sample_payloads(&domain.state, &self.sample.sample))
     }
 
     /// Gives the message back, as a sample of a single value is. Takes no memory.
