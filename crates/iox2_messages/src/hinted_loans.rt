@@ -10,10 +10,7 @@ use iox2_domain::{DomainState, LoanAt, MessageSlot};
 
 /// Whether a live loan lies in the book and the slot that it names. No loan is gone through: no
 /// other slot in use has its number.
-fn is_loan_at_hint<T: Drop, U: Default + Drop>(
-    state: &DomainState<T, U>,
-    loan: &LoanAt,
-) -> bool
+fn is_loan_at_hint<T: Drop, U: Default + Drop>(state: &DomainState<T, U>, loan: &LoanAt) -> bool
     requires domain { IsDomain state.now }
     requires live { HoldsLoan (state_of (kept_of state.now)) loan.now.publisher loan.now.number }
     ensures { IsTrue result → LiesInSlot state.now loan.now.publisher loan.now.number loan.now.book loan.now.slot }

@@ -11,10 +11,7 @@ use iox2_connections::receiver::{BorrowedMessage, is_last_at};
 use iox2_domain::{DomainState, SampleAt, SampleSlot};
 
 /// The slot that the sample names is in use and has its number. No other slot in use has it.
-fn is_at_slot<T: Drop, U: Default + Drop>(
-    state: &DomainState<T, U>,
-    sample: &SampleAt,
-) -> bool
+fn is_at_slot<T: Drop, U: Default + Drop>(state: &DomainState<T, U>, sample: &SampleAt) -> bool
     ensures { IsTrue result ↔ HasNumber state.now.books sample.now.book sample.now.slot sample.now.number }
 {
     match state.books.get(sample.book) {

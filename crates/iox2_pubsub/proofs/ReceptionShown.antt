@@ -60,9 +60,9 @@ module _ {T U : Type 0} where
         ∙ (receive_advances environment (state_of (kept_of f)) subscriber.id receives.0 (Got_sample receipt.publisher receipt.sample.number) receives.2).config in
         record {
           there = sample-live (keeping boxes g) _ (
-          service ∙ (subscriber-parts kept _ live.there).1 ∙ ap (λ (k : Kept T U F G). (k.config).service_id) (sym same) ∙ ap (λ (x : ServiceConfig). x.service_id) (sym config),
-          (sample.origin, is-borrowed),
-        );
+            service ∙ (subscriber-parts kept _ live.there).1 ∙ ap (λ (k : Kept T U F G). (k.config).service_id) (sym same) ∙ ap (λ (x : ServiceConfig). x.service_id) (sym config),
+            (sample.origin, is-borrowed),
+          );
           placed = subst (λ (at : SampleAt). IsPlaced (keeping boxes g) at.number at.book at.slot) (sym its)
               (numbered-placed boxes g sound receipt.sample.book receipt.sample.slot receipt.sample.number
               (its-slot g sound subscriber.id receipt.sample.number (record { connection = receipt.sample.connection; book = receipt.sample.book; slot = receipt.sample.slot }) (record {
