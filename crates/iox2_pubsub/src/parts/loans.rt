@@ -92,6 +92,7 @@ impl<T: Drop, U: Default + Drop, F: BackpressureFn, G: DegradationFn> Domain<T, 
 
     /// A handle of the written loan with these numbers, and `None` if this domain has none that
     /// is out and written. The handle says where the loan lies, whatever the numbers say. This library's own.
+    #[inline(always)]
     pub fn written_of(&self, parts: &LoanParts) -> Option<SampleMut>
         ensures out { IfSome result (λ loan. IsWritten self.now loan) }
         ensures named { IfSome result (λ loan. record (written_parts loan) { book = parts.now.book; slot = parts.now.slot } ≡ parts.now) }
