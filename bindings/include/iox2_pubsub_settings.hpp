@@ -225,7 +225,7 @@ private:
 /** What was recorded of a domain. */
 struct Recording {
   std::string text;     /**< the recording, as docs/RECORDINGS.md says; empty where nothing is recorded */
-  std::uint64_t missed; /**< how many calls aren't in it: it ends before the first of these */
+  std::uint64_t missed; /**< how many commands aren't in it; a call may make several. It ends before the first one */
 };
 
 /** What one publisher has other than its domain's settings say. What isn't set is as in the domain. */
