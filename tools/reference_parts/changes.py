@@ -3,7 +3,7 @@ import re
 import tempfile
 from pathlib import Path
 
-from . import table
+from . import requirements, table
 from .model import Model
 from .pages import Pages
 from .repository import TOP, Repository
@@ -23,8 +23,10 @@ TAKEN = (
 def faults(model):
     """What is stale or lacks a test."""
     found = []
-    if model.repository.text(table.PAGE) != table.page(model):
-        found.append(f"{table.PAGE}:1: the page is stale: run tools/reference --table")
+    for module in (table, requirements):
+        if model.repository.text(module.PAGE) != module.page(model):
+            found.append(f"{module.PAGE}:1: the page is stale: run tools/reference --table")
+    found += [f"{requirements.SOURCE}:1: requirement {one.number}: {fault}" for one in requirements.requirements(model) for fault in one.faults]
     for entry in model.all():
         if entry.crate == LIBRARY and entry.is_call and not entry.tests and not entry.callers:
             found.append(f"{entry.item.file}:{entry.item.line}: no test calls {entry.name}, nor a call that has tests")
@@ -34,6 +36,8 @@ def faults(model):
 # What the check has to find: the file, the text that is replaced and the one in its place, and a part of the fault.
 FAULTS = (
     (table.PAGE, "`Sample::release`", "`Sample::return`", "the page is stale"),
+    (requirements.PAGE, "`SampleMut::send`", "`SampleMut::sends`", "the page is stale"),
+    (requirements.SOURCE, '"given_back"', '"given_away"', "no contract has the clause given_away"),
     ("crates/iox2_pubsub/src/sample.rt", "ensures header {", "ensures headers {", "the page is stale"),
     ("crates/iox2_slice_tests/src/tests/custom_payloads.rt", ".receive_custom_payload(", ".receive(", "no test calls slice::Subscriber::receive_custom_payload"),
 )
@@ -55,7 +59,7 @@ def written(repository):
     model = Model(repository)
     with tempfile.TemporaryDirectory(prefix="reference-") as folder:
         Pages(model, Path(folder)).write()
-        return table.page(model) + "".join(file.read_text() for file in sorted(Path(folder).glob("*.html")))
+        return table.page(model) + requirements.page(model) + "".join(file.read_text() for file in sorted(Path(folder).glob("*.html")))
 
 
 def test():

@@ -16,6 +16,8 @@ class Mutant:
     path: str
     file: str
     line: int
+    # Whether the prover has to refuse it; else tests have to kill it.
+    is_for_prover: bool
 
 
 def read(repository, path, folder):
@@ -28,7 +30,8 @@ def read(repository, path, folder):
     for old in re.findall(r"^old: ?(.*)$", text, re.M):
         at = repository.text(name).find(old.strip())
         if at >= 0:
-            yield Mutant(PurePosixPath(path).stem, path, name, repository.text(name).count("\n", 0, at) + 1)
+            line = repository.text(name).count("\n", 0, at) + 1
+            yield Mutant(PurePosixPath(path).stem, path, name, line, "/must-fail/" in path or bool(re.search("^proof:", text, re.M)))
 
 
 def mutants(repository):

@@ -3,6 +3,7 @@ import html
 import re
 import time
 
+from . import requirements
 from .repository import sentence
 from .words import Reader
 
@@ -185,6 +186,7 @@ class Pages:
             self.page(f"{crate}.html", crate, f"<h1>{crate}</h1>{body}", links)
         body = "<h1>Functions of C</h1>" + "".join(map(self.function_of_c, self.model.c_functions))
         self.page("c.html", "C", body, "".join(f'<a class=to href="#{one.name}">{one.name}</a>' for one in self.model.c_functions))
+        self.page("requirements.html", "Requirements", *requirements.html(self.model, self.link))
         self.write_words()
         self.write_index()
 
@@ -211,6 +213,7 @@ class Pages:
             rows.append((f"{crate}.html", crate, f"{len(entries)} items, {calls} calls"))
         rows.append(("c.html", "Functions of C", f"{len(self.model.c_functions)} functions, with the calls of the library that they make"))
         rows.append(("words.html", "The words of clauses", f"{self.count_of_words} definitions"))
+        rows.append(("requirements.html", "Requirements", "with the clauses, tests and mutants of each"))
         rows += self.beside
         table = "".join(f'<tr><td class=name><a href="{path}">{escaped(title)}</a></td><td>{escaped(what)}</td></tr>' for path, title, what in rows)
         everything = "".join(f'<a class=to href="{self.places[entry.name]}">{escaped(entry.name)}</a>' for entry in self.model.all())
