@@ -1,14 +1,14 @@
 """Compares the binary interface of two headers: that of the last release, and this one's."""
 import re
 import subprocess
-import tarfile
-from pathlib import Path
 
 from .places import HEADER, TOP, is_here
 from .release import unpacked
 from .steps import Failed, said
 
-FUNCTION = re.compile(r"IOX2PS_NODISCARD\s+([\w\s*]+?)\b(iox2ps_\w+)\(([^;{]*?)\);|^((?:const )?\w+[\s*]+)(iox2ps_\w+)\(([^;{]*?)\);", re.M | re.S)
+FUNCTION = re.compile(
+    r"IOX2PS_NODISCARD\s+([\w\s*]+?)\b(iox2ps_\w+)\(([^;{]*?)\);|^((?:const )?\w+[\s*]+)(iox2ps_\w+)\(([^;{]*?)\);", re.M | re.S
+)
 # Of what `abidiff` returns: it found a change; it couldn't compare.
 CHANGED, WRONG = 4, 3
 
@@ -24,7 +24,9 @@ def functions(header):
 
 def library(header, work, name):
     """A shared library that has the header's functions with empty bodies, with what a debugger wants to know of their types."""
-    body = "".join(f"{result} {function}({inputs}) {{ {'return 0;' if result != 'void' else ''} }}\n" for result, function, inputs in functions(header))
+    body = "".join(
+        f"{result} {function}({inputs}) {{ {'return 0;' if result != 'void' else ''} }}\n" for result, function, inputs in functions(header)
+    )
     # No function's type names an enum, since what C passes is a number.
     enums = "".join(f"enum {enum} of_{enum};\n" for enum in re.findall(r"typedef enum (\w+) \{", header.read_text()))
     source = work / f"{name}.c"

@@ -12,7 +12,11 @@ PRINTS = "21.5 °C, read by 1"
 
 def without_kit(home):
     """An environment in which no folder of the path has the kit's program."""
-    folders = [folder for folder in os.environ["PATH"].split(os.pathsep) if not os.path.exists(os.path.join(folder, "rt")) and "rattle" not in folder]
+    folders = [
+        folder
+        for folder in os.environ["PATH"].split(os.pathsep)
+        if not os.path.exists(os.path.join(folder, "rt")) and "rattle" not in folder
+    ]
     kept = {name: value for name, value in os.environ.items() if not name.startswith("RT_") and "IOX2" not in name}
     return {**kept, "PATH": os.pathsep.join(folders), "CARGO_TARGET_DIR": str(home / "target"), "CARGO_NET_OFFLINE": "true"}
 
@@ -64,7 +68,9 @@ def in_c(work, compiler, source, standard):
     """The same in C or C++: the release is unpacked, and the program compiled against it."""
     unpack = commands("README.md", "tar xzf dist/")[0]
     folder = re.search(r"dist/(\S+)\.tar\.gz", unpack)[1]
-    compile_ = f"{compiler} -std={standard} -I {folder}/include {folder}/examples/{source} {folder}/lib/libiox2_pubsub.a -o first && ./first"
+    compile_ = (
+        f"{compiler} -std={standard} -I {folder}/include {folder}/examples/{source} {folder}/lib/libiox2_pubsub.a -o first && ./first"
+    )
     printed = run(cloned(work, f"of_{standard}"), work, [unpack, compile_])
     if PRINTS not in printed:
         raise Failed(f"it printed {printed!r}")

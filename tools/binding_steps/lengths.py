@@ -44,7 +44,9 @@ def of_rust(work, name, *features):
     given = ("--features", ",".join(features)) if features else ()
     words = ("cargo", "build", "--release", "--offline", "--quiet", "--example", f"lengths_{name}", *given, *registry.words())
     said(*words, cwd=BESIDE, env={**os.environ, "CARGO_TARGET_DIR": str(target)})
-    said("gcc", main_program(work), target / f"release/examples/liblengths_{name}.a", "-pthread", "-ldl", "-lm", "-o", work / f"{name}_rust")
+    said(
+        "gcc", main_program(work), target / f"release/examples/liblengths_{name}.a", "-pthread", "-ldl", "-lm", "-o", work / f"{name}_rust"
+    )
     return work / f"{name}_rust"
 
 
@@ -94,7 +96,12 @@ def has(program, length):
 
 def counted(*words):
     """The instructions that callgrind counts."""
-    return int(re.search(r"Collected : (\d+)", said("valgrind", "--tool=callgrind", "--callgrind-out-file=/dev/null", *words, env={**os.environ, **VECTORS}))[1])
+    return int(
+        re.search(
+            r"Collected : (\d+)",
+            said("valgrind", "--tool=callgrind", "--callgrind-out-file=/dev/null", *words, env={**os.environ, **VECTORS}),
+        )[1]
+    )
 
 
 def instructions(program, length):
@@ -130,12 +137,19 @@ def run_lengths(work):
     loads.append(machine.load())
     print("\n| A message of | " + " | ".join(name for name, _ in columns) + " |\n|---|" + "---|" * len(columns))
     for length, title in LENGTHS:
-        cells = (f"{figure(instructions(program, length))}, {figure(statistics.median(measured[length, program]))} ns" if has(program, length) else "" for _, program in columns)
+        cells = (
+            f"{figure(instructions(program, length))}, {figure(statistics.median(measured[length, program]))} ns"
+            if has(program, length)
+            else ""
+            for _, program in columns
+        )
         print(f"| {title} | {' | '.join(cells)} |", flush=True)
-    print(f"\nInstructions and nanoseconds of one message, which is lent, one word of it written, sent, received, read and released by one"
-          f" thread. Instructions by callgrind, of {COUNTED} messages; nanoseconds on a processor, the median of {ROUNDS} runs;"
-          f" in each the libraries come one after the other. {time.strftime('%-d %B %Y')}, {machine.processor()}, load of the machine {min(loads):.1f} to"
-          f" {max(loads):.1f} on {os.cpu_count()} processors; iox2_pubsub {version()}, {machine.compilers()}.")
+    print(
+        f"\nInstructions and nanoseconds of one message, which is lent, one word of it written, sent, received, read and released by one"
+        f" thread. Instructions by callgrind, of {COUNTED} messages; nanoseconds on a processor, the median of {ROUNDS} runs;"
+        f" in each the libraries come one after the other. {time.strftime('%-d %B %Y')}, {machine.processor()}, load of the machine {min(loads):.1f} to"
+        f" {max(loads):.1f} on {os.cpu_count()} processors; iox2_pubsub {version()}, {machine.compilers()}."
+    )
     for length, title in LENGTHS:
         for name, program in columns:
             every = ", ".join(figure(one) for one in sorted(measured.get((length, program), ())))

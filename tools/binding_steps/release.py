@@ -77,6 +77,7 @@ def kit():
 
 # ---- the files of a release
 
+
 def files_of(commit_, to):
     """Writes the files of a commit to a folder."""
     to.mkdir()
@@ -126,7 +127,9 @@ def make(to, commit_, kit_, archive, work):
 
 def pack(base, paths, packed, seconds):
     """Packs files and folders under their names from a folder. The same files give the same bytes, whoever packs them, where and when."""
-    with open(packed, "wb") as raw, gzip.GzipFile("", "wb", 9, raw, mtime=0) as file, tarfile.open(fileobj=file, mode="w", format=tarfile.PAX_FORMAT) as members:
+    with open(packed, "wb") as raw, gzip.GzipFile("", "wb", 9, raw, mtime=0) as file, tarfile.open(
+        fileobj=file, mode="w", format=tarfile.PAX_FORMAT
+    ) as members:
         for path in paths:
             member = members.gettarinfo(path, path.relative_to(base).as_posix())
             member.uid = member.gid = 0
@@ -172,6 +175,7 @@ def archive_twice(work):
 def built_anew(work):
     """Builds the archive with an empty cache, so that it isn't the one that was built before."""
     from .built import load_proved
+
     proved = load_proved()
     with proved.tempfile.TemporaryDirectory(prefix="anew-") as room:
         crate, _ = proved.crate_over_kept(proved.load_rt(), ARCHIVE_CRATE, room)
@@ -195,6 +199,7 @@ def latest():
 
 
 # ---- what is compared
+
 
 def check(steps, folder, work, archive=None):
     """Compares a release with its commit, with this clone, and with the proofs."""
@@ -221,7 +226,11 @@ def same_files(folder, work):
     here, there = names_of(folder), names_of(wanted)
     faults = [f"{name} isn't the commit's" for name in sorted(here - there)] + [f"{name} is missing" for name in sorted(there - here)]
     # The sums were made anew by whoever changed something else: they come last.
-    faults += [f"{name} was changed" for name in sorted(here & there, key=lambda name: (name == SUMS, name)) if (folder / name).read_bytes() != (wanted / name).read_bytes()]
+    faults += [
+        f"{name} was changed"
+        for name in sorted(here & there, key=lambda name: (name == SUMS, name))
+        if (folder / name).read_bytes() != (wanted / name).read_bytes()
+    ]
     if faults:
         raise Failed("\n".join(faults))
     return f"{len(here)} files of {told(folder, 'commit')[:12]}"
@@ -229,7 +238,11 @@ def same_files(folder, work):
 
 def names_of(folder):
     """All files of a folder; a link counts as one that can't be the commit's."""
-    return {path.relative_to(folder).as_posix() + (" (a link)" if path.is_symlink() else "") for path in folder.rglob("*") if path.is_symlink() or path.is_file()}
+    return {
+        path.relative_to(folder).as_posix() + (" (a link)" if path.is_symlink() else "")
+        for path in folder.rglob("*")
+        if path.is_symlink() or path.is_file()
+    }
 
 
 def same_crates(folder):

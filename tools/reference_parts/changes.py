@@ -13,10 +13,30 @@ LIBRARY = "iox2_pubsub"
 # What is taken out of a copy: what it is, the file, the text, and what the reference then doesn't say any more.
 TAKEN = (
     ("a clause", "crates/iox2_pubsub/src/sample/release.rt", re.compile(r"^ *ensures gives_back \{.*\n", re.M), "gives_back"),
-    ("an item", "crates/iox2_pubsub/src/domain.rt", re.compile(r"^ *pub fn book_count\(&self\) -> usize.*?^    \}\n", re.M | re.S), "Domain::book_count"),
-    ("a test", "crates/iox2_tests/src/tests/samples.rt", re.compile(r"^#\[test\]\nfn a_sample_is_released\(.*?^\}\n", re.M | re.S), "iox2_tests::samples::a_sample_is_released"),
-    ("a function of C", "bindings/include/iox2_pubsub.h", re.compile(r"^IOX2PS_NODISCARD iox2ps_status_t iox2ps_loan_payload\(.*?;\n", re.M | re.S), "iox2ps_loan_payload"),
-    ("a mutant", "crates/iox2_connections/must-fail/release-by-its-hint-looks-at-another-number.edit", re.compile(r".*", re.S), "release-by-its-hint-looks-at-another-number"),
+    (
+        "an item",
+        "crates/iox2_pubsub/src/domain.rt",
+        re.compile(r"^ *pub fn book_count\(&self\) -> usize.*?^    \}\n", re.M | re.S),
+        "Domain::book_count",
+    ),
+    (
+        "a test",
+        "crates/iox2_tests/src/tests/samples.rt",
+        re.compile(r"^#\[test\]\nfn a_sample_is_released\(.*?^\}\n", re.M | re.S),
+        "iox2_tests::samples::a_sample_is_released",
+    ),
+    (
+        "a function of C",
+        "bindings/include/iox2_pubsub.h",
+        re.compile(r"^IOX2PS_NODISCARD iox2ps_status_t iox2ps_loan_payload\(.*?;\n", re.M | re.S),
+        "iox2ps_loan_payload",
+    ),
+    (
+        "a mutant",
+        "crates/iox2_connections/must-fail/release-by-its-hint-looks-at-another-number.edit",
+        re.compile(r".*", re.S),
+        "release-by-its-hint-looks-at-another-number",
+    ),
 )
 
 
@@ -26,7 +46,9 @@ def faults(model):
     for module in (table, requirements):
         if model.repository.text(module.PAGE) != module.page(model):
             found.append(f"{module.PAGE}:1: the page is stale: run tools/reference --table")
-    found += [f"{requirements.SOURCE}:1: requirement {one.number}: {fault}" for one in requirements.requirements(model) for fault in one.faults]
+    found += [
+        f"{requirements.SOURCE}:1: requirement {one.number}: {fault}" for one in requirements.requirements(model) for fault in one.faults
+    ]
     for entry in model.all():
         if entry.crate == LIBRARY and entry.is_call and not entry.tests and not entry.callers:
             found.append(f"{entry.item.file}:{entry.item.line}: no test calls {entry.name}, nor a call that has tests")
@@ -39,7 +61,12 @@ FAULTS = (
     (requirements.PAGE, "`SampleMut::send`", "`SampleMut::sends`", "the page is stale"),
     (requirements.SOURCE, '"given_back"', '"given_away"', "no contract has the clause given_away"),
     ("crates/iox2_pubsub/src/sample.rt", "ensures header {", "ensures headers {", "the page is stale"),
-    ("crates/iox2_slice_tests/src/tests/custom_payloads.rt", ".receive_custom_payload(", ".receive(", "no test calls slice::Subscriber::receive_custom_payload"),
+    (
+        "crates/iox2_slice_tests/src/tests/custom_payloads.rt",
+        ".receive_custom_payload(",
+        ".receive(",
+        "no test calls slice::Subscriber::receive_custom_payload",
+    ),
 )
 
 

@@ -2,7 +2,9 @@
 import re
 from dataclasses import dataclass
 
-DEFINED = re.compile(r"(?=abbrev|unfoldable|opaque|pub|record|data)(?:(?:abbrev|unfoldable|opaque)\s+)?(?:pub\s+)?(?:(?:record|data)\s+)?([^\s:({]+)")
+DEFINED = re.compile(
+    r"(?=abbrev|unfoldable|opaque|pub|record|data)(?:(?:abbrev|unfoldable|opaque)\s+)?(?:pub\s+)?(?:(?:record|data)\s+)?([^\s:({]+)"
+)
 
 
 @dataclass

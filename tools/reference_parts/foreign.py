@@ -7,7 +7,10 @@ from .repository import sentence
 
 C_HEADER = "bindings/include/iox2_pubsub.h"
 C_NAME = re.compile(r"\biox2ps_\w+")
-C_FUNCTION = re.compile(r"(?:/\*\*(?P<doc>(?:(?!\*/).)*)\*/\s*)?(?P<head>(?:IOX2PS_NODISCARD\s+)?(?:const\s+)?\w+\s+\**)(?P<name>iox2ps_\w+)\((?P<inputs>[^;{]*?)\);", re.S)
+C_FUNCTION = re.compile(
+    r"(?:/\*\*(?P<doc>(?:(?!\*/).)*)\*/\s*)?(?P<head>(?:IOX2PS_NODISCARD\s+)?(?:const\s+)?\w+\s+\**)(?P<name>iox2ps_\w+)\((?P<inputs>[^;{]*?)\);",
+    re.S,
+)
 WORDS = re.compile(r"/\*.*?\*/|//[^\n]*|\#(?:\\\n|[^\n])*|\"(?:\\.|[^\"\\])*\"|'(?:\\.|[^'\\])*'|::|->|\w+|\s+|.", re.S)
 
 
@@ -150,7 +153,9 @@ class Headers:
             after = self.body_behind_initialisers(after + 1, end)
         if after < end and self.words[after][0] == "{":
             closed = self.close(after, end)
-            method.uses = [self.use(it) for it in range(first, closed) if re.match(r"[A-Za-z_]", self.words[it][0]) and self.words[it + 1][0] in "(<{"]
+            method.uses = [
+                self.use(it) for it in range(first, closed) if re.match(r"[A-Za-z_]", self.words[it][0]) and self.words[it + 1][0] in "(<{"
+            ]
             after = closed
         elif after < end and self.words[after][0] == "=":
             after = next((it for it in range(after, end) if self.words[it][0] == ";"), end - 1)

@@ -4,8 +4,14 @@ from dataclasses import dataclass
 from pathlib import PurePosixPath
 
 # Folders of edits beside those of crates, and what has to see them.
-FOLDERS = ("tools/bodies_that_proofs_refuse", "tools/bodies_that_give_up", "tools/calls_too_often", "tools/faults_in_runs",
-           "tools/faults_in_scripts", "tools/faults_in_the_model")
+FOLDERS = (
+    "tools/bodies_that_proofs_refuse",
+    "tools/bodies_that_give_up",
+    "tools/calls_too_often",
+    "tools/faults_in_runs",
+    "tools/faults_in_scripts",
+    "tools/faults_in_the_model",
+)
 
 
 @dataclass

@@ -1,29 +1,15 @@
 """The reference as HTML: a page for each crate, one for C's functions, one for the words of clauses, and an index."""
 import html
 import re
+import shutil
 import time
+from pathlib import Path
 
 from . import requirements
 from .repository import sentence
 from .words import Reader
 
-STYLE = """
-:root { --ink: #1b1f24; --soft: #57606a; --line: #d8dee4; --back: #f6f8fa; --link: #0a58ca; }
-@media (prefers-color-scheme: dark) { :root { --ink: #e6edf3; --soft: #9aa4af; --line: #30363d; --back: #161b22; --link: #6cb0ff; } body { background: #0d1117; } }
-body { margin: 0; color: var(--ink); font: 15px/1.5 system-ui, sans-serif; display: grid; grid-template-columns: 19rem minmax(0, 1fr); }
-nav { position: sticky; top: 0; height: 100vh; overflow: auto; border-right: 1px solid var(--line); padding: 1rem; box-sizing: border-box; font-size: 13px; background: var(--back); }
-nav a { display: block; padding: .1rem 0; overflow-wrap: anywhere; } nav .call { padding-left: 1rem; }
-main { padding: 1rem 2.5rem 6rem; max-width: 66rem; }
-a { color: var(--link); text-decoration: none; } a:hover { text-decoration: underline; }
-h1 { font-size: 1.7rem; } h2 { font-size: 1.35rem; margin-top: 3rem; border-top: 1px solid var(--line); padding-top: 1rem; } h3 { font-size: 1.08rem; margin-top: 2.2rem; }
-code, pre { font: 13px/1.45 ui-monospace, "DejaVu Sans Mono", monospace; } code { background: var(--back); padding: .1em .3em; border-radius: 3px; overflow-wrap: anywhere; }
-pre { background: var(--back); padding: .7rem 1rem; overflow: auto; border: 1px solid var(--line); border-radius: 6px; white-space: pre-wrap; } pre code { background: none; padding: 0; }
-table { border-collapse: collapse; width: 100%; margin: .6rem 0; } td, th { border: 1px solid var(--line); padding: .3rem .6rem; vertical-align: top; text-align: left; }
-th { background: var(--back); white-space: nowrap; } td.name { white-space: nowrap; } .soft { color: var(--soft); font-size: 13px; } dt { font-weight: 600; margin-top: .5rem; } dd { margin: 0 0 0 1.2rem; }
-input { width: 100%; box-sizing: border-box; padding: .35rem .5rem; border: 1px solid var(--line); border-radius: 4px; background: transparent; color: inherit; }
-details > summary { cursor: pointer; color: var(--soft); } :target { scroll-margin-top: 1rem; background: color-mix(in srgb, var(--link) 10%, transparent); }
-@media (max-width: 800px) { body { display: block; } nav { position: static; height: auto; max-height: 40vh; } main { padding: 1rem; } }
-"""
+# What filters the list at the side.
 FILTER = """
 const box = document.querySelector("nav input");
 box && box.addEventListener("input", () => {
@@ -78,7 +64,9 @@ class Pages:
 
     def __init__(self, model, to, beside=()):
         self.model, self.to, self.beside = model, to, beside
-        self.places = {entry.name: f"{crate}.html#{anchor(entry.name)}" for crate, entries in model.entries.items() for entry in self.within(entries)}
+        self.places = {
+            entry.name: f"{crate}.html#{anchor(entry.name)}" for crate, entries in model.entries.items() for entry in self.within(entries)
+        }
         self.named = set()
 
     @staticmethod
@@ -111,8 +99,11 @@ class Pages:
     def clauses(self, clauses):
         if not clauses:
             return "<p class=soft>It has no contract: it asks for nothing and promises nothing but to end.</p>"
-        rows = "".join(f"<tr><td class=name>{clause.kind}</td><td class=name>{code(clause.name) if clause.name else ''}</td>"
-                       f"<td><code>{self.words(sentence(clause.text))}</code></td></tr>" for clause in clauses)
+        rows = "".join(
+            f"<tr><td class=name>{clause.kind}</td><td class=name>{code(clause.name) if clause.name else ''}</td>"
+            f"<td><code>{self.words(sentence(clause.text))}</code></td></tr>"
+            for clause in clauses
+        )
         return f"<table><tr><th>Clause</th><th>Name</th><th>What it says</th></tr>{rows}</table>"
 
     @staticmethod
@@ -126,8 +117,11 @@ class Pages:
             return ""
         of_cpp = list(dict.fromkeys(name for export in exports for name in self.model.cpp[export]))
         of_rust = list(dict.fromkeys(name for export in exports for name in self.model.rust[export]))
-        rows = [("C", ", ".join(f'<a href="c.html#{export}">{code(export)}</a>' for export in exports)),
-                ("C++", ", ".join(map(code, of_cpp))), ("Rust", ", ".join(map(code, of_rust)))]
+        rows = [
+            ("C", ", ".join(f'<a href="c.html#{export}">{code(export)}</a>' for export in exports)),
+            ("C++", ", ".join(map(code, of_cpp))),
+            ("Rust", ", ".join(map(code, of_rust))),
+        ]
         return "<table>" + "".join(f"<tr><th>{language}</th><td>{names}</td></tr>" for language, names in rows if names) + "</table>"
 
     def evidence(self, entry):
@@ -137,7 +131,11 @@ class Pages:
             tests = "".join(f"<li>{code(test.name)}</li>" for test in entry.tests)
             parts.append(f"<details><summary>Tests and programs that call it: {len(entry.tests)}</summary><ul>{tests}</ul></details>")
         elif entry.callers:
-            parts.append("<p class=soft>No test calls it; tested calls that do: " + ", ".join(self.link(caller.name) for caller in entry.callers) + "</p>")
+            parts.append(
+                "<p class=soft>No test calls it; tested calls that do: "
+                + ", ".join(self.link(caller.name) for caller in entry.callers)
+                + "</p>"
+            )
         else:
             parts.append("<p class=soft>No test calls it.</p>")
         if entry.mutants:
@@ -147,8 +145,10 @@ class Pages:
 
     def call(self, entry):
         level = 3 if entry.parent else 2
-        return (f'<h{level} id="{anchor(entry.name)}">{escaped(entry.name)}</h{level}><pre><code>{escaped(dedented(entry.item.signature))}</code></pre>'
-                f"{comment(entry.text)}{self.clauses(entry.clauses)}{self.names(entry)}{self.evidence(entry)}{self.place(entry.item)}")
+        return (
+            f'<h{level} id="{anchor(entry.name)}">{escaped(entry.name)}</h{level}><pre><code>{escaped(dedented(entry.item.signature))}</code></pre>'
+            f"{comment(entry.text)}{self.clauses(entry.clauses)}{self.names(entry)}{self.evidence(entry)}{self.place(entry.item)}"
+        )
 
     def type(self, entry):
         item = entry.item
@@ -163,26 +163,37 @@ class Pages:
         table = f"<table><tr><th>{'Variant' if item.kind == 'enum' else 'Field'}</th><th>What it is</th></tr>{rows}</table>" if rows else ""
         of = "" if item.file.startswith(f"crates/{entry.crate}/") else f"<p class=soft>Passed on from {code(item.file.split('/')[1])}</p>"
         calls = "".join(self.call(one) for one in entry.entries)
-        return (f'<h2 id="{anchor(entry.name)}">{escaped(item.kind)} {escaped(entry.name)}</h2>{comment(entry.text)}{of}{table}{self.place(item)}{calls}')
+        return f'<h2 id="{anchor(entry.name)}">{escaped(item.kind)} {escaped(entry.name)}</h2>{comment(entry.text)}{of}{table}{self.place(item)}{calls}'
 
     def function_of_c(self, function):
         made = self.model.steps_of(function.name)
         others = [entry for entry in self.model.c_calls[function.name] if entry not in made]
-        rows = [("Calls", ", ".join(self.link(entry.name) for entry in made)), ("Calls too", ", ".join(self.link(entry.name) for entry in others)),
-                ("C++", ", ".join(map(code, self.model.cpp[function.name]))), ("Rust", ", ".join(map(code, self.model.rust[function.name]))),
-                ("Tested by", ", ".join(map(code, self.model.programs[function.name])))]
+        rows = [
+            ("Calls", ", ".join(self.link(entry.name) for entry in made)),
+            ("Calls too", ", ".join(self.link(entry.name) for entry in others)),
+            ("C++", ", ".join(map(code, self.model.cpp[function.name]))),
+            ("Rust", ", ".join(map(code, self.model.rust[function.name]))),
+            ("Tested by", ", ".join(map(code, self.model.programs[function.name]))),
+        ]
         table = "<table>" + "".join(f"<tr><th>{what}</th><td>{names}</td></tr>" for what, names in rows if names) + "</table>"
-        contract = self.clauses(function.item.clauses) + self.place(function.item) if function.item else "<p class=soft>It is not an export of the proved crate.</p>"
+        contract = (
+            self.clauses(function.item.clauses) + self.place(function.item)
+            if function.item
+            else "<p class=soft>It is not an export of the proved crate.</p>"
+        )
         return f'<h3 id="{function.name}">{function.name}</h3><pre><code>{escaped(function.signature)}</code></pre>{comment(function.doc)}{contract}{table}'
 
     # ---- pages
 
     def write(self):
         self.to.mkdir(parents=True, exist_ok=True)
-        (self.to / "style.css").write_text(STYLE)
+        shutil.copyfile(Path(__file__).with_name("style.css"), self.to / "style.css")
         for crate, entries in self.model.entries.items():
             body = "".join(self.call(entry) if entry.is_call else self.type(entry) for entry in entries)
-            links = "".join(f'<a class="to{" call" if entry.parent else ""}" href="#{anchor(entry.name)}">{escaped(entry.name)}</a>' for entry in self.within(entries))
+            links = "".join(
+                f'<a class="to{" call" if entry.parent else ""}" href="#{anchor(entry.name)}">{escaped(entry.name)}</a>'
+                for entry in self.within(entries)
+            )
             self.page(f"{crate}.html", crate, f"<h1>{crate}</h1>{body}", links)
         body = "<h1>Functions of C</h1>" + "".join(map(self.function_of_c, self.model.c_functions))
         self.page("c.html", "C", body, "".join(f'<a class=to href="#{one.name}">{one.name}</a>' for one in self.model.c_functions))
@@ -199,11 +210,19 @@ class Pages:
                 continue
             done[word] = self.model.definitions[word]
             before = set(self.named)
-            body[word] = "".join(f"<p>{inline(one.comment)}</p><pre><code>{self.words(one.text)}</code></pre><p class=soft>{escaped(one.file)}, line {one.line}</p>" for one in done[word])
+            body[word] = "".join(
+                f"<p>{inline(one.comment)}</p><pre><code>{self.words(one.text)}</code></pre><p class=soft>{escaped(one.file)}, line {one.line}</p>"
+                for one in done[word]
+            )
             left.extend(sorted(self.named - before))
         text = "<h1>The words of clauses</h1><p>Each word that a clause here names, and those that these definitions name. A word that crates define each for themselves has all its definitions.</p>"
         text += "".join(f'<h3 id="{anchor(word)}">{escaped(word)}</h3>{body[word]}' for word in sorted(body, key=str.lower))
-        self.page("words.html", "Words", text, "".join(f'<a class=to href="#{anchor(word)}">{escaped(word)}</a>' for word in sorted(body, key=str.lower)))
+        self.page(
+            "words.html",
+            "Words",
+            text,
+            "".join(f'<a class=to href="#{anchor(word)}">{escaped(word)}</a>' for word in sorted(body, key=str.lower)),
+        )
         self.count_of_words = len(body)
 
     def write_index(self):
@@ -215,18 +234,24 @@ class Pages:
         rows.append(("words.html", "The words of clauses", f"{self.count_of_words} definitions"))
         rows.append(("requirements.html", "Requirements", "with the clauses, tests and mutants of each"))
         rows += self.beside
-        table = "".join(f'<tr><td class=name><a href="{path}">{escaped(title)}</a></td><td>{escaped(what)}</td></tr>' for path, title, what in rows)
+        table = "".join(
+            f'<tr><td class=name><a href="{path}">{escaped(title)}</a></td><td>{escaped(what)}</td></tr>' for path, title, what in rows
+        )
         everything = "".join(f'<a class=to href="{self.places[entry.name]}">{escaped(entry.name)}</a>' for entry in self.model.all())
-        body = (f"<h1>iox2_pubsub: the reference</h1><p>Made from the sources: the text of each public item, its contract, its original in iceoryx2, its names in C, C++ and Rust, "
-                f"the tests that call it, and the mutants of what it calls. {time.strftime('%Y-%m-%d')}.</p><table>{table}</table>"
-                "<p>A clause <code>requires</code> says what a caller owes, and <code>ensures</code> what holds afterwards; <code>.old</code> is a value before the call and <code>.new</code> after it. "
-                "All are proved. A test or a mutant is listed by what calls what, as far as the types in the sources say it.</p>")
+        body = (
+            f"<h1>iox2_pubsub: the reference</h1><p>Made from the sources: the text of each public item, its contract, its original in iceoryx2, its names in C, C++ and Rust, "
+            f"the tests that call it, and the mutants of what it calls. {time.strftime('%Y-%m-%d')}.</p><table>{table}</table>"
+            "<p>A clause <code>requires</code> says what a caller owes, and <code>ensures</code> what holds afterwards; <code>.old</code> is a value before the call and <code>.new</code> after it. "
+            "All are proved. A test or a mutant is listed by what calls what, as far as the types in the sources say it.</p>"
+        )
         self.page("index.html", "Reference", body, everything)
 
     def page(self, name, title, body, links):
         top = '<a href="index.html"><strong>Reference</strong></a><p><input placeholder="filter" aria-label="filter"></p>'
-        (self.to / name).write_text(f'<!doctype html><html lang=en><meta charset=utf-8><meta name=viewport content="width=device-width"><title>{title} - iox2_pubsub</title>'
-                                    f'<link rel=stylesheet href=style.css><nav>{top}{links}</nav><main>{body}</main><script>{FILTER}</script></html>\n')
+        (self.to / name).write_text(
+            f'<!doctype html><html lang=en><meta charset=utf-8><meta name=viewport content="width=device-width"><title>{title} - iox2_pubsub</title>'
+            f'<link rel=stylesheet href=style.css><nav>{top}{links}</nav><main>{body}</main><script>{FILTER}</script></html>\n'
+        )
 
 
 def dedented(text):

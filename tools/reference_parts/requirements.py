@@ -56,7 +56,11 @@ def requirements(model):
     for number, row in enumerate(tomllib.loads(model.repository.text(SOURCE))["requirement"], 1):
         found = Requirement(number, row["says"], [names[name] for name in row["functions"] if name in names], row["clauses"])
         found.faults += [f"there is no {name}" for name in row["functions"] if name not in names]
-        found.faults += [f"no contract has the clause {name}" for name in row["clauses"] if not any(has_clause(model, entry, name) for entry in found.entries)]
+        found.faults += [
+            f"no contract has the clause {name}"
+            for name in row["clauses"]
+            if not any(has_clause(model, entry, name) for entry in found.entries)
+        ]
         gather(found)
         yield found
 
@@ -82,7 +86,11 @@ def mutants_cell(mutants):
     """How many there are of each kind, and some."""
     refused = [one.name for one in mutants if one.is_for_prover]
     killed = [one.name for one in mutants if not one.is_for_prover]
-    parts = [f"{len(names)} {by}: {', '.join(span(name) for name in names[:1])}" for names, by in ((refused, "refused"), (killed, "killed by tests")) if names]
+    parts = [
+        f"{len(names)} {by}: {', '.join(span(name) for name in names[:1])}"
+        for names, by in ((refused, "refused"), (killed, "killed by tests"))
+        if names
+    ]
     return "; ".join(parts)
 
 
@@ -100,10 +108,15 @@ def html(model, link):
     parts = ["<h1>Requirements</h1>"]
     for one in requirements(model):
         tests = "".join(f"<li>{code(test.name)}</li>" for test in one.tests)
-        mutants = "".join(f"<li>{code(mutant.path)}, in {code(mutant.file)}: {'the prover refuses it' if mutant.is_for_prover else 'tests kill it'}</li>" for mutant in one.mutants)
-        parts.append(f'<h2 id="{anchor(f"R{one.number}")}">R{one.number}</h2><p>{inline(one.says)}.</p><p>Kept by {", ".join(link(entry.name) for entry in one.entries)}'
-                     f'{"; clauses " + ", ".join(map(code, one.clauses)) if one.clauses else ""}.</p>'
-                     f"<details><summary>{len(one.tests)} tests and programs</summary><ul>{tests}</ul></details>"
-                     f"<details><summary>{len(one.mutants)} mutants</summary><ul>{mutants}</ul></details>")
+        mutants = "".join(
+            f"<li>{code(mutant.path)}, in {code(mutant.file)}: {'the prover refuses it' if mutant.is_for_prover else 'tests kill it'}</li>"
+            for mutant in one.mutants
+        )
+        parts.append(
+            f'<h2 id="{anchor(f"R{one.number}")}">R{one.number}</h2><p>{inline(one.says)}.</p><p>Kept by {", ".join(link(entry.name) for entry in one.entries)}'
+            f'{"; clauses " + ", ".join(map(code, one.clauses)) if one.clauses else ""}.</p>'
+            f"<details><summary>{len(one.tests)} tests and programs</summary><ul>{tests}</ul></details>"
+            f"<details><summary>{len(one.mutants)} mutants</summary><ul>{mutants}</ul></details>"
+        )
     links = "".join(f'<a class=to href="#R{one.number}">R{one.number}: {escaped(one.says[:60])}</a>' for one in requirements(model))
     return "".join(parts), links

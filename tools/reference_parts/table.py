@@ -74,6 +74,8 @@ def page(model):
     parts = [HEAD]
     for crate in model.entries:
         parts.append(f"## `{crate}`\n\n" + "\n".join(calls(model, crate)) + "\n")
-    parts.append("## Functions of C\n\nThe library's calls are those that a function makes, without those that only turn numbers into handles. "
-                 "Of C++ and Rust the table has those that are named alike first.\n\n" + "\n".join(functions(model)) + "\n")
+    parts.append(
+        "## Functions of C\n\nThe library's calls are those that a function makes, without those that only turn numbers into handles. "
+        "Of C++ and Rust the table has those that are named alike first.\n\n" + "\n".join(functions(model)) + "\n"
+    )
     return re.sub(r"\n{3,}", "\n\n", "\n".join(parts))

@@ -118,7 +118,9 @@ class World:
         known = self.owner_type(item.owner, scope)
         if known:
             name = known.name if not isinstance(known, Parameter) else known
-            self.methods.setdefault((name if isinstance(name, (str, Parameter)) else id(name), item.name), []).append(Method(item, item.owner, scope, known))
+            self.methods.setdefault((name if isinstance(name, (str, Parameter)) else id(name), item.name), []).append(
+                Method(item, item.owner, scope, known)
+            )
 
     def note_deref(self, owner, scope):
         if "Target" in owner.targets:
@@ -219,7 +221,9 @@ class World:
         scope_of = self.scope_of(found)
         if found.kind == "type" and found.output:
             names = parameters(found.generics)
-            given = dict(zip(names, args)) | {name: default for name, default in self.defaults(found, scope_of).items() if name not in dict(zip(names, args))}
+            given = dict(zip(names, args)) | {
+                name: default for name, default in self.defaults(found, scope_of).items() if name not in dict(zip(names, args))
+            }
             known = self.type(Reader(found.output.words, found.output.at, found.output.end), scope_of, parameters(found.generics))
             return substituted(known, given)
         return Type(found, args) if found.kind != "variant" else Type(self.enum_of(found), ())
@@ -240,10 +244,9 @@ class World:
             item.default_types = {}
             for part in copy_of(item.generics).parts() if item.generics else ():
                 name = part.next() if part.kind() == "name" else None
-                head = part.until("=")
+                part.until("=")
                 if name and part.skip("="):
                     item.default_types[name] = self.type(part, scope)
-                del head
         return item.default_types
 
 
