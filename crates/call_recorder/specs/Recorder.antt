@@ -1,5 +1,5 @@
 -- What a recorder keeps.
-use Rattle.std.specs.Prelude.{ℕ, List, ◌++◌, ◌≡◌, ◌≢◌, ◌≤◌, ◌+◌, ◌↔◌, length, take}
+use Rattle.std.specs.Prelude.{ℕ, List, ◌++◌, ◌≡◌, ◌≢◌, ◌≤◌, ◌+◌, ◌-◌, ◌↔◌, length, min, take}
 use Rattle.iox2_commands.specs.declared.command.Command.{Command}
 use Rattle.iox2_commands.specs.declared.reply.Reply.{Reply}
 
@@ -15,19 +15,25 @@ pub record Calls : Type 0 where
 abbrev pub HasRoom : Calls → ℕ → Type 0
 HasRoom calls count = (calls.missed ≡ 0) × (length calls.commands + count ≤ calls.room)
 
--- All of these commands are kept with their replies behind the others, exactly where none was missed before and there is room for them and for so many more; else none of them is kept, and what is kept stays.
+-- How many commands are missed with that many more, as far as 64 bits count.
+abbrev pub with_missed : ℕ → ℕ → ℕ
+with_missed missed more = min (missed + more) 18446744073709551615
+
+-- All of these commands are kept with their replies behind the others, exactly where none was missed before and there is room for them and for so many more; else none of them is kept, what is kept stays, and they are counted as missed.
 pub record Keeps (more : ℕ) (old new : Calls) (commands : List (Command ℕ ℕ)) (replies : List (Reply ℕ ℕ)) : Type 0 where
   pub whole : (new.missed ≡ 0) ↔ HasRoom old (length commands + more)
   pub kept : new.missed ≡ 0 → (new.commands ≡ old.commands ++ commands) × (new.replies ≡ old.replies ++ replies)
-  pub missed : new.missed ≢ 0 → (new.commands ≡ old.commands) × (new.replies ≡ old.replies)
+  pub missed : new.missed ≢ 0 → (new.commands ≡ old.commands) × (new.replies ≡ old.replies) × (new.missed ≡ with_missed old.missed (length commands))
   pub room : new.room ≡ old.room
   pub bytes : new.bytes ≡ old.bytes
 
--- The same of the first commands of a call: where there is no room for them all, some may be kept.
+-- The same of the first commands of a call: where there is no room for them all, some may be kept, and the others are counted as missed.
 pub record Begins (old new : Calls) (commands : List (Command ℕ ℕ)) (replies : List (Reply ℕ ℕ)) : Type 0 where
   pub whole : (new.missed ≡ 0) ↔ HasRoom old (length commands)
   pub kept : new.missed ≡ 0 → (new.commands ≡ old.commands ++ commands) × (new.replies ≡ old.replies ++ replies)
   pub commands_stay : take (length old.commands) new.commands ≡ old.commands
   pub replies_stay : take (length old.replies) new.replies ≡ old.replies
+  pub within : length new.commands ≤ length old.commands + length commands
+  pub missed : new.missed ≡ with_missed old.missed (length old.commands + length commands - length new.commands)
   pub room : new.room ≡ old.room
   pub bytes : new.bytes ≡ old.bytes

@@ -1,5 +1,5 @@
 ghost use Rattle.std.specs.Prelude.{[], ◌∷◌, ◌≡◌, ◌≢◌, ◌↔◌, IfOk, IsTrue, length};
-ghost use Rattle.call_recorder.specs.Recorder.{HasRoom, Keeps};
+ghost use Rattle.call_recorder.specs.Recorder.{HasRoom, Keeps, with_missed};
 
 mod messages;
 
@@ -93,6 +93,7 @@ impl Recorder {
     /// missed so for which there is no command.
     pub fn miss(&mut self)
         ensures missed { self.new.missed ≢ 0 }
+        ensures counted { self.new.missed ≡ with_missed self.old.missed 1 }
         ensures stays { self.new ≡ record (self.old) { missed = self.new.missed } }
     {
         self.missed = self.missed.saturating_add(1);

@@ -1,9 +1,9 @@
 //! Calls of messages, which are several commands.
-ghost use Rattle.std.specs.Prelude.{[], ◌∷◌, ◌≡◌, ◌≢◌, ◌≤◌, ◌<◌, length, take};
+ghost use Rattle.std.specs.Prelude.{[], ◌∷◌, ◌≡◌, ◌≢◌, ◌≤◌, ◌<◌, ◌-◌, length, take};
 ghost use Rattle.iox2_commands.specs.declared.command.Command.TheVariants.{Send};
 ghost use Rattle.call_recorder.specs.Bytes.{all_done, cells, reads_from, writes};
 ghost use Rattle.call_recorder.specs.Messages.{KeepsBytes, KeepsCopy, KeepsReceived, KeepsTaken};
-ghost use Rattle.call_recorder.specs.Recorder.{Begins, Keeps};
+ghost use Rattle.call_recorder.specs.Recorder.{Begins, Keeps, with_missed};
 
 use super::Recorder;
 use crate::names::Name;
@@ -124,7 +124,7 @@ impl Recorder {
     fn end_call(&mut self, start: usize)
         requires { start ≤ length self.old.commands }
         ensures whole { self.old.missed ≡ 0 → self.new ≡ self.old }
-        ensures cut { self.old.missed ≢ 0 → (self.new.missed ≢ 0) × (self.new ≡ record (self.old) { commands = take start self.old.commands; replies = take start self.old.replies; missed = self.new.missed }) }
+        ensures cut { self.old.missed ≢ 0 → (self.new.missed ≡ with_missed self.old.missed (length self.old.commands - start)) × (self.new ≡ record (self.old) { commands = take start self.old.commands; replies = take start self.old.replies; missed = self.new.missed }) }
     {
         if self.missed > 0 {
             self.cut(start);
@@ -134,7 +134,7 @@ impl Recorder {
     // All commands from the position on are missed.
     fn cut(&mut self, start: usize)
         requires { start ≤ length self.old.commands }
-        ensures missed { (self.new.missed ≡ 0) → (self.old.missed ≡ 0) × (length self.old.commands ≡ start) }
+        ensures missed { self.new.missed ≡ with_missed self.old.missed (length self.old.commands - start) }
         ensures cut { self.new ≡ record (self.old) { commands = take start self.old.commands; replies = take start self.old.replies; missed = self.new.missed } }
     {
         let count = self.commands.len() - start;
