@@ -223,7 +223,7 @@ static void a_refused_send_writes_nothing(void) {
   send_as(&run, &run.other, IOX2PS_OK);
   receive_copy(&run);
   read_recording(&run.domain, &missed);
-  CHECK(missed == 0 && strstr(text, "\nsend 3 = skipped\nsend 3 = skipped\nsend 3 = skipped\nrecv 2 = sample 2\n") != NULL);
+  CHECK(missed == 0 && strstr(text, "\nsend 3 = skipped\nsend 3 = skipped\nsend 3 = skipped\nrecv 2 = sample 1\n") != NULL);
   CHECK(strstr(text, "\nwrite 3 7 = done\nset 3 1 1 = done\nset 3 2 2 = done\nset 3 3 3 = done\nset 3 4 3 = done\nsend 3 = delivered 1\n")
         != NULL);
   IS(iox2ps_domain_destroy(&run.domain), IOX2PS_OK);
