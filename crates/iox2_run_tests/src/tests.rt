@@ -6,6 +6,7 @@ mod degradations;
 mod departures;
 mod laws;
 mod many_units;
+mod refused_publishers;
 mod runs;
 mod steps;
 mod worst_cases;

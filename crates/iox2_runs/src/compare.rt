@@ -17,12 +17,12 @@ use std::alloc::Global;
 /// receives, questions and updates, and what releases or reads their samples, with `Nothing` in
 /// place of each. Then that subscriber isn't felt to be slower or faster: if its own receives get
 /// the same replies in both runs, it sees the same after each number of commands in both, and reads
-/// of its samples get the same replies. This holds if no publisher's memory is to grow, each has as
-/// many slots as `worst_case_slots` says and never waits for a receiver, each other subscriber that is
-/// closed has released all its samples before, in both runs, and neither run was refused memory: no
-/// port was refused because memory was, and `refused_connections` of both domains is 0. All this is
-/// said of types that each have one default value alone. For any types, both lists ran, as `run` says
-/// of its own.
+/// of its samples get the same replies. This holds if no publisher that was made has memory that
+/// grows, each has as many slots as `worst_case_slots` says and never waits for a receiver, each other
+/// subscriber that is closed has released all its samples before, in both runs, and neither run was
+/// refused memory: no port was refused because memory was, and `refused_connections` of both domains
+/// is 0. All this is said of types that each have one default value alone. For any types, both lists
+/// ran, as `run` says of its own.
 ///
 /// `None` if memory for a domain, or for the replies of a run, is refused.
 pub fn compare_runs<

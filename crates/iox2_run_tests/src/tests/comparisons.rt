@@ -12,19 +12,22 @@ use iox2_runs::{Command, NewPublisher, Reply, compare_runs};
 use std::alloc::{AllocError, Global};
 use std::process::Abort;
 
-type Commands = Vec<Command<u64, u8>>;
+/// Commands of a run.
+pub(crate) type Commands = Vec<Command<u64, u8>>;
 
-type Replies = Vec<Reply<u64, u8>>;
+/// Their replies.
+pub(crate) type Replies = Vec<Reply<u64, u8>>;
 
 type End = (Domain<u64, u8>, Replies);
 
-const SUBSCRIBER: Command<u64, u8> = Command::CreateSubscriber {
+/// The command that makes a subscriber.
+pub(crate) const SUBSCRIBER: Command<u64, u8> = Command::CreateSubscriber {
     buffer: None,
     degradation: DegradationAction::Warn,
 };
 
-// The command that makes a publisher with one loan.
-fn publisher() -> Command<u64, u8> {
+/// The command that makes a publisher with one loan.
+pub(crate) fn publisher() -> Command<u64, u8> {
     publisher_of(1, None)
 }
 
@@ -37,8 +40,8 @@ fn publisher_of(length: usize, answer: Option<BackpressureAction>) -> Command<u6
     })
 }
 
-// The command, or nothing in its place.
-fn if_kept(is_kept: bool, command: Command<u64, u8>) -> Command<u64, u8> {
+/// The command, or nothing in its place.
+pub(crate) fn if_kept(is_kept: bool, command: Command<u64, u8>) -> Command<u64, u8> {
     if is_kept { command } else { Command::Nothing }
 }
 
@@ -132,16 +135,16 @@ fn replies_of((_, replies): End) -> Replies {
     replies
 }
 
-// Two subscribers, each with a buffer of one, which may borrow one message.
-fn two_subscribers() -> ServiceConfig {
+/// Two subscribers, each with a buffer of one, which may borrow one message.
+pub(crate) fn two_subscribers() -> ServiceConfig {
     ServiceConfig {
         max_subscribers: 2,
         ..smallest()
     }
 }
 
-// The replies of both runs on domains with these settings.
-fn compared_on(
+/// The replies of both runs on domains with these settings.
+pub(crate) fn compared_on(
     rt: &impl Abort,
     alloc: Global,
     config: &ServiceConfig,
