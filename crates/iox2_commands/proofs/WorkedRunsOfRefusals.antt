@@ -113,7 +113,7 @@ IsStaticIfMade command reply = (asked : NewPublisher) (p : ℕ) → command ≡ 
 static : (other : Command ℕ ℕ) (reply : Reply ℕ ℕ) → IsStaticIfMade other reply → PublishersAreStatic (asked_for other) (replied_with reply)
 static other reply its i p asked e made =
     at_position IsStaticIfMade (asked_for other) (replied_with reply)
-    (λ asked p e made. absurd cc, (λ asked p e made. absurd cc, (λ asked p e made. cc, (λ asked p e made. absurd cc, (λ asked p e made. absurd cc, (its, (tt)))))))
+    (λ asked p e made. absurd cc, (λ asked p e made. absurd cc, (λ asked p e made. cc, (λ asked p e made. absurd cc, (λ asked p e made. absurd cc, (its, tt))))))
     i (CreatePublisher asked) (PublisherMade p) e made asked p refl refl
 
 -- and is independent
@@ -121,7 +121,7 @@ abbrev IsIndependentIfMade : Command ℕ ℕ → Reply ℕ ℕ → Type 0
 IsIndependentIfMade command reply = (p : ℕ) → reply ≡ PublisherMade p → makes_independent_publisher one_publisher command ≡ true
 
 independent : HoldsOfEach IsIndependentIfMade (asked_for (Receive 0)) (replied_with (Sample 3))
-independent = (λ p made. refl, (λ p made. refl, (λ p made. refl, (λ p made. absurd cc, (λ p made. refl, (λ p made. refl, (tt)))))))
+independent = (λ p made. refl, (λ p made. refl, (λ p made. refl, (λ p made. absurd cc, (λ p made. refl, (λ p made. refl, tt))))))
 
 -- nothing is closed, and the second subscriber receives nothing
 not_asked : (other : Command ℕ ℕ) → HoldsOfEach (λ (command same : Command ℕ ℕ). command ≡ other → ⊥) (asked_for (Receive 0)) (asked_for (Receive 0))
@@ -137,11 +137,11 @@ pub refused_growing_publisher_leaves_the_law : (events events' : List (Event ℕ
 refused_growing_publisher_leaves_the_law events events' m m' s s' handles handles' told told' h h' =
     (isolated_without_refusals 0 0 one_publisher 1 2 (asked_for (Receive 0)) (asked_for Nothing) [] (replied_with (Sample 3)) (replied_with Done) events events' m m' s s' handles handles'
     (static (Receive 0) (Sample 3) (λ asked p e made. absurd cc)) (static Nothing Done (λ asked p e made. absurd cc))
-    (record { ports = (λ v. v, (λ v. v, (λ v. v, (λ v. v, (λ v. v, (λ v. v, (tt))))))); told = told })
-    (record { ports = (λ v. v, (λ v. v, (λ v. v, (λ v. v, (λ v. v, (λ v. v, (tt))))))); told = told' })
-    (inl refl, (inl refl, (inl refl, (inl refl, (inl refl, (inr (refl, refl), (tt)))))))
+    (record { ports = (λ v. v, (λ v. v, (λ v. v, (λ v. v, (λ v. v, (λ v. v, tt)))))); told = told })
+    (record { ports = (λ v. v, (λ v. v, (λ v. v, (λ v. v, (λ v. v, (λ v. v, tt)))))); told = told' })
+    (inl refl, (inl refl, (inl refl, (inl refl, (inl refl, (inr (refl, refl), tt))))))
     (record {
       publishers = λ i p command e made. at_position IsIndependentIfMade (asked_for (Receive 0)) (replied_with (Sample 3)) independent i command (PublisherMade p) e made p refl;
-      closes = λ i of r other later e made. absurd (not_asked (Close of) (λ e. absurd cc, (λ e. absurd cc, (λ e. absurd cc, (λ e. absurd cc, (λ e. absurd cc, (λ e. absurd cc, (tt))))))) i e);
+      closes = λ i of r other later e made. absurd (not_asked (Close of) (λ e. absurd cc, (λ e. absurd cc, (λ e. absurd cc, (λ e. absurd cc, (λ e. absurd cc, (λ e. absurd cc, tt)))))) i e);
     })
-    h h' refl (λ i e. absurd (not_asked (Receive 1) (λ e. absurd cc, (λ e. absurd cc, (λ e. absurd cc, (λ e. absurd cc, (λ e. absurd cc, (λ e. absurd cc, (tt))))))) i e))).0
+    h h' refl (λ i e. absurd (not_asked (Receive 1) (λ e. absurd cc, (λ e. absurd cc, (λ e. absurd cc, (λ e. absurd cc, (λ e. absurd cc, (λ e. absurd cc, tt)))))) i e))).0
