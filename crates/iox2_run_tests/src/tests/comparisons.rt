@@ -234,17 +234,35 @@ fn runs_are_compared_where_a_handler_fails_sends(rt: HostRuntime) {
 // Nothing is lent, sent at once or received there, and so nothing is read.
 #[test]
 fn runs_are_compared_where_an_element_has_many_units(rt: HostRuntime) {
+    for (units_per_element, number_of_channels) in [(2, 1), (3, 5)] {
+        let config = ServiceConfig {
+            units_per_element,
+            number_of_channels,
+            ..two_subscribers()
+        };
+        let (replies, others) = two_messages_compared(&rt, rt.alloc(), &config, publisher());
+        let mut expected = answers_with_a_receive();
+        for index in 3..9 {
+            expected[index] = Reply::Skipped;
+        }
+        assert!(rt; replies.as_slice() == expected.as_slice());
+        expected[4] = Reply::Done;
+        assert!(rt; others.as_slice() == expected.as_slice());
+    }
+}
+
+// The commands are on channel 0 of five.
+#[test]
+fn runs_are_compared_where_connections_have_many_channels(rt: HostRuntime) {
     let config = ServiceConfig {
-        units_per_element: 2,
+        number_of_channels: 5,
         ..two_subscribers()
     };
     let (replies, others) = two_messages_compared(&rt, rt.alloc(), &config, publisher());
     let mut expected = answers_with_a_receive();
-    for index in 3..9 {
-        expected[index] = Reply::Skipped;
-    }
     assert!(rt; replies.as_slice() == expected.as_slice());
     expected[4] = Reply::Done;
+    expected[5] = Reply::Delivered(0);
     assert!(rt; others.as_slice() == expected.as_slice());
 }
 
