@@ -1,5 +1,4 @@
 use Rattle.std.proofs.Common.{refl, sym, ◌∙◌, []}
-use Rattle.iox2_machine.specs.machine.State.{fresh}
 use Rattle.iox2_runs.specs.Carries.{defaults_of}
 use Rattle.iox2_runs.proofs.LeavingSteps.{none-placed}
 use Rattle.iox2_recorded.proofs.RecordedCalls.{ran-none, was-run}
