@@ -112,11 +112,11 @@ pub fn copy_out(
     let from = sample.payload(&service.domain);
     *len = from.len();
     let code = copy_bytes(from, bytes);
-    service.recording.received(&sample, from);
     if code == OK {
-        service.recording.released(sample.key(), OK);
+        service.recording.taken(&sample, from);
         sample.release(&mut service.domain);
     } else {
+        service.recording.received(&sample, from);
         *out = SampleNumbers::of(sample.into_parts());
     }
     code
