@@ -18,3 +18,6 @@ returns-clause-recorded g c =
           (was-run {T = g.row.T.Denot} {U = g.row.U.Denot} (defaults_of g.T.Default.is_default g.U.Default.is_default) c.args.config c.in-Ok.domain c.in-Ok.domain [] [] [] c.in-Ok.ensures.fresh none);
       whole = λ _. (refl, refl);
     }
+
+pub returns-clause-room : goal.returns-clause-room
+returns-clause-room g c = (c.in_ok-commands.ensures.exact, c.in_ok-replies.ensures.exact)
