@@ -12,8 +12,9 @@ RACES = ("-O1", "-g", "-fsanitize=thread")
 # The program's own function in place of the archive's.
 OTHER_VERSION = ("-O1", "-Wl,--wrap=iox2ps_version")
 NO_EXCEPTIONS = ("-O1", "-fno-exceptions", "-fno-rtti")
-# The program's own malloc and realloc, which refuse one call in a run.
-REFUSES = ("-Wl,--wrap=malloc", "-Wl,--wrap=realloc")
+# These have a malloc and a realloc of their own, which count calls, and refuse one in a run.
+OWN_MALLOC = ("c/refused_memory.c", "c/recorded_calls.c")
+WRAPS = ("-Wl,--wrap=malloc", "-Wl,--wrap=realloc")
 GRIND = ("valgrind", "--quiet", "--leak-check=full", "--error-exitcode=9")
 NOTHING_LEFT = ("--show-leak-kinds=all", "--errors-for-leak-kinds=all")
 # The C++ library keeps some memory of its own until the end.
@@ -63,6 +64,7 @@ ROWS = (
     ("cpp/tests.cpp", "c++20", False),
     ("c/threads.c", "c11", True),
     ("cpp/threads.cpp", "c++17", True),
+    ("cpp/one_may_lose.cpp", "c++17", True),
     ("cpp/threads.cpp", "c++20", False),
 )
 
@@ -75,8 +77,9 @@ def run_pair(steps, work, c, cpp):
         steps.run(name, compile_and_run, work, compiler, source, standard, "-O2")
         if is_sanitized:
             steps.run(f"{name}, sanitizers", compile_and_run, work, compiler, source, standard, "-O1", *SANITIZERS)
-    steps.run(f"c/refused_memory.c, {c} c11", compile_and_run, work, c, "c/refused_memory.c", "c11", "-O2", *REFUSES)
-    steps.run(f"c/refused_memory.c, {c} c11, sanitizers", compile_and_run, work, c, "c/refused_memory.c", "c11", "-O1", *REFUSES, *SANITIZERS)
+    for source in OWN_MALLOC:
+        steps.run(f"{source}, {c} c11", compile_and_run, work, c, source, "c11", "-O2", *WRAPS)
+        steps.run(f"{source}, {c} c11, sanitizers", compile_and_run, work, c, source, "c11", "-O1", *WRAPS, *SANITIZERS)
     for source in ("cpp/tests.cpp", "cpp/threads.cpp"):
         for standard in ("c++17", "c++20"):
             steps.run(f"{source}, {cpp} {standard}, no exceptions", compile_and_run, work, cpp, source, standard, *NO_EXCEPTIONS)
@@ -95,6 +98,6 @@ def run_programs(steps, work):
     if not is_here("valgrind"):
         steps.skip("programs under valgrind", "valgrind")
         return
-    for source, flags in (("c/calls.c", ()), ("c/bad_input.c", ()), ("c/refused_memory.c", REFUSES)):
+    for source, flags in (("c/calls.c", ()), ("c/bad_input.c", ()), *((source, WRAPS) for source in OWN_MALLOC)):
         steps.run(f"{source}, valgrind", compile_and_grind, work, "gcc", source, "c11", NOTHING_LEFT, *flags)
     steps.run("cpp/tests.cpp, valgrind", compile_and_grind, work, "g++", "cpp/tests.cpp", "c++17", BUT_REACHABLE)

@@ -1,1 +1,4 @@
 pub mod Recorder
+pub mod RecorderFields
+pub mod Bytes
+pub mod Messages

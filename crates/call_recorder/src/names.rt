@@ -26,8 +26,6 @@ pub(crate) struct Entry {
     pub(crate) name: Name,
     // The position of the command, counted from 0.
     pub(crate) position: usize,
-    // Whether the command made a loan that a later one wrote.
-    pub(crate) is_written: bool,
 }
 
 /// The position that no command has: a command that names it is skipped.

@@ -1,13 +1,17 @@
-ghost use Rattle.std.specs.Prelude.{IsTrue, ◌≡◌, ◌≢◌, ◌↔◌};
-ghost use Rattle.call_recorder.specs.Recorder.{Keeps, Same, has_room};
+ghost use Rattle.std.specs.Prelude.{[], ◌∷◌, ◌≡◌, ◌≢◌, ◌↔◌, IfOk, IsTrue, length};
+ghost use Rattle.call_recorder.specs.Recorder.{HasRoom, Keeps, with_missed};
+
+mod messages;
 
 use crate::names::{Entry, NOWHERE, Name, place_of};
 use iox2_commands::{Command, Reply};
 use iox2_machine::ServiceConfig;
 use recordings::{Recording, save};
 use std::alloc::{AllocError, Global};
+use std::marker::Model;
 
-/// The first commands of a domain with their replies, in room that is reserved at first.
+/// The first calls of a domain as commands with their replies, in room that is reserved at first. Each call
+/// is kept whole or not at all. Only `new` and `text` allocate.
 ///
 /// A message of bytes is one of numbers here: each byte is a number.
 #[derive(Drop)]
@@ -22,62 +26,77 @@ pub struct Recorder {
     bytes: usize,
 }
 
+impl Model for Recorder {
+    ghost use Rattle.call_recorder.specs.Recorder.{Calls};
+
+    ghost Value = { Calls };
+
+    ghost use Rattle.call_recorder.specs.RecorderFields.{IsRecorder, calls_of};
+
+    ghost view = { calls_of };
+
+    ghost invariant = { IsRecorder };
+}
+
 impl Recorder {
     /// A recorder for that many commands, which keeps that many bytes of each message. The others are 0 in
     /// what it keeps.
     ///
-    /// `AllocError` where there is no room for the commands.
-    pub fn new(alloc: Global, room: usize, bytes: usize) -> Result<Recorder, AllocError> {
+    /// `AllocError` where there is no memory for the commands.
+    pub fn new(alloc: Global, room: usize, bytes: usize) -> Result<Recorder, AllocError>
+        ensures { IfOk result (λ it. it ≡ record { commands = []; replies = []; room = room; missed = 0; bytes = bytes }) }
+    {
         let commands = Vec::with_capacity(alloc, room)?;
         let replies = Vec::with_capacity(alloc, room)?;
+        let table = Vec::with_capacity(alloc, room)?;
         Ok(Recorder {
             commands,
             replies,
             missed: 0,
-            table: Vec::new(alloc),
+            table,
             bytes,
         })
     }
 
-    /// Keeps a command with its reply behind the others, if there is room and none was missed before.
-    /// Else it is missed, which `missed` counts.
+    /// Keeps a call of one command with its reply behind the others, if there is room and none was missed
+    /// before. Else it is missed, which `missed` counts.
     pub fn keep(&mut self, command: Command<u64, u64>, reply: Reply<u64, u64>)
-        ensures keeps { Keeps self.old self.new command reply }
-        ensures kept { (self.new.missed ≡ 0) ↔ IsTrue (has_room self.old) }
+        ensures { Keeps 0 self.old self.new (command ∷ []) (reply ∷ []) }
     {
-        if self.has_room() {
-            self.commands.push_reserved(command);
-            self.replies.push_reserved(reply);
-        } else {
+        self.put(None, command, reply);
+    }
+
+    /// Keeps a call of one command that made something, which later ones name.
+    pub fn keep_maker(&mut self, name: Name, command: Command<u64, u64>, reply: Reply<u64, u64>)
+        ensures { Keeps 0 self.old self.new (command ∷ []) (reply ∷ []) }
+    {
+        self.put(Some(name), command, reply);
+    }
+
+    // Keeps one command, which made what has the name if there is one.
+    fn put(&mut self, name: Option<Name>, command: Command<u64, u64>, reply: Reply<u64, u64>)
+        ensures { Keeps 0 self.old self.new (command ∷ []) (reply ∷ []) }
+    {
+        if !self.has_room() {
             self.miss();
+            return;
         }
+        if let Some(name) = name {
+            let position = self.commands.len();
+            self.table.push_reserved(Entry { name, position });
+        }
+        self.commands.push_reserved(command);
+        self.replies.push_reserved(reply);
     }
 
     /// One command more isn't kept, and none after it: what is kept would be no run without it. A call is
     /// missed so for which there is no command.
     pub fn miss(&mut self)
         ensures missed { self.new.missed ≢ 0 }
-        ensures commands { self.new.commands.items ≡ self.old.commands.items }
-        ensures replies { self.new.replies.items ≡ self.old.replies.items }
+        ensures counted { self.new.missed ≡ with_missed self.old.missed 1 }
+        ensures stays { self.new ≡ record (self.old) { missed = self.new.missed } }
     {
         self.missed = self.missed.saturating_add(1);
-    }
-
-    /// Keeps a command that made something, which later ones name. It is missed too where there is no
-    /// memory for the name.
-    pub fn keep_maker(&mut self, name: Name, command: Command<u64, u64>, reply: Reply<u64, u64>)
-        ensures { Keeps self.old self.new command reply }
-    {
-        let entry = Entry {
-            name,
-            position: self.commands.len(),
-            is_written: false,
-        };
-        if self.table.push(entry).is_err() {
-            self.miss();
-            return;
-        }
-        self.keep(command, reply);
     }
 
     /// The position of the command that made what has this name, or one that no command has.
@@ -90,72 +109,26 @@ impl Recorder {
 
     /// Forgets what has this name: it isn't live any more.
     pub fn forget(&mut self, name: Name)
-        ensures { Same self.old self.new }
+        ensures { self.new ≡ self.old }
     {
         if let Some(place) = place_of(self.table.as_slice(), name) {
             self.table.swap_remove(place);
         }
     }
 
-    /// Keeps the bytes of a loan, before it is sent. Where it was written before, its values are changed.
-    pub fn keep_bytes(&mut self, loan: Name, bytes: &[u8]) {
-        let Some(place) = place_of(self.table.as_slice(), loan) else {
-            return;
-        };
-        let Entry {
-            position,
-            is_written,
-            ..
-        } = self.table[place];
-        self.table[place].is_written = true;
-        self.keep_values(position, bytes, is_written);
-    }
-
-    /// Keeps a loan of that many bytes, which are written and sent at once, and returns the position of
-    /// the loan.
-    pub fn keep_loan(&mut self, publisher: usize, bytes: &[u8]) -> usize {
-        let position = self.commands.len();
-        let command = Command::LoanSlice {
-            of: publisher,
-            len: bytes.len(),
-        };
-        self.keep(command, Reply::Loaned);
-        self.keep_values(position, bytes, false);
-        position
-    }
-
-    // Keeps the values of a loan: one that each has, where none was written, and then those that differ.
-    fn keep_values(&mut self, of: usize, bytes: &[u8], is_written: bool) {
-        let most = match bytes.last() {
-            Some(last) if bytes.len() <= self.bytes => u64::from(*last),
-            _ => 0,
-        };
-        if !is_written {
-            self.keep(Command::WriteAll { of, value: most }, Reply::Done);
-        }
-        for (at, byte) in bytes.iter().enumerate().take(self.bytes) {
-            let value = u64::from(*byte);
-            if is_written || value != most {
-                self.keep(Command::SetPayload { of, at, value }, Reply::Done);
-            }
-        }
-    }
-
-    /// Keeps that these bytes were read of a message that the command at the position received.
-    pub fn keep_reads(&mut self, of: usize, bytes: &[u8]) {
-        for (at, byte) in bytes.iter().enumerate().take(self.bytes) {
-            let value = Some(u64::from(*byte));
-            self.keep(Command::Read { of, at }, Reply::Cell(value));
-        }
+    // How many commands are kept, and so how many replies.
+    fn len(&self) -> usize
+        ensures commands { result ≡ length self.now.commands }
+        ensures replies { result ≡ length self.now.replies }
+    {
+        self.commands.len()
     }
 
     // Whether the next command is kept.
     fn has_room(&self) -> bool
-        ensures { result ≡ has_room self.now }
+        ensures { IsTrue result ↔ HasRoom self.now 1 }
     {
-        self.missed == 0
-            && self.commands.len() < self.commands.capacity()
-            && self.replies.len() < self.replies.capacity()
+        self.missed == 0 && self.commands.len() < self.commands.capacity()
     }
 
     /// How many commands weren't kept.

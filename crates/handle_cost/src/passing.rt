@@ -2,7 +2,7 @@
 ghost use Rattle.std.specs.Prelude.{IfOk, IfSome};
 ghost use Rattle.iox2_pubsub.specs.Live.{IsLivePublisher, IsLiveSample, IsLiveSubscriber, IsNewIn, IsWrittenLoan, Stays, StaysBut, received_sample, written_loan};
 ghost use Rattle.slice_passing.specs.Slices.{PassesSlices};
-ghost use Rattle.iox2_pubsub.specs.Handles.{as_publisher, as_sample, as_subscriber, as_written};
+ghost use Rattle.iox2_pubsub.specs.Handles.{as_publisher, as_subscriber, as_written};
 
 use iox2_pubsub::slice::{Publisher, Sample, SampleMut, Subscriber};
 use iox2_pubsub::{Domain, LoanError, ReceiveError};
@@ -58,8 +58,8 @@ fn receive(
     subscriber: &Subscriber,
 ) -> Result<Option<Sample>, ReceiveError>
     requires { IsLiveSubscriber domain.old (as_subscriber subscriber.now) }
-    ensures live { IfOk result (λ sample. IfSome sample (λ it. IsLiveSample domain.new (as_sample it))) }
-    ensures new { IfOk result (λ sample. IfSome sample (λ it. IsNewIn domain.old (received_sample (as_sample it)))) }
+    ensures live { IfOk result (λ sample. IfSome sample (λ it. IsLiveSample domain.new it)) }
+    ensures new { IfOk result (λ sample. IfSome sample (λ it. IsNewIn domain.old (received_sample it))) }
     ensures stays { Stays domain.old domain.new }
 {
     subscriber.receive(domain)
@@ -67,8 +67,8 @@ fn receive(
 
 #[inline(never)]
 fn release(domain: &mut Domain<u8, ()>, sample: Sample)
-    requires { IsLiveSample domain.old (as_sample sample) }
-    ensures { StaysBut (received_sample (as_sample sample)) domain.old domain.new }
+    requires { IsLiveSample domain.old sample }
+    ensures { StaysBut (received_sample sample) domain.old domain.new }
 {
     sample.release(domain);
 }

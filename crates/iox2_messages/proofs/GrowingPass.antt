@@ -248,11 +248,10 @@ module _ {T U : Type 0} (f mid : Fields T U) (sound : IsDomain f) (i : ℕ) (rea
       → ((x : PublisherFields) → get_or mid.publishers i None ≡ Some x → IsReady mid i x len f') → (x : PublisherFields) × (get_or f'.publishers i None ≡ Some x)
   stands-ready f' given then =
       let ready = then given.0 (stands-mid given.0 given.1) in
-      let counted : PublisherFields = record ready.lender { segments = ready.segments } in
-      (
+      let counted : PublisherFields = record ready.lender { segments = ready.segments } in (
         counted,
         ap (λ (h : Fields T U). get_or h.publishers i None) ready.counted
-        ∙ get_or-set_same (ready.uncounted).publishers i (Some counted) None (within_if_some (ready.uncounted).publishers i ready.lender ready.stands),
+            ∙ get_or-set_same (ready.uncounted).publishers i (Some counted) None (within_if_some (ready.uncounted).publishers i ready.lender ready.stands),
       )
 
 -- what a publisher whose memory grows readies is what any publisher may

@@ -244,10 +244,10 @@ module _ {T U : Type 0} (f : Fields T U) (sound : IsDomain f) (i : ℕ) (x : Pub
   keeps-lists = record {
     at = λ k cs there. elim (cases_eq k x.book) [
       | inl same ↦ (
-          g.contents,
-          ap (λ (j : ℕ). get_or f.contents j None) same ∙ g.had,
-          λ n all. subst (All (λ content. content.lists ≡ n)) (left-at k cs same there) ((g.clears).lists n all),
-        )
+        g.contents,
+        ap (λ (j : ℕ). get_or f.contents j None) same ∙ g.had,
+        λ n all. subst (All (λ content. content.lists ≡ n)) (left-at k cs same there) ((g.clears).lists n all),
+      )
       | inr away ↦ (cs, sym (others k away) ∙ there, λ n all. all)
     ];
   }

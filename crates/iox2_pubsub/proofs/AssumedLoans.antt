@@ -18,6 +18,7 @@ use Rattle.iox2_domain.specs.LoanCalls.{AssumesLoan}
 use Rattle.iox2_domain.specs.Reaches.{Reaches}
 use Rattle.iox2_domain.specs.Shows.{Shows}
 use Rattle.iox2_pubsub.specs.Live.{IsUnwritten, IsWritten, LoanReads, UnwrittenReads, A_loan, StaysBut, UpToDateStay, WaitingStays, lender_key, unwritten_key, written_key}
+use Rattle.iox2_pubsub.specs.BorrowsLeft.{BorrowsLeftStay}
 use Rattle.iox2_pubsub.specs.Leaves.{LeavesBut}
 use Rattle.iox2_pubsub.specs.LoanCalls.{BecomesWritten}
 use Rattle.iox2_pubsub.specs.Slices.{HasUnwrittenCells, HasValues}
@@ -31,6 +32,7 @@ use Rattle.iox2_pubsub.proofs.UpToDateShown.{set-leaves}
 use Rattle.iox2_pubsub.proofs.WaitingShown.{set-waits}
 use Rattle.iox2_pubsub.proofs.StaysBut.{same-boxes, unchanged-stays}
 use Rattle.iox2_pubsub.specs.LoansLeft.{LoansLeftStay}
+use Rattle.iox2_pubsub.proofs.BorrowsLeftShown.{set-borrows}
 use Rattle.iox2_pubsub.proofs.LoansLeftShown.{set-left}
 
 all-some : {T : Type 0} (values : List T) → list_all is_some (map Some values) ≡ true
@@ -108,6 +110,12 @@ module _ {T U F G : Type 0} {boxes : DomainBoxes F G} (f g : Fields T U) (sound 
         let step = taken-shown it.0 it.1 it.2 in
         set-left kept (keeping boxes g) it.0 it.0 it.1 (initialized it.1 n step.0) it.2 step.3 n (Some (record (step.0) { is_written = true })) refl
 
+    pub taken-borrows : BorrowsLeftStay kept (keeping boxes g)
+    taken-borrows =
+        let it = always-shown f kept sound view in
+        let step = taken-shown it.0 it.1 it.2 in
+        set-borrows kept (keeping boxes g) it.0 it.0 it.1 (initialized it.1 n step.0) it.2 step.3 n (Some (record (step.0) { is_written = true })) refl
+
     -- the same messages wait, and who was up to date is
     pub taken-waits : WaitingStays kept (keeping boxes g)
     taken-waits =
@@ -144,7 +152,7 @@ module _ {T U F G : Type 0} {boxes : DomainBoxes F G} (f g : Fields T U) (sound 
         lengths = λ cells values has reads. taken-lengths is cells values (subst (λ (k : ℕ). HasUnwrittenCells kept k cells) its has) (subst (λ (k : ℕ). HasValues (keeping boxes g) k values) its reads);
         header = change-header f g kept view n assumes.0 assumed assumes.1 (reaches is) (unwritten_key loan) (written_key written) its its refl;
         user_header = change-user-header f g kept view n assumes.0 assumed assumes.1 (reaches is) (unwritten_key loan) (written_key written) its its refl;
-        leaves = subst (λ (k : ℕ). LeavesBut (A_loan k) kept (keeping boxes g)) (sym its) (record { stays = stays; waits = taken-waits is; up_to_date = taken-leaves is; loans_left = taken-left is });
+        leaves = subst (λ (k : ℕ). LeavesBut (A_loan k) kept (keeping boxes g)) (sym its) (record { stays = stays; waits = taken-waits is; up_to_date = taken-leaves is; loans_left = taken-left is; borrows_left = taken-borrows is });
       }
 
   -- ---- it is handed back
@@ -169,6 +177,9 @@ module _ {T U F G : Type 0} {boxes : DomainBoxes F G} (f g : Fields T U) (sound 
 
     pub left-loans : LoansLeftStay kept (keeping boxes g)
     left-loans = subst (LoansLeftStay kept) (sym left-same) (record { loans = λ publisher more left. left; numbers = λ more left. left })
+
+    pub left-borrows : BorrowsLeftStay kept (keeping boxes g)
+    left-borrows = subst (BorrowsLeftStay kept) (sym left-same) (λ subscriber more left. left)
 
     pub left-leaves : UpToDateStay kept (keeping boxes g)
     left-leaves = subst (UpToDateStay kept) (sym left-same) (record { subscribers = λ subscriber is. is; connections = λ publisher subscriber is. is; room = λ subscriber closes has. has })

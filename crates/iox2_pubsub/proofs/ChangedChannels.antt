@@ -17,12 +17,14 @@ use Rattle.iox2_domain.specs.Reaches.{Reaches}
 use Rattle.iox2_domain.specs.Shows.{Shows}
 use Rattle.iox2_domain.proofs.lemmas.fields.ReachesShows.{reaches-shows-same}
 use Rattle.iox2_pubsub.specs.DepartedPorts.{HasRoom}
+use Rattle.iox2_pubsub.specs.BorrowsLeft.{BorrowsLeftStay}
 use Rattle.iox2_pubsub.specs.Leaves.{Leaves, LeavesButChannels}
 use Rattle.iox2_pubsub.specs.Live.{IsConnected, IsUpToDate, No_item, RoomStays, Stays, WaitingStays}
 use Rattle.iox2_pubsub.specs.LoansLeft.{LoansLeftStay}
 use Rattle.iox2_pubsub.specs.declared.subscriber.Subscriber.{Subscriber}
 use Rattle.iox2_pubsub.proofs.CallsStay.{always-shown}
 use Rattle.iox2_pubsub.proofs.OpenChannels.{still-connects}
+use Rattle.iox2_pubsub.proofs.BorrowsLeftShown.{unchanged-borrows}
 use Rattle.iox2_pubsub.proofs.LoansLeftShown.{all-left}
 use Rattle.iox2_pubsub.proofs.StaysBut.{BoxesStayBut, IsSpared, none-spared, ports-remain, stays-between}
 use Rattle.iox2_pubsub.proofs.UpToDateShown.{connected, connected-in, rooms-stay, up-to-date, up-to-date-in}
@@ -93,6 +95,11 @@ module _ {T U F G : Type 0} {boxes : DomainBoxes F G} (f : Fields T U) (old : Ke
         let kept = kept_itself s in
         all-left old new m m s (change s) shown now (subst (LoansKept s) (sym (only s)) (record { config = refl; numbers = refl; publishers = kept.publishers }))
 
+    -- and as many borrows
+    changed-borrows : BorrowsLeftStay old new
+    changed-borrows =
+        unchanged-borrows old new m m s (change s) shown now (ap (λ (t : State T U). t.config) (only s)) (ap (λ (t : State T U). t.next_port) (only s)) (ap (λ (t : State T U). t.mailboxes) (only s))
+
     -- who was connected is, where their channel stays open
     changed-connected : (p : ℕ) (subscriber : Subscriber)
         → (is_closed ((state_of old).channels p subscriber.id 0) ≡ false → is_closed ((change (state_of old)).channels p subscriber.id 0) ≡ false)
@@ -114,6 +121,7 @@ module _ {T U F G : Type 0} {boxes : DomainBoxes F G} (f : Fields T U) (old : Ke
       connections = λ p subscriber stays. changed-connected p subscriber (takes p subscriber stays (subst IsWellFormed shown.state shown.well_formed));
       room = changed-room;
       loans_left = changed-left;
+      borrows_left = changed-borrows;
     }
 
 -- all is left, where every channel stays open
@@ -128,4 +136,5 @@ open-leaves left stays-open = record {
     room = left.room;
   };
   loans_left = left.loans_left;
+  borrows_left = left.borrows_left;
 }

@@ -16,6 +16,7 @@ use Rattle.iox2_pubsub.proofs.ClosesShown.{subscriber-close-stays}
 use Rattle.iox2_pubsub.proofs.ClosesWait.{subscriber-close-leaves, subscriber-close-none, subscriber-close-others}
 use Rattle.iox2_pubsub.proofs.ConnectionsShown.{subscriber-close-connections}
 use Rattle.iox2_pubsub.proofs.DepartedShown.{subscriber-close-room}
+use Rattle.iox2_pubsub.proofs.BorrowsLeftShown.{subscriber-close-borrows}
 use Rattle.iox2_pubsub.proofs.LoansLeftShown.{subscriber-close-left as subscriber-close-loans}
 use Rattle.iox2_pubsub.proofs.StaysBut.{BoxesStayBut}
 
@@ -33,4 +34,5 @@ module _ {T U F G : Type 0} {boxes : DomainBoxes F G} (f : Fields T U) (old new 
         connections = subscriber-close-connections old new has.0 has.1 has.2 it.id (has.3).0 after;
         room = subscriber-close-room old new has.0 has.1 has.2 it.id (has.3).0 after (has.3).1;
         loans_left = subscriber-close-loans old new has.0 has.0 has.1 _ has.2 after it.id (has.3).0 refl;
+        borrows_left = subscriber-close-borrows old new has.0 has.0 has.1 _ has.2 after it.id (has.3).0 refl;
       }

@@ -12,6 +12,7 @@ use Rattle.iox2_pubsub.specs.Live.{IsLoanKey}
 use Rattle.iox2_pubsub.specs.LoanCalls.{IsDiscarded}
 use Rattle.iox2_pubsub.proofs.CallsStay.{loan-shown}
 use Rattle.iox2_pubsub.proofs.DiscardShows.{discard-shows, discard-stays, discard-spends}
+use Rattle.iox2_pubsub.proofs.BorrowsLeftShown.{discard-borrows}
 use Rattle.iox2_pubsub.proofs.LoansLeftShown.{discard-left, discard-gives}
 use Rattle.iox2_pubsub.proofs.StaysBut.{same-boxes}
 use Rattle.iox2_pubsub.proofs.UpToDateShown.{discard-leaves}
@@ -35,5 +36,6 @@ module _ {T U F G : Type 0} {boxes : DomainBoxes F G} (f g : Fields T U) (sound 
           waits = discard-waits kept new it.0 it.1 it.2 key.message l step;
           up_to_date = discard-leaves kept new it.0 it.1 it.2 key.message l step;
           loans_left = discard-left kept new it.0 it.0 it.1 _ it.2 step key.message l (it.3).1 refl;
+          borrows_left = discard-borrows kept new it.0 it.0 it.1 _ it.2 step key.message l refl;
         };
       }

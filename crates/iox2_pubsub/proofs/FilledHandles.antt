@@ -14,7 +14,7 @@ use Rattle.iox2_pubsub.specs.Slices.{HasValues}
 use Rattle.iox2_pubsub.specs.declared.sample_mut.SampleMut.{SampleMut}
 use Rattle.iox2_pubsub.specs.declared.sample_mut_uninit.SampleMutUninit.{SampleMutUninit}
 use Rattle.iox2_pubsub.proofs.FilledLengths.{filled-lengths}
-use Rattle.iox2_pubsub.proofs.FilledLoans.{filled-header, filled-leaves, filled-left, filled-live, filled-shown, filled-stays, filled-user-header, filled-values, filled-waits}
+use Rattle.iox2_pubsub.proofs.FilledLoans.{filled-header, filled-leaves, filled-left, filled-borrows, filled-live, filled-shown, filled-stays, filled-user-header, filled-values, filled-waits}
 
 -- What each function says that makes an unwritten loan a written one with these values, in the place of its own.
 pub record Filled {T U F G : Type 0} (old new : Kept T U F G) (loan : SampleMutUninit) (filled : SampleMut) (values : List T) : Type 0 where
@@ -30,6 +30,7 @@ module _ {T U F G : Type 0} {boxes : DomainBoxes F G} (f g : Fields T U) (sound 
     waits = filled-waits f g sound kept view loan.loan.number values writes;
     up_to_date = filled-leaves f g sound kept view loan.loan.number values writes;
     loans_left = filled-left f g sound kept view loan.loan.number values writes;
+    borrows_left = filled-borrows f g sound kept view loan.loan.number values writes;
   }
 
   pub was-filled : (at : LoanAt) → at ≡ loan.loan → Filled kept (keeping boxes g) loan (record { service_id = loan.service_id; loan = at }) values

@@ -12,6 +12,7 @@ use Rattle.iox2_domain.specs.Fields.{Fields, kept_of, keeping}
 use Rattle.iox2_domain.specs.Invariant.{IsDomain}
 use Rattle.iox2_domain.specs.LoanCalls.{WritesLoan}
 use Rattle.iox2_domain.specs.Shows.{Shows}
+use Rattle.iox2_pubsub.specs.BorrowsLeft.{BorrowsLeftStay}
 use Rattle.iox2_pubsub.specs.Live.{IsPlaced, IsUnwritten, IsWritten, LoanHasHeader, LoanHasUserHeader, A_loan, StaysBut, UpToDateStay, WaitingStays}
 use Rattle.iox2_pubsub.specs.LoansLeft.{LoansLeftStay}
 use Rattle.iox2_pubsub.specs.Slices.{HasValues}
@@ -20,6 +21,7 @@ use Rattle.iox2_pubsub.specs.declared.sample_mut_uninit.SampleMutUninit.{SampleM
 use Rattle.iox2_pubsub.proofs.CallsStay.{always-shown, change-stays}
 use Rattle.iox2_pubsub.proofs.LiveParts.{unwritten-parts}
 use Rattle.iox2_pubsub.proofs.LoanHandles.{change-header, change-shown, change-user-header, change-written, changed-out}
+use Rattle.iox2_pubsub.proofs.BorrowsLeftShown.{set-borrows}
 use Rattle.iox2_pubsub.proofs.LoansLeftShown.{set-left}
 use Rattle.iox2_pubsub.proofs.SliceParts.{has-values}
 use Rattle.iox2_pubsub.proofs.StaysBut.{same-boxes}
@@ -60,6 +62,12 @@ module _ {T U F G : Type 0} {boxes : DomainBoxes F G} (f g : Fields T U) (sound 
       let it = always-shown f kept sound view in
       let step = change-shown f g kept view n writes.0 filled writes.1 writes.3 it.0 it.1 it.2 in
       set-left kept (keeping boxes g) it.0 it.0 it.1 (with_loan it.1 n (Some filled)) it.2 step.1 n (Some filled) refl
+
+  pub filled-borrows : BorrowsLeftStay kept (keeping boxes g)
+  filled-borrows =
+      let it = always-shown f kept sound view in
+      let step = change-shown f g kept view n writes.0 filled writes.1 writes.3 it.0 it.1 it.2 in
+      set-borrows kept (keeping boxes g) it.0 it.0 it.1 (with_loan it.1 n (Some filled)) it.2 step.1 n (Some filled) refl
 
   -- the same messages wait, and who was up to date is
   pub filled-waits : WaitingStays kept (keeping boxes g)

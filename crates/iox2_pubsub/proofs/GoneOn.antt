@@ -7,6 +7,7 @@ use Rattle.iox2_machine.specs.declared.key.Key.{Key}
 use Rattle.iox2_domain.specs.Kept.{Kept}
 use Rattle.iox2_pubsub.specs.BlockedSends.{GoesOn, StaysSince}
 use Rattle.iox2_pubsub.specs.Live.{AddAtMost, IsBlockedSend, IsUnblocked, NeverFails, StaysBut, UpToDateStay, blocked_key, blocked_send, lender_key, written_key}
+use Rattle.iox2_pubsub.specs.BorrowsLeft.{BorrowsLeftStay}
 use Rattle.iox2_pubsub.specs.LoansLeft.{HasOneMoreLeft, LoansLeftStay}
 use Rattle.iox2_pubsub.specs.SendCalls.{IfBlocked, IsDelivered}
 use Rattle.iox2_pubsub.specs.declared.blocked_send.BlockedSend.{BlockedSend}
@@ -26,6 +27,7 @@ module _ {T U F G : Type 0} (kept new : Kept T U F G) (waited : BlockedSend) (ou
     pub adds : AddAtMost 1 kept new
     pub up_to_date : UpToDateStay kept new
     pub loans_left : LoansLeftStay kept new
+    pub borrows_left : BorrowsLeftStay kept new
     pub given_back : IfOk outcome IsDelivered → HasOneMoreLeft waited.loan.publisher kept new
 
   stays-since : WentOn → IfOk outcome IsDelivered → StaysSince waited kept new
@@ -43,6 +45,7 @@ module _ {T U F G : Type 0} (kept new : Kept T U F G) (waited : BlockedSend) (ou
     adds = went.adds;
     up_to_date = went.up_to_date;
     loans_left = went.loans_left;
+    borrows_left = went.borrows_left;
     given_back = went.given_back;
     stays = went.stays;
     stays_since = stays-since went;

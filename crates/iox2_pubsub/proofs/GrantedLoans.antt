@@ -23,6 +23,7 @@ use Rattle.iox2_pubsub.specs.declared.publisher.Publisher.{Publisher}
 use Rattle.iox2_pubsub.specs.declared.sample_mut_uninit.SampleMutUninit.{SampleMutUninit}
 use Rattle.iox2_pubsub.proofs.CallsStay.{always-shown, loan-is-new, loan-stays}
 use Rattle.iox2_pubsub.proofs.LiveParts.{never-waits-alike, publisher-parts, unblocked-alike}
+use Rattle.iox2_pubsub.proofs.BorrowsLeftShown.{loan-borrows}
 use Rattle.iox2_pubsub.proofs.LoansLeftShown.{loan-takes, refused-left}
 use Rattle.iox2_pubsub.proofs.PlacedHandles.{StandsAtPlace, publisher-at-place}
 use Rattle.iox2_pubsub.proofs.StaysBut.{same-boxes}
@@ -59,6 +60,7 @@ module _ {T U F G : Type 0} {boxes : DomainBoxes F G} (is_default : U → Type 0
           waits = loan-waits kept new it.0 it.0 it.1 now.0 it.2 now.1 (λ n entry at. at) {A = A} is_default checks len publisher.id how now.2;
           up_to_date = loan-leaves kept new it.0 it.0 it.1 now.0 it.2 now.1 {A = A} is_default checks len publisher.id how now.2;
           loans_left = loan-takes kept new it.0 it.0 it.1 now.0 it.2 now.1 {A = A} is_default checks len publisher how now.2;
+          borrows_left = loan-borrows kept new it.0 it.0 it.1 now.0 it.2 now.1 {A = A} is_default checks len publisher how now.2;
         }
 
     pub call-refused : OnErr how (LoansLeftStay kept (keeping boxes mid))

@@ -1,9 +1,9 @@
 -- What a receive and a question leave of what waits for a subscriber whose update loses nothing, and a send of what waits from others.
-use Rattle.std.proofs.Common.{◌≡◌, ℕ, suc, true, length, refl, sym, ap, subst, ◌∙◌, Option, None, Some, Result, ◌⊎◌, inl, inr, ⊎_elim}
+use Rattle.std.proofs.Common.{◌≡◌, ℕ, suc, true, length, refl, sym, ap, subst, ◌∙◌, Option, None, Some, Result, Ok, Err, ◌⊎◌, inl, inr, ⊎_elim}
 use mathlib.Core.Path.{fun_ext}
 use Rattle.std.specs.Prelude.{◌≢◌}
 use Rattle.std.proofs.lemmas.Bool.{true≢false, ne_eqb}
-use Rattle.std.proofs.lemmas.Option.{same_Some}
+use Rattle.std.proofs.lemmas.Option.{none-some, same_Some}
 use Rattle.iox2_machine.specs.machine.Mailbox.{Mailbox}
 use Rattle.iox2_machine.specs.machine.Numbers.{put_at}
 use Rattle.iox2_machine.specs.machine.Receives.{Got_sample, No_sample, Receive_error, Receive}
@@ -13,6 +13,8 @@ use Rattle.iox2_machine.specs.machine.SubscriberUpdate.{UpdateSubscriber}
 use Rattle.iox2_machine.specs.machine.Waiting.{waiting_from}
 use Rattle.iox2_machine.specs.machine.WellFormed.{IsWellFormed}
 use Rattle.iox2_machine.specs.declared.errors.ConnectionFailure.{ConnectionFailure}
+use Rattle.iox2_machine.specs.declared.errors.ReceiveError.{ReceiveError}
+use Rattle.iox2_machine.specs.declared.errors.ReceiveError.TheVariants.{ExceedsMaxBorrows}
 use Rattle.iox2_machine.specs.declared.errors.SendError.{SendError}
 use Rattle.iox2_domain.specs.Kept.{Kept}
 use Rattle.iox2_domain.specs.Shows.{Shows}
@@ -25,7 +27,9 @@ use Rattle.iox2_laws.proofs.WaitingCounts.{SameWaits, same_count, same_from, sam
 use Rattle.iox2_laws.proofs.WaitingReceives.{receive_none, take_waits}
 use Rattle.iox2_pubsub.specs.DepartedPorts.{HasRoom}
 use Rattle.iox2_pubsub.specs.Live.{IsLiveSubscriber, KeepsAll, OthersSend, WaitingStays, payloads_from, waiting}
+use Rattle.iox2_pubsub.specs.ReceivedSamples.{OnNoSample, received_result}
 use Rattle.iox2_pubsub.specs.SendCalls.{Sends, messages_after, result_of_send}
+use Rattle.iox2_pubsub.specs.Sample.{Sample}
 use Rattle.iox2_pubsub.specs.declared.send_outcome.SendOutcome.{SendOutcome}
 use Rattle.iox2_pubsub.specs.declared.subscriber.Subscriber.{Subscriber}
 use Rattle.iox2_pubsub.proofs.ConnectedCounts.{send-others}
@@ -61,6 +65,33 @@ module _ {T U : Type 0} (environment : Environment) (s : State T U) (q : ℕ) wh
       (λ _ k. by_option (waiting_for s q ≡ 0) ((h.0).subscribers q) _ _ k (λ _ v. absurd v) (λ z _ k.
       sym (same-for h.0 (keeps h.0 h.1 h.2)) ∙ ap (λ (t : State T U). waiting_for t q) (sym k.1) ∙ receive_none environment s q s' h))
       (λ e _ k. let clash : No_sample ≡ Receive_error _ = k.1 in absurd cc)
+
+  -- nor does anything move where nothing was received, or the receive failed
+  kept-all : Keeps → (s' : State T U) → Receive environment s q s' No_sample → SameWaits s s'
+  kept-all keeps s' h =
+      by_option (SameWaits s s') h.1 _ _ h.3
+      (λ _ k. by_option (SameWaits s s') ((h.0).subscribers q) _ _ k (λ _ v. absurd v) (λ z _ k. subst (SameWaits s) (sym k.1) (keeps h.0 h.1 h.2)))
+      (λ e _ k. let clash : No_sample ≡ Receive_error _ = k.1 in absurd cc)
+
+  kept-failed : Keeps → (s' : State T U) (e : ReceiveError) → Receive environment s q s' (Receive_error e) → SameWaits s s'
+  kept-failed keeps s' e h =
+      by_option (SameWaits s s') h.1 _ _ h.3
+      (λ _ k. by_option (SameWaits s s') ((h.0).subscribers q) _ _ k (λ _ v. absurd v) (λ z _ k. subst (SameWaits s) (sym k.3) (keeps h.0 h.1 h.2)))
+      (λ _ _ k. subst (SameWaits s) (sym k.0) (keeps h.0 h.1 h.2))
+
+  -- where there is nothing to update, a receive fails at the limit of borrows alone
+  no-failure : IsUpdated s q → (t : State T U) (failure : Option ConnectionFailure) → UpdateSubscriber environment s q t failure → failure ≡ None
+  no-failure is t failure h =
+      by_option (failure ≡ None) (s.subscribers q) _ _ h (λ _ v. absurd v) (λ y present h.
+      by_bool (failure ≡ None) y.is_due _ _ h
+      (λ due h. absurd (true≢false (sym due ∙ ap (λ (z : MachineSubscriber). z.is_due) (same_Some y is.0 (sym present ∙ is.1)) ∙ is.3)))
+      (λ _ h. h.1))
+
+  pub updated-unfailed : IsUpdated s q → (s' : State T U) (e : ReceiveError) → Receive environment s q s' (Receive_error e) → e ≡ ExceedsMaxBorrows
+  updated-unfailed is s' e h =
+      by_option (e ≡ ExceedsMaxBorrows) h.1 _ _ h.3
+      (λ _ k. by_option (e ≡ ExceedsMaxBorrows) ((h.0).subscribers q) _ _ k (λ _ v. absurd v) (λ z _ k. k.0))
+      (λ f failed _. absurd (none-some f (sym (no-failure is h.0 h.1 h.2) ∙ failed)))
 
   -- what waits from others than the publisher of what was received waits still
   kept-others : Keeps → (p n : ℕ) (s' : State T U) → Receive environment s q s' (Got_sample p n) → (i : ℕ) → i ≢ p → waiting_from s' i q ≡ waiting_from s i q
@@ -103,6 +134,13 @@ module _ {T U F G : Type 0} (old new : Kept T U F G) (m m' : Messages T U) (s s'
   pub others-wait-still : ((n : ℕ) (entry : Entry T U) → m n ≡ Some entry → m' n ≡ Some entry) → (p n : ℕ) → Receive environment s subscriber.id s' (Got_sample p n)
       → (other : ℕ) → other ≢ p → payloads_from new other subscriber ≡ payloads_from old other subscriber
   others-wait-still sent p n h other away = payloads-stay-from old new m m' s s' shown shown' sent other subscriber (kept-others environment s subscriber.id keeps p n s' h other away)
+
+  -- a receive that gives nothing loses nothing
+  pub nothing-moves : ((n : ℕ) (entry : Entry T U) → m n ≡ Some entry → m' n ≡ Some entry) → (result : Result (Option Sample) ReceiveError)
+      → Receive environment s subscriber.id s' (received_result result) → OnNoSample result (WaitingStays old new)
+  nothing-moves sent (Ok None) h = payloads-stay old new m m' s s' shown shown' sent (kept-all environment s subscriber.id keeps s' h)
+  nothing-moves sent (Ok (Some it)) h = tt
+  nothing-moves sent (Err e) h = payloads-stay old new m m' s s' shown shown' sent (kept-failed environment s subscriber.id keeps s' e h)
 
   -- a question loses nothing
   pub question-waits : ((n : ℕ) (entry : Entry T U) → m n ≡ Some entry → m' n ≡ Some entry) → (failure : Option ConnectionFailure) → UpdateSubscriber environment s subscriber.id s' failure

@@ -34,6 +34,7 @@ use Rattle.iox2_pubsub.proofs.SliceParts.{cells-parts, has-cells, has-values, va
 use Rattle.iox2_pubsub.proofs.StaysBut.{BoxesStayBut, same-boxes}
 use Rattle.iox2_pubsub.proofs.UpToDateShown.{set-leaves}
 use Rattle.iox2_pubsub.proofs.WaitingShown.{set-waits}
+use Rattle.iox2_pubsub.proofs.BorrowsLeftShown.{set-borrows}
 use Rattle.iox2_pubsub.proofs.LoansLeftShown.{set-left}
 
 -- ---- the words
@@ -157,6 +158,7 @@ module _ {T U F G : Type 0} {boxes : DomainBoxes F G} (f g : Fields T U) (sound 
         waits = set-waits kept after it.0 it.1 it.2 n (Some (h step.0)) step.2;
         up_to_date = set-leaves kept after it.0 it.1 it.2 n (Some (h step.0)) step.2;
         loans_left = set-left kept after it.0 it.0 it.1 (with_loan it.1 n (Some (h step.0))) it.2 step.2 n (Some (h step.0)) refl;
+        borrows_left = set-borrows kept after it.0 it.0 it.1 (with_loan it.1 n (Some (h step.0))) it.2 step.2 n (Some (h step.0)) refl;
       } in
       record {
         is = lent-is;

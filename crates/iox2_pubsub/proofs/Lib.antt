@@ -74,6 +74,9 @@ mod PublishersMade
 pub mod ClosesWait
 pub mod DepartedShown
 pub mod LoansLeftShown
+mod BorrowsKept
+pub mod RoomySends
+pub mod BorrowsLeftShown
 mod AtOnce
 pub mod SureLoans
 pub mod KeptCounts

@@ -20,6 +20,7 @@ use Rattle.iox2_domain.specs.declared.loan_slots.LoanAt.{LoanAt}
 use Rattle.iox2_domain.specs.LoanSlots.{LiesInSlot}
 use Rattle.iox2_domain.proofs.lemmas.fields.SingleSettings.{dynamic-several}
 use Rattle.iox2_pubsub.specs.GrantedLoans.{IsLentWritten, IsReadyForSlices}
+use Rattle.iox2_pubsub.specs.BorrowsLeft.{BorrowsLeftStay}
 use Rattle.iox2_pubsub.specs.Leaves.{LeavesLending}
 use Rattle.iox2_pubsub.specs.Live.{A_loan, IsNewIn, IsUnwritten, IsWritten, Stays, UpToDateStay, WaitingStays, publisher_key, written_key}
 use Rattle.iox2_pubsub.specs.LoansLeft.{HasLoansLeft, HasNumbersLeft, LoansLeftStay, TakesOneLeft}
@@ -29,7 +30,7 @@ use Rattle.iox2_pubsub.specs.declared.publisher.Publisher.{Publisher}
 use Rattle.iox2_pubsub.specs.declared.sample_mut.SampleMut.{SampleMut}
 use Rattle.iox2_pubsub.specs.declared.sample_mut_uninit.SampleMutUninit.{SampleMutUninit}
 use Rattle.iox2_pubsub.proofs.FilledLengths.{filled-lengths}
-use Rattle.iox2_pubsub.proofs.FilledLoans.{filled-leaves, filled-left, filled-live, filled-shown, filled-stays, filled-values, filled-waits}
+use Rattle.iox2_pubsub.proofs.FilledLoans.{filled-leaves, filled-left, filled-borrows, filled-live, filled-shown, filled-stays, filled-values, filled-waits}
 use Rattle.iox2_pubsub.proofs.GrantedLoans.{call-leaves, call-refused, granted-leaves, granted-live, granted-new, granted-publisher, is-lent, next}
 use Rattle.iox2_pubsub.proofs.LiveParts.{never-waits-alike}
 use Rattle.iox2_pubsub.proofs.LoanHandles.{unwritten-out}
@@ -177,6 +178,10 @@ module _ {T U F G : Type 0} {boxes : DomainBoxes F G} (is_default : U → Type 0
             numbers = λ n left. later.numbers n (lent.loans_left.numbers n left);
           }
 
+      filled-lends-none : BorrowsLeftStay kept (keeping boxes new)
+      filled-lends-none subscriber n left =
+          filled-borrows mid new granted-sound (keeping boxes mid) refl loan.number values writes subscriber n (lent.borrows_left subscriber n left)
+
       -- its handle
       module _ (handle : SampleMut) (same : handle ≡ record { service_id = publisher.service_id; loan = loan }) where
         filled-out : IsWritten (keeping boxes new) handle
@@ -217,5 +222,5 @@ module _ {T U F G : Type 0} {boxes : DomainBoxes F G} (is_default : U → Type 0
           loan = filled-lent;
           size = filled-length;
           reads = filled-reads;
-          leaves = record { stays = filled-since; waits = filled-waiting; up_to_date = filled-updated; loans_left = filled-takes };
+          leaves = record { stays = filled-since; waits = filled-waiting; up_to_date = filled-updated; loans_left = filled-takes; borrows_left = filled-lends-none };
         }

@@ -18,7 +18,7 @@ use Rattle.iox2_pubsub.specs.Live.{AllFrom, AreAllSlices, HasItsBuffer, IsServed
 use Rattle.iox2_pubsub.specs.Payloads.{payload_of}
 use Rattle.iox2_pubsub.specs.SendCalls.{IsDelivered}
 use Rattle.iox2_pubsub.specs.Slices.{SampleHasValues}
-use Rattle.iox2_pubsub.specs.declared.sample.Sample.{Sample}
+use Rattle.iox2_pubsub.specs.Sample.{Sample}
 use Rattle.iox2_pubsub.specs.declared.send_outcome.SendOutcome.{SendOutcome}
 use Rattle.iox2_pubsub.specs.declared.subscriber.Subscriber.{Subscriber}
 use Rattle.iox2_pubsub.proofs.PayloadLists.{length-all_below, none_below, only_below, two_parts}

@@ -26,6 +26,7 @@ use Rattle.iox2_pubsub.specs.declared.subscriber.Subscriber.{Subscriber}
 use Rattle.iox2_pubsub.proofs.CallsStay.{always-shown, apart-from-next, publisher-creation-stays, publisher-is-new}
 use Rattle.iox2_pubsub.proofs.ConnectionsShown.{made-connections, made-connects}
 use Rattle.iox2_pubsub.proofs.DepartedShown.{publisher-creation-room}
+use Rattle.iox2_pubsub.proofs.BorrowsLeftShown.{publisher-creation-borrows}
 use Rattle.iox2_pubsub.proofs.LoansLeftShown.{created-grows, created-left, publisher-creation-left}
 use Rattle.iox2_pubsub.proofs.NextPorts.{next-sender-takes}
 use Rattle.iox2_pubsub.proofs.PublishersShown.{created-never-fails, created-never-waits, created-overflows, created-ready, created-shows}
@@ -60,6 +61,7 @@ module _ {T U F G : Type 0} {boxes : DomainBoxes F G} {publishers : List (PortBo
           connections = made-connections kept new it.0 it.0 it.1 t it.2 next.0 environment given refusal next.1;
           room = publisher-creation-room kept new it.0 it.0 it.1 t it.2 next.0 environment given refusal next.1;
           loans_left = publisher-creation-left kept new it.0 it.0 it.1 t it.2 next.0 environment given refusal next.1;
+          borrows_left = publisher-creation-borrows kept new it.0 it.0 it.1 t it.2 next.0 environment given refusal next.1;
         }
 
     -- where none was made, the same ones wait

@@ -12,6 +12,7 @@ use Rattle.iox2_domain.specs.Ports.{PublisherFields}
 use Rattle.iox2_domain.specs.Shows.{Shows}
 use Rattle.iox2_domain.proofs.lemmas.fields.ConnectionEnds.{free-of}
 use Rattle.iox2_pubsub.specs.Live.{HasRoomFor, IsConnected, IsPublisherKey, IsReadyPublisher, IsUpToDate, StaysBut, payloads_from, publisher_key, publisher_port, waiting}
+use Rattle.iox2_pubsub.specs.BorrowsLeft.{BorrowsLeftStay}
 use Rattle.iox2_pubsub.specs.LoansLeft.{NumbersLeftStay, OthersLoansLeftStay}
 use Rattle.iox2_pubsub.specs.declared.publisher.Publisher.{Publisher}
 use Rattle.iox2_pubsub.specs.declared.subscriber.Subscriber.{Subscriber}
@@ -21,6 +22,7 @@ use Rattle.iox2_pubsub.proofs.ClosesWait.{publisher-close-no-fewer}
 use Rattle.iox2_pubsub.proofs.ConnectionsShown.{publisher-close-connections, publisher-close-keeps}
 use Rattle.iox2_pubsub.proofs.DepartedShown.{publisher-close-room}
 use Rattle.iox2_pubsub.proofs.LiveParts.{unblocked-test}
+use Rattle.iox2_pubsub.proofs.BorrowsLeftShown.{publisher-close-borrows}
 use Rattle.iox2_pubsub.proofs.LoansLeftShown.{publisher-close-numbers, publisher-close-others}
 use Rattle.iox2_pubsub.proofs.PlacedHandles.{StandsAtPlace, publisher-at-place}
 use Rattle.iox2_pubsub.proofs.StaysBut.{BoxesStayBut}
@@ -35,6 +37,7 @@ pub record Closed {T U F G : Type 0} (publisher : Publisher) (old new : Kept T U
   pub room : (subscriber : Subscriber) (closes : ℕ) → HasRoomFor old subscriber (suc closes) → HasRoomFor new subscriber closes
   pub loans_left : OthersLoansLeftStay publisher old new
   pub numbers_left : NumbersLeftStay old new
+  pub borrows_left : BorrowsLeftStay old new
   pub stays : BoxesStayBut (publisher_port publisher) old new → StaysBut (publisher_port publisher) old new
 
 module _ {T U F G : Type 0} {boxes : DomainBoxes F G} (f : Fields T U) (sound : IsDomain f) (kept : Kept T U F G) (view : keeping boxes f ≡ kept) (publisher : Publisher) (ready : IsReadyPublisher kept publisher) where
@@ -70,5 +73,6 @@ module _ {T U F G : Type 0} {boxes : DomainBoxes F G} (f : Fields T U) (sound : 
           room = publisher-close-room kept new it.0 it.1 it.2 publisher.id x step;
           loans_left = publisher-close-others kept new it.0 it.0 it.1 (publisher_closed it.1 publisher.id x) it.2 step publisher x refl;
           numbers_left = publisher-close-numbers kept new it.0 it.0 it.1 (publisher_closed it.1 publisher.id x) it.2 step publisher.id x refl;
+          borrows_left = publisher-close-borrows kept new it.0 it.0 it.1 (publisher_closed it.1 publisher.id x) it.2 step publisher.id x refl;
           stays = publisher-close-stays kept new it.0 it.1 it.2 publisher.id x step;
         }

@@ -13,7 +13,7 @@ use Rattle.iox2_pubsub.specs.Live.{IsPlaced, IsLiveSubscriber, IsLiveSample, IsF
 use Rattle.iox2_pubsub.specs.ReceivedSamples.{received_result}
 use Rattle.iox2_pubsub.specs.declared.subscriber.Subscriber.{Subscriber}
 use Rattle.iox2_pubsub.proofs.LiveParts.{subscriber-parts, sample-live, origin-live}
-use Rattle.iox2_pubsub.specs.declared.sample.Sample.{Sample}
+use Rattle.iox2_pubsub.specs.Sample.{Sample}
 use Rattle.iox2_domain.specs.Shows.{Shows}
 use Rattle.iox2_domain.specs.Kept.{Kept, state_of}
 use Rattle.iox2_domain.specs.Boxes.{DomainBoxes}

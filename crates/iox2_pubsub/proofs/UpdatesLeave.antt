@@ -16,10 +16,12 @@ use Rattle.iox2_domain.specs.Invariant.{IsDomain}
 use Rattle.iox2_domain.specs.Kept.{Kept}
 use Rattle.iox2_domain.specs.Questions.{IsAnswer}
 use Rattle.iox2_domain.specs.Shows.{Shows}
+use Rattle.iox2_pubsub.specs.BorrowsLeft.{BorrowsLeftStay}
 use Rattle.iox2_pubsub.specs.Leaves.{LeavesAdding, LeavesButWaiting}
 use Rattle.iox2_pubsub.specs.Live.{IsLiveSubscriber, IsUpToDate, No_item}
 use Rattle.iox2_pubsub.specs.declared.subscriber.Subscriber.{Subscriber}
 use Rattle.iox2_pubsub.proofs.CallsStay.{always-shown, receive-stays}
+use Rattle.iox2_pubsub.proofs.BorrowsLeftShown.{update-publisher-borrows, update-subscriber-borrows}
 use Rattle.iox2_pubsub.proofs.LoansLeftShown.{receive-left, update-publisher-left, update-subscriber-left}
 use Rattle.iox2_pubsub.proofs.QuestionShown.{answered}
 use Rattle.iox2_pubsub.proofs.StaysBut.{BoxesStayBut, IsSpared}
@@ -40,6 +42,7 @@ module _ {T U F G : Type 0} {boxes : DomainBoxes F G} (f : Fields T U) (old new 
         adds = publisher-update-adds old new it.0 it.0 it.1 step.0 it.2 step.1 environment p failure step.2;
         up_to_date = publisher-update-leaves old new it.0 it.0 it.1 step.0 it.2 step.1 environment p failure step.2;
         loans_left = update-publisher-left old new it.0 it.0 it.1 step.0 it.2 step.1 environment p failure step.2;
+        borrows_left = update-publisher-borrows old new it.0 it.0 it.1 step.0 it.2 step.1 environment p failure step.2;
       }
 
   module _ (subscriber : Subscriber) where
@@ -67,6 +70,7 @@ module _ {T U F G : Type 0} {boxes : DomainBoxes F G} (f : Fields T U) (old new 
           adds = subscriber-update-adds old new it.0 it.0 it.1 step.0 it.2 step.1 environment subscriber.id failure step.2;
           up_to_date = left.up_to_date;
           loans_left = left.loans_left;
+          borrows_left = update-subscriber-borrows old new it.0 it.0 it.1 step.0 it.2 step.1 environment subscriber.id failure step.2;
         }
 
     -- a question
@@ -77,6 +81,15 @@ module _ {T U F G : Type 0} {boxes : DomainBoxes F G} (f : Fields T U) (old new 
         let step = answers it.0 it.1 it.2 in
         let has = answered environment it.1 subscriber.id result step.0 step.2 in
         update-step-left it.0 it.1 step.0 it.2 step.1 has.0 (has.2).0
+
+    -- it borrows nothing
+    pub question-borrows : (result : Result Bool ConnectionFailure)
+        → ((m : Messages T U) (s : State T U) → Shows old m s → (s' : State T U) × Shows new m s' × IsAnswer environment s subscriber.id result s') → BorrowsLeftStay old new
+    question-borrows result answers =
+        let it = always-shown f old sound view in
+        let step = answers it.0 it.1 it.2 in
+        let has = answered environment it.1 subscriber.id result step.0 step.2 in
+        update-subscriber-borrows old new it.0 it.0 it.1 step.0 it.2 step.1 environment subscriber.id has.0 (has.2).0
 
     -- after an answer the subscriber is up to date
     pub question-updated : IsLiveSubscriber old subscriber → (result : Result Bool ConnectionFailure)

@@ -40,7 +40,7 @@ use Rattle.iox2_laws.proofs.WaitingSends.{update_publisher_waits, send_waits, se
 use Rattle.iox2_pubsub.specs.Live.{IsLiveSubscriber, AddAtMost, AreAllSlices, OthersWait, TakesOldest, WaitingStays, payloads, payloads_from, waiting, sample_key, subscriber_key, IsSubscriberKey}
 use Rattle.iox2_pubsub.specs.Slices.{HasValues, SampleHasValues}
 use Rattle.iox2_pubsub.specs.Payloads.{all_below, payload_of, payloads_for}
-use Rattle.iox2_pubsub.specs.declared.sample.Sample.{Sample}
+use Rattle.iox2_pubsub.specs.Sample.{Sample}
 use Rattle.iox2_pubsub.specs.declared.subscriber.Subscriber.{Subscriber}
 use Rattle.iox2_pubsub.proofs.LiveParts.{subscriber-parts}
 use Rattle.iox2_pubsub.proofs.SliceParts.{sample-values, values-parts}

@@ -9,6 +9,7 @@ use Rattle.iox2_machine.specs.declared.errors.SendError.TheVariants.{UnableToDel
 use Rattle.iox2_domain.specs.Kept.{Kept, state_of}
 use Rattle.iox2_pubsub.specs.Handles.{blocked_sender, written_lender}
 use Rattle.iox2_pubsub.specs.Live.{AddAtMost, IsBlockedSend, IsUnblocked, NeverFails, Stays, StaysBut, UpToDateStay, blocked_key, blocked_send, lender_key, written_key}
+use Rattle.iox2_pubsub.specs.BorrowsLeft.{BorrowsLeftStay}
 use Rattle.iox2_pubsub.specs.LoansLeft.{HasOneMoreLeft, LoansLeftStay}
 use Rattle.iox2_pubsub.specs.SendCalls.{IfBlocked, IsDelivered}
 use Rattle.iox2_pubsub.specs.declared.blocked_send.BlockedSend.{BlockedSend}
@@ -44,6 +45,7 @@ module _ {T U F G : Type 0} where
     pub adds : AddAtMost 1 old new
     pub up_to_date : UpToDateStay old new
     pub loans_left : LoansLeftStay old new
+    pub borrows_left : BorrowsLeftStay old new
     pub given_back : IfOk result IsDelivered → HasOneMoreLeft (blocked_sender waited) old new
     pub stays : StaysBut (blocked_send waited) old new
     pub stays_since : IfOk result IsDelivered → StaysSince waited old new

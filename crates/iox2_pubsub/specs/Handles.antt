@@ -6,12 +6,11 @@ use Rattle.iox2_pubsub.specs.declared.publisher.Publisher.{Publisher}
 use Rattle.iox2_pubsub.specs.declared.subscriber.Subscriber.{Subscriber}
 use Rattle.iox2_pubsub.specs.declared.sample_mut_uninit.SampleMutUninit.{SampleMutUninit}
 use Rattle.iox2_pubsub.specs.declared.sample_mut.SampleMut.{SampleMut}
-use Rattle.iox2_pubsub.specs.declared.sample.Sample.{Sample}
+use Rattle.iox2_pubsub.specs.Sample.{Sample}
 use Rattle.iox2_pubsub.specs.declared.slice.publisher.Publisher.{Publisher as SlicePublisher}
 use Rattle.iox2_pubsub.specs.declared.slice.subscriber.Subscriber.{Subscriber as SliceSubscriber}
 use Rattle.iox2_pubsub.specs.declared.slice.sample_mut_uninit.SampleMutUninit.{SampleMutUninit as SliceUninit}
 use Rattle.iox2_pubsub.specs.declared.slice.sample_mut.SampleMut.{SampleMut as SliceMut}
-use Rattle.iox2_pubsub.specs.declared.slice.sample.Sample.{Sample as SliceSample}
 
 -- ---- ports
 
@@ -88,7 +87,3 @@ as_unwritten loan = loan.sample
 -- The same loan, written.
 abbrev pub as_written : SliceMut → SampleMut
 as_written loan = loan.sample
-
--- The same sample.
-abbrev pub as_sample : SliceSample → Sample
-as_sample sample = sample.sample

@@ -3,17 +3,19 @@ use Rattle.iox2_domain.specs.Kept.{Kept}
 use Rattle.std.specs.Prelude.{ℕ, ◌≡◌, ◌≢◌, ◌≤◌, true, false}
 use Rattle.iox2_machine.specs.machine.Channel.{Channel, is_closed, is_in_state}
 use Rattle.iox2_pubsub.specs.Live.{AddAtMost, ConnectionsStay, IsConnected, IsUpToDate, Item, No_item, OthersStayUpToDate, OthersWait, RoomStays, Stays, StaysBut, UpToDateStay, WaitingStays, subscriber_port, waiting}
+use Rattle.iox2_pubsub.specs.BorrowsLeft.{BorrowsLeftStay}
 use Rattle.iox2_pubsub.specs.LoansLeft.{LoansLeftStay, TakesOneLeft}
 use Rattle.iox2_pubsub.specs.declared.publisher.Publisher.{Publisher}
 use Rattle.iox2_pubsub.specs.declared.subscriber.Subscriber.{Subscriber}
 
 -- The call leaves all as it was, except this item. All else that is live stays so, the same messages wait, a port that
--- was up to date and connected still is, and as many loans and numbers are left.
+-- was up to date and connected still is, and as many loans, numbers and borrows are left.
 pub record LeavesBut {T U F G : Type 0} (item : Item) (old new : Kept T U F G) : Type 0 where
   pub stays : StaysBut item old new
   pub waits : WaitingStays old new
   pub up_to_date : UpToDateStay old new
   pub loans_left : LoansLeftStay old new
+  pub borrows_left : BorrowsLeftStay old new
 
 -- The call leaves all as it was, and spends nothing.
 abbrev pub Leaves : {T U F G : Type 0} → (old new : Kept T U F G) → Type 0
@@ -33,6 +35,7 @@ pub record LeavesLending {T U F G : Type 0} (publisher : Publisher) (old new : K
   pub waits : WaitingStays old new
   pub up_to_date : UpToDateStay old new
   pub loans_left : TakesOneLeft publisher old new
+  pub borrows_left : BorrowsLeftStay old new
 
 -- The call leaves all as it was, except that it adds at most that many messages to what waits for each subscriber.
 pub record LeavesAdding {T U F G : Type 0} (more : ℕ) (old new : Kept T U F G) : Type 0 where
@@ -40,6 +43,7 @@ pub record LeavesAdding {T U F G : Type 0} (more : ℕ) (old new : Kept T U F G)
   pub adds : AddAtMost more old new
   pub up_to_date : UpToDateStay old new
   pub loans_left : LoansLeftStay old new
+  pub borrows_left : BorrowsLeftStay old new
 
 -- The call leaves all as it was, except that more messages may wait, and a port that was up to date may be due.
 pub record LeavesNoFewer {T U F G : Type 0} (old new : Kept T U F G) : Type 0 where
@@ -48,6 +52,7 @@ pub record LeavesNoFewer {T U F G : Type 0} (old new : Kept T U F G) : Type 0 wh
   pub connections : ConnectionsStay old new
   pub room : RoomStays old new
   pub loans_left : LoansLeftStay old new
+  pub borrows_left : BorrowsLeftStay old new
 
 -- The call leaves all as it was, but this subscriber, for which nothing waits afterwards.
 pub record LeavesWithout {T U F G : Type 0} (subscriber : Subscriber) (old new : Kept T U F G) : Type 0 where
@@ -58,6 +63,7 @@ pub record LeavesWithout {T U F G : Type 0} (subscriber : Subscriber) (old new :
   pub connections : (publisher : ℕ) (other : Subscriber) → other.id ≢ subscriber.id → IsConnected old publisher other → IsConnected new publisher other
   pub room : RoomStays old new
   pub loans_left : LoansLeftStay old new
+  pub borrows_left : BorrowsLeftStay old new
 
 -- The call leaves all as it was, except channels: a publisher and a subscriber that were connected are, if their
 -- channel stays open.
@@ -69,6 +75,7 @@ pub record LeavesButChannels {T U F G : Type 0} (StaysOpen : (publisher : ℕ) �
       → IsConnected new publisher subscriber
   pub room : RoomStays old new
   pub loans_left : LoansLeftStay old new
+  pub borrows_left : BorrowsLeftStay old new
 
 -- The change closes no channel that is in the state.
 abbrev pub ClosesNone : (expected : ℕ) → (Channel → Channel) → Type 0

@@ -1,6 +1,7 @@
 pub mod ConnectedPorts
 pub mod DepartedPorts
 pub mod Live
+pub mod Sample
 pub mod Handles
 pub mod ReceivedSamples
 pub mod SendCalls
@@ -8,6 +9,8 @@ pub mod QuestionCalls
 pub mod UpdateCalls
 pub mod Payloads
 pub mod LoansLeft
+pub mod BorrowsLeft
+pub mod RoomyPublishers
 pub mod GrantedLoans
 pub mod Leaves
 pub mod MachineSteps

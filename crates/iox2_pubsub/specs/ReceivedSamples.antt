@@ -1,5 +1,5 @@
 -- What a receive returns, and what it gives.
-use Rattle.std.specs.Prelude.{◌≡◌, ◌<◌, [], ◌∷◌, suc, List, IfNone, IfOk, IfSome, OnOk}
+use Rattle.std.specs.Prelude.{ℕ, ◌≡◌, ◌≢◌, ◌<◌, ◌+◌, [], ◌∷◌, suc, List, IfErr, IfNone, IfOk, IfSome, IsOk, OnOk, ⊤}
 use Rattle.std.specs.declared.option.Option.{Option}
 use Rattle.std.specs.declared.option.Option.TheVariants.{None, Some}
 use Rattle.std.specs.declared.result.Result.{Result}
@@ -7,13 +7,14 @@ use Rattle.std.specs.declared.result.Result.TheVariants.{Ok, Err}
 use Rattle.iox2_machine.specs.machine.Receives.{Receive, ReceiveResult, Got_sample, No_sample, Receive_error}
 use Rattle.iox2_machine.specs.machine.Records.{Environment}
 use Rattle.iox2_machine.specs.declared.errors.ReceiveError.{ReceiveError}
+use Rattle.iox2_machine.specs.declared.errors.ReceiveError.TheVariants.{ExceedsMaxBorrows}
 use Rattle.iox2_domain.specs.Kept.{Kept}
+use Rattle.iox2_pubsub.specs.BorrowsLeft.{BorrowsLeftStay, HasBorrowsLeft, TakesOneBorrow}
 use Rattle.iox2_pubsub.specs.Leaves.{LeavesButWaiting}
-use Rattle.iox2_pubsub.specs.Live.{AreAllSlices, IsFromOrigin, IsLiveSample, IsNewIn, IsUpToDate, KeepsAll, LeavesLater, LeavesOthers, TakesFirst, TakesOldest, payloads, received_sample, sample_key, waiting}
+use Rattle.iox2_pubsub.specs.Live.{AreAllSlices, IsFromOrigin, IsLiveSample, IsNewIn, IsUpToDate, KeepsAll, LeavesLater, LeavesOthers, TakesFirst, TakesOldest, WaitingStays, payloads, received_sample, sample_key, waiting}
 use Rattle.iox2_pubsub.specs.MachineSteps.{TakesStep}
 use Rattle.iox2_pubsub.specs.Slices.{SampleHasValues}
-use Rattle.iox2_pubsub.specs.declared.sample.Sample.{Sample}
-use Rattle.iox2_pubsub.specs.declared.slice.sample.Sample.{Sample as SliceSample}
+use Rattle.iox2_pubsub.specs.Sample.{Sample}
 use Rattle.iox2_pubsub.specs.declared.subscriber.Subscriber.{Subscriber}
 
 -- The machine's result if a receive returns this.
@@ -22,11 +23,11 @@ received_result (Ok None) = No_sample
 received_result (Ok (Some sample)) = Got_sample sample.origin sample.sample.number
 received_result (Err e) = Receive_error e
 
--- The result of a receive of a slice, as one of a single value: a sample of a slice is that of a single value in other clothes.
-abbrev pub as_received : Result (Option SliceSample) ReceiveError → Result (Option Sample) ReceiveError
-as_received (Ok None) = Ok None
-as_received (Ok (Some it)) = Ok (Some it.sample)
-as_received (Err e) = Err e
+-- The receive gave no sample, also because it failed; and then this holds.
+abbrev pub OnNoSample : Result (Option Sample) ReceiveError → Type 0 → Type 0
+OnNoSample (Ok None) then = then
+OnNoSample (Ok (Some sample)) then = ⊤
+OnNoSample (Err e) then = then
 
 -- The subscriber is given the sample: it is borrowed from its origin, was the oldest that waited from there, reads as that did, and
 -- is none that was there before.
@@ -46,10 +47,16 @@ pub record IsReceived {T U F G : Type 0} (receiver : Subscriber) (sample : Sampl
 
 -- The subscriber receives as the machine does, where handlers answer so, with this result: it is given a sample, or nothing waits for
 -- it, or there is an error; and without an error it is up to date.
+-- If it is given none, what waits is as it was. While it has borrows left, no limit refuses it one, and if it was up to date nothing does.
 pub record Receives {T U F G : Type 0} (environment : Environment) (receiver : Subscriber) (result : Result (Option Sample) ReceiveError) (old new : Kept T U F G) : Type 0 where
   pub receives : TakesStep old new (λ before after. Receive environment before receiver.id after (received_result result))
   pub received : IfOk result (λ sample. IfSome sample (λ it. IsReceived receiver it old new))
   pub none : IfOk result (λ sample. IfNone sample (waiting new receiver ≡ 0))
   pub nothing : KeepsAll old receiver → IfOk result (λ sample. IfNone sample (waiting old receiver ≡ 0))
   pub updated : OnOk result (IsUpToDate new receiver)
+  pub undisturbed : KeepsAll old receiver → OnNoSample result (WaitingStays old new)
+  pub granted : (n : ℕ) → IsUpToDate old receiver → HasBorrowsLeft old receiver (n + 1) → IsOk result
+  pub unlimited : (n : ℕ) → HasBorrowsLeft old receiver (n + 1) → IfErr result (λ error. error ≢ ExceedsMaxBorrows)
+  pub takes : TakesOneBorrow receiver old new
+  pub borrows_left : OnNoSample result (BorrowsLeftStay old new)
   pub leaves : LeavesButWaiting receiver old new

@@ -21,6 +21,7 @@ use Rattle.iox2_pubsub.specs.declared.sample_mut.SampleMut.{SampleMut}
 use Rattle.iox2_pubsub.specs.declared.publisher.Publisher.{Publisher}
 use Rattle.iox2_pubsub.specs.Handles.{written_lender}
 use Rattle.iox2_pubsub.specs.Live.{Item, A_sent_loan, A_sent_copy, HasLender, IsBlockedSend, IsLoanKey, NeverFails, NeverWaits, OthersSend, StaysBut, UpToDateStay, blocked_key, written_key}
+use Rattle.iox2_pubsub.specs.BorrowsLeft.{BorrowsLeftStay}
 use Rattle.iox2_pubsub.specs.LoansLeft.{HasOneMoreLeft, LoansLeftStay}
 
 -- The machine's result of a send.
@@ -103,5 +104,6 @@ module _ {T U F G : Type 0} where
     pub others : OthersSend (written_lender loan) old new
     pub up_to_date : UpToDateStay old new
     pub loans_left : LoansLeftStay old new
+    pub borrows_left : BorrowsLeftStay old new
     pub given_back : IfOk result IsDelivered → HasOneMoreLeft (written_lender loan) old new
     pub stays : StaysBut (spent_by_send loan result) old new

@@ -5,6 +5,7 @@ mod blocked_send;
 mod custom_markers;
 mod domain;
 mod keys;
+mod kinds;
 mod parts;
 mod port_factory;
 mod publisher;
@@ -28,6 +29,7 @@ pub use iox2_machine::{
     ServiceConfig, SharedMemoryOpenError, SubscriberCreateError, TypeVariant, UniqueNodeId,
     UniquePublisherId, UniqueSubscriberId, Warning, ZeroCopyCreationError, worst_case_slots,
 };
+pub use kinds::{Slice, Value};
 pub use parts::{LoanParts, PublisherParts, SampleParts, SubscriberParts};
 pub use port_factory::handles::PortHandle;
 pub use port_factory::preallocation::{NoOverride, PreallocatedSamplesOverride};

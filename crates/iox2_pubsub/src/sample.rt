@@ -4,12 +4,14 @@ ghost use Rattle.std.specs.Prelude.{◌≡◌};
 mod release;
 
 use crate::domain::Domain;
+use crate::kinds::Value;
 use iox2_domain::SampleAt;
 use iox2_machine::{BackpressureFn, DegradationFn, Header, Key, UniquePublisherId};
 use iox2_messages::{sample_header, sample_payload, sample_user_header};
+use std::marker::{Model, PhantomData};
 
-/// A message that a subscriber has received and not yet released. It is a value to be spent: until
-/// it is released the message counts among those that the subscriber has borrowed.
+/// A message that a subscriber has received and not yet released. Must be consumed by
+/// `release`; until then the message counts among those that the subscriber has borrowed.
 ///
 /// Example (`crates/calling/src/passing.rt`):
 ///
@@ -23,18 +25,54 @@ use iox2_messages::{sample_header, sample_payload, sample_user_header};
 /// ```
 ///
 /// iceoryx2's `sample::Sample` (`src/sample.rs`).
-pub struct Sample {
+pub struct Sample<K = Value> {
     pub(crate) service_id: u128,
     // Whom it was received from. Nothing is looked up by it.
     pub(crate) origin: UniquePublisherId,
     pub(crate) sample: SampleAt,
+    pub(crate) kind: PhantomData<K>,
 }
 
-impl Sample {
+// A clause sees the same of a sample, of whatever kind it is.
+impl<K> Model for Sample<K> {
+    ghost use Rattle.iox2_pubsub.specs.Sample.{Sample};
+
+    ghost Value = { Sample };
+
+    ghost view = { λ it. record { service_id = it.service_id; origin = it.origin; sample = it.sample } };
+}
+
+impl Sample<Value> {
     ghost use Rattle.std.specs.Prelude.{[], ◌∷◌, Some};
     ghost use Rattle.iox2_machine.specs.machine.Records.{Entry};
     ghost use Rattle.iox2_machine.specs.machine.State.{State, Messages};
-    ghost use Rattle.iox2_pubsub.specs.Live.{IsFromOrigin, IsLiveSample, IsSingleValued, SampleHasHeader, SampleHasUserHeader, SampleReads, sample_key};
+    ghost use Rattle.iox2_pubsub.specs.Live.{IsLiveSample, IsSingleValued, SampleReads};
+    ghost use Rattle.iox2_domain.specs.Shows.{Shows};
+    ghost use Rattle.iox2_pubsub.specs.Handles.{sample_number};
+
+    /// The message's value, in a domain of single values.
+    ///
+    /// iceoryx2's `Sample::payload` (`src/sample.rs`).
+    pub fn payload<'a, T: Drop, U: Default + Drop, F: BackpressureFn, G: DegradationFn>(
+        &self,
+        domain: &'a Domain<T, U, F, G>,
+    ) -> &'a T
+        requires live { IsLiveSample domain.now self.now }
+        requires single_valued { IsSingleValued domain.now }
+        ensures entry { (m : Messages T U) (s : State T U) → Shows domain.now m s
+            → (entry : Entry T U) × (m (sample_number self.now) ≡ Some entry) × (entry.values ≡ result.now ∷ []) }
+        ensures reads { SampleReads domain.now self.now result.now }
+        ensures same { (value : T) → SampleReads domain.now self.now value → result.now ≡ value }
+    {
+        sample_payload(&domain.state, &self.sample)
+    }
+}
+
+impl<K> Sample<K> {
+    ghost use Rattle.std.specs.Prelude.{Some};
+    ghost use Rattle.iox2_machine.specs.machine.Records.{Entry};
+    ghost use Rattle.iox2_machine.specs.machine.State.{State, Messages};
+    ghost use Rattle.iox2_pubsub.specs.Live.{IsFromOrigin, IsLiveSample, SampleHasHeader, SampleHasUserHeader, sample_key};
     ghost use Rattle.iox2_domain.specs.Shows.{Shows};
     ghost use Rattle.iox2_pubsub.specs.Handles.{origin_of, sample_number};
 
@@ -58,23 +96,6 @@ impl Sample {
         ensures { result ≡ origin_of self.now }
     {
         self.origin
-    }
-
-    /// The message's value, in a domain of single values.
-    ///
-    /// iceoryx2's `Sample::payload` (`src/sample.rs`).
-    pub fn payload<'a, T: Drop, U: Default + Drop, F: BackpressureFn, G: DegradationFn>(
-        &self,
-        domain: &'a Domain<T, U, F, G>,
-    ) -> &'a T
-        requires live { IsLiveSample domain.now self.now }
-        requires single_valued { IsSingleValued domain.now }
-        ensures entry { (m : Messages T U) (s : State T U) → Shows domain.now m s
-            → (entry : Entry T U) × (m (sample_number self.now) ≡ Some entry) × (entry.values ≡ result.now ∷ []) }
-        ensures reads { SampleReads domain.now self.now result.now }
-        ensures same { (value : T) → SampleReads domain.now self.now value → result.now ≡ value }
-    {
-        sample_payload(&domain.state, &self.sample)
     }
 
     /// The message's header.
@@ -114,5 +135,24 @@ impl Sample {
     /// and counts the message as borrowed from then on. This library's own.
     pub fn disown(self) {
         self.into_parts();
+    }
+
+    /// The same sample, of another kind. This library's own.
+    #[inline(always)]
+    pub fn into_kind<L>(self) -> Sample<L>
+        ensures { result ≡ self }
+    {
+        let Sample {
+            service_id,
+            origin,
+            sample,
+            kind: _,
+        } = self;
+        Sample {
+            service_id,
+            origin,
+            sample,
+            kind: PhantomData,
+        }
     }
 }

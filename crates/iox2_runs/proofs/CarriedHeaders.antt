@@ -11,7 +11,7 @@ use Rattle.iox2_laws.proofs.PortsStay.{ports_stay_themselves}
 use Rattle.iox2_laws.proofs.Waits.{waits_itself}
 use Rattle.iox2_domain.specs.Kept.{Kept as Domain}
 use Rattle.iox2_domain.specs.Shows.{Shows}
-use Rattle.iox2_pubsub.specs.declared.sample.Sample.{Sample as SampleHandle}
+use Rattle.iox2_pubsub.specs.Sample.{Sample as SampleHandle}
 use Rattle.iox2_pubsub.specs.declared.sample_mut.SampleMut.{SampleMut}
 use Rattle.iox2_pubsub.specs.declared.sample_mut_uninit.SampleMutUninit.{SampleMutUninit}
 use Rattle.iox2_commands.specs.Outcomes.{Handle, Event, Outcome, replied, skipped}

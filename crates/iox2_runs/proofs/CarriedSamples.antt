@@ -16,7 +16,7 @@ use Rattle.iox2_domain.specs.Shows.{Shows}
 use Rattle.iox2_pubsub.specs.declared.sample_mut_uninit.SampleMutUninit.{SampleMutUninit}
 use Rattle.iox2_pubsub.specs.declared.sample_mut.SampleMut.{SampleMut}
 use Rattle.iox2_pubsub.specs.declared.subscriber.Subscriber.{Subscriber as SubscriberHandle}
-use Rattle.iox2_pubsub.specs.declared.sample.Sample.{Sample as SampleHandle}
+use Rattle.iox2_pubsub.specs.Sample.{Sample as SampleHandle}
 use Rattle.iox2_commands.specs.Outcomes.{Handle, Event, replied}
 use Rattle.iox2_commands.specs.Runs.{Defaults}
 use Rattle.iox2_commands.specs.Step.{Step, sample_at, loan_at, with_cell_at}

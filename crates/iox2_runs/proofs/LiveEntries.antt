@@ -15,7 +15,7 @@ use Rattle.iox2_pubsub.specs.declared.publisher.Publisher.{Publisher as Publishe
 use Rattle.iox2_pubsub.specs.declared.subscriber.Subscriber.{Subscriber as SubscriberHandle}
 use Rattle.iox2_pubsub.specs.declared.sample_mut_uninit.SampleMutUninit.{SampleMutUninit}
 use Rattle.iox2_pubsub.specs.declared.sample_mut.SampleMut.{SampleMut}
-use Rattle.iox2_pubsub.specs.declared.sample.Sample.{Sample as SampleHandle}
+use Rattle.iox2_pubsub.specs.Sample.{Sample as SampleHandle}
 use Rattle.iox2_commands.specs.Outcomes.{Handle}
 use Rattle.iox2_runs.specs.Tables.{IsUnblocked as IsFree, HasNoBox, HasNoReceiverBox, IsEntryOf}
 use Rattle.iox2_runs.specs.Carries.{entry_for}

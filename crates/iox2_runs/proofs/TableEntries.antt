@@ -10,7 +10,7 @@ use Rattle.iox2_pubsub.specs.declared.publisher.Publisher.{Publisher}
 use Rattle.iox2_pubsub.specs.declared.subscriber.Subscriber.{Subscriber}
 use Rattle.iox2_pubsub.specs.declared.sample_mut_uninit.SampleMutUninit.{SampleMutUninit}
 use Rattle.iox2_pubsub.specs.declared.sample_mut.SampleMut.{SampleMut}
-use Rattle.iox2_pubsub.specs.declared.sample.Sample.{Sample}
+use Rattle.iox2_pubsub.specs.Sample.{Sample}
 use Rattle.iox2_runs.proofs.TableLooks.{Lacks, is_publisher_entry, is_subscriber_entry, is_unwritten_entry, is_written_entry, is_blocked_entry, is_sample_entry, is_loan_entry}
 
 -- the entries after one of the table was set

@@ -88,7 +88,7 @@ fn pass(
     let message = loan.write_from_fn(domain, |_| len as u64);
     message.send(domain)?.delivered();
     let received = subscriber.receive(domain)?;
-    Ok(received.map(|sample| sample.into_inner().into_parts()))
+    Ok(received.map(|sample| sample.into_parts()))
 }
 
 // Lends a slice. Where that is refused, a slice of one element is lent, and then this one.
@@ -128,7 +128,7 @@ fn print_sample(
         println!(rt; "none")?;
         return Ok(());
     };
-    let sample = Sample::new(domain.sample_of(&parts).ok_or(Failure::Refused)?);
+    let sample: Sample = domain.sample_of(&parts).ok_or(Failure::Refused)?;
     let payload = sample.payload(domain);
     let len = payload.len();
     let is_right = payload.iter().all(|value| *value == len as u64);

@@ -4,7 +4,7 @@ ghost use Rattle.std.specs.Prelude.{◌≡◌, ℕ, List, MatchResult};
 ghost use Rattle.iox2_pubsub.specs.Leaves.{LeavesBut};
 ghost use Rattle.iox2_pubsub.specs.Live.{AreApart, IsLiveSample, IsUnwrittenLoan, IsWrittenLoan, LoanHasUserHeader, unwritten_key, unwritten_loan, written_key, written_loan};
 ghost use Rattle.iox2_pubsub.specs.Slices.{HasValues, IsSliced};
-ghost use Rattle.iox2_pubsub.specs.Handles.{as_sample, as_unwritten, as_written, written_number};
+ghost use Rattle.iox2_pubsub.specs.Handles.{as_unwritten, as_written, written_number};
 ghost use Rattle.thermometer.specs.Changes.{ChangesLoan, SensorStays};
 
 use iox2_pubsub::Domain;
@@ -79,7 +79,7 @@ pub fn read_around_a_write(
     celsius: u32,
 ) -> SampleMut
     requires sliced { IsSliced domain.old }
-    requires received { IsLiveSample domain.old (as_sample received.now) }
+    requires received { IsLiveSample domain.old received.now }
     requires written { IsWrittenLoan domain.old (as_written written.now) }
     requires loan { IsUnwrittenLoan domain.old (as_unwritten loan) }
     requires apart { AreApart (unwritten_loan (as_unwritten loan)) (written_loan (as_written written.now)) }

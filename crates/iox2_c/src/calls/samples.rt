@@ -1,7 +1,7 @@
 //! The calls of samples.
 ghost use Rattle.std.specs.Prelude.{ℕ, List, drop, length, take, ◌≡◌, ◌≢◌, ◌<◌, ◌≤◌, ◌⊎◌, IfNone, IfSome};
 ghost use Rattle.iox2_machine.specs.declared.header.Header.{Header};
-ghost use Rattle.iox2_pubsub.specs.Handles.{as_sample, origin_of, receiver_of, sample_number};
+ghost use Rattle.iox2_pubsub.specs.Handles.{origin_of, receiver_of, sample_number};
 ghost use Rattle.iox2_pubsub.specs.Live.{IsLiveSample, IsSampleKey, SampleHasHeader, received_sample, sample_key};
 ghost use Rattle.iox2_pubsub.specs.Slices.{SampleHasValues};
 ghost use Rattle.iox2_c.specs.Numbers.{IsHeader, named_sample, wide};
@@ -18,14 +18,13 @@ use iox2_pubsub::slice::Sample;
 /// A handle of a sample that wasn't released.
 #[inline(always)]
 pub fn live_sample(domain: &BytesDomain, numbers: &SampleNumbers) -> Option<Sample>
-    ensures live { IfSome result (λ it. IsLiveSample domain.now (as_sample it)) }
-    ensures named { IfSome result (λ it. sample_key (as_sample it) ≡ named_sample numbers.now) }
-    ensures number { IfSome result (λ it. sample_number (as_sample it) ≡ wide (numbers.now).number) }
-    ensures receiver { IfSome result (λ it. receiver_of (as_sample it) ≡ wide (numbers.now).subscriber) }
+    ensures live { IfSome result (λ it. IsLiveSample domain.now it) }
+    ensures named { IfSome result (λ it. sample_key it ≡ named_sample numbers.now) }
+    ensures number { IfSome result (λ it. sample_number it ≡ wide (numbers.now).number) }
+    ensures receiver { IfSome result (λ it. receiver_of it ≡ wide (numbers.now).subscriber) }
     ensures none { IfNone result (IsSampleKey domain.now (named_sample numbers.now) → ⊥) }
 {
-    let handle = domain.sample_of(&numbers.parts())?;
-    Some(Sample::new(handle))
+    domain.sample_of(&numbers.parts())
 }
 
 /// Where the bytes of a sample lie.
@@ -96,29 +95,29 @@ pub fn copy_out(
     len: &mut usize,
     out: &mut SampleNumbers,
 ) -> u32
-    requires { IsLiveSample service.old.domain (as_sample sample) }
+    requires { IsLiveSample service.old.domain sample }
     ensures code { (result ≡ 0) ⊎ (result ≡ 9) }
-    ensures copied { result ≡ 0 → SampleHasValues service.old.domain (sample_key (as_sample sample)) (take len.new bytes.new) }
+    ensures copied { result ≡ 0 → SampleHasValues service.old.domain (sample_key sample) (take len.new bytes.new) }
     ensures fits { result ≡ 0 → len.new ≤ length bytes.old }
-    ensures releases { result ≡ 0 → Releases service.old.domain service.new.domain (receiver_of (as_sample sample)) (sample_number (as_sample sample)) }
+    ensures releases { result ≡ 0 → Releases service.old.domain service.new.domain (receiver_of sample) (sample_number sample) }
     ensures kept { result ≡ 9 → service.new ≡ service.old }
-    ensures named { result ≡ 9 → named_sample out.new ≡ sample_key (as_sample sample) }
-    ensures origin { result ≡ 9 → wide (out.new).origin ≡ origin_of (as_sample sample) }
+    ensures named { result ≡ 9 → named_sample out.new ≡ sample_key sample }
+    ensures origin { result ≡ 9 → wide (out.new).origin ≡ origin_of sample }
     ensures small { result ≡ 9 → length bytes.old < len.new }
-    ensures length { (values : List ℕ) → SampleHasValues service.old.domain (sample_key (as_sample sample)) values → len.new ≡ length values }
+    ensures length { (values : List ℕ) → SampleHasValues service.old.domain (sample_key sample) values → len.new ≡ length values }
     ensures same { 0 < result → bytes.new ≡ bytes.old }
     ensures same_numbers { result ≡ 0 → out.new ≡ out.old }
-    ensures stays { ServesBut (received_sample (as_sample sample)) service.old service.new }
+    ensures stays { ServesBut (received_sample sample) service.old service.new }
 {
     let from = sample.payload(&service.domain);
     *len = from.len();
     let code = copy_bytes(from, bytes);
-    service.recording.received(&sample, from);
     if code == OK {
-        service.recording.released(sample.key(), OK);
+        service.recording.taken(&sample, from);
         sample.release(&mut service.domain);
     } else {
-        *out = SampleNumbers::of(sample.into_inner().into_parts());
+        service.recording.received(&sample, from);
+        *out = SampleNumbers::of(sample.into_parts());
     }
     code
 }
@@ -141,14 +140,13 @@ pub fn header(service: &Service, numbers: &SampleNumbers, out: &mut HeaderNumber
 // A handle of a sample that is where its numbers say, and was borrowed last there.
 #[inline(always)]
 fn sample_at_hint(domain: &mut BytesDomain, numbers: &SampleNumbers) -> Option<Sample>
-    ensures live { IfSome result (λ it. IsLiveSample domain.new (as_sample it)) }
-    ensures named { IfSome result (λ it. sample_key (as_sample it) ≡ named_sample numbers.now) }
-    ensures number { IfSome result (λ it. sample_number (as_sample it) ≡ wide (numbers.now).number) }
-    ensures receiver { IfSome result (λ it. receiver_of (as_sample it) ≡ wide (numbers.now).subscriber) }
+    ensures live { IfSome result (λ it. IsLiveSample domain.new it) }
+    ensures named { IfSome result (λ it. sample_key it ≡ named_sample numbers.now) }
+    ensures number { IfSome result (λ it. sample_number it ≡ wide (numbers.now).number) }
+    ensures receiver { IfSome result (λ it. receiver_of it ≡ wide (numbers.now).subscriber) }
     ensures same { domain.new ≡ domain.old }
 {
-    let handle = domain.sample_at_hint(&numbers.parts())?;
-    Some(Sample::new(handle))
+    domain.sample_at_hint(&numbers.parts())
 }
 
 /// Gives a message back.

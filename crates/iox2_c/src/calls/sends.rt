@@ -134,14 +134,15 @@ fn send_elsewhere(
     send_named(service, numbers, numbers.book, receivers, blocked, failed)
 }
 
-// Records the bytes of a loan that is out.
+// Records the bytes of a loan that is out, unless a send of its publisher waits: the loan isn't sent then.
 fn record_bytes(service: &mut Service, numbers: &LoanNumbers)
     ensures { service.new ≡ service.old }
 {
     if let Some(loan) = written_loan(&service.domain, numbers, numbers.book) {
-        service
-            .recording
-            .written(numbers, loan.payload(&service.domain));
+        if !loan.is_blocked(&service.domain) {
+            let bytes = loan.payload(&service.domain);
+            service.recording.written(numbers, bytes);
+        }
         loan.disown();
     }
 }

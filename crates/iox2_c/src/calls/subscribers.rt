@@ -4,7 +4,7 @@ ghost use Rattle.iox2_machine.specs.declared.errors.ReceiveError.{ReceiveError};
 ghost use Rattle.iox2_machine.specs.declared.errors.SubscriberCreateError.{SubscriberCreateError};
 ghost use Rattle.iox2_machine.specs.declared.key.Key.{Key};
 ghost use Rattle.iox2_machine.specs.machine.Receives.{Got_sample, No_sample, Receive_error};
-ghost use Rattle.iox2_pubsub.specs.Handles.{as_sample, as_subscriber, buffer_size_of, origin_of, receiver_of, subscriber_id};
+ghost use Rattle.iox2_pubsub.specs.Handles.{as_subscriber, buffer_size_of, origin_of, receiver_of, subscriber_id};
 ghost use Rattle.iox2_pubsub.specs.Slices.{SampleHasValues};
 ghost use Rattle.iox2_pubsub.specs.Live.{A_sample, A_subscriber, IsLiveSample, IsLiveSubscriber, IsNewIn, IsSampleKey, IsSubscriberKey, No_item, sample_key, subscriber_key};
 ghost use Rattle.iox2_c.specs.Codes.{code_of, receive_code, subscriber_code};
@@ -186,23 +186,23 @@ fn tell_received(
     payload: &mut *const u8,
     len: &mut usize,
 ) -> u32
-    requires live { IsLiveSample service.now.domain (as_sample sample) }
-    requires service { (sample_key (as_sample sample)).service_id ≡ wide (numbers.now).service_id }
-    requires receiver { receiver_of (as_sample sample) ≡ wide (numbers.now).id }
+    requires live { IsLiveSample service.now.domain sample }
+    requires service { (sample_key sample).service_id ≡ wide (numbers.now).service_id }
+    requires receiver { receiver_of sample ≡ wide (numbers.now).id }
     ensures code { result ≡ 0 }
-    ensures named { named_sample out.new ≡ sample_key (as_sample sample) }
-    ensures origin { wide (out.new).origin ≡ origin_of (as_sample sample) }
-    ensures length { (values : List ℕ) → SampleHasValues service.now.domain (sample_key (as_sample sample)) values → len.new ≡ length values }
+    ensures named { named_sample out.new ≡ sample_key sample }
+    ensures origin { wide (out.new).origin ≡ origin_of sample }
+    ensures length { (values : List ℕ) → SampleHasValues service.now.domain (sample_key sample) values → len.new ≡ length values }
 {
     match sample.payload_at_hint(&service.domain) {
         Some(bytes) => {
             *payload = start_of(bytes);
             *len = bytes.len();
-            *out = SampleNumbers::received_by(numbers, &sample.into_inner().into_parts());
+            *out = SampleNumbers::received_by(numbers, &sample.into_parts());
             OK
         }
         None => {
-            *out = SampleNumbers::received_by(numbers, &sample.into_inner().into_parts());
+            *out = SampleNumbers::received_by(numbers, &sample.into_parts());
             payload_elsewhere(service, out, payload, len)
         }
     }

@@ -1,11 +1,11 @@
 //! Calls of messages are recorded.
 
-use super::answers::{BytesReply, loan_reply, receive_reply, send_reply};
+use super::answers::{loan_reply, receive_reply, send_reply};
 use super::{Recording, target};
 use crate::numbers::{LoanNumbers, PublisherNumbers, SubscriberNumbers};
 use crate::status::{BLOCKED, NOT_LIVE, OK, PUBLISHER_IS_BLOCKED};
-use call_recorder::{Name, Recorder};
-use iox2_commands::{Command, Reply};
+use call_recorder::Name;
+use iox2_commands::Command;
 use iox2_pubsub::slice::Sample;
 use iox2_pubsub::{Key, LoanError, ReceiveError, SendError};
 use std::time::Duration;
@@ -32,10 +32,11 @@ impl Recording {
         }
     }
 
-    /// A loan with these bytes is sent next.
+    /// A loan with these bytes is sent next, and no send of its publisher waits.
     pub fn written(&mut self, loan: &LoanNumbers, bytes: &[u8]) {
         if let Some(recorder) = &mut self.recorder {
-            recorder.keep_bytes(loan_name(loan), bytes);
+            let of = recorder.position_of(loan_name(loan));
+            recorder.keep_bytes(of, bytes);
         }
     }
 
@@ -54,13 +55,8 @@ impl Recording {
         if code != NOT_LIVE && code != PUBLISHER_IS_BLOCKED {
             recorder.forget(loan_name(loan));
         }
-        keep_send(
-            recorder,
-            of,
-            loan,
-            code,
-            send_reply(code, receivers, failed),
-        );
+        let reply = send_reply(code, receivers, failed);
+        recorder.keep_send(of, waiting_name(loan, code), reply);
     }
 
     /// A copy of these bytes was sent, by a send with these numbers where it waits.
@@ -83,9 +79,8 @@ impl Recording {
             recorder.keep(Command::LoanSlice { of, len }, loan_reply(code, refused));
             return;
         }
-        let position = recorder.keep_loan(of, bytes);
         let reply = send_reply(code, receivers, failed);
-        keep_send(recorder, position, blocked, code, reply);
+        recorder.keep_copy(of, bytes, waiting_name(blocked, code), reply);
     }
 
     /// A loan was given back unsent.
@@ -135,15 +130,18 @@ impl Recording {
 
     /// A message with these bytes was received.
     pub fn received(&mut self, sample: &Sample, bytes: &[u8]) {
-        let Some(recorder) = &mut self.recorder else {
-            return;
-        };
-        let name = key_name(sample.key());
-        let of = recorder.position_of(Name::Subscriber(sample.key().port));
-        let reply = Reply::Sample(sample.origin());
-        recorder.keep_maker(name, Command::Receive { of }, reply);
-        let position = recorder.position_of(name);
-        recorder.keep_reads(position, bytes);
+        if let Some(recorder) = &mut self.recorder {
+            let of = recorder.position_of(receiver_name(sample));
+            recorder.keep_received(key_name(sample.key()), of, sample.origin(), bytes);
+        }
+    }
+
+    /// A message with these bytes was received, and given back at once.
+    pub fn taken(&mut self, sample: &Sample, bytes: &[u8]) {
+        if let Some(recorder) = &mut self.recorder {
+            let of = recorder.position_of(receiver_name(sample));
+            recorder.keep_taken(of, sample.origin(), bytes);
+        }
     }
 
     /// A subscriber received nothing, for the reason that the code and the error say.
@@ -163,21 +161,6 @@ impl Recording {
     }
 }
 
-// Keeps the send of the loan at the position, which is named by these numbers where it waits.
-fn keep_send(
-    recorder: &mut Recorder,
-    of: usize,
-    blocked: &LoanNumbers,
-    code: u32,
-    reply: BytesReply,
-) {
-    let command = Command::Send { of };
-    match code {
-        BLOCKED => recorder.keep_maker(blocked_name(blocked), command, reply),
-        _ => recorder.keep(command, reply),
-    }
-}
-
 // Why a send lent nothing, if that is what failed.
 fn refused_loan(failed: Option<SendError>) -> Option<LoanError> {
     match failed {
@@ -192,6 +175,18 @@ fn loan_name(loan: &LoanNumbers) -> Name {
 
 fn blocked_name(blocked: &LoanNumbers) -> Name {
     Name::Blocked(blocked.number.get())
+}
+
+// The name of a send with these numbers that came to this code, where it waits.
+fn waiting_name(blocked: &LoanNumbers, code: u32) -> Option<Name> {
+    match code {
+        BLOCKED => Some(blocked_name(blocked)),
+        _ => None,
+    }
+}
+
+fn receiver_name(sample: &Sample) -> Name {
+    Name::Subscriber(sample.key().port)
 }
 
 fn key_name(key: Key) -> Name {

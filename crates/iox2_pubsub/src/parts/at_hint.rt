@@ -97,7 +97,7 @@ impl<T: Drop, U: Default + Drop, F: BackpressureFn, G: DegradationFn> Domain<T, 
     /// name, and was borrowed last of the connection that they name, and both ports of that are open. So
     /// one look tells that it is live
     /// and where it lies. This library's own.
-    pub fn sample_at_hint(&mut self, parts: &SampleParts) -> Option<Sample>
+    pub fn sample_at_hint<K>(&mut self, parts: &SampleParts) -> Option<Sample<K>>
         ensures live { IfSome result (λ sample. IsLiveSample self.new sample) }
         ensures named { IfSome result (λ sample. sample_parts sample ≡ parts.now) }
         ensures same { self.new ≡ self.old }

@@ -91,7 +91,12 @@ impl<T: Drop, U: Default + Drop, F: BackpressureFn, G: DegradationFn> Domain<T, 
     }
 
     /// A handle of the written loan with these numbers, and `None` if this domain has none that
-    /// is out and written. The handle says where the loan lies, whatever the numbers say. This library's own.
+    /// is out and written. This library's own.
+    ///
+    /// The service, the publisher and the message's number decide which loan it is. Where it lies
+    /// (`book` and `slot`) is a hint: the domain looks there first, and puts into the handle where it
+    /// found the loan. So numbers with another place give the same loan, and the handle's numbers are
+    /// theirs but for `book` and `slot`.
     #[inline(always)]
     pub fn written_of(&self, parts: &LoanParts) -> Option<SampleMut>
         ensures out { IfSome result (λ loan. IsWritten self.now loan) }
@@ -108,7 +113,12 @@ impl<T: Drop, U: Default + Drop, F: BackpressureFn, G: DegradationFn> Domain<T, 
     }
 
     /// A handle of the unwritten loan with these numbers, and `None` if this domain has none that
-    /// is out and not written. The handle says where the loan lies, whatever the numbers say. This library's own.
+    /// is out and not written. This library's own.
+    ///
+    /// The service, the publisher and the message's number decide which loan it is. Where it lies
+    /// (`book` and `slot`) is a hint: the domain looks there first, and puts into the handle where it
+    /// found the loan. So numbers with another place give the same loan, and the handle's numbers are
+    /// theirs but for `book` and `slot`.
     pub fn unwritten_of(&self, parts: &LoanParts) -> Option<SampleMutUninit>
         ensures out { IfSome result (λ loan. IsUnwritten self.now loan) }
         ensures named { IfSome result (λ loan. record (unwritten_parts loan) { book = parts.now.book; slot = parts.now.slot } ≡ parts.now) }

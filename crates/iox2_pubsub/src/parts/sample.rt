@@ -7,6 +7,7 @@ use crate::parts::hints::find_borrowed;
 use crate::sample::Sample;
 use iox2_domain::SampleAt;
 use iox2_machine::{BackpressureFn, DegradationFn, UniquePublisherId, UniqueSubscriberId};
+use std::marker::PhantomData;
 
 impl SampleParts {
     ghost use Rattle.iox2_pubsub.specs.Parts.{sample_parts};
@@ -25,18 +26,19 @@ impl SampleParts {
     }
 
     // The handle with these numbers.
-    pub(crate) fn handle(&self) -> Sample
+    pub(crate) fn handle<K>(&self) -> Sample<K>
         ensures { sample_parts result ≡ self.now }
     {
         Sample {
             service_id: self.service_id,
             origin: UniquePublisherId::new(self.origin),
             sample: self.sample(),
+            kind: PhantomData,
         }
     }
 }
 
-impl Sample {
+impl<K> Sample<K> {
     ghost use Rattle.iox2_pubsub.specs.Parts.{sample_parts};
 
     /// The sample's numbers. Its handle is spent, and the message is borrowed still. This library's
@@ -48,6 +50,7 @@ impl Sample {
             service_id,
             origin,
             sample,
+            kind: _,
         } = self;
         SampleParts {
             service_id,
@@ -89,9 +92,13 @@ impl<T: Drop, U: Default + Drop, F: BackpressureFn, G: DegradationFn> Domain<T, 
     }
 
     /// A handle of the sample with these numbers, and `None` if this domain has none that wasn't
-    /// released. Its origin is what the numbers say, and isn't looked up. It says where the message lies,
-    /// whatever the numbers say. This library's own.
-    pub fn sample_of(&self, parts: &SampleParts) -> Option<Sample>
+    /// released. This library's own.
+    ///
+    /// The service, the subscriber and the message's number decide which sample it is. Where it lies
+    /// (`connection`, `book` and `slot`) is a hint: the domain looks there first, and puts into the
+    /// handle where it found the sample. So numbers with another place give the same sample, and the
+    /// handle's numbers are theirs but for these three. Its origin isn't looked up.
+    pub fn sample_of<K>(&self, parts: &SampleParts) -> Option<Sample<K>>
         ensures live { IfSome result (λ sample. IsLiveSample self.now sample) }
         ensures named { IfSome result (λ sample. record (sample_parts sample) { connection = parts.now.connection; book = parts.now.book; slot = parts.now.slot } ≡ parts.now) }
         ensures none { IfNone result (IsSampleKey self.now (sample_named parts.now) → ⊥) }
@@ -103,6 +110,7 @@ impl<T: Drop, U: Default + Drop, F: BackpressureFn, G: DegradationFn> Domain<T, 
             service_id: parts.service_id,
             origin: UniquePublisherId::new(parts.origin),
             sample,
+            kind: PhantomData,
         })
     }
 }

@@ -6,6 +6,7 @@ ghost use Rattle.iox2_machine.specs.machine.Records.{Fixed};
 ghost use Rattle.iox2_machine.specs.machine.Ports.{default_subscriber_settings, buffer_for, CreateSubscriber};
 ghost use Rattle.iox2_machine.specs.machine.State.{State, Messages};
 ghost use Rattle.iox2_machine.specs.machine.Limits.{expired_limit};
+ghost use Rattle.iox2_pubsub.specs.BorrowsLeft.{HasBorrowsLeft};
 ghost use Rattle.iox2_pubsub.specs.Live.{HasItsBuffer, HasRoomFor, IsLiveSubscriber, IsNewIn, subscriber_box, subscriber_port, waiting, IsAwaited, NoneRefused, IsPublisherKey, publisher_key};
 ghost use Rattle.iox2_pubsub.specs.Leaves.{Leaves};
 ghost use Rattle.iox2_pubsub.specs.Factories.{receiver_with_degradation};
@@ -141,6 +142,7 @@ impl<G: DegradationFn, H: PortHandle<Subscriber>> PortFactorySubscriber<G, H> {
         ensures boxed { IfOk result (λ subscriber. subscriber_box domain.new (subscriber_id (H.as_port subscriber)) ≡ self.box) }
         ensures new { IfOk result (λ subscriber. IsNewIn domain.old (subscriber_port (H.as_port subscriber))) }
         ensures none { IfOk result (λ subscriber. waiting domain.new (H.as_port subscriber) ≡ 0) }
+        ensures borrows { IfOk result (λ subscriber. HasBorrowsLeft domain.new (H.as_port subscriber) (domain.old.config).subscriber_max_borrowed_samples) }
         ensures awaits { IfOk result (λ subscriber. NoneRefused domain.old domain.new → (publisher : Publisher) → IsPublisherKey domain.old (publisher_key publisher) → IsAwaited domain.new (publisher_id publisher) (H.as_port subscriber)) }
         ensures room { IfOk result (λ subscriber. (closes : ℕ) → closes ≤ expired_limit domain.old.config → HasRoomFor domain.new (H.as_port subscriber) closes) }
         ensures leaves { Leaves domain.old domain.new }

@@ -12,6 +12,7 @@ impl Publisher {
     ghost use Rattle.iox2_machine.specs.machine.Records.{Publisher as Record};
     ghost use Rattle.iox2_machine.specs.machine.State.{State, Messages};
     ghost use Rattle.iox2_pubsub.specs.Live.{HasRoomFor, IsConnected, IsPublisherKey, IsReadyPublisher, IsUpToDate, StaysBut, degradation_box, handler_box, publisher_key, publisher_port, payloads_from, waiting};
+    ghost use Rattle.iox2_pubsub.specs.BorrowsLeft.{BorrowsLeftStay};
     ghost use Rattle.iox2_pubsub.specs.LoansLeft.{NumbersLeftStay, OthersLoansLeftStay};
     ghost use Rattle.iox2_pubsub.specs.declared.subscriber.Subscriber.{Subscriber};
     ghost use Rattle.iox2_pubsub.specs.Handles.{publisher_id};
@@ -40,6 +41,7 @@ impl Publisher {
         ensures room { (subscriber : Subscriber) (closes : ℕ) → HasRoomFor domain.old subscriber (suc closes) → HasRoomFor domain.new subscriber closes }
         ensures loans_left { OthersLoansLeftStay self domain.old domain.new }
         ensures numbers_left { NumbersLeftStay domain.old domain.new }
+        ensures borrows_left { BorrowsLeftStay domain.old domain.new }
         ensures stays { StaysBut (publisher_port self) domain.old domain.new }
     {
         let Publisher {

@@ -11,7 +11,9 @@ impl Publisher {
     ghost use Rattle.iox2_domain.specs.Boxes.{answers_of};
     ghost use Rattle.iox2_domain.specs.Shows.{Shows};
     ghost use Rattle.iox2_pubsub.specs.Live.{A_blocked_send, AddAtMost, AllFrom, AreAllSlices, HasItsBuffer, IsBlockedSend, IsConnected, IsReadyPublisher, IsServed, IsSingleValued, NeverFails, NeverWaits, OthersSend, StaysBut, UpToDateStay, blocked_key, blocked_send, lender_key, payloads, publisher_key, waiting};
+    ghost use Rattle.iox2_pubsub.specs.BorrowsLeft.{BorrowsLeftStay};
     ghost use Rattle.iox2_pubsub.specs.LoansLeft.{HasLoansLeft, HasNumbersLeft, TakesOneLeft};
+    ghost use Rattle.iox2_pubsub.specs.RoomyPublishers.{HasRoomAlone};
     ghost use Rattle.iox2_pubsub.specs.SendCalls.{FailsCopy, IfBlocked, IsDelivered, spent_by_copy};
     ghost use Rattle.iox2_pubsub.specs.WrittenLoans.{SendsCopy};
     ghost use Rattle.iox2_pubsub.specs.Handles.{buffer_size_of, publisher_id};
@@ -44,11 +46,13 @@ impl Publisher {
         ensures joins { (subscriber : Subscriber) (earlier : List (List T)) → AllFrom domain.old (publisher_id self.now) subscriber earlier → HasItsBuffer domain.old subscriber
             → length earlier < buffer_size_of subscriber → IsConnected domain.old (publisher_id self.now) subscriber
             → IfOk result (λ outcome. IsDelivered outcome → AllFrom domain.new (publisher_id self.now) subscriber (earlier ++ (value ∷ []) ∷ [])) }
+        ensures roomy_alone { (subscriber : Subscriber) → HasRoomAlone domain.old (publisher_id self.now) subscriber → IfOk result IsDelivered }
         ensures others { OthersSend (publisher_id self.now) domain.old domain.new }
         ensures up_to_date { UpToDateStay domain.old domain.new }
         ensures granted { (loans numbers : ℕ) → HasLoansLeft domain.old self.now (loans + 1) → HasNumbersLeft domain.old (numbers + 1)
             → NeverFails domain.old (publisher_id self.now) → IsOk result }
         ensures loans_left { TakesOneLeft self.now domain.old domain.new }
+        ensures borrows_left { BorrowsLeftStay domain.old domain.new }
         ensures given_back { IfOk result IsDelivered → (loans : ℕ) → HasLoansLeft domain.old self.now (loans + 1) → HasLoansLeft domain.new self.now (loans + 1) }
         ensures stays { StaysBut (spent_by_copy self.now result) domain.old domain.new }
     {

@@ -6,11 +6,12 @@ use crate::sample::Sample;
 use iox2_machine::{BackpressureFn, DegradationFn};
 use iox2_messages::release_sample;
 
-impl Sample {
+impl<K> Sample<K> {
     ghost use Rattle.std.specs.Prelude.{ℕ, IsTrue};
     ghost use Rattle.iox2_machine.specs.machine.Mailbox.{is_borrowed};
     ghost use Rattle.iox2_machine.specs.machine.Releases.{released};
     ghost use Rattle.iox2_machine.specs.machine.State.{State, Messages};
+    ghost use Rattle.iox2_pubsub.specs.BorrowsLeft.{HasOneMoreBorrowLeft};
     ghost use Rattle.iox2_pubsub.specs.Live.{IsLiveSample, received_sample};
     ghost use Rattle.iox2_pubsub.specs.Leaves.{LeavesBut};
     ghost use Rattle.iox2_domain.specs.Shows.{Shows};
@@ -30,12 +31,14 @@ impl Sample {
             → (publisher : ℕ) → IsTrue (is_borrowed (sample_number self) (s.mailboxes publisher (receiver_of self)))
             → (s' : State T U) × Shows domain.new m s' × (s' ≡ released s publisher (receiver_of self) (sample_number self)) }
         ensures spent { IsLiveSample domain.new self → ⊥ }
+        ensures gives_back { HasOneMoreBorrowLeft (receiver_of self) domain.old domain.new }
         ensures leaves { LeavesBut (received_sample self) domain.old domain.new }
     {
         let Sample {
             service_id: _,
             origin: _,
             sample,
+            kind: _,
         } = self;
         release_sample(&mut domain.state, sample);
     }

@@ -22,10 +22,12 @@ use iox2_machine::{BackpressureFn, DegradationFn, SendError};
 use iox2_messages::{SendEnd, send};
 
 impl SampleMut {
-    ghost use Rattle.std.specs.Prelude.{List, Some, [], length, ◌<◌, ◌++◌, ◌∷◌};
+    ghost use Rattle.std.specs.Prelude.{List, Some, [], length, ◌<◌, ◌++◌, ◌∷◌, ◌≢◌};
+    ghost use Rattle.iox2_machine.specs.declared.errors.SendError.TheVariants.{UnableToDeliver};
     ghost use Rattle.iox2_machine.specs.machine.Records.{Loan};
     ghost use Rattle.iox2_machine.specs.machine.State.{State, Messages};
     ghost use Rattle.iox2_pubsub.specs.Live.{AllFrom, HasItsBuffer, IsConnected, IsServed, IsUnblocked, IsWritten, written_key, AddAtMost, AreAllSlices, payloads, waiting};
+    ghost use Rattle.iox2_pubsub.specs.RoomyPublishers.{HasRoomAlone, IsRoomy};
     ghost use Rattle.iox2_pubsub.specs.Slices.{HasValues};
     ghost use Rattle.iox2_pubsub.specs.SendCalls.{FailsSend, IsDelivered, Sends, SpendsLoan, messages_after};
     ghost use Rattle.iox2_pubsub.specs.declared.subscriber.Subscriber.{Subscriber};
@@ -61,6 +63,8 @@ impl SampleMut {
         ensures errors { IfErr result (FailsSend domain.old (written_key self)) }
         ensures sent { (m : Messages T U) (s : State T U) (l : Loan T U) → Shows domain.old m s → s.loans (written_number self) ≡ Some l
             → (s' : State T U) × Shows domain.new (messages_after m (written_number self) l result) s' × Sends (answers_of F.allows G.allows (domain.old.boxes).publishers) s (written_number self) l result s' }
+        ensures roomy { IsRoomy domain.old (written_lender self) → IfOk result IsDelivered × IfErr result (λ error. error ≢ UnableToDeliver) }
+        ensures roomy_alone { (subscriber : Subscriber) → HasRoomAlone domain.old (written_lender self) subscriber → IfOk result IsDelivered × IfErr result (λ error. error ≢ UnableToDeliver) }
         ensures adds { AddAtMost ((domain.old.config).history_size + 1) domain.old domain.new }
         ensures brings { (subscriber : Subscriber) (values : List T) → (domain.old.config).history_size ≡ 0 → waiting domain.old subscriber ≡ 0
             → HasValues domain.old (written_number self) values → AreAllSlices (payloads domain.new subscriber) values }

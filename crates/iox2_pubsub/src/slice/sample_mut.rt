@@ -9,8 +9,8 @@ use crate::send_outcome::SendOutcome;
 use iox2_machine::{BackpressureFn, DegradationFn, SendError};
 use iox2_messages::loan_values;
 
-/// A loan of a slice whose payload is written. It is a value to be spent, as the loan of a single
-/// value is, and is that loan with another view of its payload. All other calls are those of
+/// A loan of a slice whose payload is written. Must be consumed by `send` or `discard`. It is the
+/// loan of a single value with another view of its payload. All other calls are those of
 /// that loan.
 ///
 /// Example (`crates/thermometer/src/series.rt`):
@@ -28,7 +28,8 @@ pub struct SampleMut {
 }
 
 impl SampleMut {
-    ghost use Rattle.std.specs.Prelude.{IfErr, IfOk, List, Some, [], length, ◌<◌, ◌++◌, ◌∷◌, ◌+◌};
+    ghost use Rattle.std.specs.Prelude.{IfErr, IfOk, List, Some, [], length, ◌<◌, ◌++◌, ◌∷◌, ◌+◌, ◌≢◌};
+    ghost use Rattle.iox2_machine.specs.declared.errors.SendError.TheVariants.{UnableToDeliver};
     ghost use Rattle.iox2_machine.specs.machine.Limits.{channel_count};
     ghost use Rattle.iox2_machine.specs.machine.Records.{Loan};
     ghost use Rattle.iox2_machine.specs.machine.State.{State, Messages};
@@ -37,6 +38,7 @@ impl SampleMut {
     ghost use Rattle.iox2_pubsub.specs.Live.{AddAtMost, AllFrom, AreAllSlices, HasItsBuffer, IsConnected, IsLoanKey, IsServed, IsUnblocked, IsWritten, payloads, waiting, written_key};
     ghost use Rattle.iox2_pubsub.specs.declared.subscriber.Subscriber.{Subscriber};
     ghost use Rattle.iox2_pubsub.specs.LoanCalls.{IsDiscarded};
+    ghost use Rattle.iox2_pubsub.specs.RoomyPublishers.{HasRoomAlone, IsRoomy};
     ghost use Rattle.iox2_pubsub.specs.SendCalls.{FailsDelivery, FailsSend, IsDelivered, Sends, SendsToConnection, SpendsLoan, messages_after};
     ghost use Rattle.iox2_pubsub.specs.Slices.{HasValues, HoldsSlices};
     ghost use Rattle.iox2_pubsub.specs.Handles.{as_written, buffer_size_of, written_lender, written_number};
@@ -70,6 +72,8 @@ impl SampleMut {
         ensures errors { IfErr result (FailsSend domain.old (written_key (as_written self))) }
         ensures sent { (m : Messages T U) (s : State T U) (l : Loan T U) → Shows domain.old m s → s.loans (written_number (as_written self)) ≡ Some l
             → (s' : State T U) × Shows domain.new (messages_after m (written_number (as_written self)) l result) s' × Sends (answers_of F.allows G.allows (domain.old.boxes).publishers) s (written_number (as_written self)) l result s' }
+        ensures roomy { IsRoomy domain.old (written_lender (as_written self)) → IfOk result IsDelivered × IfErr result (λ error. error ≢ UnableToDeliver) }
+        ensures roomy_alone { (subscriber : Subscriber) → HasRoomAlone domain.old (written_lender (as_written self)) subscriber → IfOk result IsDelivered × IfErr result (λ error. error ≢ UnableToDeliver) }
         ensures adds { AddAtMost ((domain.old.config).history_size + 1) domain.old domain.new }
         ensures brings { (subscriber : Subscriber) (values : List T) → (domain.old.config).history_size ≡ 0 → waiting domain.old subscriber ≡ 0
             → HasValues domain.old (written_number (as_written self)) values → AreAllSlices (payloads domain.new subscriber) values }

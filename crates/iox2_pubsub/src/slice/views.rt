@@ -2,7 +2,7 @@
 ghost use Rattle.std.specs.Prelude.{◌≡◌};
 
 use crate::port_factory::handles::PortHandle;
-use crate::slice::{Publisher, Sample, SampleMut, SampleMutUninit, Subscriber};
+use crate::slice::{Publisher, SampleMut, SampleMutUninit, Subscriber};
 use std::ops::Deref;
 
 impl Deref for Publisher {
@@ -160,42 +160,6 @@ impl SampleMut {
 
     /// Spends the handle of a loan whose domain is gone. A domain that is still there isn't told,
     /// and keeps the loan. This library's own.
-    pub fn disown(self) {
-        self.into_inner().disown();
-    }
-}
-
-impl Deref for Sample {
-    type Target = crate::Sample;
-
-    ghost deref_gives = { λ handle inner. inner ≡ handle.sample };
-
-    #[inline(always)]
-    fn deref(&self) -> &crate::Sample {
-        &self.sample
-    }
-}
-
-impl Sample {
-    ghost use Rattle.iox2_pubsub.specs.Handles.{as_sample};
-
-    /// The same sample, as one of a slice. This library's own.
-    pub fn new(sample: crate::Sample) -> Sample
-        ensures { as_sample result ≡ sample }
-    {
-        Sample { sample }
-    }
-
-    /// The same sample, as one of a single value. This library's own.
-    pub fn into_inner(self) -> crate::Sample
-        ensures { result ≡ as_sample self }
-    {
-        let Sample { sample } = self;
-        sample
-    }
-
-    /// Spends the handle of a sample whose domain is gone. A domain that is still there isn't told,
-    /// and counts the message as borrowed from then on. This library's own.
     pub fn disown(self) {
         self.into_inner().disown();
     }

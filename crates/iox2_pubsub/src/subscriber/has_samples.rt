@@ -8,6 +8,7 @@ use iox2_messages::has_samples_at;
 
 impl Subscriber {
     ghost use Rattle.iox2_machine.specs.machine.State.{State, Messages};
+    ghost use Rattle.iox2_pubsub.specs.BorrowsLeft.{BorrowsLeftStay};
     ghost use Rattle.iox2_pubsub.specs.Leaves.{LeavesButWaiting};
     ghost use Rattle.iox2_pubsub.specs.Live.{IsLiveSubscriber, IsUpToDate, KeepsAll, waiting, WaitingStays};
     ghost use Rattle.iox2_pubsub.specs.QuestionCalls.{Answers};
@@ -31,6 +32,7 @@ impl Subscriber {
         ensures waits { IfOk result (λ waits. IsTrue waits ↔ (0 < waiting domain.new self.now)) }
         ensures undisturbed { KeepsAll domain.old self.now → WaitingStays domain.old domain.new }
         ensures updated { OnOk result (IsUpToDate domain.new self.now) }
+        ensures borrows_left { BorrowsLeftStay domain.old domain.new }
         ensures leaves { LeavesButWaiting self.now domain.old domain.new }
     {
         has_samples_at(&mut domain.state, &domain.subscriber_boxes, self.place)

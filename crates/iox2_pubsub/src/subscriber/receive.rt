@@ -6,6 +6,7 @@ use crate::subscriber::Subscriber;
 use iox2_domain::Receipt;
 use iox2_machine::{BackpressureFn, DegradationFn, ReceiveError};
 use iox2_messages::receive_at;
+use std::marker::PhantomData;
 
 impl Subscriber {
     ghost use Rattle.iox2_domain.specs.Boxes.{answers_of};
@@ -40,6 +41,7 @@ impl Subscriber {
             service_id: self.service_id,
             origin: publisher,
             sample,
+            kind: PhantomData,
         }))
     }
 }

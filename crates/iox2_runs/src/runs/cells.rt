@@ -71,9 +71,9 @@ pub(crate) fn received_value<
     if is_single_valued(domain) {
         return (only_at(at, *sample.payload(domain)), sample);
     }
-    let sample = slice::Sample::new(sample);
+    let sample: slice::Sample = sample.into_kind();
     let value = sample.payload(domain).get(at).copied();
-    (value, sample.into_inner())
+    (value, sample.into_kind())
 }
 
 // What stands at the index, where this alone stands anywhere.

@@ -118,7 +118,7 @@ pub(crate) fn receive_slice<T: Drop, U: Default + Drop>(
     domain: &mut Domain<T, U>,
     subscriber: &slice::Subscriber,
 ) -> slice::Sample
-    ensures sample { IsLiveSample domain.new result.sample }
+    ensures sample { IsLiveSample domain.new result }
     ensures holds { HoldsSlices domain.new }
 {
     assert!(rt; holds_slices(domain));

@@ -3,7 +3,7 @@
 use crate::tests::fixtures::{
     lend_slice, receive_slice, send_slice, slice_factory, slice_subscriber,
 };
-use iox2_fixtures::slices;
+use iox2_fixtures::{is_slice_publisher_ready, is_sliced, slices};
 use iox2_machine::{AllocationStrategy, LoanError, ServiceConfig};
 use iox2_pubsub::Domain;
 use iox2_pubsub::slice::{Publisher, Sample, Subscriber};
@@ -58,13 +58,14 @@ fn lend(rt: &impl Abort, domain: &mut Shares, publisher: &Publisher, len: usize)
     lend_slice(rt, domain, publisher, len).discard(domain);
 }
 
-// How many shares are in slots while two samples of `len` shares each are borrowed, and memory has grown;
-// after both were released; and after the next loan.
+// How many shares there are, of which one is in no slot, while two samples of `len` shares each are borrowed
+// and memory has grown to slots for `longer`; after both were released; and after the next loan.
 fn kept_of_two(
     rt: &impl Abort,
     alloc: Global,
     strategy: AllocationStrategy,
     len: usize,
+    longer: usize,
 ) -> [usize; 3] {
     let value = Rc::new(alloc, 7_u8).expect(rt, "a value");
     let mut domain = domain(rt, alloc, 2);
@@ -72,13 +73,13 @@ fn kept_of_two(
     let publisher = publisher(rt, &mut domain, strategy);
     let first = pass(rt, &mut domain, &publisher, &subscriber, &value, len);
     let second = pass(rt, &mut domain, &publisher, &subscriber, &value, len);
-    lend(rt, &mut domain, &publisher, 4 * len);
-    let borrowed = Rc::strong_count(&value) - 1;
+    lend(rt, &mut domain, &publisher, longer);
+    let borrowed = Rc::strong_count(&value);
     release(rt, &mut domain, first);
     release(rt, &mut domain, second);
-    let released = Rc::strong_count(&value) - 1;
+    let released = Rc::strong_count(&value);
     lend(rt, &mut domain, &publisher, len);
-    let lent = Rc::strong_count(&value) - 1;
+    let lent = Rc::strong_count(&value);
     publisher.disown();
     subscriber.disown();
     [borrowed, released, lent]
@@ -87,22 +88,18 @@ fn kept_of_two(
 #[test]
 fn what_lay_in_an_older_slot_goes_at_the_next_loan_after_its_release(rt: HostRuntime) {
     for strategy in [AllocationStrategy::BestFit, AllocationStrategy::PowerOfTwo] {
-        for len in [3, 100] {
-            let [borrowed, released, lent] = kept_of_two(&rt, rt.alloc(), strategy, len);
-            assert!(rt; borrowed == 2 * len);
-            assert!(rt; released == 2 * len);
-            assert!(rt; lent == 0);
+        for (len, longer, kept) in [(3, 12, 7), (100, 400, 201)] {
+            let [borrowed, released, lent] = kept_of_two(&rt, rt.alloc(), strategy, len, longer);
+            assert!(rt; borrowed == kept);
+            assert!(rt; released == kept);
+            assert!(rt; lent == 1);
         }
     }
 }
 
-// How many shares are in slots after each of three loans: one while two older samples are borrowed, one after
+// How many shares there are, of which one is in no slot, after each of three loans: one while two older samples are borrowed, one after
 // the first of them was released, together with a message of the current segment, and one after the second.
-fn kept_one_by_one(
-    rt: &impl Abort,
-    alloc: Global,
-    strategy: AllocationStrategy,
-) -> [usize; 3] {
+fn kept_one_by_one(rt: &impl Abort, alloc: Global, strategy: AllocationStrategy) -> [usize; 3] {
     let value = Rc::new(alloc, 7_u8).expect(rt, "a value");
     let mut domain = domain(rt, alloc, 3);
     let subscriber = slice_subscriber(rt, &mut domain);
@@ -111,14 +108,14 @@ fn kept_one_by_one(
     let second = pass(rt, &mut domain, &publisher, &subscriber, &value, 7);
     let current = pass(rt, &mut domain, &publisher, &subscriber, &value, 20);
     lend(rt, &mut domain, &publisher, 20);
-    let both = Rc::strong_count(&value) - 1;
+    let both = Rc::strong_count(&value);
     release(rt, &mut domain, first);
     release(rt, &mut domain, current);
     lend(rt, &mut domain, &publisher, 20);
-    let one = Rc::strong_count(&value) - 1;
+    let one = Rc::strong_count(&value);
     release(rt, &mut domain, second);
     lend(rt, &mut domain, &publisher, 20);
-    let none = Rc::strong_count(&value) - 1;
+    let none = Rc::strong_count(&value);
     publisher.disown();
     subscriber.disown();
     [both, one, none]
@@ -128,14 +125,22 @@ fn kept_one_by_one(
 fn each_older_slot_goes_on_its_own(rt: HostRuntime) {
     for strategy in [AllocationStrategy::BestFit, AllocationStrategy::PowerOfTwo] {
         let [both, one, none] = kept_one_by_one(&rt, rt.alloc(), strategy);
-        assert!(rt; both == 32);
-        assert!(rt; one == 27);
-        assert!(rt; none == 20);
+        assert!(rt; both == 33);
+        assert!(rt; one == 28);
+        assert!(rt; none == 21);
     }
 }
 
-// How many shares are in slots after an older sample was released behind a loan that was refused at the limit
-// of loans, and after the loan that comes next.
+// Whether a loan is refused at the limit of loans.
+fn is_refused(rt: &impl Abort, domain: &mut Shares, publisher: &Publisher) -> bool {
+    assert!(rt; is_sliced(domain));
+    assert!(rt; is_slice_publisher_ready(domain, publisher));
+    let loan = publisher.loan_slice_uninit(domain, 1);
+    loan.map(|loan| loan.disown()) == Err(LoanError::ExceedsMaxLoans)
+}
+
+// How many shares there are, of which one is in no slot, after an older sample was released and three loans
+// were refused at the limit of loans; and after the other one was released too, and a loan was granted.
 fn kept_behind_a_refusal(rt: &impl Abort, alloc: Global) -> [usize; 2] {
     let value = Rc::new(alloc, 7_u8).expect(rt, "a value");
     let mut domain = domain(rt, alloc, 2);
@@ -146,14 +151,14 @@ fn kept_behind_a_refusal(rt: &impl Abort, alloc: Global) -> [usize; 2] {
     let loan = lend_slice(rt, &mut domain, &publisher, 20);
     release(rt, &mut domain, first);
     for _ in 0..3 {
-        let refused = publisher.loan_slice_uninit(&mut domain, 1);
-        assert!(rt; refused.map(|loan| loan.disown()) == Err(LoanError::ExceedsMaxLoans));
+        assert!(rt; is_refused(rt, &mut domain, &publisher));
     }
-    let refused = Rc::strong_count(&value) - 1;
+    let refused = Rc::strong_count(&value);
     release(rt, &mut domain, second);
+    assert!(rt; domain.holds_loan(loan.key()));
     loan.discard(&mut domain);
     lend(rt, &mut domain, &publisher, 1);
-    let lent = Rc::strong_count(&value) - 1;
+    let lent = Rc::strong_count(&value);
     publisher.disown();
     subscriber.disown();
     [refused, lent]
@@ -162,6 +167,6 @@ fn kept_behind_a_refusal(rt: &impl Abort, alloc: Global) -> [usize; 2] {
 #[test]
 fn a_refused_loan_loses_track_of_no_older_slot(rt: HostRuntime) {
     let [refused, lent] = kept_behind_a_refusal(&rt, rt.alloc());
-    assert!(rt; refused == 7);
-    assert!(rt; lent == 0);
+    assert!(rt; refused == 8);
+    assert!(rt; lent == 1);
 }

@@ -12,7 +12,7 @@ use iox2_fixtures::{
 };
 use iox2_machine::{DegradationAction, LoanError};
 use iox2_pubsub::slice::{Publisher, Sample, SampleMut, SampleMutUninit, Subscriber};
-use iox2_pubsub::{DegradationHandler, Domain, UpdateConnections};
+use iox2_pubsub::{DegradationHandler, Domain, UpdateConnections, Value};
 use std::cell::Cell;
 use std::process::Abort;
 use std::time::CpuClock;
@@ -362,7 +362,7 @@ fn handles_of_slices_are_made_of_those_of_single_values(rt: HostRuntime) {
     let sample = receive_slice(&rt, &mut domain, &subscriber);
     subscriber.disown();
     let borrowed = sample.key();
-    let sample = Sample::new(sample.into_inner());
+    let sample: Sample = sample.into_kind::<Value>().into_kind();
     let is_same_sample = sample.key() == borrowed;
     sample.disown();
     drop(domain);

@@ -5,7 +5,7 @@ use crate::tests::fixtures::{
     celsius_of, copied, domain, publisher_of, received, release, subscriber_of, waits,
 };
 use iox2_fixtures::{Reading, Weather, factory_for, is_single_valued};
-use iox2_pubsub::{LoanParts, PublisherParts, SampleParts, SubscriberParts};
+use iox2_pubsub::{LoanParts, PublisherParts, SampleParts, SubscriberParts, Value};
 use std::process::Abort;
 
 // Whether a publisher with the numbers is in the domain.
@@ -160,14 +160,17 @@ fn a_loan_is_had_again_by_its_mark_until_it_is_given_back(rt: HostRuntime) {
 
 // Whether the sample with the numbers is borrowed.
 fn has_sample(domain: &Weather, parts: &SampleParts) -> bool {
-    domain.sample_of(parts).map(|it| it.disown()).is_some()
+    domain
+        .sample_of::<Value>(parts)
+        .map(|it| it.disown())
+        .is_some()
 }
 
 // Whether the sample with the numbers is there, and was borrowed last.
 fn has_sample_at_hint(domain: &mut Weather, parts: &SampleParts) -> bool
     ensures { domain.new ≡ domain.old }
 {
-    match domain.sample_at_hint(parts) {
+    match domain.sample_at_hint::<Value>(parts) {
         Some(sample) => {
             sample.disown();
             true

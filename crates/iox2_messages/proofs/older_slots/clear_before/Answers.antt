@@ -16,7 +16,7 @@ loop-at-preserved g c =
       | then-slot-start w ↦
           rw (w.contents-is, w.cleared-is) (
             cleared-next {T = g.row.T.Denot} {U = g.row.U.Denot} c.args.slots.now c.args.start c.args.contents.now c.loop-at.at c.loop-at.contents w.clear.new.self c.loop-at-test.true
-            c.loop-at.invariant.0 w.if-slot-start.true w.clear.ensures,
+                c.loop-at.invariant.0 w.if-slot-start.true w.clear.ensures,
             omega (arith, few),
           )
       | else-slot-start w ↦

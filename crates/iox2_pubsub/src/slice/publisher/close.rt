@@ -11,6 +11,7 @@ impl Publisher {
     ghost use Rattle.iox2_machine.specs.machine.Records.{Publisher as Record};
     ghost use Rattle.iox2_machine.specs.machine.State.{State, Messages};
     ghost use Rattle.iox2_pubsub.specs.Live.{HasRoomFor, IsConnected, IsPublisherKey, IsReadyPublisher, IsUpToDate, StaysBut, degradation_box, handler_box, publisher_key, publisher_port, payloads_from, waiting};
+    ghost use Rattle.iox2_pubsub.specs.BorrowsLeft.{BorrowsLeftStay};
     ghost use Rattle.iox2_pubsub.specs.LoansLeft.{NumbersLeftStay, OthersLoansLeftStay};
     ghost use Rattle.iox2_pubsub.specs.declared.subscriber.Subscriber.{Subscriber};
     ghost use Rattle.iox2_domain.specs.Shows.{Shows};
@@ -36,6 +37,7 @@ impl Publisher {
         ensures room { (subscriber : Subscriber) (closes : ℕ) → HasRoomFor domain.old subscriber (suc closes) → HasRoomFor domain.new subscriber closes }
         ensures loans_left { OthersLoansLeftStay (as_publisher self) domain.old domain.new }
         ensures numbers_left { NumbersLeftStay domain.old domain.new }
+        ensures borrows_left { BorrowsLeftStay domain.old domain.new }
         ensures stays { StaysBut (publisher_port (as_publisher self)) domain.old domain.new }
     {
         let Publisher { publisher } = self;

@@ -1,5 +1,5 @@
 use Rattle.std.proofs.Common.{rules, ℕ, ap, inl, refl, subst, arith}
-use Rattle.iox2_pubsub.specs.Handles.{as_sample, receiver_of}
+use Rattle.iox2_pubsub.specs.Handles.{receiver_of}
 use Rattle.iox2_c.specs.Numbers.{wide}
 use Rattle.iox2_c.specs.Serving.{KeptBytes, Serving}
 use Rattle.iox2_c.specs.Steps.{Releases}
@@ -12,7 +12,7 @@ returns c = record {
   releases = λ ok.
       subst (λ (old : KeptBytes). Releases old c.release.new.domain (wide c.args.numbers.now.subscriber) (wide c.args.numbers.now.number)) (ap (λ (s : Serving). s.domain) c.service.view_is)
       (subst (λ (q : ℕ). Releases c.service.inside.domain c.release.new.domain q (wide c.args.numbers.now.number)) c.in-Some.ensures.receiver
-      (subst (Releases c.service.inside.domain c.release.new.domain (receiver_of (as_sample c.in-Some.sample))) c.in-Some.ensures.number c.release.ensures.released));
+      (subst (Releases c.service.inside.domain c.release.new.domain (receiver_of c.in-Some.sample)) c.in-Some.ensures.number c.release.ensures.released));
   spent = search rules;
   refused = λ high. absurd (omega (arith, high));
   stays = search rules;

@@ -4,11 +4,10 @@ use Rattle.std.specs.declared.result.Result.TheVariants.{Ok}
 use Rattle.iox2_machine.specs.declared.key.Key.{Key}
 use Rattle.iox2_machine.specs.machine.Receives.{Got_sample, No_sample, Receive_error}
 use Rattle.iox2_machine.specs.declared.service_config.ServiceConfig.{ServiceConfig}
-use Rattle.iox2_pubsub.specs.Handles.{as_sample}
 use Rattle.iox2_pubsub.specs.Live.{IsLiveSample}
 use Rattle.iox2_pubsub.proofs.LiveParts.{sample-parts, subscriber-parts}
-use Rattle.iox2_pubsub.specs.ReceivedSamples.{as_received, received_result}
-use Rattle.iox2_pubsub.specs.declared.slice.sample.Sample.{Sample as SliceSample}
+use Rattle.iox2_pubsub.specs.ReceivedSamples.{received_result}
+use Rattle.iox2_pubsub.specs.Sample.{Sample}
 use Rattle.iox2_c.specs.Numbers.{wide}
 use Rattle.iox2_c.specs.Serving.{Serving}
 use Rattle.iox2_c.proofs.BecomesSteps.{receive-code-high, receives-moved}
@@ -16,7 +15,7 @@ use Rattle.iox2_c.proofs.calls.subscribers.receive_named.Goals as goal
 
 pub tell_received-requires-clause-service : goal.tell_received-requires-clause-service
 tell_received-requires-clause-service c =
-    let live : IsLiveSample c.receive-received.new.domain (as_sample c.in-Ok-Some.sample) = search rules in
+    let live : IsLiveSample c.receive-received.new.domain c.in-Ok-Some.sample = search rules in
     (sample-parts c.receive-received.new.domain _ live.there).0
     ∙ ap (λ (config : ServiceConfig). config.service_id) c.in-Ok-Some.ensures.leaves.stays.settings
     ∙ sym (subscriber-parts c.service.inside.domain _ c.in-Some.ensures.live.there).1
@@ -31,8 +30,8 @@ returns-in-Ok-Some c =
       received = λ _.
           receives-moved c.service.inside.domain c.args.service.now.domain c.receive-received.new.domain _ (wide c.args.numbers.now.id) _ _
           (ap (λ (s : Serving). s.domain) c.service.view_is) c.in-Some.ensures.id
-          (ap (λ (o : Option SliceSample). received_result (as_received (Ok o))) c.in-Ok-Some.field-0-is
-          ∙ ap (λ (o : ℕ). Got_sample o c.in-Ok-Some.sample.sample.sample.number) (sym origin) ∙ ap (Got_sample (wide (c.tell_received.new.out).origin)) (sym number))
+          (ap (λ (o : Option Sample). received_result (Ok o)) c.in-Ok-Some.field-0-is
+          ∙ ap (λ (o : ℕ). Got_sample o c.in-Ok-Some.sample.sample.number) (sym origin) ∙ ap (Got_sample (wide (c.tell_received.new.out).origin)) (sym number))
           c.in-Ok-Some.ensures.receives;
       nothing = λ none. absurd (omega (arith, ok, none));
       errors = λ high. absurd (omega (arith, ok, high));
@@ -51,7 +50,7 @@ returns-in-Ok-None c = record {
   received = λ ok. absurd (omega (arith, ok));
   nothing = λ _.
       receives-moved c.service.inside.domain c.args.service.now.domain c.receive-received.new.domain _ (wide c.args.numbers.now.id) _ No_sample
-      (ap (λ (s : Serving). s.domain) c.service.view_is) c.in-Some.ensures.id (ap (λ (o : Option SliceSample). received_result (as_received (Ok o))) c.in-Ok-None.field-0-is)
+      (ap (λ (s : Serving). s.domain) c.service.view_is) c.in-Some.ensures.id (ap (λ (o : Option Sample). received_result (Ok o)) c.in-Ok-None.field-0-is)
       c.in-Ok-None.ensures.receives;
   errors = λ high. absurd (omega (arith, high));
   not_live = λ two. absurd (omega (arith, two));

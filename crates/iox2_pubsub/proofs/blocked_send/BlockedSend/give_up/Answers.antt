@@ -11,6 +11,7 @@ use Rattle.iox2_pubsub.proofs.BlockedShown.{give-up-shown, give-up-stays, give-u
 use Rattle.iox2_pubsub.proofs.GoneOn.{went-on}
 use Rattle.iox2_pubsub.proofs.LiveParts.{unfailed-parts}
 use Rattle.iox2_pubsub.proofs.UnfailedSends.{IsMild, give-up-unfailed}
+use Rattle.iox2_pubsub.proofs.BorrowsLeftShown.{give-up-borrows}
 use Rattle.iox2_pubsub.proofs.LoansLeftShown.{give-up-left, give-up-gives, sent-free}
 use Rattle.iox2_pubsub.proofs.ReceiversAhead.{give-up-fewer, where-blocked}
 use Rattle.iox2_pubsub.specs.BlockedSends.{receivers_ahead}
@@ -56,6 +57,7 @@ returns-clause-goes_on g c =
       adds = give-up-adds {T = g.row.T.Denot} {U = g.row.U.Denot} c.args.domain.now (keeping _ c.give_up_send-end.new.state) it.m it.m it.s it.step.0 it.shown it.step.1 (answers_of g.F.BackpressureFn.allows g.G.DegradationFn.allows c.args.domain.now.boxes.publishers) c.args.self.loan.publisher it.held.0 it.held.1 (result_of_send c.outcome_of.result) it.at it.held.3 it.step.2;
       up_to_date = give-up-leaves {T = g.row.T.Denot} {U = g.row.U.Denot} c.args.domain.now (keeping _ c.give_up_send-end.new.state) it.m it.m it.s it.step.0 it.shown it.step.1 (answers_of g.F.BackpressureFn.allows g.G.DegradationFn.allows c.args.domain.now.boxes.publishers) c.args.self.loan.publisher it.held.1 (result_of_send c.outcome_of.result) it.step.2;
       loans_left = give-up-left {T = g.row.T.Denot} {U = g.row.U.Denot} c.args.domain.now (keeping _ c.give_up_send-end.new.state) it.m it.m it.s it.step.0 it.shown it.step.1 c.args.self.loan.publisher it.held.0 it.held.1 it.at it.held.3 (answers_of g.F.BackpressureFn.allows g.G.DegradationFn.allows c.args.domain.now.boxes.publishers) (result_of_send c.outcome_of.result) it.step.2;
+      borrows_left = give-up-borrows {T = g.row.T.Denot} {U = g.row.U.Denot} c.args.domain.now (keeping _ c.give_up_send-end.new.state) it.m it.m it.s it.step.0 it.shown it.step.1 (answers_of g.F.BackpressureFn.allows g.G.DegradationFn.allows c.args.domain.now.boxes.publishers) c.args.self.loan.publisher it.held.1 (result_of_send c.outcome_of.result) it.step.2;
       given_back = λ ends. give-up-gives {T = g.row.T.Denot} {U = g.row.U.Denot} c.args.domain.now (keeping _ c.give_up_send-end.new.state) it.m it.m it.s it.step.0 it.shown it.step.1 c.args.self.loan.publisher it.held.0 it.held.1 it.at it.held.3 (answers_of g.F.BackpressureFn.allows g.G.DegradationFn.allows c.args.domain.now.boxes.publishers) (result_of_send c.outcome_of.result) (sent-free c.outcome_of.result ends) it.step.2;
     })
 

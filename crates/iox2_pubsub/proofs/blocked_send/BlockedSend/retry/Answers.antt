@@ -11,6 +11,7 @@ use Rattle.iox2_pubsub.proofs.BlockedShown.{retry-shown, retry-stays, retry-free
 use Rattle.iox2_pubsub.proofs.GoneOn.{went-on}
 use Rattle.iox2_pubsub.proofs.LiveParts.{unfailed-parts}
 use Rattle.iox2_pubsub.proofs.UnfailedSends.{IsMild, retry-unfailed}
+use Rattle.iox2_pubsub.proofs.BorrowsLeftShown.{retry-borrows}
 use Rattle.iox2_pubsub.proofs.LoansLeftShown.{retry-left, retry-gives, sent-free}
 use Rattle.iox2_pubsub.proofs.ReceiversAhead.{retry-no-more, where-blocked}
 use Rattle.iox2_pubsub.specs.BlockedSends.{receivers_ahead}
@@ -56,6 +57,7 @@ returns-clause-goes_on g c =
       adds = retry-adds {T = g.row.T.Denot} {U = g.row.U.Denot} c.args.domain.now (keeping _ c.retry_send-end.new.state) it.m it.m it.s it.step.0 it.shown it.step.1 (answers_of g.F.BackpressureFn.allows g.G.DegradationFn.allows c.args.domain.now.boxes.publishers) c.args.self.loan.publisher it.held.0 it.held.1 c.args.elapsed (result_of_send c.outcome_of.result) it.at it.held.3 it.step.2;
       up_to_date = retry-leaves {T = g.row.T.Denot} {U = g.row.U.Denot} c.args.domain.now (keeping _ c.retry_send-end.new.state) it.m it.m it.s it.step.0 it.shown it.step.1 (answers_of g.F.BackpressureFn.allows g.G.DegradationFn.allows c.args.domain.now.boxes.publishers) c.args.self.loan.publisher it.held.1 c.args.elapsed (result_of_send c.outcome_of.result) it.step.2;
       loans_left = retry-left {T = g.row.T.Denot} {U = g.row.U.Denot} c.args.domain.now (keeping _ c.retry_send-end.new.state) it.m it.m it.s it.step.0 it.shown it.step.1 c.args.self.loan.publisher it.held.0 it.held.1 it.at it.held.3 (answers_of g.F.BackpressureFn.allows g.G.DegradationFn.allows c.args.domain.now.boxes.publishers) c.args.elapsed (result_of_send c.outcome_of.result) it.step.2;
+      borrows_left = retry-borrows {T = g.row.T.Denot} {U = g.row.U.Denot} c.args.domain.now (keeping _ c.retry_send-end.new.state) it.m it.m it.s it.step.0 it.shown it.step.1 (answers_of g.F.BackpressureFn.allows g.G.DegradationFn.allows c.args.domain.now.boxes.publishers) c.args.self.loan.publisher it.held.1 c.args.elapsed (result_of_send c.outcome_of.result) it.step.2;
       given_back = λ ends. retry-gives {T = g.row.T.Denot} {U = g.row.U.Denot} c.args.domain.now (keeping _ c.retry_send-end.new.state) it.m it.m it.s it.step.0 it.shown it.step.1 c.args.self.loan.publisher it.held.0 it.held.1 it.at it.held.3 (answers_of g.F.BackpressureFn.allows g.G.DegradationFn.allows c.args.domain.now.boxes.publishers) c.args.elapsed (result_of_send c.outcome_of.result) (sent-free c.outcome_of.result ends) it.step.2;
     })
 

@@ -12,6 +12,7 @@ use Rattle.iox2_pubsub.proofs.WrittenLoanCalls.{with_value, written-out, copy-se
 use Rattle.iox2_machine.specs.declared.service_config.ServiceConfig.{ServiceConfig}
 use Rattle.iox2_pubsub.proofs.CopiesServe.{all-since, connected-as, copy-arrives, copy-others, copy-serves, none-are-all, none-still, waits-both}
 use Rattle.iox2_pubsub.specs.declared.subscriber.Subscriber.{Subscriber}
+use Rattle.iox2_pubsub.proofs.RoomySends.{alone-since}
 use Rattle.iox2_pubsub.proofs.publisher.Publisher.send_copy.Goals as goal
 
 pub returns-in_err-loan-clause-sends : goal.returns-in_err-loan-clause-sends
@@ -119,3 +120,20 @@ returns-clause-others g c =
     let waits = waits-both c.in_ok-loan.ensures.leaves.waits c.write_payload.ensures.becomes.leaves.waits in
     let lender = ap (λ (k : Key). k.port) c.write_payload.ensures.becomes.key ∙ c.in_ok-loan.ensures.loan.lent.publisher in
     copy-others c.args.domain.now _ _ waits c.args.self.now.id c.write_payload.result.loan.publisher lender c.send.ensures.spends.others
+
+pub returns-in_err-loan-clause-borrows_left : goal.returns-in_err-loan-clause-borrows_left
+returns-in_err-loan-clause-borrows_left g c = c.in_err-loan.ensures.leaves.borrows_left
+
+pub returns-clause-borrows_left : goal.returns-clause-borrows_left
+returns-clause-borrows_left g c = λ subscriber n left.
+    c.send.ensures.spends.borrows_left subscriber n (c.write_payload.ensures.becomes.leaves.borrows_left subscriber n (c.in_ok-loan.ensures.leaves.borrows_left subscriber n left))
+
+pub returns-clause-roomy_alone : goal.returns-clause-roomy_alone
+returns-clause-roomy_alone g c = λ subscriber has.
+    let waits = waits-both c.in_ok-loan.ensures.leaves.waits c.write_payload.ensures.becomes.leaves.waits in
+    let settings = c.write_payload.ensures.becomes.leaves.stays.settings ∙ c.in_ok-loan.ensures.leaves.stays.settings in
+    let lender = ap (λ (k : Key). k.port) c.write_payload.ensures.becomes.key ∙ c.in_ok-loan.ensures.loan.lent.publisher in
+    let still = c.in_ok-loan.ensures.leaves.up_to_date.connections c.args.self.now.id subscriber has.connected in
+    (c.send.ensures.roomy_alone subscriber
+    (alone-since waits settings (λ it its. c.write_payload.ensures.becomes.leaves.stays.buffers it (c.in_ok-loan.ensures.leaves.stays.buffers it its)) c.args.self.now.id c.write_payload.result.loan.publisher lender subscriber
+    (connected-as c.write_payload.ensures.becomes.leaves.up_to_date c.args.self.now.id c.write_payload.result.loan.publisher lender subscriber still) has)).0

@@ -1,5 +1,6 @@
-use Rattle.std.proofs.Common.{refl}
+use Rattle.std.proofs.Common.{ap}
+use Rattle.iox2_pubsub.specs.Sample.{Sample}
 use Rattle.iox2_pubsub.proofs.sample.Sample.origin.Goals as goal
 
 pub returns : goal.returns
-returns c = refl
+returns g c = ap (λ (it : Sample). it.origin) c.self.view_is

@@ -17,6 +17,7 @@ use Rattle.iox2_pubsub.specs.SendCalls.{result_of_send}
 use Rattle.iox2_pubsub.proofs.SentLoans.{from-shown}
 use Rattle.iox2_pubsub.proofs.ConnectionSendShown.{leaves-sent-to, machine-sends-to, sent-to-stays, sent-to-others, sent-to-up_to_date, sent-to-ok, fails-delivery, to-never-waits, to-spends}
 use Rattle.iox2_pubsub.proofs.LiveParts.{written-parts, unblocked-parts, unblocked-test, blocked-live}
+use Rattle.iox2_pubsub.proofs.BorrowsLeftShown.{send-to-borrows}
 use Rattle.iox2_pubsub.proofs.LoansLeftShown.{send-to-left, send-to-gives, sent-free}
 use Rattle.iox2_pubsub.proofs.SendShown.{is-blocked, is-delivered, leaves-shown}
 use Rattle.iox2_pubsub.proofs.StaysBut.{same-boxes}
@@ -85,6 +86,7 @@ returns-clause-spends g c =
       others = sent-to-others {T = g.row.T.Denot} {U = g.row.U.Denot} c.args.domain.now _ it.m it.s it.shown (answers_of g.F.BackpressureFn.allows g.G.DegradationFn.allows c.args.domain.now.boxes.publishers) c.args.self it.l it.out it.its c.args.channel c.args.connection it.step.0 c.outcome_of.result it.step.1 it.step.2;
       up_to_date = sent-to-up_to_date {T = g.row.T.Denot} {U = g.row.U.Denot} c.args.domain.now _ it.m it.s it.shown (answers_of g.F.BackpressureFn.allows g.G.DegradationFn.allows c.args.domain.now.boxes.publishers) c.args.self it.l it.out it.its c.args.channel c.args.connection it.step.0 (result_of_send c.outcome_of.result) _ it.step.1 it.step.2;
       loans_left = send-to-left {T = g.row.T.Denot} {U = g.row.U.Denot} c.args.domain.now _ it.m _ it.s it.step.0 it.shown it.step.1 (answers_of g.F.BackpressureFn.allows g.G.DegradationFn.allows c.args.domain.now.boxes.publishers) c.args.self.loan.number it.l it.out c.args.self.loan.publisher it.its c.args.channel c.args.connection (result_of_send c.outcome_of.result) it.step.2;
+      borrows_left = send-to-borrows {T = g.row.T.Denot} {U = g.row.U.Denot} c.args.domain.now _ it.m _ it.s it.step.0 it.shown it.step.1 (answers_of g.F.BackpressureFn.allows g.G.DegradationFn.allows c.args.domain.now.boxes.publishers) c.args.self.loan.number it.l c.args.channel c.args.connection (result_of_send c.outcome_of.result) it.step.2;
       given_back = λ ends. send-to-gives {T = g.row.T.Denot} {U = g.row.U.Denot} c.args.domain.now _ it.m _ it.s it.step.0 it.shown it.step.1 (answers_of g.F.BackpressureFn.allows g.G.DegradationFn.allows c.args.domain.now.boxes.publishers) c.args.self.loan.number it.l it.out c.args.self.loan.publisher it.its c.args.channel c.args.connection (result_of_send c.outcome_of.result) (sent-free c.outcome_of.result ends) it.step.2;
       stays = stays;
     }

@@ -24,9 +24,11 @@ use Rattle.iox2_pubsub.proofs.LiveParts.{publisher-parts, written-parts, unblock
 use Rattle.iox2_pubsub.proofs.WaitingShown.{send-adds, send-brings}
 use Rattle.iox2_pubsub.proofs.UpToDateShown.{send-leaves}
 use Rattle.iox2_pubsub.proofs.ConnectionsShown.{serves}
+use Rattle.iox2_pubsub.proofs.BorrowsLeftShown.{send-borrows}
 use Rattle.iox2_pubsub.proofs.LoansLeftShown.{send-left, send-gives, sent-free}
 use Rattle.iox2_pubsub.proofs.PublisherWaits.{send-arrives, send-joins}
 use Rattle.iox2_pubsub.proofs.KeptReceives.{others-send}
+use Rattle.iox2_pubsub.proofs.RoomySends.{alone-roomy, roomy-free, unhindered-is}
 use Rattle.iox2_pubsub.proofs.StaysBut.{same-boxes}
 use Rattle.iox2_pubsub.proofs.PlacedLoans.{written-lies}
 use Rattle.iox2_pubsub.proofs.sample_mut.SampleMut.send.Goals as goal
@@ -84,6 +86,17 @@ pub returns-clause-adds : goal.returns-clause-adds
 returns-clause-adds g c =
     let it = from-shown {T = g.row.T.Denot} {U = g.row.U.Denot} c.domain.inside.state c.domain.invariant c.args.domain.now c.domain.view_is c.args.self c.requires.live (returns-clause-sent g c) in
     send-adds {T = g.row.T.Denot} {U = g.row.U.Denot} c.args.domain.now _ it.m _ it.s it.step.0 it.shown it.step.1 (answers_of g.F.BackpressureFn.allows g.G.DegradationFn.allows c.args.domain.now.boxes.publishers) c.args.self.loan.number it.l (result_of_send c.send_loan.result) it.step.2
+
+pub returns-clause-roomy : goal.returns-clause-roomy
+returns-clause-roomy g c = λ roomy.
+    let it = from-shown {T = g.row.T.Denot} {U = g.row.U.Denot} c.domain.inside.state c.domain.invariant c.args.domain.now c.domain.view_is c.args.self c.requires.live (returns-clause-sent g c) in
+    unhindered-is c.send_loan.result
+    (roomy-free {T = g.row.T.Denot} {U = g.row.U.Denot} c.args.domain.now it.m it.s it.shown (answers_of g.F.BackpressureFn.allows g.G.DegradationFn.allows c.args.domain.now.boxes.publishers) c.args.self.loan.number it.l c.args.self.loan.publisher it.its (unblocked-test c.args.domain.now (written_key c.args.self) c.requires.unblocked) roomy it.step.0 (result_of_send c.send_loan.result) it.step.2)
+
+pub returns-clause-roomy_alone : goal.returns-clause-roomy_alone
+returns-clause-roomy_alone g c = λ subscriber has.
+    let it = from-shown {T = g.row.T.Denot} {U = g.row.U.Denot} c.domain.inside.state c.domain.invariant c.args.domain.now c.domain.view_is c.args.self c.requires.live (returns-clause-sent g c) in
+    returns-clause-roomy g c (alone-roomy {T = g.row.T.Denot} {U = g.row.U.Denot} c.args.domain.now it.m it.s it.shown c.args.self.loan.publisher subscriber has)
 
 pub returns-clause-brings : goal.returns-clause-brings
 returns-clause-brings g c = λ subscriber values no_history none reads.
@@ -147,6 +160,7 @@ returns-clause-spends g c =
       others = others-send {T = g.row.T.Denot} {U = g.row.U.Denot} c.args.domain.now _ it.m it.s it.shown (answers_of g.F.BackpressureFn.allows g.G.DegradationFn.allows c.args.domain.now.boxes.publishers) c.args.self.loan.number it.l c.args.self.loan.publisher c.send_loan.result it.step.0 it.step.1 it.step.2 (it.shown.unsent c.args.self.loan.number it.l it.out) it.its;
       up_to_date = send-leaves {T = g.row.T.Denot} {U = g.row.U.Denot} c.args.domain.now _ it.m _ it.s it.step.0 it.shown it.step.1 (answers_of g.F.BackpressureFn.allows g.G.DegradationFn.allows c.args.domain.now.boxes.publishers) c.args.self.loan.number it.l (result_of_send c.send_loan.result) it.step.2;
       loans_left = send-left {T = g.row.T.Denot} {U = g.row.U.Denot} c.args.domain.now _ it.m _ it.s it.step.0 it.shown it.step.1 (answers_of g.F.BackpressureFn.allows g.G.DegradationFn.allows c.args.domain.now.boxes.publishers) c.args.self.loan.number it.l it.out c.args.self.loan.publisher it.its (result_of_send c.send_loan.result) it.step.2;
+      borrows_left = send-borrows {T = g.row.T.Denot} {U = g.row.U.Denot} c.args.domain.now _ it.m _ it.s it.step.0 it.shown it.step.1 (answers_of g.F.BackpressureFn.allows g.G.DegradationFn.allows c.args.domain.now.boxes.publishers) c.args.self.loan.number it.l (result_of_send c.send_loan.result) it.step.2;
       given_back = λ ends. send-gives {T = g.row.T.Denot} {U = g.row.U.Denot} c.args.domain.now _ it.m _ it.s it.step.0 it.shown it.step.1 (answers_of g.F.BackpressureFn.allows g.G.DegradationFn.allows c.args.domain.now.boxes.publishers) c.args.self.loan.number it.l it.out c.args.self.loan.publisher it.its (result_of_send c.send_loan.result) (sent-free c.send_loan.result ends) it.step.2;
       stays = stays;
     }

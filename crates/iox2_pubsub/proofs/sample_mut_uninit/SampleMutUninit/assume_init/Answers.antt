@@ -1,7 +1,7 @@
 use Rattle.std.proofs.Common.{refl, sym, ◌∙◌}
 use Rattle.std.proofs.lemmas.Bool.{true≢false}
 use Rattle.iox2_pubsub.proofs.LoanHandles.{unwritten-out}
-use Rattle.iox2_pubsub.proofs.AssumedLoans.{all-taken, some-left, taken-values, taken-becomes, left-leaves, written-taken, unwritten-left, taken-shown, taken-reads, left-same, left-shown, left-stays, left-loans}
+use Rattle.iox2_pubsub.proofs.AssumedLoans.{all-taken, some-left, taken-values, taken-becomes, left-leaves, written-taken, unwritten-left, taken-shown, taken-reads, left-same, left-shown, left-stays, left-loans, left-borrows}
 use Rattle.iox2_pubsub.proofs.WaitingShown.{waiting-same}
 use Rattle.iox2_pubsub.proofs.PlacedLoans.{unwritten-lies}
 use Rattle.iox2_pubsub.proofs.sample_mut_uninit.SampleMutUninit.assume_init.Goals as goal
@@ -26,6 +26,7 @@ returns-then-not-assume_loan g c = record {
     waits = waiting-same c.args.domain.now _ (left-same {T = g.row.T.Denot} {U = g.row.U.Denot} c.domain.inside.state c.assume_loan.new.state c.domain.invariant c.args.domain.now c.domain.view_is c.args.self.loan.number c.assume_loan.result c.assume_loan.ensures c.if-not-assume_loan.true);
     up_to_date = left-leaves {T = g.row.T.Denot} {U = g.row.U.Denot} c.domain.inside.state c.assume_loan.new.state c.domain.invariant c.args.domain.now c.domain.view_is c.args.self.loan.number c.assume_loan.result c.assume_loan.ensures c.if-not-assume_loan.true;
     loans_left = left-loans {T = g.row.T.Denot} {U = g.row.U.Denot} c.domain.inside.state c.assume_loan.new.state c.domain.invariant c.args.domain.now c.domain.view_is c.args.self.loan.number c.assume_loan.result c.assume_loan.ensures c.if-not-assume_loan.true;
+    borrows_left = left-borrows {T = g.row.T.Denot} {U = g.row.U.Denot} c.domain.inside.state c.assume_loan.new.state c.domain.invariant c.args.domain.now c.domain.view_is c.args.self.loan.number c.assume_loan.result c.assume_loan.ensures c.if-not-assume_loan.true;
   };
 }
 

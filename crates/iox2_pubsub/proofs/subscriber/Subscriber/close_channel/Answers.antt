@@ -11,4 +11,5 @@ returns-clause-leaves g c =
       connections = λ publisher other apart. left.connections publisher other (inr apart);
       room = left.room;
       loans_left = left.loans_left;
+      borrows_left = left.borrows_left;
     }

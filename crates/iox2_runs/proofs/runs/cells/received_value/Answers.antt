@@ -1,7 +1,7 @@
 use Rattle.std.proofs.Common.{sym, subst, ◌∙◌}
 use Rattle.iox2_pubsub.specs.Live.{sample_key}
 use Rattle.iox2_pubsub.specs.Slices.{SampleHasValues}
-use Rattle.iox2_pubsub.specs.declared.sample.Sample.{Sample}
+use Rattle.iox2_pubsub.specs.Sample.{Sample}
 use Rattle.iox2_runs.proofs.CellLists.{item-read}
 use Rattle.iox2_runs.proofs.CellViews.{message-of, message-read, messages-read}
 use Rattle.iox2_runs.proofs.Services.{single-here, holds-here}
@@ -21,5 +21,5 @@ pub returns-clause-reads : goal.returns-clause-reads
 returns-clause-reads g c =
     messages-read {T = g.row.T.Denot} {U = g.row.U.Denot} c.args.domain.now c.args.sample.sample.number c.args.at c.payload-2.result.now c.copied-value.result
     (message-of {T = g.row.T.Denot} {U = g.row.U.Denot} c.args.domain.now (sample_key c.args.sample) c.payload-2.result.now
-    (subst (λ (it : Sample). SampleHasValues {T = g.row.T.Denot} {U = g.row.U.Denot} c.args.domain.now (sample_key it) c.payload-2.result.now) c.new-sample.ensures c.payload-2.ensures.reads))
+    (subst (λ (it : Sample). SampleHasValues {T = g.row.T.Denot} {U = g.row.U.Denot} c.args.domain.now (sample_key it) c.payload-2.result.now) c.into_kind-sample.ensures c.payload-2.ensures.reads))
     (c.copied-value.ensures ∙ item-read c.payload-2.result.now c.args.at c.get.result c.get.ensures.lookup)

@@ -2,7 +2,7 @@ use Rattle.iox2_domain.specs.Boxes.{answers_of}
 use Rattle.iox2_pubsub.proofs.LiveParts.{sample-parts}
 use Rattle.iox2_pubsub.proofs.StaysBut.{nothing-is-new}
 use Rattle.iox2_pubsub.specs.ReceivedSamples.{IsReceived, received_result}
-use Rattle.iox2_pubsub.specs.declared.sample.Sample.{Sample}
+use Rattle.iox2_pubsub.specs.Sample.{Sample}
 use Rattle.iox2_runs.proofs.CarriedSamples.{receive_passed, receive_of_other, receive_carried, receive_none, receive_denied}
 use Rattle.iox2_runs.proofs.FixedCalls.{received}
 use Rattle.iox2_runs.proofs.LiveEntries.{live_subscriber, unboxed_subscriber}

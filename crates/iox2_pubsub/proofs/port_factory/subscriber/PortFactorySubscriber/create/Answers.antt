@@ -14,6 +14,7 @@ use Rattle.iox2_pubsub.proofs.WaitingShown.{created-none, creation-waits}
 use Rattle.iox2_pubsub.proofs.UpToDateShown.{creation-leaves}
 use Rattle.iox2_pubsub.proofs.AwaitedShown.{made-awaits}
 use Rattle.iox2_pubsub.proofs.NextPorts.{next-receiver-takes}
+use Rattle.iox2_pubsub.proofs.BorrowsLeftShown.{created-borrows, subscriber-creation-borrows}
 use Rattle.iox2_pubsub.proofs.LoansLeftShown.{subscriber-creation-left}
 use Rattle.iox2_pubsub.proofs.StaysBut.{live-subscriber-boxes, subscriber-box-is}
 use Rattle.iox2_pubsub.specs.Factories.{SubscriberFactory}
@@ -62,6 +63,7 @@ returns-in_err-port-clause-leaves g c =
       waits = creation-waits {T = g.row.T.Denot} {U = g.row.U.Denot} c.args.domain.now _ it.0 it.0 it.1 step.0 it.2 step.1 (λ n entry at. at) (answers_of g.F.BackpressureFn.allows g.G.DegradationFn.allows (c.create_subscriber.new.boxes).boxes) c.args.self.settings (Some c.in_err-port.field-0.0) step.2;
       up_to_date = creation-leaves {T = g.row.T.Denot} {U = g.row.U.Denot} c.args.domain.now _ it.0 it.0 it.1 step.0 it.2 step.1 (answers_of g.F.BackpressureFn.allows g.G.DegradationFn.allows (c.create_subscriber.new.boxes).boxes) c.args.self.settings (Some c.in_err-port.field-0.0) step.2;
       loans_left = subscriber-creation-left {T = g.row.T.Denot} {U = g.row.U.Denot} c.args.domain.now _ it.0 it.0 it.1 step.0 it.2 step.1 (answers_of g.F.BackpressureFn.allows g.G.DegradationFn.allows (c.create_subscriber.new.boxes).boxes) c.args.self.settings (Some c.in_err-port.field-0.0) step.2;
+      borrows_left = subscriber-creation-borrows {T = g.row.T.Denot} {U = g.row.U.Denot} c.args.domain.now _ it.0 it.0 it.1 step.0 it.2 step.1 (answers_of g.F.BackpressureFn.allows g.G.DegradationFn.allows (c.create_subscriber.new.boxes).boxes) c.args.self.settings (Some c.in_err-port.field-0.0) step.2;
     }
 
 pub returns-clause-leaves : goal.returns-clause-leaves
@@ -74,6 +76,7 @@ returns-clause-leaves g c =
       waits = creation-waits {T = g.row.T.Denot} {U = g.row.U.Denot} c.args.domain.now _ it.0 it.0 it.1 step.0 it.2 step.1 (λ n entry at. at) (answers_of g.F.BackpressureFn.allows g.G.DegradationFn.allows (c.create_subscriber.new.boxes).boxes) c.args.self.settings None (step.2).0;
       up_to_date = creation-leaves {T = g.row.T.Denot} {U = g.row.U.Denot} c.args.domain.now _ it.0 it.0 it.1 step.0 it.2 step.1 (answers_of g.F.BackpressureFn.allows g.G.DegradationFn.allows (c.create_subscriber.new.boxes).boxes) c.args.self.settings None (step.2).0;
       loans_left = subscriber-creation-left {T = g.row.T.Denot} {U = g.row.U.Denot} c.args.domain.now _ it.0 it.0 it.1 step.0 it.2 step.1 (answers_of g.F.BackpressureFn.allows g.G.DegradationFn.allows (c.create_subscriber.new.boxes).boxes) c.args.self.settings None (step.2).0;
+      borrows_left = subscriber-creation-borrows {T = g.row.T.Denot} {U = g.row.U.Denot} c.args.domain.now _ it.0 it.0 it.1 step.0 it.2 step.1 (answers_of g.F.BackpressureFn.allows g.G.DegradationFn.allows (c.create_subscriber.new.boxes).boxes) c.args.self.settings None (step.2).0;
     }
 
 pub returns-clause-new : goal.returns-clause-new
@@ -87,6 +90,13 @@ returns-clause-none g c =
     let it = always-shown {T = g.row.T.Denot} {U = g.row.U.Denot} c.domain.inside.state c.args.domain.now c.domain.invariant c.domain.view_is in
     let step = returns-clause-creates g c it.0 it.1 it.2 in
     created-none {T = g.row.T.Denot} {U = g.row.U.Denot} c.args.domain.now _ it.0 it.0 it.1 step.0 it.2 step.1 (λ n entry at. at) (answers_of g.F.BackpressureFn.allows g.G.DegradationFn.allows (c.create_subscriber.new.boxes).boxes) c.args.self.settings (step.2).0
+    (g.H.PortHandle.as_port c.of_port.result) (step.2).1
+
+pub returns-clause-borrows : goal.returns-clause-borrows
+returns-clause-borrows g c =
+    let it = always-shown {T = g.row.T.Denot} {U = g.row.U.Denot} c.domain.inside.state c.args.domain.now c.domain.invariant c.domain.view_is in
+    let step = returns-clause-creates g c it.0 it.1 it.2 in
+    created-borrows {T = g.row.T.Denot} {U = g.row.U.Denot} c.args.domain.now _ it.0 it.0 it.1 step.0 it.2 step.1 (answers_of g.F.BackpressureFn.allows g.G.DegradationFn.allows (c.create_subscriber.new.boxes).boxes) c.args.self.settings (step.2).0
     (g.H.PortHandle.as_port c.of_port.result) (step.2).1
 
 pub returns-clause-boxed : goal.returns-clause-boxed

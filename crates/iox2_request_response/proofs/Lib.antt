@@ -1,0 +1,5 @@
+pub mod Calling
+pub mod ClientSteps
+pub mod Closing
+pub mod Frames
+pub mod SlotSteps

@@ -1,0 +1,3 @@
+pub mod Handles
+pub mod Service
+pub mod Slots

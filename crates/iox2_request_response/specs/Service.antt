@@ -1,0 +1,30 @@
+-- What a service of requests and responses is, and what a call leaves of it.
+use Rattle.std.specs.Prelude.{◌≡◌}
+use Rattle.iox2_machine.specs.declared.backpressure.BackpressureStrategy.TheVariants.{DiscardData}
+use Rattle.iox2_machine.specs.declared.service_config.ServiceConfig.{ServiceConfig}
+use Rattle.iox2_machine.specs.declared.service_config.TypeVariant.TheVariants.{FixedSize}
+use Rattle.iox2_pubsub.specs.Live.{IsSingleValued, Item, No_item, StaysBut}
+use Rattle.iox2_request_response.specs.declared.service.RequestResponse.{RequestResponse}
+
+-- A domain with these settings has single values, and its publishers go past whoever has no room.
+pub record IsOfService (config : ServiceConfig) : Type 0 where
+  pub fixed : config.variant ≡ FixedSize
+  pub one_unit : config.units_per_element ≡ 1
+  pub discards : config.backpressure_strategy ≡ DiscardData
+
+module _ {Q P F G : Type 0} where
+  -- Each request and each response is a single value, and its publisher goes past whoever has no room for it.
+  pub record IsService (service : RequestResponse Q P F G) : Type 0 where
+    pub requests : IsSingleValued service.requests
+    pub responses : IsSingleValued service.responses
+    pub requests_discard : ((service.requests).config).backpressure_strategy ≡ DiscardData
+    pub responses_discard : ((service.responses).config).backpressure_strategy ≡ DiscardData
+
+  -- All that was live in either domain is, and reads as it did, but these items: one of the requests, and one of the responses.
+  pub record StaysBoth (asked answered : Item) (old new : RequestResponse Q P F G) : Type 0 where
+    pub requests : StaysBut asked old.requests new.requests
+    pub responses : StaysBut answered old.responses new.responses
+
+  -- All that was live in either domain is, and reads as it did.
+  abbrev pub StaysService : (old new : RequestResponse Q P F G) → Type 0
+  StaysService old new = StaysBoth No_item No_item old new

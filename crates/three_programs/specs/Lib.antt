@@ -1,0 +1,5 @@
+pub mod Values
+pub mod Moves
+pub mod Votes
+pub mod Queues
+pub mod Blocking
