@@ -22,8 +22,8 @@ returns-in_err-reserve-clause-recorded g c =
       whole = r.whole;
     }
 
-pub carry_out-requires : goal.carry_out-requires
-carry_out-requires g c =
+pub carry_out-made-requires : goal.carry_out-made-requires
+carry_out-made-requires g c =
     let r = c.requires.recorded in
     rw c.reserve.ensures.items
     (still_keeps {T = g.row.T.Denot} {U = g.row.U.Denot} fixed_handlers (defaults_of g.T.Default.is_default g.U.Default.is_default) r.start c.args.self.now.domain
@@ -35,14 +35,14 @@ returns-clause-recorded g c =
     let defaults = defaults_of g.T.Default.is_default g.U.Default.is_default in
     let r = c.requires.recorded in
     let old = c.args.self.now in
-    let placed = c.carry_out.ensures.leaves.placed (rw c.reserve.ensures.items r.placed) in
-    let pushed = push-placed {T = g.row.T.Denot} {U = g.row.U.Denot} c.carry_out.new.domain c.carry_out.new.table.items c.carry_out.result.1 placed.0 placed.1 in
+    let placed = c.carry_out-made.ensures.leaves.placed (rw c.reserve.ensures.items r.placed) in
+    let pushed = push-placed {T = g.row.T.Denot} {U = g.row.U.Denot} c.carry_out-made.new.domain c.carry_out-made.new.table.items c.carry_out-made.result.1 placed.0 placed.1 in
     elim c.if-has_room.branch [
       | then-has_room w ↦
-          let none = r.whole (room-none {T = g.row.T.Denot} {U = g.row.U.Denot} {F = g.row.F.Denot} {G = g.row.G.Denot} (record old { domain = c.carry_out.new.domain; table = c.push_reserved.new.self }) (sym c.has_room.ensures ∙ w.if-has_room.true)) in
+          let none = r.whole (room-none {T = g.row.T.Denot} {U = g.row.U.Denot} {F = g.row.F.Denot} {G = g.row.G.Denot} (record old { domain = c.carry_out-made.new.domain; table = c.push_reserved.new.self }) (sym c.has_room.ensures ∙ w.if-has_room.true)) in
           let whole = ran-whole {T = g.row.T.Denot} {U = g.row.U.Denot} defaults r.start old.domain old.commands.items r.missed_commands old.replies.items r.missed_replies old.table.items r.ran none.0 none.1 in
-          let more = ran-kept {T = g.row.T.Denot} {U = g.row.U.Denot} defaults r.start old.domain c.carry_out.new.domain old.commands.items old.replies.items c.reserve.new.self.items c.carry_out.new.table.items
-          c.args.command c.carry_out.result.0 c.carry_out.result.1 (rw c.reserve.ensures.items whole) c.carry_out.ensures.carries
+          let more = ran-kept {T = g.row.T.Denot} {U = g.row.U.Denot} defaults r.start old.domain c.carry_out-made.new.domain old.commands.items old.replies.items c.reserve.new.self.items c.carry_out-made.new.table.items
+          c.args.command c.carry_out-made.result.0 c.carry_out-made.result.1 (rw c.reserve.ensures.items whole) c.carry_out-made.ensures.carries
           c.has_default.ensures.0 c.has_default-2.ensures.0 c.has_default.ensures.1 c.has_default-2.ensures.1 in
           rw w.self-is
           (record {
@@ -51,22 +51,22 @@ returns-clause-recorded g c =
             missed_commands = [];
             missed_replies = [];
             ran = rw (w.push_reserved-then-has_room.ensures.items, w.push_reserved-then-has_room-2.ensures.items, c.push_reserved.ensures.items)
-                (ran-all {T = g.row.T.Denot} {U = g.row.U.Denot} defaults r.start c.carry_out.new.domain _ _ _ more);
+                (ran-all {T = g.row.T.Denot} {U = g.row.U.Denot} defaults r.start c.carry_out-made.new.domain _ _ _ more);
             placed = rw c.push_reserved.ensures.items pushed;
             kept = rw (w.push_reserved-then-has_room.ensures.items, w.push_reserved-then-has_room-2.ensures.items)
-                (was-run {T = g.row.T.Denot} {U = g.row.U.Denot} defaults old.config r.start c.carry_out.new.domain _ _ _ r.new more);
+                (was-run {T = g.row.T.Denot} {U = g.row.U.Denot} defaults old.config r.start c.carry_out-made.new.domain _ _ _ r.new more);
             whole = λ _. (refl, refl);
           })
       | else-has_room w ↦
-          let more = ran-missed {T = g.row.T.Denot} {U = g.row.U.Denot} defaults r.start old.domain c.carry_out.new.domain old.commands.items r.missed_commands old.replies.items r.missed_replies
-          c.reserve.new.self.items c.carry_out.new.table.items c.args.command c.carry_out.result.0 c.carry_out.result.1 (rw c.reserve.ensures.items r.ran) c.carry_out.ensures.carries
+          let more = ran-missed {T = g.row.T.Denot} {U = g.row.U.Denot} defaults r.start old.domain c.carry_out-made.new.domain old.commands.items r.missed_commands old.replies.items r.missed_replies
+          c.reserve.new.self.items c.carry_out-made.new.table.items c.args.command c.carry_out-made.result.0 c.carry_out-made.result.1 (rw c.reserve.ensures.items r.ran) c.carry_out-made.ensures.carries
           c.has_default.ensures.0 c.has_default-2.ensures.0 c.has_default.ensures.1 c.has_default-2.ensures.1 in
           rw w.self-is
           (record {
             start = r.start;
             new = r.new;
             missed_commands = r.missed_commands ++ c.args.command ∷ [];
-            missed_replies = r.missed_replies ++ c.carry_out.result.0 ∷ [];
+            missed_replies = r.missed_replies ++ c.carry_out-made.result.0 ∷ [];
             ran = rw c.push_reserved.ensures.items more;
             placed = rw c.push_reserved.ensures.items pushed;
             kept = r.kept;
@@ -76,8 +76,8 @@ returns-clause-recorded g c =
 
 pub returns-clause-carries : goal.returns-clause-carries
 returns-clause-carries g c =
-    let carries = rw c.reserve.ensures.items at c.carry_out.ensures.carries in
+    let carries = rw c.reserve.ensures.items at c.carry_out-made.ensures.carries in
     elim c.if-has_room.branch [
-      | then-has_room w ↦ rw w.self-is (c.carry_out.new.table.items, c.carry_out.result.1, carries, c.push_reserved.ensures.items)
-      | else-has_room w ↦ rw w.self-is (c.carry_out.new.table.items, c.carry_out.result.1, carries, c.push_reserved.ensures.items)
+      | then-has_room w ↦ rw w.self-is (c.carry_out-made.new.table.items, c.carry_out-made.result.1, carries, c.push_reserved.ensures.items)
+      | else-has_room w ↦ rw w.self-is (c.carry_out-made.new.table.items, c.carry_out-made.result.1, carries, c.push_reserved.ensures.items)
     ]

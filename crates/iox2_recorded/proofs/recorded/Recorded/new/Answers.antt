@@ -1,6 +1,5 @@
 use Rattle.std.proofs.Common.{refl, []}
 use Rattle.std.proofs.lemmas.Bool.{not-false}
-use Rattle.iox2_machine.specs.machine.State.{fresh}
 use Rattle.iox2_runs.specs.Carries.{defaults_of}
 use Rattle.iox2_runs.proofs.LeavingSteps.{none-placed}
 use Rattle.iox2_recorded.proofs.RecordedCalls.{ran-none, was-run}
