@@ -2,9 +2,9 @@
  * Publish-subscribe inside one program: the calls of the proved library iox2_pubsub for C11 and C++11 or later.
  * Messages are bytes, as many as each loan says, up to a limit that the domain is made with.
  *
- * What a caller has to do, and nothing else:
- *  - each pointer is valid for the call, aligned, not null and of its type; one that isn't const points
- *    to memory that the call alone uses; bytes that are read are initialised;
+ * The caller's obligations, all of them:
+ *  - each pointer is valid for the call, aligned, not null and of its type; one that isn't const must not
+ *    alias memory that anything else uses during the call; bytes that are read are initialised;
  *  - an iox2ps_domain_t starts as IOX2PS_DOMAIN_INIT, is changed by these functions alone, and isn't copied
  *    while it has a domain;
  *  - one call at a time works on a domain; threads that share one bring a lock, as is said below;
@@ -16,9 +16,9 @@
  * twice, kept too long or made up. Domains whose handles are to be told apart need service_ids of their own.
  *
  * What a call does to the domain, which code it returns, and the numbers, lengths and copies that it writes
- * are proved. Where a pointer to a payload leads is tested alone: to the bytes of its own message and of no
- * other, aligned as payload_alignment says, and they stay there until the loan or the sample is spent. The
- * pointer to a text is tested alone too.
+ * are proved. That payload pointers are right is tested, not proved: they lead to the bytes of their own message
+ * and of no other, aligned as payload_alignment says, which stay there until the loan or the sample is consumed.
+ * The same holds of pointers to texts.
  *
  * Threads. Nothing here starts a thread, takes a lock, waits, or keeps state outside of a domain. So threads may call
  * different domains at a time, and a domain may go from one thread to another. Threads that share one have a lock for it:
@@ -213,11 +213,13 @@ typedef struct iox2ps_config_t {
                                  publisher, also where it is never made */
   size_t subscriber_max_buffer_size;           /**< messages of one publisher that may wait; 0 counts as 1; 2 by default */
   size_t subscriber_max_borrowed_samples;      /**< samples of one publisher that a subscriber may hold; 2 by default */
-  size_t history_size;                         /**< messages that a publisher keeps for later subscribers; 0 by default */
+  size_t history_size;                         /**< messages that a publisher keeps for later subscribers, which get
+                                                    them at its next send or update; 0 by default. Without overflow
+                                                    keep it below the buffer, or that send may block */
   size_t number_of_channels;                   /**< channels of each connection; 0 counts as 1; 1 by default */
   size_t subscriber_expired_connection_buffer; /**< connections to closed publishers that are kept */
   size_t publisher_max_loaned_samples;         /**< loans of a publisher that may be out at a time; 2 by default */
-  uint32_t enable_safe_overflow;  /**< not 0, as by default: a full buffer lets its oldest message go */
+  uint32_t enable_safe_overflow;  /**< not 0, as by default: a full buffer loses its oldest message */
   uint32_t backpressure_strategy; /**< an iox2ps_backpressure_strategy_e, which counts where this is 0 */
 } iox2ps_config_t;
 
@@ -226,8 +228,7 @@ typedef struct iox2ps_publisher_options_t {
   size_t max_loaned_samples;      /**< loans that may be out at a time */
   size_t initial_max_slice_len;   /**< how many bytes a message may have, as long as memory isn't to grow; a multiple
                                        of the domain's alignment, and not 0 where memory may grow */
-  size_t preallocated_samples;    /**< how many slots it asks for, and gets, but no more than
-                                       iox2ps_worst_case_slots; 0 asks for nothing, and it has the worst case. With
+  size_t preallocated_samples;    /**< slots to allocate, capped at iox2ps_worst_case_slots; 0 means the cap. With
                                        fewer a loan may be refused with IOX2PS_LOAN_ERROR_OUT_OF_MEMORY, or needs more
                                        memory where that may grow */
   uint32_t backpressure_strategy; /**< an iox2ps_backpressure_strategy_e */
@@ -411,8 +412,8 @@ IOX2PS_NODISCARD iox2ps_status_t iox2ps_publisher_close(iox2ps_domain_t *domain,
 IOX2PS_NODISCARD iox2ps_status_t iox2ps_publisher_is_blocked(iox2ps_domain_t *domain, const iox2ps_publisher_t *publisher,
                                                              uint32_t *is_blocked);
 
-/** Makes the publisher's connections with subscribers that came, and removes those with closed ones, as
- * each send does first. IOX2PS_NOT_LIVE, IOX2PS_PUBLISHER_IS_BLOCKED, IOX2PS_CONNECTION_FAILURE_..., after which
+/** Makes the publisher's connections with new subscribers and drops those with closed ones, as each
+ * send does first. IOX2PS_NOT_LIVE, IOX2PS_PUBLISHER_IS_BLOCKED, IOX2PS_CONNECTION_FAILURE_..., after which
  * the other connections are made all the same. */
 IOX2PS_NODISCARD iox2ps_status_t iox2ps_publisher_update_connections(iox2ps_domain_t *domain,
                                                                      const iox2ps_publisher_t *publisher);
@@ -573,8 +574,8 @@ IOX2PS_NODISCARD iox2ps_status_t iox2ps_subscriber_set_disconnect_hint(iox2ps_do
                                                                        const iox2ps_subscriber_t *subscriber,
                                                                        size_t channel, uint64_t expected);
 
-/** Whether a channel is in this state at some connection of the subscriber: 1 or 0. It isn't where the subscriber has
- * none. IOX2PS_NOT_LIVE, IOX2PS_NO_SUCH_CHANNEL. */
+/** Whether a channel is in this state at some connection of the subscriber: 1 or 0. 0 if there is no
+ * connection. IOX2PS_NOT_LIVE, IOX2PS_NO_SUCH_CHANNEL. */
 IOX2PS_NODISCARD iox2ps_status_t iox2ps_subscriber_at_least_one_channel_has_state(iox2ps_domain_t *domain,
                                                                                   const iox2ps_subscriber_t *subscriber,
                                                                                   size_t channel, uint64_t state,
@@ -587,15 +588,15 @@ IOX2PS_NODISCARD iox2ps_status_t iox2ps_publisher_get_connection_id_of(iox2ps_do
                                                                        const iox2ps_wide_t *receiver_port_id,
                                                                        size_t *connection);
 
-/** Whether a channel is in this state at one connection of the publisher: 1 or 0. It isn't where there is no such
- * connection. IOX2PS_NOT_LIVE, IOX2PS_NO_SUCH_CHANNEL. */
+/** Whether a channel is in this state at one connection of the publisher: 1 or 0. 0 if there is no connection.
+ * IOX2PS_NOT_LIVE, IOX2PS_NO_SUCH_CHANNEL. */
 IOX2PS_NODISCARD iox2ps_status_t iox2ps_publisher_has_channel_state(iox2ps_domain_t *domain,
                                                                     const iox2ps_publisher_t *publisher, size_t channel,
                                                                     size_t connection, uint64_t state,
                                                                     uint32_t *has_state);
 
-/** Whether a channel is in this state at one connection of the publisher and has a hint: 1 or 0. It isn't where there is
- * no such connection. IOX2PS_NOT_LIVE, IOX2PS_NO_SUCH_CHANNEL. */
+/** Whether a channel is in this state at one connection of the publisher and has a hint: 1 or 0. 0 if there is no
+ * connection. IOX2PS_NOT_LIVE, IOX2PS_NO_SUCH_CHANNEL. */
 IOX2PS_NODISCARD iox2ps_status_t iox2ps_publisher_has_disconnect_hint(iox2ps_domain_t *domain,
                                                                       const iox2ps_publisher_t *publisher, size_t channel,
                                                                       size_t connection, uint64_t state,

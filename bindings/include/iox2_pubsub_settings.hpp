@@ -177,7 +177,8 @@ public:
   Config &subscriber_max_buffer_size(std::size_t value) { return set(raw_.subscriber_max_buffer_size, value); }
   /** How many samples of one publisher a subscriber may hold. */
   Config &subscriber_max_borrowed_samples(std::size_t value) { return set(raw_.subscriber_max_borrowed_samples, value); }
-  /** How many messages a publisher keeps for later subscribers. */
+  /** How many messages a publisher keeps for later subscribers, which get them at its next send or update. Without
+   * overflow keep it below the buffer's size, or that send may block. */
   Config &history_size(std::size_t value) { return set(raw_.history_size, value); }
   /** How many channels each connection has; 0 counts as 1. Each takes slots in the memory of each publisher. */
   Config &number_of_channels(std::size_t value) { return set(raw_.number_of_channels, value); }
@@ -224,7 +225,7 @@ private:
 /** What was recorded of a domain. */
 struct Recording {
   std::string text;     /**< the recording, as docs/RECORDINGS.md says; empty where nothing is recorded */
-  std::uint64_t missed; /**< how many calls aren't in it: it ends before the first of these */
+  std::uint64_t missed; /**< how many commands aren't in it; a call may make several. It ends before the first one */
 };
 
 /** What one publisher has other than its domain's settings say. What isn't set is as in the domain. */

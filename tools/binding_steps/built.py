@@ -12,7 +12,7 @@ from pathlib import Path
 
 from .folder import crates_below
 from .places import LICENCES, TOP, version
-from .release import MACHINE, SUMS, commit, kit, owned_by_nobody, write_sums
+from .release import MACHINE, SUMS, commit, kit, pack as pack_files, seconds_of, write_sums
 from .steps import Failed, said
 
 CRATE = "iox2_pubsub"
@@ -110,9 +110,7 @@ def pack(to):
     copy_all(folder)
     write_notes(folder)
     packed = to / f"{name}.tar.gz"
-    with tarfile.open(packed, "w:gz", compresslevel=6) as file:
-        for part in sorted(folder.iterdir()):
-            file.add(part, part.name, filter=owned_by_nobody)
+    pack_files(folder, sorted(folder.rglob("*")), packed, seconds_of(commit()))
     shutil.rmtree(folder)
     return packed
 
@@ -133,7 +131,7 @@ def is_taken_over(work, packed):
     top = work / "user"
     top.mkdir()
     with tarfile.open(packed) as file:
-        file.extractall(top)
+        file.extractall(top, filter="data")
     shutil.copytree(TOP / "crates" / EXAMPLE, top / "crates" / EXAMPLE, ignore=shutil.ignore_patterns("out"))
     (top / "crates.txt").write_text((top / "iox2_pubsub/lines.txt").read_text() + f"{EXAMPLE}: {CRATE}\n")
     (top / ".git").mkdir()

@@ -7,15 +7,15 @@ import threading
 import time
 from pathlib import Path
 
-from .places import BINDINGS, CRATES, LICENCES, OUT, TOP, version
+from .places import CRATES, LICENCES, OUT, TOP, version
 from .steps import Failed, said
 
 ARCHIVE_CRATE = "iox2_c"
 
 
-def crates_below(name):
-    """The crates of this repository that a crate is made of, lowest first, itself the last."""
-    lines = [line.split("#")[0] for line in (TOP / "crates.txt").read_text().splitlines()]
+def crates_below(name, top=TOP):
+    """The crates of the repository that a crate is made of, lowest first, itself the last."""
+    lines = [line.split("#")[0] for line in (top / "crates.txt").read_text().splitlines()]
     below = {line.split(":")[0].split()[0]: line.split(":")[1].split() for line in lines if ":" in line}
     found = []
 
@@ -108,32 +108,43 @@ def join_archives(archive, joined):
     subprocess.run(["ar", "-M"], input=script, text=True, check=True)
 
 
-def filled(name, to):
+def filled(name, to, top):
     """Writes a file of bindings/cmake with the version in it."""
-    whole = version()
-    text = (BINDINGS / "cmake" / name).read_text().replace("@VERSION@", whole).replace("@MINOR@", whole.rsplit(".", 1)[0])
+    whole = version(top)
+    text = (top / "bindings/cmake" / name).read_text().replace("@VERSION@", whole).replace("@MINOR@", whole.rsplit(".", 1)[0])
     to.parent.mkdir(parents=True, exist_ok=True)
     to.write_text(text)
 
 
-def copy_crate(name, to):
+def copy_crate(name, to, top):
     """Copies a crate of Rust, with licences in place of links to them, and without what cargo makes."""
-    shutil.copytree(BINDINGS / name, to / name, ignore=shutil.ignore_patterns("target"))
+    shutil.copytree(top / "bindings" / name, to / name, ignore=shutil.ignore_patterns("target"))
+
+
+def fill(to, archive, top=TOP):
+    """Makes the folder of the files of a clone, and of this archive, which is joined already."""
+    (to / "lib").mkdir(parents=True)
+    shutil.copytree(top / "bindings/include", to / "include")
+    shutil.copyfile(archive, to / "lib/libiox2_pubsub.a")
+    for name, made in (
+        ("CMakeLists.txt.in", "CMakeLists.txt"),
+        ("iox2_pubsubConfig.cmake", "lib/cmake/iox2_pubsub/iox2_pubsubConfig.cmake"),
+        ("iox2_pubsubConfigVersion.cmake.in", "lib/cmake/iox2_pubsub/iox2_pubsubConfigVersion.cmake"),
+        ("iox2_pubsub.pc.in", "lib/pkgconfig/iox2_pubsub.pc"),
+    ):
+        filled(name, to / made, top)
+    for crate in CRATES:
+        copy_crate(crate, to, top)
+    for licence in LICENCES:
+        shutil.copyfile(top / licence, to / licence)
 
 
 def build(archive=None, to=OUT):
     """Builds the folder, of this archive, or of the one that is proved."""
     made = archive or made_of_proof(ARCHIVE_CRATE)
-    shutil.rmtree(to, ignore_errors=True)
-    (to / "lib").mkdir(parents=True)
-    shutil.copytree(BINDINGS / "include", to / "include")
-    join_archives(made, to / "lib/libiox2_pubsub.a")
-    filled("CMakeLists.txt.in", to / "CMakeLists.txt")
-    filled("iox2_pubsubConfig.cmake", to / "lib/cmake/iox2_pubsub/iox2_pubsubConfig.cmake")
-    filled("iox2_pubsubConfigVersion.cmake.in", to / "lib/cmake/iox2_pubsub/iox2_pubsubConfigVersion.cmake")
-    filled("iox2_pubsub.pc.in", to / "lib/pkgconfig/iox2_pubsub.pc")
-    for crate in CRATES:
-        copy_crate(crate, to)
-    for licence in LICENCES:
-        shutil.copyfile(TOP / licence, to / licence)
+    with tempfile.TemporaryDirectory(prefix="archive-") as work:
+        joined = Path(work) / "libiox2_pubsub.a"
+        join_archives(made, joined)
+        shutil.rmtree(to, ignore_errors=True)
+        fill(to, joined)
     print(f"built {to.relative_to(TOP) if to.is_relative_to(TOP) else to}, of version {version()}", flush=True)

@@ -12,9 +12,9 @@ LICENCES = ("LICENSE-APACHE", "LICENSE-MIT")
 CRATES = ("rust", "rust-sys", "rust-stream")
 
 
-def version():
+def version(top=TOP):
     """The version that the header says. It stands there, and is read from there for all else but the crates of Rust."""
-    text = HEADER.read_text()
+    text = (top / HEADER.relative_to(TOP)).read_text()
     return ".".join(re.search(rf"#define IOX2PS_VERSION_{part} (\d+)", text)[1] for part in ("MAJOR", "MINOR", "PATCH"))
 
 

@@ -25,8 +25,8 @@ enum class Reliability : std::uint32_t { Reliable = IOX2PS_DDS_RELIABLE, BestEff
 
 /* The fields are those of iox2ps_dds_settings_t, and of iox2ps_dds_gateways_open. */
 struct Settings {
-  std::string topic;     // "": iox2/ and the service_id in 32 hexadecimal digits
-  std::string type_name; // "": the type's own name without namespaces, as f64 for a double
+  std::string topic{};     // "": iox2/ and the service_id in 32 hexadecimal digits
+  std::string type_name{}; // "": the type's own name without namespaces, as f64 for a double
   Reliability reliability = Reliability::Reliable;
   bool volatile_reader = false;
   bool only_known = false;

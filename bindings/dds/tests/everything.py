@@ -9,7 +9,7 @@ import os, re, shutil, subprocess, sys, tempfile, time
 
 here = os.path.dirname(os.path.abspath(__file__))
 source = os.path.dirname(here)
-readme = os.path.join(source, "..", "README.md")
+its_page = os.path.join(source, "..", "DDS.md")
 out = os.path.abspath(sys.argv[1])
 part = sys.argv[2] if len(sys.argv) > 2 else ""
 work = tempfile.mkdtemp()
@@ -94,7 +94,7 @@ def example():
 
 def page():
     """The program of the page, and its own lines: in a folder with links, where bindings/out is a copy."""
-    text, tree = open(readme).read(), os.path.join(work, "page")
+    text, tree = open(its_page).read(), os.path.join(work, "page")
     program = re.search(r"^```c\+\+\n(.*?)^```$", text, re.M | re.S).group(1)
     lines = re.search(r"((?:^    cmake .*\n)+)^    (g\+\+ .*first_dds.*) && \./first_dds$", text, re.M)
     os.makedirs(tree + "/bindings/dds")
@@ -128,7 +128,7 @@ def plain_steps(plain):
     step("headers alone", headers_alone)
     step("frames", lambda: run([os.path.join(plain, "frames")]).strip())
     step("example", example)
-    step("the program of bindings/README.md", page)
+    step("the program of bindings/DDS.md", page)
     step("between processes", tests(plain))
     if shutil.which("cargo"): step("rust", lambda: rust(plain))
     else: print("not there, and so not run: cargo")

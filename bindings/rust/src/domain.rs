@@ -267,7 +267,8 @@ impl<P: Payload + ?Sized> DomainBuilder<P> {
         self
     }
 
-    /// How many of its last messages a publisher keeps for subscribers that come later.
+    /// How many of its last messages a publisher keeps for subscribers that come later, which get them at
+    /// its next send or update. Without overflow keep it below the buffer's size, or that send may block.
     pub fn history_size(mut self, value: usize) -> Self {
         self.config.history_size = value;
         self

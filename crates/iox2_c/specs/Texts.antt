@@ -19,21 +19,21 @@ use Rattle.iox2_c.specs.Codes.{failure_code, loan_code, publisher_code, receive_
 
 -- Nothing has this number.
 abbrev pub unknown_text : List ℕ
-unknown_text = codes "no code of a call"
+unknown_text = codes "unknown status code"
 
 -- What a call of C itself says.
 abbrev pub call_text : ℕ → List ℕ
 call_text n =
     cond (nat_eq n 0) (codes "done")
-    (cond (nat_eq n 1) (codes "there is no domain: none was made, or it was destroyed")
-    (cond (nat_eq n 2) (codes "the numbers name nothing that is live in the domain")
-    (cond (nat_eq n 3) (codes "no message waits")
-    (cond (nat_eq n 4) (codes "there is no memory for the domain")
-    (cond (nat_eq n 5) (codes "there is a domain already")
-    (cond (nat_eq n 6) (codes "the send waits for a subscriber whose buffer is full")
-    (cond (nat_eq n 7) (codes "an earlier send of the publisher waits")
-    (cond (nat_eq n 8) (codes "a field of the settings has none of its values")
-    (cond (nat_eq n 9) (codes "the message is longer than the room for it") unknown_text)))))))))
+    (cond (nat_eq n 1) (codes "no domain: none was created, or it was destroyed")
+    (cond (nat_eq n 2) (codes "stale or invalid handle")
+    (cond (nat_eq n 3) (codes "no message is waiting")
+    (cond (nat_eq n 4) (codes "allocation of the domain failed")
+    (cond (nat_eq n 5) (codes "the domain exists already")
+    (cond (nat_eq n 6) (codes "the send is blocked by a subscriber whose buffer is full")
+    (cond (nat_eq n 7) (codes "an earlier send of the publisher is blocked")
+    (cond (nat_eq n 8) (codes "invalid value in the settings")
+    (cond (nat_eq n 9) (codes "the buffer is too small for the message") unknown_text)))))))))
 
 -- A loan's error.
 abbrev pub loan_text : ℕ → List ℕ

@@ -2,7 +2,7 @@
 ghost use Rattle.std.specs.Prelude.{◌≡◌};
 ghost use Rattle.iox2_c.specs.Texts.{IsTextOfErrors, ended, text_numbered};
 
-const UNKNOWN: &[u8] = b"no code of a call\0";
+const UNKNOWN: &[u8] = b"unknown status code\0";
 
 /// The text of a code, or of the kind of a warning.
 #[tactic(auto, using(crate::proofs::TextsOfErrors::texts_of_errors))]
@@ -13,15 +13,15 @@ pub fn text_of(code: u32) -> &'static [u8]
     match code / 10 {
         0 => match code {
             0 => b"done\0",
-            1 => b"there is no domain: none was made, or it was destroyed\0",
-            2 => b"the numbers name nothing that is live in the domain\0",
-            3 => b"no message waits\0",
-            4 => b"there is no memory for the domain\0",
-            5 => b"there is a domain already\0",
-            6 => b"the send waits for a subscriber whose buffer is full\0",
-            7 => b"an earlier send of the publisher waits\0",
-            8 => b"a field of the settings has none of its values\0",
-            9 => b"the message is longer than the room for it\0",
+            1 => b"no domain: none was created, or it was destroyed\0",
+            2 => b"stale or invalid handle\0",
+            3 => b"no message is waiting\0",
+            4 => b"allocation of the domain failed\0",
+            5 => b"the domain exists already\0",
+            6 => b"the send is blocked by a subscriber whose buffer is full\0",
+            7 => b"an earlier send of the publisher is blocked\0",
+            8 => b"invalid value in the settings\0",
+            9 => b"the buffer is too small for the message\0",
             _ => UNKNOWN,
         },
         1 => match code {

@@ -1,9 +1,12 @@
 -- A publisher makes a further segment, which becomes its current one.
-use Rattle.std.specs.Prelude.{◌≡◌, ◌⊎◌, ℕ, Bool, true, false, ◌+◌, ◌*◌, ◌<◌, ◌≤◌, List, drop, length, slice_get, slice_index_or, slice_set, not, Result, MatchResult}
+use Rattle.std.specs.Prelude.{◌≡◌, ◌⊎◌, ℕ, Bool, true, false, ◌+◌, ◌*◌, ◌<◌, ◌≤◌, List, drop, length, max, slice_get, slice_index_or, slice_set, not, Result, MatchResult}
+use Rattle.std.specs.Int.{IsNextPowerOfTwo}
 use Rattle.std.specs.declared.option.Option.TheVariants.{None, Some}
 use Rattle.std.specs.List.{All}
 use Rattle.slab.specs.Slab.{get, with_value}
 use Rattle.iox2_machine.specs.SingleValues.{is_single_valued}
+use Rattle.iox2_machine.specs.declared.allocation.AllocationStrategy.{AllocationStrategy}
+use Rattle.iox2_machine.specs.declared.allocation.AllocationStrategy.TheVariants.{Static, BestFit, PowerOfTwo}
 use Rattle.iox2_machine.specs.machine.Limits.{segment_fits, segment_limit}
 use Rattle.iox2_machine.specs.declared.errors.LoanError.{LoanError}
 use Rattle.iox2_machine.specs.declared.errors.LoanError.TheVariants.{OutOfMemory, InternalFailure}
@@ -16,6 +19,13 @@ use Rattle.iox2_domain.specs.Ports.{PublisherFields, slot_length}
 -- The publisher with a current segment of that length, from that slot on.
 abbrev pub with_segment : (start length : ℕ) → PublisherFields → PublisherFields
 with_segment start length x = record x { segment_start = start; segment_length = length }
+
+-- The length of the segment that is made next, where the current one has the length `current` and the loan that needs it has the
+-- length `asked`: the greater of the two; by powers of two the least power that isn't less.
+abbrev pub IsNextLength : AllocationStrategy → (current asked len : ℕ) → Type 0
+IsNextLength Static current asked len = len ≡ max current asked
+IsNextLength BestFit current asked len = len ≡ max current asked
+IsNextLength PowerOfTwo current asked len = IsNextPowerOfTwo (max current asked) len
 
 -- Each slot with cells is one that had them, with the same content.
 pub record KeepsOpen {T U : Type 0} (old new : List (ContentState T U)) : Type 0 where
@@ -41,9 +51,9 @@ module _ {T U : Type 0} where
     pub lists_are : All (λ content. content.lists ≡ lists_for in_lists lists) new
     pub cells : KeepsOpen old new
 
-  -- The publisher at the place has a current segment of that length, which lies behind the slots that it had. Nothing else
-  -- changes.
-  pub record Grows (f : Fields T U) (place : ℕ) (x : PublisherFields) (len : ℕ) (f' : Fields T U) : Type 0 where
+  -- The publisher at the place has a current segment of that length, which lies behind the slots that it had. It was made for a
+  -- loan of `asked` elements. Nothing else changes.
+  pub record Grows (f : Fields T U) (place : ℕ) (x : PublisherFields) (asked len : ℕ) (f' : Fields T U) : Type 0 where
     pub book : Book
     pub stood : get f.books x.book ≡ Some book
     pub contents : List (ContentState T U)
@@ -52,6 +62,7 @@ module _ {T U : Type 0} where
     pub grows : GrowsContents book x.slots (slot_length len * (f.config).units_per_element) (not (is_single_valued f.config)) (lists_wanted f.config x.max_loaned_samples) contents grown
     pub fits : segment_fits f.config x.slots len ≡ true
     pub longer : x.segment_length ≤ len
+    pub next : IsNextLength x.allocation x.segment_length asked len
     pub is : f' ≡ record f {
       books = with_value f.books x.book (with_more_slots x.slots book);
       contents = slice_set f.contents x.book (Some grown);
@@ -63,7 +74,7 @@ module _ {T U : Type 0} where
   abbrev pub MayGrow : {A : Type 0} → Fields T U → (place : ℕ) → PublisherFields → (len : ℕ) → Result A LoanError → Fields T U → Type 0
   MayGrow f place x len result f' =
       MatchResult result
-      (λ _. (x.segments < segment_limit) × (longest : ℕ) × (len ≤ longest) × Grows f place x longest f')
+      (λ _. (x.segments < segment_limit) × (longest : ℕ) × (len ≤ longest) × Grows f place x len longest f')
       (λ e. (f' ≡ f) × ((e ≡ InternalFailure) ⊎ ((e ≡ OutOfMemory) × (x.segments ≡ segment_limit))))
 
   -- The current segment of the publisher at the place has a free slot, and is long enough for that many elements.

@@ -130,11 +130,11 @@ module _ {T U : Type 0} (f : Fields T U) (sound : IsDomain f) (i : ℕ)
           ]
 
         -- a further segment is made
-        module _ (new : Fields T U) (grew : (x.segments < segment_limit) × (longest : ℕ) × (len ≤ longest) × Grows mid i x longest new) where
+        module _ (new : Fields T U) (grew : (x.segments < segment_limit) × (longest : ℕ) × (len ≤ longest) × Grows mid i x len longest new) where
           abbrev longest : ℕ
           longest = grew.1
 
-          abbrev g : Grows mid i x longest new
+          abbrev g : Grows mid i x len longest new
           g = grew.3
 
           abbrev y : PublisherFields
@@ -142,10 +142,10 @@ module _ {T U : Type 0} (f : Fields T U) (sound : IsDomain f) (i : ℕ)
 
           reached-new : Reaches f new now
           reached-new = reaches-then f mid new _ _ reached
-              (subst (λ (s : State T U). Reaches mid new s) reached.state (grown-reaches mid reached.agrees i x at_mid given.2 longest new g))
+              (subst (λ (s : State T U). Reaches mid new s) reached.state (grown-reaches mid reached.agrees i x at_mid given.2 len longest new g))
 
           at_new : get_or new.publishers i None ≡ Some y
-          at_new = grown-stands mid reached.agrees i x at_mid given.2 longest new g
+          at_new = grown-stands mid reached.agrees i x at_mid given.2 len longest new g
 
           -- one more may be counted
           pub stands-fewer : (z : PublisherFields) × (get_or new.publishers i None ≡ Some z) × (z.segments < segment_limit)
@@ -154,7 +154,7 @@ module _ {T U : Type 0} (f : Fields T U) (sound : IsDomain f) (i : ℕ)
           free : HasFreeSlot new y len
           free = record {
             book = with_more_slots x.slots g.book;
-            stands = grown-stands_book mid reached.agrees i x at_mid given.2 longest new g;
+            stands = grown-stands_book mid reached.agrees i x at_mid given.2 len longest new g;
             some_free = λ all.
                 let n = length (g.book).holders in
                 let none_there : get_or (drop n (with_more_slots x.slots g.book).holders) 0 0 ≡ 0 =

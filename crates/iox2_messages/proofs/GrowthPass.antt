@@ -10,7 +10,7 @@ use Rattle.iox2_slots.specs.SlotBook.{Book, with_more_slots}
 use Rattle.iox2_machine.specs.SingleValues.{is_single_valued}
 use Rattle.iox2_machine.specs.machine.Limits.{segment_fits, segment_limit}
 use Rattle.iox2_domain.specs.Fields.{Fields, publisher_of}
-use Rattle.iox2_domain.specs.Growth.{Grows, GrowsContents, with_segment}
+use Rattle.iox2_domain.specs.Growth.{Grows, GrowsContents, IsNextLength, with_segment}
 use Rattle.iox2_domain.specs.Invariant.{IsDomain, lists_wanted}
 use Rattle.iox2_domain.specs.Ports.{PublisherFields, slot_length}
 use Rattle.iox2_domain.proofs.lemmas.fields.ConnectionEnds.{publisher-stands}
@@ -101,13 +101,13 @@ module _ {T U : Type 0} (before f : Fields T U) (same : f ≡ before) (agrees : 
 
   -- ---- the publisher has a further segment
 
-  pub grew : (x0 : PublisherFields) → get_or before.publishers i None ≡ Some x0 → (start longest : ℕ) (book book' : Book) (cs cs' : List (ContentState T U)) (units : ℕ) (in_lists : Bool) (lists : ℕ)
+  pub grew : (x0 : PublisherFields) → get_or before.publishers i None ≡ Some x0 → (start asked longest : ℕ) (book book' : Book) (cs cs' : List (ContentState T U)) (units : ℕ) (in_lists : Bool) (lists : ℕ)
       → get f.books x.book ≡ Some book → book' ≡ with_more_slots x.slots book → (o : Option (List (ContentState T U))) → o ≡ get_or f.contents x.book o → o ≡ Some cs
       → GrowsContents book x.slots units in_lists lists cs cs' → units ≡ max 1 longest * (f.config).units_per_element → in_lists ≡ not (is_single_valued f.config) → lists ≡ lists_wanted f.config z.max_loaned_samples
-      → start ≡ length book.holders → segment_fits f.config z.slots longest ≡ true → z.segment_length ≤ longest
-      → Grows before i x0 longest (record f { books = with_value f.books x.book book'; contents = slice_set f.contents x.book (Some cs'); publishers = slice_set f.publishers i (Some (with_segment start longest x)) })
-  grew x0 at0 start longest book book' cs cs' units in_lists lists its is o read there grows units-are listed wanted first fits longer =
-      subst (λ (y : PublisherFields). Grows before i y longest new) (is-given x0 at0) (subst (λ (h : Fields T U). Grows h i x longest new) same here)
+      → start ≡ length book.holders → segment_fits f.config z.slots longest ≡ true → z.segment_length ≤ longest → IsNextLength z.allocation z.segment_length asked longest
+      → Grows before i x0 asked longest (record f { books = with_value f.books x.book book'; contents = slice_set f.contents x.book (Some cs'); publishers = slice_set f.publishers i (Some (with_segment start longest x)) })
+  grew x0 at0 start asked longest book book' cs cs' units in_lists lists its is o read there grows units-are listed wanted first fits longer next =
+      subst (λ (y : PublisherFields). Grows before i y asked longest new) (is-given x0 at0) (subst (λ (h : Fields T U). Grows h i x asked longest new) same here)
     where
       new : Fields T U
       new = record f { books = with_value f.books x.book book'; contents = slice_set f.contents x.book (Some cs'); publishers = slice_set f.publishers i (Some (with_segment start longest x)) }
@@ -117,7 +117,7 @@ module _ {T U : Type 0} (before f : Fields T U) (same : f ≡ before) (agrees : 
           let found = contents-of f sound i x at book its in
           read-there f.contents x.book found.0 o found.1 read ∙ there
 
-      here : Grows f i x longest new
+      here : Grows f i x asked longest new
       here = record {
         book = book;
         stood = its;
@@ -130,6 +130,7 @@ module _ {T U : Type 0} (before f : Fields T U) (same : f ≡ before) (agrees : 
             (subst (λ (n : ℕ). GrowsContents book x.slots n in_lists lists cs cs') units-are grows));
         fits = subst (λ (y : PublisherFields). segment_fits f.config y.slots longest ≡ true) (sym view) fits;
         longer = subst (λ (y : PublisherFields). y.segment_length ≤ longest) (sym view) longer;
+        next = subst (λ (y : PublisherFields). IsNextLength y.allocation y.segment_length asked longest) (sym view) next;
         is = λ t. record f {
           books = with_value f.books x.book (is t);
           contents = slice_set f.contents x.book (Some cs');

@@ -4,7 +4,7 @@ ghost use Rattle.std.specs.List.{All};
 ghost use Rattle.iox2_machine.specs.machine.Limits.{segment_fits};
 ghost use Rattle.iox2_contents.specs.SlotContents.{lists_for};
 ghost use Rattle.iox2_slots.specs.SlotBook.{with_more_slots};
-ghost use Rattle.iox2_domain.specs.Growth.{ClearsUnused, GrowsContents, MayGrow};
+ghost use Rattle.iox2_domain.specs.Growth.{ClearsUnused, GrowsContents, IsNextLength, MayGrow};
 ghost use Rattle.iox2_domain.specs.Invariant.{IsDomain};
 ghost use Rattle.iox2_domain.specs.Ports.{PublisherFields, slot_length};
 
@@ -59,11 +59,12 @@ pub(crate) fn grow<T: Drop, U: Default + Drop>(
     Ok(())
 }
 
-// The length of the next segment of a publisher, for a loan of `len` elements. `None` if its size
-// doesn't fit.
+// The length of the next segment of a publisher, for a loan of `len` elements: no longer than its
+// strategy asks. `None` if its size doesn't fit.
 fn next_length(publisher: &PublisherState, config: &ServiceConfig, len: usize) -> Option<usize>
     ensures long { IfSome result (λ longest. len ≤ longest) }
     ensures longer { IfSome result (λ longest. (publisher.now).segment_length ≤ longest) }
+    ensures next { IfSome result (IsNextLength (publisher.now).allocation (publisher.now).segment_length len) }
     ensures fits { IfSome result (λ longest. segment_fits config.now (publisher.now).slots longest ≡ true) }
 {
     let longest = publisher.segment_length.max(len);

@@ -149,7 +149,7 @@ fn send_unready<T: Drop, U: Default + Drop, F: BackpressureFn, G: DegradationFn>
 /// afterwards, unless the send is blocked. A publisher that has a box for a handler asks the one that
 /// it has among these boxes.
 ///
-/// The outcome is made in each branch: behind both, the compiler would ask anew how the send ended. The
+/// The outcome is made in each branch so that it isn't tested twice. The
 /// boxes are handed on in one call alone, so that where they lie isn't on the path of a message of a
 /// publisher without a handler (docs/decisions/cost.md, "One call takes the boxes").
 ///

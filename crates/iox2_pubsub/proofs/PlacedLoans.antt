@@ -1,5 +1,5 @@
 -- Where messages lie in a domain, and that they stay there.
-use Rattle.std.proofs.Common.{◌≡◌, ℕ, ◌<◌, ◌≤◌, true, List, Option, None, Some, get_or, refl, ap, sym, subst, ◌∙◌, arith}
+use Rattle.std.proofs.Common.{◌≡◌, ℕ, List, Option, None, Some, get_or, refl, ap, sym, subst, ◌∙◌, arith}
 use Rattle.std.proofs.lemmas.Bool.{eq-eqb}
 use Rattle.std.specs.Option.{option_and_then}
 use Rattle.slab.specs.Slab.{get}
@@ -8,7 +8,7 @@ use Rattle.iox2_machine.specs.machine.SingleCalls.{HoldsLoan}
 use Rattle.iox2_domain.specs.Boxes.{DomainBoxes}
 use Rattle.iox2_domain.specs.Fields.{Fields, keeping, kept_of, kept_book, messages_in, message_in, contents_at}
 use Rattle.iox2_domain.specs.Invariant.{HasNumber, IsDomain}
-use Rattle.iox2_domain.specs.Kept.{Kept, KeptBook, KeptMessage, Lent_message, state_of}
+use Rattle.iox2_domain.specs.Kept.{Kept, KeptBook, Lent_message, state_of}
 use Rattle.iox2_domain.specs.KeptPlaces.{KeepsPlaces}
 use Rattle.iox2_domain.specs.LoanSlots.{LiesInSlot}
 use Rattle.iox2_domain.proofs.lemmas.loans.LoanSlots.{live-lies}

@@ -8,8 +8,8 @@ use crate::keys::loan_key;
 use iox2_domain::LoanAt;
 use iox2_machine::Key;
 
-/// A send that waits for a subscriber whose buffer is full. It is a value to be spent: until then
-/// the domain keeps the send, and its publisher lends, sends and updates nothing and can't be closed.
+/// A send that waits for a subscriber whose buffer is full. Must be consumed by `retry` or
+/// `give_up`; until then its publisher lends, sends and updates nothing and can't be closed.
 ///
 /// Example (`crates/slow_display/src/sending.rt`):
 ///

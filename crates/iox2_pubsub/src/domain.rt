@@ -104,7 +104,7 @@ impl<T: Drop, U: Default + Drop, F: BackpressureFn, G: DegradationFn> Domain<T, 
         self.state.warnings.latest()
     }
 
-    /// How often a port was refused memory for a connection since the domain was made;
+    /// How often the allocation of a connection failed since the domain was made;
     /// `u64::MAX` says at least that often. The call in which that happened failed or went on without
     /// the connection, as the port's handler answered; no message goes through it until a later update
     /// makes it.

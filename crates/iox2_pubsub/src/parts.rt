@@ -1,8 +1,8 @@
-//! Handles as plain numbers, for callers that can't keep a value that is to be spent, as C can't.
+//! Handles as plain numbers, for callers without move semantics, such as C.
 //!
 //! The numbers of a handle may be copied, kept and made up. A domain makes a handle of them again
 //! where they name something that is live in it, and else none, so that no call needs a caller's
-//! word for it. A handle of a slice is one of a single value in other clothes (`new` and
+//! word for it. A handle of a slice is one of a single value wrapped in `slice::` (`new` and
 //! `into_inner`), and has that one's numbers.
 
 mod at_hint;

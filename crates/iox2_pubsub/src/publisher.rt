@@ -14,8 +14,8 @@ use crate::keys::port_key;
 use iox2_machine::{BackpressureFn, BackpressureStrategy, DegradationFn, Key, UniquePublisherId};
 use iox2_messages::is_waiting;
 
-/// Sends messages to every subscriber of its domain. It is a value to be spent: the domain keeps
-/// the publisher until that is closed.
+/// Sends messages to every subscriber of its domain. Must be consumed by `close`; until
+/// then the domain keeps the publisher.
 ///
 /// Example (`crates/thermometer/src/report.rt`):
 ///

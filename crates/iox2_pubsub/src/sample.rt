@@ -10,8 +10,8 @@ use iox2_machine::{BackpressureFn, DegradationFn, Header, Key, UniquePublisherId
 use iox2_messages::{sample_header, sample_payload, sample_user_header};
 use std::marker::{Model, PhantomData};
 
-/// A message that a subscriber has received and not yet released. It is a value to be spent: until
-/// it is released the message counts among those that the subscriber has borrowed.
+/// A message that a subscriber has received and not yet released. Must be consumed by
+/// `release`; until then the message counts among those that the subscriber has borrowed.
 ///
 /// Example (`crates/calling/src/passing.rt`):
 ///

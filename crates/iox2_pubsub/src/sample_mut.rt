@@ -13,8 +13,8 @@ use iox2_domain::LoanAt;
 use iox2_machine::{BackpressureFn, DegradationFn, Header, Key};
 use iox2_messages::{is_waiting, loan_header, loan_user_header, loan_value};
 
-/// A loan whose payload is written. It is a value to be spent: the domain keeps the loan until its
-/// message was sent or it was discarded.
+/// A loan whose payload is written. Must be consumed by `send` or `discard`; until then the
+/// domain keeps the loan.
 ///
 /// Example (`crates/thermometer/src/correction.rt`):
 ///

@@ -13,8 +13,8 @@ use iox2_domain::LoanAt;
 use iox2_machine::{BackpressureFn, DegradationFn, Header, Key};
 use iox2_messages::{loan_cell, loan_header, loan_user_header};
 
-/// A loan whose payload isn't written. It is a value to be spent: the domain keeps the loan until
-/// its message was sent or it was discarded.
+/// A loan whose payload isn't written. Must be consumed by a write or by `discard`; until
+/// its message was sent or discarded the domain keeps the loan.
 ///
 /// Example (`crates/thermometer/src/report.rt`):
 ///

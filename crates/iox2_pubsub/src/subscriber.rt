@@ -13,8 +13,8 @@ use crate::keys::port_key;
 use crate::parts::hints::find_open_subscriber;
 use iox2_machine::{BackpressureFn, DegradationFn, Key, UniqueSubscriberId};
 
-/// Receives the messages of every publisher of its domain. It is a value to be spent: the domain
-/// keeps the subscriber until that is closed.
+/// Receives the messages of every publisher of its domain. Must be consumed by `close`; until
+/// then the domain keeps the subscriber.
 ///
 /// Example (`crates/slow_display/src/display.rt`):
 ///

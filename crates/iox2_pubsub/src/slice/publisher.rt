@@ -8,8 +8,8 @@ mod update_connections;
 
 pub use loan_located::LocatedLoan;
 
-/// Sends slices to every subscriber of its domain. It is a value to be spent, as the publisher of
-/// single values is, and is that publisher with other calls to lend. All other calls are
+/// Sends slices to every subscriber of its domain. Must be consumed by `close`. It is the
+/// publisher of single values with other calls to lend. All other calls are
 /// those of that publisher.
 ///
 /// Example (`crates/thermometer/src/series.rt`):

@@ -7,8 +7,8 @@ use crate::sample;
 use iox2_machine::{BackpressureFn, DegradationFn};
 use iox2_messages::sample_payloads;
 
-/// A slice that a subscriber has received and not yet released. It is a value to be spent, as the
-/// sample of a single value is, and has its other calls.
+/// A slice that a subscriber has received and not yet released. Must be consumed by
+/// `release`. It has the other calls of the sample of a single value.
 ///
 /// Example (`crates/thermometer/src/series.rt`):
 ///

@@ -9,8 +9,8 @@ use crate::send_outcome::SendOutcome;
 use iox2_machine::{BackpressureFn, DegradationFn, SendError};
 use iox2_messages::loan_values;
 
-/// A loan of a slice whose payload is written. It is a value to be spent, as the loan of a single
-/// value is, and is that loan with another view of its payload. All other calls are those of
+/// A loan of a slice whose payload is written. Must be consumed by `send` or `discard`. It is the
+/// loan of a single value with another view of its payload. All other calls are those of
 /// that loan.
 ///
 /// Example (`crates/thermometer/src/series.rt`):

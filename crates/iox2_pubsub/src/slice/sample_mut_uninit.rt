@@ -11,8 +11,8 @@ use iox2_domain::LoanAt;
 use iox2_machine::{BackpressureFn, DegradationFn};
 use iox2_messages::{loan_cells, write_loan_from_fn, write_loan_from_slice};
 
-/// A loan of a slice whose payload isn't written. It is a value to be spent, as the loan of a single
-/// value is, and is that loan with another view of its payload. All other calls are those of
+/// A loan of a slice whose payload isn't written. Must be consumed by a write or by `discard`. It is
+/// the loan of a single value with another view of its payload. All other calls are those of
 /// that loan.
 ///
 /// Example (`crates/thermometer/src/series.rt`):

@@ -4,8 +4,8 @@ mod close;
 mod receives;
 mod update_connections;
 
-/// Receives the slices of every publisher of its domain. It is a value to be spent, as the
-/// subscriber of single values is, and is that subscriber with other samples. All other calls are
+/// Receives the slices of every publisher of its domain. Must be consumed by `close`. It
+/// is the subscriber of single values with other samples. All other calls are
 /// those of that subscriber.
 ///
 /// Example (`crates/thermometer/src/series.rt`):

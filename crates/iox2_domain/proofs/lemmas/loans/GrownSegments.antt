@@ -42,7 +42,7 @@ use Rattle.iox2_domain.proofs.lemmas.fields.PlacesKept.{places-back}
 use mathlib.Core.Path.{fun_ext}
 
 module _ {T U : Type 0} (f : Fields T U) (sound : IsDomain f) (i : ℕ) (x : PublisherFields) (at : get_or f.publishers i None ≡ Some x)
-    (grows : is_static x.allocation ≡ false) (len : ℕ) (f' : Fields T U) (g : Grows f i x len f') where
+    (grows : is_static x.allocation ≡ false) (asked len : ℕ) (f' : Fields T U) (g : Grows f i x asked len f') where
   shaped : length g.contents ≡ length (g.book).holders
   shaped =
       let found = contents-of f sound i x at g.book g.stood in

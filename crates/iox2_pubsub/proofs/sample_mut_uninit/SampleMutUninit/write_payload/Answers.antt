@@ -1,5 +1,4 @@
-use Rattle.std.proofs.Common.{[], ◌∷◌, ap}
-use Rattle.iox2_domain.specs.declared.loan_slots.LoanAt.{LoanAt}
+use Rattle.std.proofs.Common.{[], ◌∷◌}
 use Rattle.iox2_pubsub.proofs.FilledHandles.{was-filled}
 use Rattle.iox2_pubsub.proofs.LoanHandles.{unwritten-out, write-shown}
 use Rattle.iox2_pubsub.proofs.LoanReads.{single-inside}

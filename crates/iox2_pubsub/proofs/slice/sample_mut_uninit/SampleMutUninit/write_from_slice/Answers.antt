@@ -1,7 +1,6 @@
-use Rattle.std.proofs.Common.{refl, ap, subst}
+use Rattle.std.proofs.Common.{refl, subst}
 use Rattle.iox2_domain.specs.Kept.{Kept, state_of}
 use Rattle.iox2_domain.specs.LoanCalls.{HasCells}
-use Rattle.iox2_domain.specs.declared.loan_slots.LoanAt.{LoanAt}
 use Rattle.iox2_pubsub.proofs.FilledHandles.{was-filled}
 use Rattle.iox2_pubsub.proofs.LoanHandles.{unwritten-out}
 use Rattle.iox2_pubsub.proofs.LoanReads.{several-inside}
