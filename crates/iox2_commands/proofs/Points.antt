@@ -1,5 +1,5 @@
 -- Each run has a point between each two of its commands, and there it grants the loans that it has to.
-use Rattle.std.proofs.Common.{◌≡◌, ℕ, zero, suc, ◌<◌, List, [], ◌∷◌, ◌++◌, take, drop, refl, sym, ap, subst, ◌∙◌, Some, arith}
+use Rattle.std.proofs.Common.{◌≡◌, ℕ, zero, suc, ◌+◌, ◌<◌, List, [], ◌∷◌, ◌++◌, take, drop, refl, sym, ap, subst, ◌∙◌, Some, arith}
 use Rattle.std.specs.Prelude.{slice_get}
 use Rattle.std.proofs.lemmas.Option.{none-some, same_Some}
 use Rattle.iox2_machine.specs.machine.Records.{Environment, Publisher}
@@ -22,6 +22,12 @@ get_dropped : {A : Type 0} (xs : List A) (n : ℕ) → slice_get (drop n xs) 0 �
 get_dropped xs zero = refl
 get_dropped [] (suc n) = refl
 get_dropped (x ∷ xs) (suc n) = get_dropped xs n
+
+-- and i further on what stands i behind that
+pub found_dropped : {A : Type 0} (xs : List A) (n i : ℕ) → slice_get (drop n xs) i ≡ slice_get xs (n + i)
+found_dropped xs zero i = let none : 0 + i ≡ i = omega arith in rw none refl
+found_dropped [] (suc n) i = refl
+found_dropped (x ∷ xs) (suc n) i = let further : suc n + i ≡ suc (n + i) = omega arith in rw further (found_dropped xs n i)
 
 -- what is found in the first n stands below n in the whole list
 pub found_taken : {A : Type 0} (xs : List A) (n i : ℕ) (a : A) → slice_get (take n xs) i ≡ Some a → (i < n) × (slice_get xs i ≡ Some a)

@@ -178,12 +178,12 @@ module _ {T U : Type 0} where
   }
 
   pub create_publisher_static : (environment : Environment) (s s' : State T U) (given : PublisherSettings) (refusal : Option PublisherCreateError)
-      → is_static given.allocation_strategy ≡ true → CreatePublisher environment s given s' refusal → AllStatic s → AllStatic s'
+      → (refusal ≡ None → is_static given.allocation_strategy ≡ true) → CreatePublisher environment s given s' refusal → AllStatic s → AllStatic s'
   create_publisher_static environment s s' given refusal static h k =
       publisher_cases environment s given s' (AllStatic s') refusal h (λ e same _. subst AllStatic (sym same) k) (λ place makes.
       let first : FirstPublisherUpdate environment (with_new_publisher s given place) s.next_port s' = makes.2 in
       subst AllStatic (sym first.3) (warning_static first.0 _ first.1
-      (update_publisher_static environment (with_new_publisher s given place) first.0 s.next_port first.1 first.2 (with_new_publisher_static s given place static k))))
+      (update_publisher_static environment (with_new_publisher s given place) first.0 s.next_port first.1 first.2 (with_new_publisher_static s given place (static makes.1) k))))
 
   pub with_new_subscriber_static : (s : State T U) (given : SubscriberSettings) (place : ℕ) → AllStatic s → AllStatic (with_new_subscriber s given place)
   with_new_subscriber_static s given place k = record {

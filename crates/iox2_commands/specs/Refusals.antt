@@ -1,6 +1,5 @@
 -- Runs in which no memory was refused, as their replies and the count of refused connections tell.
 use Rattle.std.specs.Prelude.{ℕ, true, List, [], ◌∷◌, ◌++◌, ◌≡◌, slice_get}
-use Rattle.std.specs.List.{All}
 use Rattle.std.specs.declared.option.Option.TheVariants.{Some}
 use Rattle.iox2_machine.specs.machine.Ports.{first_segment_fits}
 use Rattle.iox2_machine.specs.machine.State.{State, Warnings, Messages, fresh, no_messages}
@@ -16,42 +15,22 @@ use Rattle.iox2_commands.specs.Step.{publisher_settings}
 use Rattle.iox2_commands.specs.Isolation.{AreIndependent, reads_at}
 use Rattle.iox2_commands.specs.Views.{SameView, OmitsOthersFrom}
 use Rattle.iox2_commands.specs.declared.command.Command.{Command}
-use Rattle.iox2_commands.specs.declared.command.Command.TheVariants.{Nothing, CreatePublisher, CreateSubscriber, LoanUninit, Loan, LoanSlice, WriteCell, WriteAll, AssumeInit, WriteHeader, SetPayload, Send, SendCopy, Discard, Retry, GiveUp, Update, Receive, HasSamples, Read, ReadHeader, ReadUserHeader, Release, Close}
+use Rattle.iox2_commands.specs.declared.command.Command.TheVariants.{CreatePublisher, Receive}
+use Rattle.iox2_commands.specs.declared.new_publisher.NewPublisher.{NewPublisher}
 use Rattle.iox2_commands.specs.declared.reply.Reply.{Reply}
-use Rattle.iox2_commands.specs.declared.reply.Reply.TheVariants.{SubscriberMade, PublisherRefused, SubscriberRefused}
+use Rattle.iox2_commands.specs.declared.reply.Reply.TheVariants.{PublisherMade, SubscriberMade, PublisherRefused, SubscriberRefused}
 
 -- No connection was refused memory.
 abbrev pub TellNoRefusal : Warnings → Type 0
 TellNoRefusal warnings = warnings.refused_connections ≡ 0
 
 module _ {T U : Type 0} where
-  -- Memory that is refused to the command shows in its reply or in the count: a publisher that it makes has its memory from the
-  -- start.
-  abbrev pub TellsOfRefusals : Command T U → Type 0
-  TellsOfRefusals Nothing = Unit {0}
-  TellsOfRefusals (CreatePublisher asked) = asked.allocation ≡ Static
-  TellsOfRefusals (CreateSubscriber buffer degradation) = Unit {0}
-  TellsOfRefusals (LoanUninit of) = Unit {0}
-  TellsOfRefusals (Loan of) = Unit {0}
-  TellsOfRefusals (LoanSlice of len) = Unit {0}
-  TellsOfRefusals (WriteCell of at value) = Unit {0}
-  TellsOfRefusals (WriteAll of value) = Unit {0}
-  TellsOfRefusals (AssumeInit of) = Unit {0}
-  TellsOfRefusals (WriteHeader of value) = Unit {0}
-  TellsOfRefusals (SetPayload of at value) = Unit {0}
-  TellsOfRefusals (Send of) = Unit {0}
-  TellsOfRefusals (SendCopy of value) = Unit {0}
-  TellsOfRefusals (Discard of) = Unit {0}
-  TellsOfRefusals (Retry of elapsed) = Unit {0}
-  TellsOfRefusals (GiveUp of) = Unit {0}
-  TellsOfRefusals (Update of) = Unit {0}
-  TellsOfRefusals (Receive of) = Unit {0}
-  TellsOfRefusals (HasSamples of) = Unit {0}
-  TellsOfRefusals (Read of at) = Unit {0}
-  TellsOfRefusals (ReadHeader of) = Unit {0}
-  TellsOfRefusals (ReadUserHeader of) = Unit {0}
-  TellsOfRefusals (Release of) = Unit {0}
-  TellsOfRefusals (Close of) = Unit {0}
+  -- Each publisher that the commands made has its memory from the start. So memory that is refused to one shows in a reply or in
+  -- the count.
+  abbrev pub PublishersAreStatic : List (Command T U) → List (Reply T U) → Type 0
+  PublishersAreStatic commands replies =
+      (i p : ℕ) (asked : NewPublisher) → slice_get commands i ≡ Some (CreatePublisher asked) → slice_get replies i ≡ Some (PublisherMade p)
+      → asked.allocation ≡ Static
 
   -- The reply to the command refuses a port because memory was refused.
   abbrev pub RefusesPort : ServiceConfig → Command T U → Reply T U → Type 0
@@ -76,7 +55,7 @@ abbrev pub RunsWithoutRefusalsAreAmple : Type 0 → Type 0 → Type 0
 RunsWithoutRefusalsAreAmple T U =
     (default_value : T) (default_header : U) (c : ServiceConfig) (commands : List (Command T U)) (replies : List (Reply T U)) (events : List (Event T U))
     (m : Messages T U) (s : State T U) (handles : List Handle)
-    → All TellsOfRefusals commands → MetNoRefusal c commands replies s.warnings
+    → PublishersAreStatic commands replies → MetNoRefusal c commands replies s.warnings
     → RunTo fixed_handlers (only_defaults default_value default_header) no_messages (fresh c) [] commands replies events m s handles
     → RunTo ample_memory (only_defaults default_value default_header) no_messages (fresh c) [] commands replies events m s handles
 
@@ -86,7 +65,7 @@ abbrev pub SubscribersAreIsolatedWithoutRefusals : Type 0 → Type 0 → Type 0
 SubscribersAreIsolatedWithoutRefusals T U =
     (default_value : T) (default_header : U) (c : ServiceConfig) (position q : ℕ) (commands reduced later : List (Command T U))
     (replies replies' : List (Reply T U)) (events events' : List (Event T U)) (m m' : Messages T U) (s s' : State T U) (handles handles' : List Handle)
-    → All TellsOfRefusals commands → All TellsOfRefusals reduced
+    → PublishersAreStatic commands replies → PublishersAreStatic reduced replies'
     → MetNoRefusal c commands replies s.warnings → MetNoRefusal c reduced replies' s'.warnings
     → OmitsOthersFrom position (commands ++ later) commands reduced
     → AreIndependent c position commands replies reduced replies'
@@ -103,7 +82,7 @@ abbrev pub ViewsStayAlikeWithoutRefusals : Type 0 → Type 0 → Type 0
 ViewsStayAlikeWithoutRefusals T U =
     (default_value : T) (default_header : U) (c : ServiceConfig) (position q n : ℕ) (commands reduced : List (Command T U))
     (replies replies' : List (Reply T U)) (events events' : List (Event T U)) (m m' : Messages T U) (s s' : State T U)
-    → All TellsOfRefusals commands → All TellsOfRefusals reduced
+    → PublishersAreStatic commands replies → PublishersAreStatic reduced replies'
     → MetNoRefusal c commands replies s.warnings → MetNoRefusal c reduced replies' s'.warnings
     → OmitsOthersFrom position commands commands reduced
     → AreIndependent c position commands replies reduced replies'

@@ -9,9 +9,9 @@ ghost use Rattle.iox2_domain.specs.Ports.{PublisherFields};
 ghost use Rattle.iox2_messages.specs.ReadySlots.{Prepares, with_segments};
 
 use crate::growth::grow;
-use crate::reclaims::reclaim;
 use iox2_domain::DomainState;
 use iox2_machine::LoanError;
+use iox2_updates::reclaim;
 
 /// Readies a slot for a loan of a publisher whose memory grows: its current segment then has a free
 /// slot that is long enough. If need be, it first reclaims slots, or makes a further segment and

@@ -1,5 +1,5 @@
 -- What a recorded domain has done, and what of it is kept.
-use Rattle.std.specs.Prelude.{Bool, true, List, [], ◌∷◌, ◌++◌, ◌≡◌, ◌≢◌, ◌==◌, ◌&&◌, map, nat_lt, vec_capacity, vec_len}
+use Rattle.std.specs.Prelude.{ℕ, Bool, true, false, List, [], ◌∷◌, ◌++◌, ◌≡◌, ◌==◌, ◌&&◌, ◌+◌, ◌-◌, ◌^◌, map, min, nat_lt, vec_capacity, vec_len}
 use Rattle.iox2_machine.specs.machine.Environments.{fixed_handlers}
 use Rattle.iox2_machine.specs.machine.State.{State, Messages, fresh, no_messages}
 use Rattle.iox2_machine.specs.declared.service_config.ServiceConfig.{ServiceConfig}
@@ -51,16 +51,21 @@ abbrev pub IsCarriedOut : {T U F G : Type 0} → Defaults T U → (old new : Rec
 IsCarriedOut defaults old new command reply =
     (table : List Made) × (made : Made) × Carries fixed_handlers defaults old.domain new.domain old.table.items command reply table made × (new.table.items ≡ table ++ made ∷ [])
 
--- The command and its reply are kept behind the others, if none was missed so far and there is room; else it is missed, and what is
--- kept stays.
-pub record Keeps {T U F G : Type 0} (old new : Recorded T U F G) (command : Command T U) (reply : Reply T U) : Type 0 where
-  pub room : has_room old ≡ true → new.missed ≡ 0
-  pub kept : new.missed ≡ 0 → (old.missed ≡ 0) × (new.commands.items ≡ old.commands.items ++ command ∷ []) × (new.replies.items ≡ old.replies.items ++ reply ∷ [])
-  pub missed : new.missed ≢ 0 → (new.commands.items ≡ old.commands.items) × (new.replies.items ≡ old.replies.items)
+-- In all there is room for that many calls with their replies.
+abbrev pub HasRoomFor : {T U F G : Type 0} → Recorded T U F G → (calls : ℕ) → Type 0
+HasRoomFor r calls = (vec_capacity r.commands ≡ calls) × (vec_capacity r.replies ≡ calls)
 
--- The domain and what is kept are as they were.
+-- The command and its reply are kept behind the others, if none was missed so far and there is room; else one more is missed, of at
+-- most 2^64 - 1 that are counted, and what is kept stays. The room stays as it is.
+pub record Keeps {T U F G : Type 0} (old new : Recorded T U F G) (command : Command T U) (reply : Reply T U) : Type 0 where
+  pub kept : has_room old ≡ true → (new.missed ≡ 0) × (new.commands.items ≡ old.commands.items ++ command ∷ []) × (new.replies.items ≡ old.replies.items ++ reply ∷ [])
+  pub missed : has_room old ≡ false → (new.missed ≡ min (old.missed + 1) (2 ^ 64 - 1)) × (new.commands.items ≡ old.commands.items) × (new.replies.items ≡ old.replies.items)
+  pub room : (calls : ℕ) → HasRoomFor old calls → HasRoomFor new calls
+
+-- The domain, what is kept and the room are as they were.
 pub record SameRecording {T U F G : Type 0} (old new : Recorded T U F G) : Type 0 where
   pub domain : new.domain ≡ old.domain
   pub commands : new.commands.items ≡ old.commands.items
   pub replies : new.replies.items ≡ old.replies.items
   pub missed : new.missed ≡ old.missed
+  pub room : (calls : ℕ) → HasRoomFor old calls → HasRoomFor new calls

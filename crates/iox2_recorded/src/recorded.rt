@@ -1,12 +1,13 @@
 ghost use Rattle.std.specs.Prelude.{◌≡◌, Err, IfErr, IfOk, false, true, vec_len};
 ghost use Rattle.iox2_runs.specs.Carries.{defaults_of};
 ghost use Rattle.iox2_recorded.specs.declared.create_error.RecordedCreateError.TheVariants.{NoCells, OutOfMemory};
-ghost use Rattle.iox2_recorded.specs.Recorded.{IsCarriedOut, IsRecorded, Keeps, SameRecording, WasRun, has_room};
+ghost use Rattle.iox2_runs.specs.Services.{lacks_cells};
+ghost use Rattle.iox2_recorded.specs.Recorded.{HasRoomFor, IsCarriedOut, IsRecorded, Keeps, SameRecording, WasRun, has_room};
 
 use crate::create_error::RecordedCreateError;
 use iox2_machine::{BackpressureFn, DegradationFn};
 use iox2_pubsub::{Domain, ServiceConfig};
-use iox2_runs::{Command, Made, Reply, carry_out, disown_all};
+use iox2_runs::{Command, Made, Reply, carry_out, disown_all, lacks_cells};
 use std::alloc::{AllocError, Global};
 
 // There is a default value of the type. For proofs alone.
@@ -37,21 +38,22 @@ impl<
     F: BackpressureFn,
     G: DegradationFn,
 > Recorded<T, U, F, G> {
-    /// A new domain with these settings, which keeps its first calls, up to `room` of them.
+    /// A new domain with these settings, which keeps its first `room` calls.
     ///
-    /// `NoCells` if the settings have no cells handed out (`lists_cells`), as commands read and write
-    /// them; else `OutOfMemory` if there is no room for the domain or for the calls.
+    /// `NoCells` if a command could be on cells that the settings have not handed out
+    /// (`iox2_runs::lacks_cells`); else `OutOfMemory` if there is no room for the domain or for the calls.
     pub fn new(
         alloc: Global,
         config: ServiceConfig,
         room: usize,
     ) -> Result<Self, RecordedCreateError>
         ensures recorded { IfOk result (λ r. IsRecorded (defaults_of T.is_default U.is_default) r) }
-        ensures empty { IfOk result (λ r. (r.config ≡ config) × (vec_len r.commands ≡ 0) × (r.missed ≡ 0)) }
-        ensures no_cells { config.lists_cells ≡ false → result ≡ Err NoCells }
-        ensures out_of_memory { config.lists_cells ≡ true → IfErr result (λ error. error ≡ OutOfMemory) }
+        ensures empty { IfOk result (λ r. (r.config ≡ config) × (vec_len r.commands ≡ 0) × (vec_len r.replies ≡ 0) × (r.missed ≡ 0)) }
+        ensures room { IfOk result (λ r. HasRoomFor r room) }
+        ensures no_cells { lacks_cells config ≡ true → result ≡ Err NoCells }
+        ensures out_of_memory { lacks_cells config ≡ false → IfErr result (λ error. error ≡ OutOfMemory) }
     {
-        if !config.lists_cells {
+        if lacks_cells(&config) {
             return Err(RecordedCreateError::NoCells);
         }
         let commands = Vec::with_capacity(alloc, room)?;
@@ -139,6 +141,7 @@ impl<
     pub fn finish(self) -> (Domain<T, U, F, G>, Vec<Command<T, U>>, Vec<Reply<T, U>>)
         requires recorded { IsRecorded (defaults_of T.is_default U.is_default) self }
         ensures domain { result.0 ≡ self.domain }
+        ensures kept { (result.1.items ≡ self.commands.items) × (result.2.items ≡ self.replies.items) }
         ensures ran { WasRun (defaults_of T.is_default U.is_default) self.config result.1.items result.2.items }
     {
         let Recorded {

@@ -6,6 +6,8 @@ mod degradations;
 mod departures;
 mod laws;
 mod many_units;
+mod missing_cells;
+mod refused_publishers;
 mod runs;
 mod steps;
 mod worst_cases;

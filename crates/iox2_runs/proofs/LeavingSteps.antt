@@ -1,5 +1,5 @@
 -- What one command of a run leaves of what was live before the run.
-use Rattle.std.proofs.Common.{◌≡◌, ℕ, zero, suc, true, List, [], ◌∷◌, ◌++◌, ap, sym, subst, ◌∙◌}
+use Rattle.std.proofs.Common.{◌≡◌, ℕ, zero, suc, false, List, [], ◌∷◌, ◌++◌, ap, sym, subst, ◌∙◌}
 use Rattle.std.specs.Prelude.{IfOk, slice_set, slice_index_or}
 use Rattle.std.specs.declared.result.Result.{Result}
 use Rattle.std.specs.declared.result.Result.TheVariants.{Ok, Err}
@@ -17,6 +17,7 @@ use Rattle.iox2_pubsub.proofs.StaysBut.{new-since, stays-on, nothing-is-new, bot
 use Rattle.iox2_runs.specs.Leaves.{item_of, AreNewIn, Leaves}
 use Rattle.iox2_runs.specs.Placed.{ArePlaced, IsPlacedMade}
 use Rattle.iox2_runs.specs.SendReplies.{made_by_send}
+use Rattle.iox2_runs.specs.Services.{lacks_cells}
 use Rattle.iox2_runs.specs.declared.runs.made.Made.{Made}
 use Rattle.iox2_runs.specs.declared.runs.made.Made.TheVariants.{Nothing, Publisher as MadePublisher, Subscriber as MadeSubscriber, Unwritten, Written, Blocked, Sample as MadeSample}
 use Rattle.iox2_runs.proofs.TableEntries.{set_same}
@@ -54,11 +55,11 @@ module _ {T U F G : Type 0} (start : Domain T U F G) where
   push-new table made = push-each (λ h. IsNewIn start (item_of h)) (nothing-is-new start) table made
 
   -- and so with where ports stand
-  pub none-placed : (start.config).lists_cells ≡ true → ArePlaced start []
-  none-placed lists = record { ports = λ of. tt; lists_cells = lists }
+  pub none-placed : lacks_cells start.config ≡ false → ArePlaced start []
+  none-placed has = record { ports = λ of. tt; cells = has }
 
   pub push-placed : (table : List Made) (made : Made) → ArePlaced start table → IsPlacedMade start made → ArePlaced start (table ++ made ∷ [])
-  push-placed table made are placed = record { ports = push-each (IsPlacedMade start) tt table made are.ports placed; lists_cells = are.lists_cells }
+  push-placed table made are placed = record { ports = push-each (IsPlacedMade start) tt table made are.ports placed; cells = are.cells }
 
   -- a send makes no port
   sent-placed : (outcome : Result SendOutcome SendError) → IsPlacedMade start (made_by_send outcome)
@@ -68,11 +69,12 @@ module _ {T U F G : Type 0} (start : Domain T U F G) where
 
 module _ {T U F G : Type 0} (old new : Domain T U F G) (table : List Made) where
   -- a port, a loan and a sample are where they were
-  still-placed : (spent : Item) → StaysBut spent old new → (made : Made) → IsPlacedMade old made → IsPlacedMade new made
+  pub still-placed : (spent : Item) → StaysBut spent old new → (made : Made) → IsPlacedMade old made → IsPlacedMade new made
   still-placed spent stays Nothing placed = tt
   still-placed spent stays (MadePublisher publisher) placed = stays.placed_publishers publisher placed
   still-placed spent stays (MadeSubscriber subscriber) placed = stays.placed_subscribers subscriber placed
-  still-placed spent stays (Unwritten loan) placed = stays.placed_messages loan.loan.number loan.loan.book loan.loan.slot placed
+  still-placed spent stays (Unwritten loan) placed =
+      (stays.placed_messages loan.loan.number loan.loan.book loan.loan.slot placed.0, ap (λ (c : ServiceConfig). c.units_per_element) stays.settings ∙ placed.1)
   still-placed spent stays (Written loan) placed = stays.placed_messages loan.loan.number loan.loan.book loan.loan.slot placed
   still-placed spent stays (Blocked blocked) placed = tt
   still-placed spent stays (MadeSample sample) placed = stays.placed_messages sample.sample.number sample.sample.book sample.sample.slot placed
@@ -81,7 +83,7 @@ module _ {T U F G : Type 0} (old new : Domain T U F G) (table : List Made) where
   all-placed : (spent : Item) → StaysBut spent old new → ArePlaced old table → ArePlaced new table
   all-placed spent stays are = record {
     ports = λ of. still-placed spent stays (slice_index_or table of Nothing) (are.ports of);
-    lists_cells = ap (λ (c : ServiceConfig). c.lists_cells) stays.settings ∙ are.lists_cells;
+    cells = ap (λ (c : ServiceConfig). lacks_cells c) stays.settings ∙ are.cells;
   }
 
   -- a command that changes nothing
@@ -116,7 +118,7 @@ module _ {T U F G : Type 0} (old new : Domain T U F G) (table : List Made) where
         let still : ArePlaced new table = all-placed spent stays are in (
           subst (ArePlaced new) (sym is) (record {
             ports = set-each (IsPlacedMade new) tt table of put still.ports (placed (subst (IsPlacedMade new) at (still.ports of)));
-            lists_cells = still.lists_cells;
+            cells = still.cells;
           }),
           placed',
         );

@@ -2,6 +2,7 @@
 use Rattle.std.proofs.Common.{◌≡◌, ◌<◌, Bool, true, false, map, refl, sym, subst, ◌∙◌}
 use Rattle.std.proofs.lemmas.Bool.{true≢false}
 use Rattle.std.specs.Prelude.{◌↔◌}
+use Rattle.iox2_machine.specs.SingleValues.{is_single_valued}
 use Rattle.iox2_machine.specs.machine.State.{State, Messages}
 use Rattle.iox2_machine.specs.machine.WellFormed.{IsWellFormed}
 use Rattle.iox2_machine.specs.declared.key.Key.{Key}
@@ -23,6 +24,7 @@ use Rattle.iox2_runs.specs.Turns.{IsHeld}
 use Rattle.iox2_runs.specs.Placed.{IsPlacedMade}
 use Rattle.iox2_runs.specs.declared.runs.made.Made.{Made}
 use Rattle.iox2_runs.specs.declared.runs.made.Made.TheVariants.{Nothing, Publisher as MadePublisher, Subscriber as MadeSubscriber, Unwritten, Written, Blocked, Sample as MadeSample}
+use Rattle.iox2_runs.proofs.Services.{cells-listed}
 use Rattle.iox2_runs.proofs.TableLooks.{handle_of}
 use Rattle.iox2_runs.proofs.TableEntries.{entry-stands}
 
@@ -44,10 +46,6 @@ module _ {T U F G : Type 0} (domain : Domain T U F G) (held : Made) (keeps : IsH
       let live = keeps.live in
       let v = handle_of live.1 live.2 live.3 (map entry_for keeps.table) live.5 keeps.of (entry_for made) (entry-stands keeps.table keeps.of made (keeps.stands ∙ is) some) in
       (v.0, subst (λ (s : State T U). IsEntryOf s v.0 (entry_for made)) (live.4).state v.2)
-
-  -- the domain hands out cells
-  pub listed : (domain.config).lists_cells ≡ true
-  listed = ((keeps.live).6).lists_cells
 
   pub live_publisher : (h : PublisherHandle) → held ≡ MadePublisher h → IsPublisherKey domain (publisher_key h)
   live_publisher h is =
@@ -77,10 +75,17 @@ module _ {T U F G : Type 0} (domain : Domain T U F G) (held : Made) (keeps : IsH
   pub unboxed_subscriber : (h : SubscriberHandle) → held ≡ MadeSubscriber h → HasNoReceiverBox (state_of domain) h.id
   unboxed_subscriber h is = ((has_entry (MadeSubscriber h) is (λ e. let clash : MadeSubscriber h ≡ Nothing = e in cc)).1).5
 
+  pub placed_unwritten : (h : SampleMutUninit) → held ≡ Unwritten h → IsPlacedMade domain (Unwritten h)
+  placed_unwritten h is = subst (IsPlacedMade domain) (keeps.stands ∙ is) (((keeps.live).6).ports keeps.of)
+
   pub live_unwritten : (h : SampleMutUninit) → held ≡ Unwritten h → IsUnwritten domain h
   live_unwritten h is =
       let v = (has_entry (Unwritten h) is (λ e. let clash : Unwritten h ≡ Nothing = e in cc)).1 in
-      unwritten-live domain h v.0 (v.2).0 (subst (IsPlacedMade domain) (keeps.stands ∙ is) (((keeps.live).6).ports keeps.of))
+      unwritten-live domain h v.0 (v.2).0 (placed_unwritten h is).0
+
+  -- if it isn't a single value its cells are handed out
+  pub listed : (h : SampleMutUninit) → held ≡ Unwritten h → is_single_valued domain.config ≡ false → (domain.config).lists_cells ≡ true
+  listed h is several = cells-listed domain.config (placed_unwritten h is).1 ((keeps.live).6).cells several
 
   pub live_written : (h : SampleMut) → held ≡ Written h → IsWritten domain h
   live_written h is =

@@ -1,5 +1,5 @@
 -- In which service a command names anything.
-use Rattle.std.proofs.Common.{◌≡◌, Bool, true, false, cond, refl, eqb, ◌&&◌, not, Option, None}
+use Rattle.std.proofs.Common.{◌≡◌, ℕ, Bool, true, false, cond, refl, ap, eqb, ◌&&◌, not, Option, None}
 use Rattle.std.proofs.lemmas.Bool.{eqb-true}
 use Rattle.iox2_machine.specs.SingleValues.{is_fixed_size, is_single_valued}
 use Rattle.iox2_machine.specs.machine.State.{State}
@@ -12,7 +12,7 @@ use Rattle.iox2_pubsub.specs.Live.{IsSingleValued}
 use Rattle.iox2_pubsub.specs.Slices.{HoldsSlices, IsSliced}
 use Rattle.iox2_pubsub.proofs.LiveParts.{single-valued}
 use Rattle.iox2_commands.specs.Step.{if_single_units, if_fixed_size, if_dynamic}
-use Rattle.iox2_runs.specs.Services.{has_slices}
+use Rattle.iox2_runs.specs.Services.{has_slices, lacks_cells}
 
 module _ {T U A : Type 0} (s : State T U) (o : Option A) where
   -- what a command for one kind of messages names, by the variant, and by whether an element takes one unit
@@ -79,6 +79,16 @@ slices-parts c slices =
     by FixedSize one e = absurd cc
     by Dynamic true e = (refl, refl)
     by Dynamic false e = absurd cc
+
+-- where none of the cells that commands need is lacking, those of slices of one unit an element are handed out
+pub cells-listed : (c : ServiceConfig) → c.units_per_element ≡ 1 → lacks_cells c ≡ false → is_single_valued c ≡ false → c.lists_cells ≡ true
+cells-listed c one has several = by c.variant (eqb c.units_per_element 1) c.lists_cells (ap (λ (units : ℕ). eqb units 1) one) has several where
+  by : (v : TypeVariant) (single lists : Bool) → single ≡ true → ((not (is_fixed_size v) && single) && not lists) ≡ false → (is_fixed_size v && single) ≡ false → lists ≡ true
+  by FixedSize true lists e has several = absurd cc
+  by FixedSize false lists e has several = absurd cc
+  by Dynamic true true e has several = refl
+  by Dynamic true false e has several = absurd cc
+  by Dynamic false lists e has several = absurd cc
 
 module _ {T U F G : Type 0} (domain : Domain T U F G) where
   -- in a domain messages are single values, or slices

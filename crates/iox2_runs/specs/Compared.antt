@@ -1,6 +1,5 @@
 -- Two runs, each on a new domain.
 use Rattle.std.specs.Prelude.{ℕ, true, List, ◌≡◌, slice_get}
-use Rattle.std.specs.List.{All}
 use Rattle.std.specs.declared.option.Option.TheVariants.{Some}
 use Rattle.iox2_machine.specs.machine.Environments.{fixed_handlers}
 use Rattle.iox2_machine.specs.machine.State.{State, Messages, fresh, no_messages}
@@ -9,7 +8,7 @@ use Rattle.iox2_domain.specs.Kept.{Kept as Domain}
 use Rattle.iox2_domain.specs.Shows.{Shows}
 use Rattle.iox2_commands.specs.Isolation.{AreIndependent, reads_at}
 use Rattle.iox2_commands.specs.OneDefault.{HasOneDefault}
-use Rattle.iox2_commands.specs.Refusals.{MetNoRefusal, TellsOfRefusals}
+use Rattle.iox2_commands.specs.Refusals.{MetNoRefusal, PublishersAreStatic}
 use Rattle.iox2_commands.specs.Outcomes.{Event}
 use Rattle.iox2_commands.specs.Points.{GrantsLoans, PointOf}
 use Rattle.iox2_commands.specs.RunLaws.{IsFaithful}
@@ -38,8 +37,8 @@ RanWithOneDefault {T} {U} defaults c commands new replies =
     HasOneDefault defaults → (default_value : T) (default_header : U) → defaults.IsDefaultValue default_value → defaults.IsDefaultHeader default_header
     → RunsOnDomain (only_defaults default_value default_header) new no_messages (fresh c) commands replies
 
--- Both lists ran, each on a new domain with these settings. The rest holds under six conditions: neither list asks for
--- publishers whose memory grows; the second leaves out calls of other subscribers than the one made at `position`;
+-- Both lists ran, each on a new domain with these settings. The rest holds under six conditions: neither run made a publisher
+-- whose memory grows; the second list leaves out calls of other subscribers than the one made at `position`;
 -- publishers are independent; each other subscriber that was closed had released its samples in both runs; neither run
 -- tells of refused memory, by a reply or by its count of refused connections; and the subscriber made at `position` got
 -- the same replies to its receives. Then this subscriber sees the same at the end of both runs, and reads of its
@@ -49,14 +48,14 @@ pub record AreCompared {T U F G : Type 0} (default_value : T) (default_header : 
     (new : Domain T U F G) (replies : List (Reply T U)) (new' : Domain T U F G) (replies' : List (Reply T U)) : Type 0 where
   pub first : RunsOnDomain (only_defaults default_value default_header) new no_messages (fresh c) commands replies
   pub second : RunsOnDomain (only_defaults default_value default_header) new' no_messages (fresh c) reduced replies'
-  pub isolated : (position q : ℕ) → All TellsOfRefusals commands → All TellsOfRefusals reduced → OmitsOthersFrom position commands commands reduced → AreIndependent c position commands replies reduced replies'
+  pub isolated : (position q : ℕ) → PublishersAreStatic commands replies → PublishersAreStatic reduced replies' → OmitsOthersFrom position commands commands reduced → AreIndependent c position commands replies reduced replies'
       → MetNoRefusal c commands replies new.warnings → MetNoRefusal c reduced replies' new'.warnings
       → slice_get replies position ≡ Some (SubscriberMade q)
       → ((i : ℕ) → slice_get commands i ≡ Some (Receive position) → slice_get replies i ≡ slice_get replies' i)
       → SameView q first.messages first.state first.handles second.messages second.state second.handles
       × ((i of : ℕ) (command : Command T U) → slice_get commands of ≡ Some (Receive position)
       → slice_get commands i ≡ Some command → reads_at of command ≡ true → slice_get replies i ≡ slice_get replies' i)
-  pub throughout : (position q n : ℕ) → All TellsOfRefusals commands → All TellsOfRefusals reduced → OmitsOthersFrom position commands commands reduced → AreIndependent c position commands replies reduced replies'
+  pub throughout : (position q n : ℕ) → PublishersAreStatic commands replies → PublishersAreStatic reduced replies' → OmitsOthersFrom position commands commands reduced → AreIndependent c position commands replies reduced replies'
       → MetNoRefusal c commands replies new.warnings → MetNoRefusal c reduced replies' new'.warnings
       → slice_get replies position ≡ Some (SubscriberMade q)
       → ((i : ℕ) → slice_get commands i ≡ Some (Receive position) → slice_get replies i ≡ slice_get replies' i)

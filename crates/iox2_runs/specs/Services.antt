@@ -13,6 +13,10 @@ use Rattle.iox2_machine.specs.declared.service_config.ServiceConfig.{ServiceConf
 abbrev pub has_slices : ServiceConfig → Bool
 has_slices c = not (is_fixed_size c.variant) && (c.units_per_element == 1)
 
+-- A command might be on a cell of a slice that isn't written, and the domain hands none out.
+abbrev pub lacks_cells : ServiceConfig → Bool
+lacks_cells c = has_slices c && not c.lists_cells
+
 -- The settings, told what a command asks of a publisher, except its length and its slots.
 abbrev pub told : PublisherSettings → NewPublisher → PublisherSettings
 told given asked = record given {

@@ -16,4 +16,4 @@ pub use iox2_commands::{
 pub use iox2_worst_case::{
     is_granted, worst_case_commands, worst_case_is_least, worst_case_is_reached,
 };
-pub use runs::{Made, carry_out, disown_all, run};
+pub use runs::{Made, carry_out, disown_all, lacks_cells, run};

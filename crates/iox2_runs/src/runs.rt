@@ -1,5 +1,5 @@
 //! Runs of commands on a domain.
-ghost use Rattle.std.specs.Prelude.{◌≡◌, List, IfOk, IfErr};
+ghost use Rattle.std.specs.Prelude.{◌≡◌, List, [], IfOk, IfErr, IsOk, IsErr, true, false};
 ghost use Rattle.iox2_machine.specs.machine.Environments.{fixed_handlers};
 ghost use Rattle.iox2_machine.specs.machine.State.{State, Messages};
 ghost use Rattle.iox2_domain.specs.Shows.{Shows};
@@ -12,6 +12,7 @@ ghost use Rattle.iox2_commands.specs.Points.{GrantsLoans};
 ghost use Rattle.iox2_commands.specs.RunLaws.{IsFaithful};
 ghost use Rattle.iox2_commands.specs.Runs.{Run, only_defaults};
 ghost use Rattle.iox2_runs.specs.DomainRuns.{RunsOnDomain};
+ghost use Rattle.iox2_runs.specs.Services.{lacks_cells};
 ghost use Rattle.iox2_runs.specs.declared.runs.made.Made.TheVariants.{Nothing};
 
 mod cells;
@@ -38,6 +39,7 @@ use made::{put_back, take};
 use ports::{create_publisher, create_subscriber};
 use reads::{read, read_header, read_user_header};
 use receives::{has_samples, receive};
+pub use services::lacks_cells;
 use spends::{close, discard, give_up, release, retry, send};
 use std::alloc::Global;
 use updates::update;
@@ -155,8 +157,9 @@ pub fn carry_out<
 /// What the commands made is spent at the end: ports stay in the domain, loans stay out, blocked
 /// sends stay so and messages stay borrowed. The memory for the replies and for what the commands make
 /// is taken first. If it is refused the commands are handed back, and none was carried out. The same
-/// happens if the domain hands out no cells (`ServiceConfig::lists_cells`), as commands read and write
-/// them.
+/// happens if a command could be on cells that the domain doesn't hand out (`lacks_cells`), which is
+/// never so where messages are single values. Elsewhere a list without commands, which needs no memory,
+/// is carried out whatever the settings.
 ///
 /// A publisher follows its strategy at a full buffer, or the backpressure handler that its command
 /// names. It has as many slots in a segment as it needs, or as its command asks for. The domain may have
@@ -177,8 +180,10 @@ pub fn run<T: Copy + Default + Drop, U: Copy + Default + Drop, F: BackpressureFn
         → RunsOnDomain (only_defaults default_value default_header) domain.new m s commands.items replies.items) }
     ensures stays { Stays domain.old domain.new }
     ensures refused { IfErr result (λ given. (given.items ≡ commands.items) × (domain.new ≡ domain.old)) }
+    ensures lacks_cells { lacks_cells domain.old.config ≡ true → IsErr result }
+    ensures has_cells { lacks_cells domain.old.config ≡ false → commands.items ≡ [] → IsOk result }
 {
-    if !domain.config().lists_cells {
+    if lacks_cells(domain.config()) {
         return Err(commands);
     }
     let Ok(mut replies) = Vec::with_capacity(alloc, commands.len()) else {

@@ -1,35 +1,25 @@
+use iox2_pubsub::DomainCreateError;
 use iox2_recorded::RecordedCreateError;
 use std::alloc::AllocError;
 use std::io;
+use thiserror::Error;
 
 /// Why the program ends early.
-#[derive(Debug, Drop)]
+#[derive(Debug, Drop, Error)]
 pub enum Failure {
-    /// The settings have no cells handed out.
-    NoCells,
-    /// Memory is refused.
-    OutOfMemory,
+    /// There is no domain that records.
+    #[error("not recorded: {0}")]
+    Recorded(#[from] RecordedCreateError),
+    /// There is no domain for a replay.
+    #[error("no domain: {0}")]
+    Domain(#[from] DomainCreateError),
+    /// Memory for a list or a text is refused.
+    #[error("memory is refused: {0}")]
+    Memory(#[from] AllocError),
+    /// A replay hands its commands back.
+    #[error("no replay")]
+    NoReplay,
     /// Nothing can be printed.
-    Output,
-}
-
-impl From<AllocError> for Failure {
-    fn from(_error: AllocError) -> Self {
-        Failure::OutOfMemory
-    }
-}
-
-impl From<RecordedCreateError> for Failure {
-    fn from(error: RecordedCreateError) -> Self {
-        match error {
-            RecordedCreateError::NoCells => Failure::NoCells,
-            RecordedCreateError::OutOfMemory => Failure::OutOfMemory,
-        }
-    }
-}
-
-impl From<io::Error> for Failure {
-    fn from(_error: io::Error) -> Self {
-        Failure::Output
-    }
+    #[error("not printed: {0}")]
+    Output(#[from] io::Error),
 }

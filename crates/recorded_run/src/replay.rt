@@ -12,11 +12,9 @@ pub(crate) fn count_alike(
     commands: Vec<Command<u64, u64>>,
     replies: &[Reply<u64, u64>],
 ) -> Result<usize, Failure> {
-    let Ok(mut domain) = Domain::<u64, u64>::new(alloc, config) else {
-        return Err(Failure::OutOfMemory);
-    };
+    let mut domain = Domain::<u64, u64>::new(alloc, config)?;
     let Ok(again) = run(alloc, &mut domain, commands) else {
-        return Err(Failure::OutOfMemory);
+        return Err(Failure::NoReplay);
     };
     let pairs = replies.iter().zip(again.iter());
     Ok(pairs.filter(|(before, after)| *before == *after).count())

@@ -12,19 +12,22 @@ use iox2_runs::{Command, NewPublisher, Reply, compare_runs};
 use std::alloc::{AllocError, Global};
 use std::process::Abort;
 
-type Commands = Vec<Command<u64, u8>>;
+/// Commands of a run.
+pub(crate) type Commands = Vec<Command<u64, u8>>;
 
-type Replies = Vec<Reply<u64, u8>>;
+/// Their replies.
+pub(crate) type Replies = Vec<Reply<u64, u8>>;
 
 type End = (Domain<u64, u8>, Replies);
 
-const SUBSCRIBER: Command<u64, u8> = Command::CreateSubscriber {
+/// The command that makes a subscriber.
+pub(crate) const SUBSCRIBER: Command<u64, u8> = Command::CreateSubscriber {
     buffer: None,
     degradation: DegradationAction::Warn,
 };
 
-// The command that makes a publisher with one loan.
-fn publisher() -> Command<u64, u8> {
+/// The command that makes a publisher with one loan.
+pub(crate) fn publisher() -> Command<u64, u8> {
     publisher_of(1, None)
 }
 
@@ -37,8 +40,8 @@ fn publisher_of(length: usize, answer: Option<BackpressureAction>) -> Command<u6
     })
 }
 
-// The command, or nothing in its place.
-fn if_kept(is_kept: bool, command: Command<u64, u8>) -> Command<u64, u8> {
+/// The command, or nothing in its place.
+pub(crate) fn if_kept(is_kept: bool, command: Command<u64, u8>) -> Command<u64, u8> {
     if is_kept { command } else { Command::Nothing }
 }
 
@@ -132,16 +135,16 @@ fn replies_of((_, replies): End) -> Replies {
     replies
 }
 
-// Two subscribers, each with a buffer of one, which may borrow one message.
-fn two_subscribers() -> ServiceConfig {
+/// Two subscribers, each with a buffer of one, which may borrow one message.
+pub(crate) fn two_subscribers() -> ServiceConfig {
     ServiceConfig {
         max_subscribers: 2,
         ..smallest()
     }
 }
 
-// The replies of both runs on domains with these settings.
-fn compared_on(
+/// The replies of both runs on domains with these settings.
+pub(crate) fn compared_on(
     rt: &impl Abort,
     alloc: Global,
     config: &ServiceConfig,
@@ -231,17 +234,35 @@ fn runs_are_compared_where_a_handler_fails_sends(rt: HostRuntime) {
 // Nothing is lent, sent at once or received there, and so nothing is read.
 #[test]
 fn runs_are_compared_where_an_element_has_many_units(rt: HostRuntime) {
+    for (units_per_element, number_of_channels) in [(2, 1), (3, 5)] {
+        let config = ServiceConfig {
+            units_per_element,
+            number_of_channels,
+            ..two_subscribers()
+        };
+        let (replies, others) = two_messages_compared(&rt, rt.alloc(), &config, publisher());
+        let mut expected = answers_with_a_receive();
+        for index in 3..9 {
+            expected[index] = Reply::Skipped;
+        }
+        assert!(rt; replies.as_slice() == expected.as_slice());
+        expected[4] = Reply::Done;
+        assert!(rt; others.as_slice() == expected.as_slice());
+    }
+}
+
+// The commands are on channel 0 of five.
+#[test]
+fn runs_are_compared_where_connections_have_many_channels(rt: HostRuntime) {
     let config = ServiceConfig {
-        units_per_element: 2,
+        number_of_channels: 5,
         ..two_subscribers()
     };
     let (replies, others) = two_messages_compared(&rt, rt.alloc(), &config, publisher());
     let mut expected = answers_with_a_receive();
-    for index in 3..9 {
-        expected[index] = Reply::Skipped;
-    }
     assert!(rt; replies.as_slice() == expected.as_slice());
     expected[4] = Reply::Done;
+    expected[5] = Reply::Delivered(0);
     assert!(rt; others.as_slice() == expected.as_slice());
 }
 

@@ -9,10 +9,16 @@ use iox2_runs::{Command, Reply};
 // and closed.
 #[test]
 fn nothing_is_lent_where_an_element_has_many_units(rt: HostRuntime) {
-    for variant in [TypeVariant::FixedSize, TypeVariant::Dynamic] {
+    for (variant, units_per_element, number_of_channels) in [
+        (TypeVariant::FixedSize, 2, 1),
+        (TypeVariant::FixedSize, 3, 5),
+        (TypeVariant::Dynamic, 2, 5),
+        (TypeVariant::Dynamic, 3, 1),
+    ] {
         let config = ServiceConfig {
             variant,
-            units_per_element: 2,
+            units_per_element,
+            number_of_channels,
             ..settings()
         };
         let steps = [

@@ -2,8 +2,9 @@
 //!
 //! A run's table has the handles of single values alone. Where messages are slices, a handle is made
 //! one of a slice for the call, and then taken back.
-ghost use Rattle.std.specs.Prelude.{◌≡◌, ◌∷◌, [], slice_get, true, Some};
+ghost use Rattle.std.specs.Prelude.{◌≡◌, ◌∷◌, [], slice_get, true, false, Some};
 ghost use Rattle.std.specs.Option.{option_map};
+ghost use Rattle.iox2_machine.specs.SingleValues.{is_single_valued};
 ghost use Rattle.iox2_machine.specs.machine.Loans.{written};
 ghost use Rattle.iox2_machine.specs.machine.Records.{Loan};
 ghost use Rattle.iox2_machine.specs.machine.State.{State, Messages, with_loan};
@@ -27,7 +28,7 @@ pub(crate) fn unwritten_cell<
     at: usize,
 ) -> (Option<Option<T>>, SampleMutUninit)
     requires live { IsUnwritten domain.now loan }
-    requires lists_cells { (domain.now.config).lists_cells ≡ true }
+    requires lists_cells { is_single_valued domain.now.config ≡ false → (domain.now.config).lists_cells ≡ true }
     ensures reads { LoanHasAt domain.now loan.loan.number at result.0 }
     ensures same { result.1 ≡ loan }
 {
@@ -91,7 +92,7 @@ pub(crate) fn write_cell_at<T: Drop, U: Default + Drop, F: BackpressureFn, G: De
     value: T,
 ) -> (bool, SampleMutUninit)
     requires live { IsUnwritten domain.old loan }
-    requires lists_cells { (domain.old.config).lists_cells ≡ true }
+    requires lists_cells { is_single_valued domain.old.config ≡ false → (domain.old.config).lists_cells ≡ true }
     ensures writes { WritesAt domain.old domain.new loan.loan.number at value result.0 }
     ensures same { result.1 ≡ loan }
     ensures stays { StaysBut (unwritten_loan loan) domain.old domain.new }

@@ -13,7 +13,7 @@ loop-command-init g c = record {
   ran = rw (c.in-Ok.ensures.items, c.in-Ok-with_capacity.ensures.items) (has_run_none {T = g.row.T.Denot} {U = g.row.U.Denot} fixed_handlers (defaults_of g.T.Default.is_default g.U.Default.is_default) c.args.domain.now);
   stays = stays-itself {T = g.row.T.Denot} {U = g.row.U.Denot} c.args.domain.now;
   new = rw c.in-Ok-with_capacity.ensures.items (none-new {T = g.row.T.Denot} {U = g.row.U.Denot} c.args.domain.now);
-  placed = rw c.in-Ok-with_capacity.ensures.items (none-placed {T = g.row.T.Denot} {U = g.row.U.Denot} c.args.domain.now (rw (← c.config.ensures.value) c.if-not-config.false));
+  placed = rw c.in-Ok-with_capacity.ensures.items (none-placed {T = g.row.T.Denot} {U = g.row.U.Denot} c.args.domain.now (rw (← c.config.ensures.value) (sym c.lacks_cells.ensures ∙ c.if-lacks_cells.false)));
   made = omega (arith, c.in-Ok-with_capacity.ensures.len);
   replied = omega (arith, c.in-Ok.ensures.len);
   room = omega (arith, c.in-Ok-with_capacity.ensures.capacity, c.len-2.ensures);
@@ -69,11 +69,11 @@ returns-clause-one_default g c =
     rw all at (runs_on_domain {T = g.row.T.Denot} {U = g.row.U.Denot} (defaults_of g.T.Default.is_default g.U.Default.is_default) c.args.domain.now c.loop-command.domain
     (take i xs) c.loop-command.replies.items c.loop-command.table.items c.loop-command.invariant.ran)
 
-pub returns-then-not-config-clause-refused : goal.returns-then-not-config-clause-refused
-returns-then-not-config-clause-refused g c = (refl, refl)
+pub returns-then-lacks_cells-clause-refused : goal.returns-then-lacks_cells-clause-refused
+returns-then-lacks_cells-clause-refused g c = (refl, refl)
 
-pub returns-then-not-config-clause-stays : goal.returns-then-not-config-clause-stays
-returns-then-not-config-clause-stays g c = stays-itself {T = g.row.T.Denot} {U = g.row.U.Denot} c.args.domain.now
+pub returns-then-lacks_cells-clause-stays : goal.returns-then-lacks_cells-clause-stays
+returns-then-lacks_cells-clause-stays g c = stays-itself {T = g.row.T.Denot} {U = g.row.U.Denot} c.args.domain.now
 
 pub returns-in_default-with_capacity-clause-refused : goal.returns-in_default-with_capacity-clause-refused
 returns-in_default-with_capacity-clause-refused g c = (refl, refl)

@@ -1,10 +1,12 @@
-use Rattle.std.proofs.Common.{refl, sym, arith, ◌∙◌, [], ◌∷◌, ◌++◌}
+use Rattle.std.proofs.Common.{◌≡◌, true, false, refl, sym, arith, ◌∙◌, [], ◌∷◌, ◌++◌}
+use Rattle.std.proofs.lemmas.Bool.{true≢false}
 use Rattle.iox2_machine.specs.machine.Environments.{fixed_handlers}
 use Rattle.iox2_machine.specs.machine.State.{fresh, no_messages}
 use Rattle.iox2_runs.specs.Carries.{defaults_of}
 use Rattle.iox2_runs.proofs.LeavingSteps.{push-placed}
 use Rattle.iox2_runs.proofs.RunLoop.{still_keeps}
 use Rattle.iox2_recorded.proofs.RecordedCalls.{ran-all, ran-kept, ran-missed, ran-whole, room-none, was-run}
+use Rattle.iox2_recorded.specs.Recorded.{has_room}
 use Rattle.iox2_recorded.proofs.recorded.Recorded.call.Goals as goal
 use Rattle.iox2_recorded.proofs.recorded.Recorded.call.Goals.{then-has_room, else-has_room}
 
@@ -80,4 +82,26 @@ returns-clause-carries g c =
     elim c.if-has_room.branch [
       | then-has_room w ↦ rw w.self-is (c.carry_out-made.new.table.items, c.carry_out-made.result.1, carries, c.push_reserved.ensures.items)
       | else-has_room w ↦ rw w.self-is (c.carry_out-made.new.table.items, c.carry_out-made.result.1, carries, c.push_reserved.ensures.items)
+    ]
+
+pub returns-clause-keeps : goal.returns-clause-keeps
+returns-clause-keeps g c =
+    let old = c.args.self.now in
+    elim c.if-has_room.branch [
+      | then-has_room w ↦
+          let room : has_room old ≡ true = sym c.has_room.ensures ∙ w.if-has_room.true in
+          rw w.self-is
+          (record {
+            kept = λ _. (room-none {T = g.row.T.Denot} {U = g.row.U.Denot} {F = g.row.F.Denot} {G = g.row.G.Denot} old room, w.push_reserved-then-has_room.ensures.items, w.push_reserved-then-has_room-2.ensures.items);
+            missed = λ full. absurd (true≢false (sym room ∙ full));
+            room = λ calls has. (w.push_reserved-then-has_room.ensures.capacity ∙ has.0, w.push_reserved-then-has_room-2.ensures.capacity ∙ has.1);
+          })
+      | else-has_room w ↦
+          let full : has_room old ≡ false = sym c.has_room.ensures ∙ w.if-has_room.false in
+          rw w.self-is
+          (record {
+            kept = λ room. absurd (true≢false (sym room ∙ full));
+            missed = λ _. (w.saturating_add-self.ensures, refl, refl);
+            room = λ calls has. has;
+          })
     ]

@@ -1,5 +1,4 @@
-use Rattle.std.proofs.Common.{refl, []}
-use Rattle.std.proofs.lemmas.Bool.{not-false}
+use Rattle.std.proofs.Common.{refl, sym, ◌∙◌, []}
 use Rattle.iox2_runs.specs.Carries.{defaults_of}
 use Rattle.iox2_runs.proofs.LeavingSteps.{none-placed}
 use Rattle.iox2_recorded.proofs.RecordedCalls.{ran-none, was-run}
@@ -14,8 +13,11 @@ returns-clause-recorded g c =
       missed_commands = [];
       missed_replies = [];
       ran = rw (c.in_ok-commands.ensures.items, c.in_ok-replies.ensures.items, c.new.ensures.items) none;
-      placed = rw c.new.ensures.items (none-placed {T = g.row.T.Denot} {U = g.row.U.Denot} c.in-Ok.domain (rw c.in-Ok.ensures.settings (not-false c.args.config.lists_cells c.if-not-config.false)));
+      placed = rw c.new.ensures.items (none-placed {T = g.row.T.Denot} {U = g.row.U.Denot} c.in-Ok.domain (rw c.in-Ok.ensures.settings (sym c.lacks_cells.ensures ∙ c.if-lacks_cells.false)));
       kept = rw (c.in_ok-commands.ensures.items, c.in_ok-replies.ensures.items)
           (was-run {T = g.row.T.Denot} {U = g.row.U.Denot} (defaults_of g.T.Default.is_default g.U.Default.is_default) c.args.config c.in-Ok.domain c.in-Ok.domain [] [] [] c.in-Ok.ensures.fresh none);
       whole = λ _. (refl, refl);
     }
+
+pub returns-clause-room : goal.returns-clause-room
+returns-clause-room g c = (c.in_ok-commands.ensures.exact, c.in_ok-replies.ensures.exact)

@@ -14,7 +14,7 @@ returns-then-is_single_valued-clause-reads g c =
     cell-read {T = g.row.T.Denot} {U = g.row.U.Denot} c.args.domain.now c.args.loan.loan.number c.args.at c.payload.result.now c.only_at.result c.payload.ensures.cell c.only_at.ensures
 
 pub payload-requires-2-clause-sliced : goal.payload-requires-2-clause-sliced
-payload-requires-2-clause-sliced g c = sliced-here {T = g.row.T.Denot} {U = g.row.U.Denot} c.args.domain.now (sym c.is_single_valued.ensures ∙ c.if-is_single_valued.false) c.requires.lists_cells
+payload-requires-2-clause-sliced g c = sliced-here {T = g.row.T.Denot} {U = g.row.U.Denot} c.args.domain.now (sym c.is_single_valued.ensures ∙ c.if-is_single_valued.false) (c.requires.lists_cells (sym c.is_single_valued.ensures ∙ c.if-is_single_valued.false))
 
 pub returns-clause-reads : goal.returns-clause-reads
 returns-clause-reads g c =

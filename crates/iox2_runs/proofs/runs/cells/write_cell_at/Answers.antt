@@ -23,7 +23,7 @@ returns-then-is_single_valued-clause-writes g c =
     c.payload.result.now c.if-at-ne0.false c.payload.ensures.cell (λ m s shown. c.payload_mut.ensures.changes m s (Some c.args.value) shown)
 
 pub payload-requires-2-clause-sliced : goal.payload-requires-2-clause-sliced
-payload-requires-2-clause-sliced g c = sliced-here {T = g.row.T.Denot} {U = g.row.U.Denot} c.args.domain.now (sym c.is_single_valued.ensures ∙ c.if-is_single_valued.false) c.requires.lists_cells
+payload-requires-2-clause-sliced g c = sliced-here {T = g.row.T.Denot} {U = g.row.U.Denot} c.args.domain.now (sym c.is_single_valued.ensures ∙ c.if-is_single_valued.false) (c.requires.lists_cells (sym c.is_single_valued.ensures ∙ c.if-is_single_valued.false))
 
 pub returns-then-at-payload-clause-writes : goal.returns-then-at-payload-clause-writes
 returns-then-at-payload-clause-writes g c =
@@ -31,7 +31,7 @@ returns-then-at-payload-clause-writes g c =
     (cells-past {T = g.row.T.Denot} {U = g.row.U.Denot} c.args.domain.now c.new-loan.result.sample.loan.number c.args.at c.payload-2.result.now c.args.value c.if-at-payload.true c.payload-2.ensures.reads)
 
 pub payload_mut-cells-requires-clause-sliced : goal.payload_mut-cells-requires-clause-sliced
-payload_mut-cells-requires-clause-sliced g c = sliced-here {T = g.row.T.Denot} {U = g.row.U.Denot} c.args.domain.now (sym c.is_single_valued.ensures ∙ c.if-is_single_valued.false) c.requires.lists_cells
+payload_mut-cells-requires-clause-sliced g c = sliced-here {T = g.row.T.Denot} {U = g.row.U.Denot} c.args.domain.now (sym c.is_single_valued.ensures ∙ c.if-is_single_valued.false) (c.requires.lists_cells (sym c.is_single_valued.ensures ∙ c.if-is_single_valued.false))
 
 pub bounds-cells-at : goal.bounds-cells-at
 bounds-cells-at g c =

@@ -13,7 +13,7 @@ pub unwritten_cell-cell-requires-clause-live : goal.unwritten_cell-cell-requires
 unwritten_cell-cell-requires-clause-live g c = live_unwritten {T = g.row.T.Denot} {U = g.row.U.Denot} c.args.domain.now c.args.held c.requires c.in-Unwritten.loan c.in-Unwritten.is
 
 pub unwritten_cell-cell-requires-clause-lists_cells : goal.unwritten_cell-cell-requires-clause-lists_cells
-unwritten_cell-cell-requires-clause-lists_cells g c = listed {T = g.row.T.Denot} {U = g.row.U.Denot} c.args.domain.now c.args.held c.requires
+unwritten_cell-cell-requires-clause-lists_cells g c = listed {T = g.row.T.Denot} {U = g.row.U.Denot} c.args.domain.now c.args.held c.requires c.in-Unwritten.loan c.in-Unwritten.is
 
 pub returns-in-Unwritten : goal.returns-in-Unwritten
 returns-in-Unwritten g c =
