@@ -9,7 +9,7 @@ ghost use Rattle.iox2_pubsub.specs.Live.{IsLivePublisher, IsLiveSample, IsLiveSu
 use iox2_fixtures::{
     Reading, Weather, factory_for, is_ready, is_single_valued, receiver_count, settings,
 };
-use iox2_pubsub::{Domain, Publisher, Sample, SampleMut, Subscriber, UpdateConnections};
+use iox2_pubsub::{Domain, Publisher, Sample, SampleMut, Subscriber, UpdateConnections, Value};
 use std::alloc::Global;
 use std::process::Abort;
 
@@ -98,6 +98,12 @@ pub(crate) fn celsius_of(rt: &impl Abort, domain: &Weather, sample: &Sample) -> 
 {
     assert!(rt; is_single_valued(domain));
     sample.payload(domain).celsius
+}
+
+/// Gives a sample back.
+pub(crate) fn release(rt: &impl Abort, domain: &mut Weather, sample: Sample) {
+    let found = domain.sample_of::<Value>(&sample.into_parts());
+    found.expect(rt, "a sample").release(domain);
 }
 
 /// Reads and releases what the subscriber receives next. `None` where no message waits.

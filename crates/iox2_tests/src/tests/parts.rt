@@ -2,7 +2,7 @@
 ghost use Rattle.std.specs.Prelude.{◌≡◌};
 
 use crate::tests::fixtures::{
-    celsius_of, copied, domain, publisher_of, received, subscriber_of, waits,
+    celsius_of, copied, domain, publisher_of, received, release, subscriber_of, waits,
 };
 use iox2_fixtures::{Reading, Weather, factory_for, is_single_valued};
 use iox2_pubsub::{LoanParts, PublisherParts, SampleParts, SubscriberParts, Value};
@@ -210,7 +210,7 @@ fn a_sample_is_had_again_until_it_is_released(rt: HostRuntime) {
     ];
     let sample = domain.sample_of(&astray).expect(&rt, "a sample");
     let celsius = celsius_of(&rt, &domain, &sample);
-    sample.release(&mut domain);
+    release(&rt, &mut domain, sample);
     let after = [has_sample(&domain, &earlier), has_sample(&domain, &later)];
     drop(domain);
     assert!(rt; before == [true, true, true, false]);

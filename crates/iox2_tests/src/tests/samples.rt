@@ -1,6 +1,6 @@
 ghost use Rattle.iox2_pubsub.specs.Live.{IsLiveSample};
 
-use crate::tests::fixtures::{copied, domain, publisher_of, received, subscriber_of};
+use crate::tests::fixtures::{copied, domain, publisher_of, received, release, subscriber_of};
 use iox2_fixtures::{Weather, is_single_valued};
 use iox2_machine::Header;
 use iox2_pubsub::Sample;
@@ -54,7 +54,7 @@ fn a_sample_is_released(rt: HostRuntime) {
     let (mut domain, sample) = with_a_sample(&rt, rt.alloc());
     let key = sample.key();
     let before = domain.holds_sample(key);
-    sample.release(&mut domain);
+    release(&rt, &mut domain, sample);
     let after = domain.holds_sample(key);
     drop(domain);
     assert!(rt; key.port == 1);
