@@ -354,7 +354,7 @@ static inline const char *iox2ps_error_text(uint32_t code) {
 IOX2PS_NODISCARD iox2ps_status_t iox2ps_domain_create(iox2ps_domain_t *domain, const iox2ps_config_t *config);
 
 /** The same, and keeps a recording of the first calls, as many as give this number of commands, with this number of
- * bytes of each message; the others are 0 in the recording. Memory for the commands is taken here, some 150 bytes for
+ * bytes of each message; the others are 0 in the recording. Memory for the commands is taken here, some 190 bytes for
  * each. A call that makes, sends, receives, closes or updates is one command, and so is each byte of a message that has to
  * be written or is read; questions that change nothing are none. */
 IOX2PS_NODISCARD iox2ps_status_t iox2ps_domain_create_recorded(iox2ps_domain_t *domain, const iox2ps_config_t *config,

@@ -312,15 +312,16 @@ module _ {T U : Type 0} (old mid : List (ContentState T U)) (slot : ℕ) (was : 
       cc
 
   -- and another content takes the place
-  pub clears : (new : List (ContentState T U)) (content : ContentState T U) → content.is_in_place ≡ was.is_in_place → content.lists ≡ was.lists → content.cells ≡ [] → new ≡ slice_set mid slot content
-      → ClearsSlot old new slot
-  clears new content place lists cells cleared = record {
+  pub clears : (new : List (ContentState T U)) (content : ContentState T U) → content.is_in_place ≡ was.is_in_place → content.lists ≡ was.lists → content.cells ≡ [] → (content.is_in_place ≡ false → content.room ≡ 0)
+      → new ≡ slice_set mid slot content → ClearsSlot old new slot
+  clears new content place lists cells freed cleared = record {
     content = content;
     had = get_or old slot was;
     there = had-at;
     form = place ∙ ap (λ (c : ContentState T U). c.is_in_place) ended-there;
     lists = lists ∙ ap (λ (c : ContentState T U). c.lists) ended-there;
     cells = cells;
+    freed = freed;
     cleared = cleared ∙ ap (λ m. slice_set m slot content) mid-is ∙ set-set old slot (ended_content (get_or old slot was)) content;
   }
 

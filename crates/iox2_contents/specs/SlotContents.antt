@@ -107,7 +107,8 @@ module _ {T U : Type 0} where
     pub cells : All (λ content. content.cells ≡ []) added
     pub grown : new ≡ old ++ added
 
-  -- The content of a slot became another one without cells, which lies in place or in lists as it did. Nothing else changes.
+  -- The content of a slot became another one without cells, which lies in place or in lists as it did. In lists it has no
+  -- room any more, so they take no memory. Nothing else changes.
   pub record ClearsSlot (old new : List (ContentState T U)) (slot : ℕ) : Type 0 where
     pub content : ContentState T U
     pub had : ContentState T U
@@ -115,6 +116,7 @@ module _ {T U : Type 0} where
     pub form : content.is_in_place ≡ had.is_in_place
     pub lists : content.lists ≡ had.lists
     pub cells : content.cells ≡ []
+    pub freed : content.is_in_place ≡ false → content.room ≡ 0
     pub cleared : new ≡ slice_set old slot content
 
   -- In the slot starts a loan of that length, with a default user header. Nothing else changes.

@@ -102,6 +102,7 @@ impl<T: Drop, U: Default + Drop> Content<T, U> {
         ensures none { has_list self.new ≡ false }
         ensures cells { self.new.content.cells ≡ [] }
         ensures room { self.new.content.room ≤ self.old.content.room }
+        ensures freed { self.new.content.is_in_place ≡ false → self.new.content.room ≡ 0 }
     {
         self.user_header = U::default();
         match &mut self.payload {

@@ -65,6 +65,11 @@ pub struct PublisherState {
     // At each subscriber's place the key of the connection with it.
     pub keys: Vec<Option<usize>>,
     pub is_due: bool,
+    // How many of its older slots, those before the current segment, had a holder when it last looked, and
+    // how many slots were free then. No view has these two, and any numbers will do. They lie beside a flag,
+    // so that a publisher takes no byte more (docs/decisions/slots.md, "Older slots go at the next loan").
+    pub held_older: u16,
+    pub known_free: u32,
     // The delivery that waits for a receiver.
     pub blocked: Option<BlockedDelivery>,
 }
@@ -148,6 +153,8 @@ impl PublisherState {
             history,
             keys: Vec::new(alloc),
             is_due: true,
+            held_older: 0,
+            known_free: 0,
             blocked: None,
         })
     }

@@ -11,7 +11,9 @@ use Rattle.iox2_machine.specs.machine.Records.{Publisher}
 use Rattle.iox2_machine.specs.machine.State.{State}
 use Rattle.iox2_slots.specs.SlotBook.{Book, with_more_slots}
 use Rattle.iox2_machine.specs.declared.service_config.ServiceConfig.{ServiceConfig}
-use Rattle.std.proofs.lemmas.List.{get_or-drop, get_or_past, length-drop}
+use Rattle.std.proofs.lemmas.List.{get_or-drop, get_or-set_same, get_or_past, length-drop}
+use Rattle.std.specs.declared.option.Option.{Option}
+use Rattle.iox2_connections.proofs.MailboxChanges.{within_if_some}
 use Rattle.iox2_connections.specs.Receivers.{HasReclaimed}
 use Rattle.iox2_domain.specs.Fields.{Fields, kept_of, publisher_of}
 use Rattle.iox2_domain.specs.Growth.{Grows, HasFreeSlot, HasNoSlot, with_segment}
@@ -24,7 +26,7 @@ use Rattle.iox2_domain.proofs.lemmas.fields.ReachesShows.{reaches-same, reaches-
 use Rattle.iox2_domain.proofs.lemmas.loans.GrowingLoans.{grows-failed, grows-granted, grows-last, grows-limited, grows-more, grows-out, shorter-fits}
 use Rattle.iox2_domain.proofs.lemmas.loans.GrownSegments.{grown-reaches, grown-stands, grown-stands_book}
 use Rattle.iox2_domain.proofs.lemmas.slots.GrownBooks.{grown-length, with_zeros}
-use Rattle.iox2_messages.specs.ReadySlots.{MayPrepare, Prepares, with_segments}
+use Rattle.iox2_messages.specs.ReadySlots.{IsReady, MayPrepare, Prepares, with_segments}
 use Rattle.iox2_messages.proofs.CountedPass.{segments-same}
 use Rattle.iox2_messages.proofs.ReadyPass.{machine-kept}
 
@@ -193,6 +195,64 @@ module _ {T U : Type 0} (f : Fields T U) (sound : IsDomain f) (i : ℕ)
             grants = grants-new;
             counted = counts y at_new;
           })
+
+-- ---- a slot is readied after something that can't be seen
+
+module _ {T U : Type 0} (f mid : Fields T U) (sound : IsDomain f) (i : ℕ) (reached : Reaches f mid (state_of (kept_of f))) (same : mid.publishers ≡ f.publishers) (len : ℕ) where
+  stands-mid : (x : PublisherFields) → get_or f.publishers i None ≡ Some x → get_or mid.publishers i None ≡ Some x
+  stands-mid x at = ap (λ xs. get_or xs i None) same ∙ at
+
+  -- the publisher stands as it stood
+  pub grows-then : ((x : PublisherFields) × (get_or f.publishers i None ≡ Some x) × (is_static x.allocation ≡ false))
+      → (x : PublisherFields) × (get_or mid.publishers i None ≡ Some x) × (is_static x.allocation ≡ false)
+  grows-then given = (given.0, stands-mid given.0 given.1, given.2)
+
+  module _ (x : PublisherFields) (at : get_or f.publishers i None ≡ Some x) where
+    -- what is granted or refused then is so at first
+    grants-before : (e : Option LoanError) (checks : Bool) (user_header : U) (after : State T U → Publisher → State T U)
+        → GrantLoan (memory_for x.allocation) user_header checks len (state_of (kept_of mid)) x.id (after (state_of (kept_of mid)) ((publisher_of mid.books mid.connections x).port)) e
+        → GrantLoan (memory_for x.allocation) user_header checks len (state_of (kept_of f)) x.id (after (state_of (kept_of f)) ((publisher_of f.books f.connections x).port)) e
+    grants-before e checks user_header after grants =
+        subst (λ (z : Publisher). GrantLoan (memory_for x.allocation) user_header checks len (state_of (kept_of f)) x.id (after (state_of (kept_of f)) z) e)
+        (machine-kept f mid sound i x at reached x (stands-mid x at) refl)
+        (subst (λ (s : State T U). GrantLoan (memory_for x.allocation) user_header checks len s x.id (after s ((publisher_of mid.books mid.connections x).port)) e) reached.state grants)
+
+    reaches-before : (f' : Fields T U) → Reaches mid f' (state_of (kept_of mid)) → Reaches f f' (state_of (kept_of f))
+    reaches-before f' next = reaches-then f mid f' _ _ reached (subst (λ (s : State T U). Reaches mid f' s) reached.state next)
+
+    before : {A : Type 0} (result : Result A LoanError) (f' : Fields T U) → Prepares mid i x len result f' → Prepares f i x len result f'
+    before (Ok value) f' ready = record {
+      uncounted = ready.uncounted;
+      reached = reaches-before ready.uncounted ready.reached;
+      lender = ready.lender;
+      stands = ready.stands;
+      id = ready.id;
+      book = ready.book;
+      grows = ready.grows;
+      few = ready.few;
+      more = ready.more;
+      slot = ready.slot;
+      segments = ready.segments;
+      grants = λ checks user_header. grants-before None checks user_header (λ s z. loan_granted user_header s x.id z len ready.segments) (ready.grants checks user_header);
+      counted = ready.counted;
+    }
+    before (Err e) f' refused = (λ checks user_header. grants-before (Some e) checks user_header (λ s z. s) (refused.0 checks user_header), reaches-before f' refused.1)
+
+  -- so a slot is ready, or the loan is refused
+  pub prepares-then : {A : Type 0} (result : Result A LoanError) (f' : Fields T U) → ((x : PublisherFields) → get_or mid.publishers i None ≡ Some x → Prepares mid i x len result f')
+      → (x : PublisherFields) → get_or f.publishers i None ≡ Some x → Prepares f i x len result f'
+  prepares-then result f' then x at = before x at result f' (then x (stands-mid x at))
+
+  -- the publisher stands with a slot ready
+  pub stands-ready : (f' : Fields T U) → ((x : PublisherFields) × (get_or f.publishers i None ≡ Some x) × (is_static x.allocation ≡ false))
+      → ((x : PublisherFields) → get_or mid.publishers i None ≡ Some x → IsReady mid i x len f') → (x : PublisherFields) × (get_or f'.publishers i None ≡ Some x)
+  stands-ready f' given then =
+      let ready = then given.0 (stands-mid given.0 given.1) in
+      let counted : PublisherFields = record ready.lender { segments = ready.segments } in (
+        counted,
+        ap (λ (h : Fields T U). get_or h.publishers i None) ready.counted
+            ∙ get_or-set_same (ready.uncounted).publishers i (Some counted) None (within_if_some (ready.uncounted).publishers i ready.lender ready.stands),
+      )
 
 -- what a publisher whose memory grows readies is what any publisher may
 pub may-prepare : {T U A : Type 0} (f : Fields T U) (i : ℕ) (x : PublisherFields) (len : ℕ) (result : Result A LoanError) (f' : Fields T U)

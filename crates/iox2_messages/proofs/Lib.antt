@@ -9,6 +9,7 @@ mod ReturnedAtHint
 mod StaticPass
 mod LoanPass
 mod ClearedSlots
+mod OlderSlots
 mod FilledSlots
 mod CountedPass
 mod ReadyPass

@@ -4,3 +4,4 @@ pub mod ChannelChanges
 pub mod KeyChannels
 pub mod SendEnds
 pub mod ReadySlots
+pub mod OlderSlots

@@ -16,12 +16,12 @@ ghost use Rattle.iox2_messages.specs.BlockedPublishers.{CanTakeUp, HasPublisherA
 ghost use Rattle.iox2_messages.specs.SendEnds.{IsKept, end_result};
 
 use crate::loans::remove_loan;
-use crate::reclaims::reclaim;
 use crate::send_end::SendEnd;
 use iox2_connections::sender::{Delivery, DeliveryOutcome, Progress, deliver};
 use iox2_domain::{BlockedDelivery, Boxes, DomainState, PublisherState};
 use iox2_machine::{BackpressureFn, DegradationFn, UniquePublisherId};
 use iox2_slots::SlotBook;
+use iox2_updates::reclaim;
 use std::time::Duration;
 
 // One retry more; the greatest number stays.

@@ -17,12 +17,12 @@ ghost use Rattle.iox2_messages.specs.SendEnds.{end_result};
 use crate::blocked_sends::{Resumption, go_on};
 use crate::discards::discard_loan;
 use crate::hinted_loans::find_live_loan;
-use crate::reclaims::reclaim;
 use crate::send_end::SendEnd;
 use iox2_connections::sender::Progress;
 use iox2_domain::{BlockedDelivery, Boxes, DomainState, LoanAt, Port};
 use iox2_machine::{BackpressureFn, DegradationFn};
 use iox2_slots::SlotMark;
+use iox2_updates::reclaim;
 use std::time::Duration;
 
 // Whether the publisher at a place has a connection at that place of its own.

@@ -9,17 +9,35 @@ ghost use Rattle.iox2_domain.specs.Ports.{PublisherFields};
 ghost use Rattle.iox2_messages.specs.ReadySlots.{Prepares, with_segments};
 
 use crate::growth::grow;
-use crate::reclaims::reclaim;
+use crate::older_slots::{expect_loan, let_go_of_older};
 use iox2_domain::DomainState;
 use iox2_machine::LoanError;
+use iox2_updates::reclaim;
 
 /// Readies a slot for a loan of a publisher whose memory grows: its current segment then has a free
-/// slot that is long enough. If need be, it first reclaims slots, or makes a further segment and
-/// counts it. Refuses the loan as `loan` says.
+/// slot that is long enough. Refuses the loan as `loan` says. What is in older slots that nobody holds
+/// any more is dropped first.
 // (docs/decisions/cost.md, "What a publisher that doesn't grow pays for those that do")
 #[cold]
 #[inline(never)]
 pub(crate) fn prepare<T: Drop, U: Default + Drop>(
+    state: &mut DomainState<T, U>,
+    place: usize,
+    len: usize,
+) -> Result<(), LoanError>
+    requires agrees { IsDomain state.old }
+    requires grows { (x : PublisherFields) × (slice_index_or state.old.publishers place None ≡ Some x) × (is_static x.allocation ≡ false) }
+    ensures { (x : PublisherFields) → slice_index_or state.old.publishers place None ≡ Some x → Prepares state.old place x len result state.new }
+{
+    let_go_of_older(state, place);
+    find_slot(state, place, len)?;
+    expect_loan(state, place);
+    Ok(())
+}
+
+// Finds such a slot. If need be, the publisher first reclaims slots, or makes a further segment and
+// counts it.
+fn find_slot<T: Drop, U: Default + Drop>(
     state: &mut DomainState<T, U>,
     place: usize,
     len: usize,

@@ -8,6 +8,7 @@ ghost use Rattle.iox2_domain.specs.Growth.{ClearsUnused, GrowsContents, IsNextLe
 ghost use Rattle.iox2_domain.specs.Invariant.{IsDomain};
 ghost use Rattle.iox2_domain.specs.Ports.{PublisherFields, slot_length};
 
+use crate::older_slots::count_older;
 use iox2_contents::Contents;
 use iox2_domain::{DomainState, PublisherState, lists_wanted, segment_size, units_of};
 use iox2_machine::{AllocationStrategy, LoanError, ServiceConfig};
@@ -56,6 +57,7 @@ pub(crate) fn grow<T: Drop, U: Default + Drop>(
     };
     publisher.segment_start = start;
     publisher.segment_length = longest;
+    count_older(publisher, book);
     Ok(())
 }
 

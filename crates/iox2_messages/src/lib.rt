@@ -18,6 +18,7 @@ mod hinted_loans;
 mod hinted_samples;
 mod loan_calls;
 mod loans;
+mod older_slots;
 mod questions;
 mod receipts;
 mod reclaims;

@@ -1,19 +1,14 @@
 //! A publisher reclaims the slots that its subscribers gave back.
-ghost use Rattle.std.specs.Prelude.{◌≡◌, ◌<◌, ◌↔◌, None, Some, slice_index_or, IsTrue};
+ghost use Rattle.std.specs.Prelude.{◌≡◌, ◌<◌, ◌↔◌, IsTrue};
 ghost use Rattle.std.specs.List.{All};
 ghost use Rattle.iox2_connections.specs.Counters.{IsCovered, with_counters};
 ghost use Rattle.iox2_connections.specs.Homes.{IsApart, IsSenderLinked};
 ghost use Rattle.iox2_connections.specs.Reclaims.{Reclaims};
 ghost use Rattle.iox2_connections.specs.Receivers.{HasReclaimed};
-ghost use Rattle.iox2_domain.specs.Ports.{PublisherFields};
-ghost use Rattle.iox2_domain.specs.Kept.{state_of};
-ghost use Rattle.iox2_domain.specs.Fields.{kept_of};
-ghost use Rattle.iox2_domain.specs.Invariant.{IsDomain};
-ghost use Rattle.iox2_domain.specs.Reaches.{Reaches};
 
 use iox2_connections::Connection;
 use iox2_connections::sender::reclaim_all;
-use iox2_domain::{DomainState, PublisherState};
+use iox2_domain::PublisherState;
 use iox2_slots::SlotBook;
 use slab::Slab;
 
@@ -55,24 +50,4 @@ fn reclaim_into(publisher: &PublisherState, connections: &mut Slab<Connection>, 
     ensures all { HasReclaimed connections.new publisher.now.keys }
 {
     reclaim_all(publisher.id.value(), connections, book, &publisher.keys);
-}
-
-/// The publisher at a place reclaims every slot that was given back in its connections.
-#[inline(never)]
-pub(crate) fn reclaim<T: Drop, U: Default + Drop>(state: &mut DomainState<T, U>, place: usize)
-    requires agrees { IsDomain state.old }
-    requires stands { (x : PublisherFields) × (slice_index_or state.old.publishers place None ≡ Some x) }
-    ensures reaches { Reaches state.old state.new (state_of (kept_of state.old)) }
-    ensures only { state.new ≡ record state.old { connections = state.new.connections; books = state.new.books } }
-    ensures reclaimed { (x : PublisherFields) → slice_index_or state.old.publishers place None ≡ Some x → HasReclaimed state.new.connections x.keys }
-{
-    let Some(publisher) = &state.publishers[place] else {
-        unreachable!();
-    };
-    reclaim_all(
-        publisher.id.value(),
-        &mut state.connections,
-        &mut state.books[publisher.book],
-        &publisher.keys,
-    );
 }

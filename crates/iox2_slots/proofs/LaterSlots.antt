@@ -129,3 +129,9 @@ pub more_read : {B : Type 0} (f : Slot → B) (slots : List Slot) (unused : Slot
 more_read f slots unused more = map-append f slots (replicate more unused) ∙ ap (λ ys. map f slots ++ ys) (map-replicate f more unused)
 
 pub ruleset taking_from = (chosen_within)
+
+-- Each of the free ones is a slot without holders.
+pub each_free : (holders free : List ℕ) → HasFree holders free → All (λ slot. (slot < length holders) × (slice_index holders slot ≡ 0)) free
+each_free holders free has k d lt =
+    let read : slice_index free k ≡ get_or free k d = sym (get_or_default_zero free k d lt) in
+    (chosen_within holders free k _ lt read has, chosen_count holders free k _ lt read has)

@@ -7,6 +7,7 @@ pub mod LeftChanges
 pub mod Retirements
 pub mod Evictions
 pub mod ExpiredKeys
+pub mod ConnectionCounts
 pub mod Choices
 pub mod RetiredFields
 pub mod Compositions

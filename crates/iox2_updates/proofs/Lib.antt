@@ -1,1 +1,3 @@
 pub mod EndKeys
+pub mod GainedHolders
+pub mod ReclaimedUpdates

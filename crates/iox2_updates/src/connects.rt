@@ -1,21 +1,22 @@
 //! Ports get their connections, one place after the other.
-ghost use Rattle.std.specs.Prelude.{◌≡◌, ℕ, ◌<◌, cond, true, Some, None, length, slice_index_or, [], IsSomeAnd, IfOk, OnOk, OnErr, MatchResult};
+ghost use Rattle.std.specs.Prelude.{◌≡◌, ℕ, ◌<◌, ◌≤◌, true, Some, None, length, slice_index_or, [], IsSomeAnd, IfOk, OnOk, OnErr, MatchResult};
 ghost use Rattle.slab.specs.Slab.{get};
 ghost use Rattle.iox2_machine.specs.machine.Limits.{channel_count};
 ghost use Rattle.iox2_connections.specs.Link.{Link};
 ghost use Rattle.iox2_domain.specs.Boxes.{answers_of};
 ghost use Rattle.iox2_domain.specs.Ports.{PublisherFields, SubscriberFields};
 ghost use Rattle.iox2_domain.specs.Updates.{MakesConnection, StandApart, home_of, is_open_subscriber, key_from, sender_key};
-ghost use Rattle.iox2_domain.specs.Invariant.{IsDomain, ReceiverHas, connection_count, one_if_receivers};
+ghost use Rattle.iox2_domain.specs.Invariant.{IsDomain, ReceiverHas, connection_count};
 ghost use Rattle.iox2_domain.specs.Connects.{MakesRoom, MakesSenderEnd, ConnectsSender};
 ghost use Rattle.iox2_domain.specs.Drops.{HasEnd, LosesSenderEnd, LosesWaiting, StandsElsewhere};
 ghost use Rattle.iox2_domain.specs.Histories.{HasNewEnd, HandsOut};
 ghost use Rattle.iox2_updates.specs.Ends.{IsSettledAt};
+ghost use Rattle.iox2_updates.specs.Holders.{GainsHolders, HasCountRoom};
 
 use crate::failures::{ask, degrade};
 use crate::marks::mark_end;
 use crate::places::Places;
-use iox2_connections::sender::{deliver_history, drop_all, reclaim_all, remove_connection};
+use iox2_connections::sender::{deliver_history, drop_all, remove_connection};
 use iox2_connections::{Connection, Home};
 use iox2_domain::{
     Boxes, DomainState, PublisherState, SubscriberState, clear_key_at, degradation_at, is_open_at,
@@ -84,27 +85,20 @@ fn channel_count(config: &ServiceConfig) -> usize
     config.number_of_channels.max(1)
 }
 
-// How many connections the subscriber has.
-fn connection_count(connections: &Slab<Connection>, subscriber: u128) -> usize
-    ensures { result ≡ connection_count connections.now subscriber }
+// How many connections the subscriber at a place has at most: the key of each is one of its own, an
+// expired one, or a publisher's for its place. So they needn't be counted.
+fn most_connections<T: Drop, U: Default + Drop>(state: &DomainState<T, U>, place: usize) -> usize
+    requires agrees { IsDomain state.now }
+    requires subscriber { (y : SubscriberFields) × (slice_index_or state.now.subscribers place None ≡ Some y) }
+    ensures { (y : SubscriberFields) → slice_index_or state.now.subscribers place None ≡ Some y → connection_count state.now.connections y.id ≤ result }
 {
-    let mut count = 0;
-    for key in 0..connections.capacity() {
-        if is_subscribers(connections, key, subscriber) {
-            count += 1;
-        }
-    }
-    count
-}
-
-// Whether a connection of the subscriber is at the key.
-fn is_subscribers(connections: &Slab<Connection>, key: usize, subscriber: u128) -> bool
-    ensures { one_if_receivers subscriber (get connections.now key) ≡ cond result 1 0 }
-{
-    match connections.get(key) {
-        Some(connection) => connection.home().subscriber == subscriber,
-        None => false,
-    }
+    let Some(subscriber) = &state.subscribers[place] else {
+        unreachable!();
+    };
+    let known = subscriber.keys.len() + subscriber.expired.len();
+    known
+        .saturating_add(state.publishers.len())
+        .min(state.connections.len())
 }
 
 // Makes a connection with no slot in it, and with room for its key in the ports at these places, also
@@ -115,8 +109,8 @@ pub(crate) fn make_between<T: Drop, U: Default + Drop>(
     home: Home,
     buffer: usize,
 ) -> Result<usize, AllocError>
-    requires publisher { at.publisher < length state.old.publishers }
-    requires subscriber { at.subscriber < length state.old.subscribers }
+    requires agrees { IsDomain state.old }
+    requires apart { StandApart state.old.publishers state.old.subscribers at.publisher at.subscriber home buffer }
     requires buffer { 0 < buffer }
     ensures grows { MakesRoom state.old at.publisher at.subscriber state.new }
     ensures sender_room { OnOk result ((x : PublisherFields) → slice_index_or state.new.publishers at.publisher None ≡ Some x → at.subscriber < x.key_room) }
@@ -125,9 +119,9 @@ pub(crate) fn make_between<T: Drop, U: Default + Drop>(
     ensures made { IfOk result (λ key. MakesConnection (state.old).connections home buffer (state.old).config.subscriber_max_borrowed_samples (channel_count (state.old).config) key (state.new).connections) }
     ensures refused { OnErr result ((state.new).connections ≡ record (state.old).connections { capacity = (state.new).connections.capacity }) }
 {
-    let others = connection_count(&state.connections, home.subscriber);
+    let most = most_connections(state, at.subscriber);
     reserve_key_at(&mut state.publishers, at.publisher, at.subscriber)?;
-    reserve_connection_at(&mut state.subscribers, at.subscriber, at.publisher, others)?;
+    reserve_connection_at(&mut state.subscribers, at.subscriber, at.publisher, most)?;
     let limit = state.config.subscriber_max_borrowed_samples;
     let channels = channel_count(&state.config);
     make_connection(
@@ -163,9 +157,10 @@ fn make_sender_end<T: Drop, U: Default + Drop, F: BackpressureFn, G: Degradation
     requires settled { IsSettledAt state.old at }
     requires opened { is_open_subscriber state.old.subscribers at.subscriber ≡ true }
     requires none { sender_key state.old.publishers at.publisher at.subscriber ≡ None }
-    ensures { (settled : IsSettledAt state.old at)
+    ensures made { (settled : IsSettledAt state.old at)
         → MatchResult result (λ key. MakesSenderEnd (answers_of F.allows G.allows (boxes.now).boxes) state.old at.publisher at.subscriber settled.publisher key state.new)
         (λ failure. ConnectsSender (answers_of F.allows G.allows (boxes.now).boxes) state.old at.publisher at.subscriber settled.publisher state.new failure) }
+    ensures books { (state.new).books ≡ (state.old).books }
 {
     let (home, buffer) = ports_at(state, at);
     let other = key_at(&state.subscribers, at.subscriber, at.publisher);
@@ -184,7 +179,7 @@ fn make_sender_end<T: Drop, U: Default + Drop, F: BackpressureFn, G: Degradation
 }
 
 // Puts the last messages of the history of the publisher at a place into its connection at a key, in
-// which no slot is. What was given back is reclaimed first.
+// which no slot is.
 fn hand_out_history<T: Drop, U: Default + Drop>(
     state: &mut DomainState<T, U>,
     publisher_place: usize,
@@ -192,19 +187,18 @@ fn hand_out_history<T: Drop, U: Default + Drop>(
 )
     requires agrees { IsDomain state.old }
     requires new_end { HasNewEnd state.old publisher_place key }
-    ensures { (end : HasNewEnd state.old publisher_place key) → HandsOut state.old end.publisher end.link state.new }
+    requires few { (end : HasNewEnd state.old publisher_place key) → HasCountRoom (state.old).books end.publisher.book }
+    ensures out { (end : HasNewEnd state.old publisher_place key) → HandsOut state.old end.publisher end.link state.new }
+    ensures gains { GainsHolders 1 (state.old).books (state.new).books }
 {
     let Some(publisher) = &state.publishers[publisher_place] else {
         unreachable!();
     };
-    let book = &mut state.books[publisher.book];
-    reclaim_all(
-        publisher.id.value(),
-        &mut state.connections,
-        book,
-        &publisher.keys,
+    deliver_history(
+        &publisher.history,
+        &mut state.connections[key],
+        &mut state.books[publisher.book],
     );
-    deliver_history(&publisher.history, &mut state.connections[key], book);
 }
 
 // The publisher at a place that isn't due, with no end at a subscriber's place, gets one if an open
@@ -217,7 +211,9 @@ fn connect_sender<T: Drop, U: Default + Drop, F: BackpressureFn, G: DegradationF
 ) -> Option<ConnectionFailure>
     requires settled { IsSettledAt state.old at }
     requires none { sender_key state.old.publishers at.publisher at.subscriber ≡ None }
-    ensures { (settled : IsSettledAt state.old at) → ConnectsSender (answers_of F.allows G.allows (boxes.now).boxes) state.old at.publisher at.subscriber settled.publisher state.new result }
+    requires few { (settled : IsSettledAt state.old at) → HasCountRoom (state.old).books settled.publisher.book }
+    ensures connects { (settled : IsSettledAt state.old at) → ConnectsSender (answers_of F.allows G.allows (boxes.now).boxes) state.old at.publisher at.subscriber settled.publisher state.new result }
+    ensures gains { GainsHolders 1 (state.old).books (state.new).books }
 {
     if !is_open_at(&state.subscribers, at.subscriber) {
         return None;
@@ -243,7 +239,8 @@ fn drop_waiting_at<T: Drop, U: Default + Drop>(
 )
     requires agrees { IsDomain state.old }
     requires end { (subscriber_place : ℕ) × HasEnd state.old publisher_place subscriber_place key }
-    ensures { (x : PublisherFields) → slice_index_or state.old.publishers publisher_place None ≡ Some x
+    ensures gains { GainsHolders 0 (state.old).books (state.new).books }
+    ensures loses { (x : PublisherFields) → slice_index_or state.old.publishers publisher_place None ≡ Some x
         → (c : Link) → get state.old.connections key ≡ Some c → LosesWaiting state.old x c state.new }
 {
     let Some(publisher) = &state.publishers[publisher_place] else {
@@ -266,7 +263,8 @@ fn disconnect_sender<T: Drop, U: Default + Drop>(
     requires unused { IsSomeAnd (get state.old.connections key) (λ c. c.borrowed ≡ []) }
     requires alone { (c : Link) → get state.old.connections key ≡ Some c → ReceiverHas state.old.subscribers key c → ⊥ }
     requires elsewhere { (c : Link) → get state.old.connections key ≡ Some c → StandsElsewhere state.old.subscribers at.subscriber c.home.subscriber }
-    ensures { (x : PublisherFields) → slice_index_or state.old.publishers at.publisher None ≡ Some x
+    ensures gains { GainsHolders 0 (state.old).books (state.new).books }
+    ensures loses { (x : PublisherFields) → slice_index_or state.old.publishers at.publisher None ≡ Some x
         → LosesSenderEnd state.old at.publisher at.subscriber x state.new }
 {
     let Some(publisher) = &state.publishers[at.publisher] else {
@@ -286,8 +284,10 @@ pub(crate) fn update_sender_place<T: Drop, U: Default + Drop, F: BackpressureFn,
     boxes: &Boxes<F, G>,
     at: Places,
 ) -> Option<ConnectionFailure>
-    requires { IsSettledAt state.old at }
-    ensures { (settled : IsSettledAt state.old at) → ConnectsSender (answers_of F.allows G.allows (boxes.now).boxes) state.old at.publisher at.subscriber settled.publisher state.new result }
+    requires settled { IsSettledAt state.old at }
+    requires few { (settled : IsSettledAt state.old at) → HasCountRoom (state.old).books settled.publisher.book }
+    ensures connects { (settled : IsSettledAt state.old at) → ConnectsSender (answers_of F.allows G.allows (boxes.now).boxes) state.old at.publisher at.subscriber settled.publisher state.new result }
+    ensures gains { GainsHolders 1 (state.old).books (state.new).books }
 {
     let Some(key) = key_at(&state.publishers, at.publisher, at.subscriber) else {
         return connect_sender(state, boxes, at);

@@ -9,10 +9,12 @@ mod failures;
 mod marks;
 mod places;
 mod receiver_updates;
+mod reclaims;
 mod retirements;
 mod updates;
 
 pub use departures::{forget_if_empty, leave_if_unused, settle_book_if_left};
 pub use marks::{mark_end, unmark_publisher, unmark_subscriber};
 pub use receiver_updates::update_subscriber;
+pub use reclaims::reclaim;
 pub use updates::update_publisher;

@@ -1,15 +1,17 @@
 //! Updates: a port gets its connections with the ports of the other side.
-ghost use Rattle.std.specs.Prelude.{◌≡◌, Some, None, slice_index_or};
+ghost use Rattle.std.specs.Prelude.{◌≡◌, ◌^◌, Some, None, slice_index_or};
 ghost use Rattle.iox2_domain.specs.Boxes.{answers_of};
 ghost use Rattle.iox2_domain.specs.Ports.{PublisherFields};
 ghost use Rattle.iox2_domain.specs.Invariant.{IsDomain};
 ghost use Rattle.iox2_domain.specs.Updates.{IsUnblockedAt};
 ghost use Rattle.iox2_domain.specs.Connects.{UpdatesPublisher};
 ghost use Rattle.iox2_updates.specs.Ends.{IsSenderDue};
+ghost use Rattle.iox2_updates.specs.Holders.{HasFewHolders};
 
 use crate::connects::update_sender_place;
 use crate::failures::first_of;
 use crate::places::Places;
+use crate::reclaims::reclaim;
 use iox2_domain::{Boxes, DomainState, clear_due, is_due_at};
 use iox2_machine::{BackpressureFn, ConnectionFailure, DegradationFn};
 
@@ -37,7 +39,8 @@ pub fn update_publisher<T: Drop, U: Default + Drop, F: BackpressureFn, G: Degrad
     }
 }
 
-// The publisher at a place, which is due, goes over the subscribers' places.
+// The publisher at a place, which is due, reclaims what was given back to it, and goes over the
+// subscribers' places.
 #[inline(never)]
 fn connect_publisher<T: Drop, U: Default + Drop, F: BackpressureFn, G: DegradationFn>(
     state: &mut DomainState<T, U>,
@@ -45,6 +48,21 @@ fn connect_publisher<T: Drop, U: Default + Drop, F: BackpressureFn, G: Degradati
     place: usize,
 ) -> Option<ConnectionFailure>
     requires { IsSenderDue state.old place }
+    ensures { (due : IsSenderDue state.old place) → UpdatesPublisher (answers_of F.allows G.allows (boxes.now).boxes) state.old place due.publisher state.new result }
+{
+    reclaim(state, place);
+    walk_places(state, boxes, place)
+}
+
+// The publisher at a place, which is due, goes over the subscribers' places. Each slot of it has few
+// holders, and gets one more at most for each place.
+fn walk_places<T: Drop, U: Default + Drop, F: BackpressureFn, G: DegradationFn>(
+    state: &mut DomainState<T, U>,
+    boxes: &Boxes<F, G>,
+    place: usize,
+) -> Option<ConnectionFailure>
+    requires due { IsSenderDue state.old place }
+    requires few { (due : IsSenderDue state.old place) → HasFewHolders (state.old).books due.publisher.book (2 ^ 62) }
     ensures { (due : IsSenderDue state.old place) → UpdatesPublisher (answers_of F.allows G.allows (boxes.now).boxes) state.old place due.publisher state.new result }
 {
     clear_due(&mut state.publishers, place);

@@ -74,7 +74,11 @@ fn close_all_in(alloc: Global, domain: &mut Domain<u64, ()>, closing: &Closing) 
 }
 
 // Makes that many publishers. `None` where one is refused.
-fn create_senders(alloc: Global, domain: &mut Domain<u64, ()>, count: usize) -> Option<Vec<Sender>>
+pub(crate) fn create_senders(
+    alloc: Global,
+    domain: &mut Domain<u64, ()>,
+    count: usize,
+) -> Option<Vec<Sender>>
     ensures live { IfSome result (λ senders. All (λ sender. IsLivePublisher domain.new sender.publisher) senders.items) }
     ensures stays { Stays domain.old domain.new }
 {
@@ -100,7 +104,7 @@ fn create_sender(domain: &mut Domain<u64, ()>) -> Option<Sender>
 }
 
 // Each subscriber gets to know the publishers. `None` where an update is refused.
-fn update_all(domain: &mut Domain<u64, ()>, receivers: &[Receiver]) -> Option<()>
+pub(crate) fn update_all(domain: &mut Domain<u64, ()>, receivers: &[Receiver]) -> Option<()>
     requires receivers { All (λ receiver. IsLiveSubscriber domain.old receiver.subscriber) receivers.now }
     ensures { Stays domain.old domain.new }
 {
@@ -111,7 +115,11 @@ fn update_all(domain: &mut Domain<u64, ()>, receivers: &[Receiver]) -> Option<()
 }
 
 // Each publisher sends that many messages. `None` where one isn't lent.
-fn send_all(domain: &mut Domain<u64, ()>, senders: &[Sender], messages: usize) -> Option<()>
+pub(crate) fn send_all(
+    domain: &mut Domain<u64, ()>,
+    senders: &[Sender],
+    messages: usize,
+) -> Option<()>
     requires single_valued { IsSingleValued domain.old }
     requires senders { All (λ sender. IsLivePublisher domain.old sender.publisher) senders.now }
     ensures { Stays domain.old domain.new }
@@ -135,7 +143,7 @@ fn send_many(domain: &mut Domain<u64, ()>, publisher: &Publisher, messages: usiz
 }
 
 // Closes those that are live and have no blocked send, and returns how many they were.
-fn close_publishers(domain: &mut Domain<u64, ()>, senders: Vec<Sender>) -> usize {
+pub(crate) fn close_publishers(domain: &mut Domain<u64, ()>, senders: Vec<Sender>) -> usize {
     let mut closed = 0usize;
     for sender in senders {
         let publisher = sender.into_publisher();
@@ -150,7 +158,7 @@ fn close_publishers(domain: &mut Domain<u64, ()>, senders: Vec<Sender>) -> usize
 }
 
 // Closes those that are live, and returns how many they were.
-fn close_subscribers(domain: &mut Domain<u64, ()>, receivers: Vec<Receiver>) -> usize {
+pub(crate) fn close_subscribers(domain: &mut Domain<u64, ()>, receivers: Vec<Receiver>) -> usize {
     let mut closed = 0usize;
     for receiver in receivers {
         let subscriber = receiver.into_subscriber();

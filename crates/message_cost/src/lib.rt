@@ -1,11 +1,13 @@
-//! What a message costs, and what a close: a static library that passes messages through a domain,
-//! or closes ports, so that a tool can count the instructions of the calls that it makes.
+//! What a message costs, what a close, and what ports cost from their making to their close: a static
+//! library that passes messages through a domain, or makes and closes ports, so that a tool can count
+//! the instructions of the calls that it makes.
 #![tactic(auto)]
 
 ghost use Rattle.std.specs.Prelude.{◌≤◌, IfSome, All};
 ghost use Rattle.iox2_pubsub.specs.Live.{IsLivePublisher, IsLiveSubscriber, IsSingleValued};
 
 mod closing;
+mod connecting;
 mod load;
 mod passing;
 mod ports;
@@ -13,6 +15,7 @@ mod receiver;
 mod sender;
 
 use closing::{Closing, close_all};
+use connecting::{Connecting, connect_all};
 use iox2_pubsub::{BackpressureStrategy, Domain, Publisher};
 use load::Load;
 use passing::pass_all;
@@ -34,6 +37,14 @@ pub extern "C" fn pass_messages(alloc: Global, load: &Load, messages: u64) -> u6
 #[unsafe(no_mangle)]
 pub extern "C" fn close_ports(alloc: Global, closing: &Closing) -> usize {
     close_all(alloc, closing).unwrap_or(0)
+}
+
+/// Makes a domain with these ports, and makes, updates and closes the ports. Returns how many were
+/// closed: none where a call before that is refused. It stays a function of its own in the program,
+/// so that its instructions can be counted.
+#[unsafe(no_mangle)]
+pub extern "C" fn connect_ports(alloc: Global, connecting: &Connecting) -> usize {
+    connect_all(alloc, connecting).unwrap_or(0)
 }
 
 // Makes the domain, and passes the messages. `None` where something is refused.

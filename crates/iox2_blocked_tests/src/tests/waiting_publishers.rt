@@ -12,7 +12,7 @@ use iox2_fixtures::{
 use iox2_machine::ServiceConfig;
 use iox2_pubsub::{
     BlockedSend, Domain, Publisher, Sample, SampleMut, SampleMutUninit, SendError, SendOutcome,
-    Subscriber,
+    Subscriber, Value,
 };
 use std::alloc::Global;
 use std::process::Abort;
@@ -257,8 +257,8 @@ pub(crate) fn take(rt: &impl Abort, domain: &mut Weather, subscriber: &Subscribe
 
 /// Gives a message back.
 pub(crate) fn release(rt: &impl Abort, domain: &mut Weather, sample: Sample) {
-    assert!(rt; domain.holds_sample(sample.key()));
-    sample.release(domain);
+    let found = domain.sample_of::<Value>(&sample.into_parts());
+    found.expect(rt, "a sample").release(domain);
 }
 
 /// Reads and releases what the subscriber receives next. `None` where no message waits.

@@ -58,9 +58,9 @@ impl<T: Drop, U: Default + Drop, F: BackpressureFn, G: DegradationFn> Domain<T, 
         has_blocked_send(&self.state, UniquePublisherId::new(key.port), key.message)
     }
 
-    /// Whether the key is that of a sample of this domain that wasn't released, so that the sample's
-    /// calls may be made. From which publisher the message is borrowed, its header says. This
-    /// library's own.
+    /// Whether the key is that of a sample of this domain that wasn't released. Calls of the sample
+    /// ask too that its handle says where the message lies, as a handle that `sample_of` makes does.
+    /// From which publisher the message is borrowed, its header says. This library's own.
     #[tactic(auto, unfolding(crate::specs::Live::IsSampleKey))]
     pub fn holds_sample(&self, key: Key) -> bool
         ensures live { IsTrue result ↔ IsSampleKey self.now key }

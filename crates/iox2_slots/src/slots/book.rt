@@ -1,6 +1,6 @@
 //! The book of a publisher's slots.
-ghost use Rattle.std.specs.Prelude.{ℕ, [], ◌∷◌, ◌≡◌, ◌+◌, ◌-◌, ◌<◌, ◌≤◌, ◌^◌, ◌↔◌, ◌++◌, length, map, drop, slice_get, slice_index, slice_set, replicate, vec_capacity, Some, false, IsTrue, IsNone, IfSome, IfNone, IfOk};
-ghost use Rattle.std.specs.List.{All};
+ghost use Rattle.std.specs.Prelude.{ℕ, [], ◌∷◌, ◌≡◌, ◌+◌, ◌-◌, ◌<◌, ◌≤◌, ◌^◌, ◌↔◌, ◌++◌, length, map, drop, slice_get, slice_index, slice_set, replicate, vec_capacity, Some, false, ◌==◌, IsTrue, IsNone, IfSome, IfNone, IfOk};
+ghost use Rattle.std.specs.List.{All, count_by};
 ghost use Rattle.iox2_slots.specs.SlotFree.{HasFree, IsTakenOut};
 
 use crate::slots::mark::SlotMark;
@@ -273,6 +273,23 @@ impl SlotBook {
         ensures { IsTrue result ↔ All (λ n. 0 < n) (drop start self.now.holders) }
     {
         last_from(&self.free, start).is_none()
+    }
+
+    /// How many slots have no holder.
+    pub fn free_count(&self) -> usize
+        ensures { result ≡ count_by (λ n. n == 0) self.now.holders }
+    {
+        self.free.len()
+    }
+
+    /// The free slots behind the first `known` of them. If so many were free once, and none was taken
+    /// since, these are the slots that lost their last holder since then.
+    pub fn freed_since(&self, known: usize) -> &[usize]
+        ensures free { All (λ slot. (slot < length self.now.holders) × (holders_at self.now slot ≡ 0)) result.now }
+        ensures count { length result.now ≡ count_by (λ n. n == 0) self.now.holders - known }
+    {
+        let known = known.min(self.free.len());
+        &self.free[known..]
     }
 
     /// Whether no slot has a holder, so that the book may go.

@@ -1,5 +1,5 @@
 -- How many holders a slot in a publisher's history has.
-use Rattle.std.proofs.Common.{◌≡◌, ℕ, ◌+◌, ◌<◌, ◌≤◌, ◌^◌, true, cond, length, map, get_or, refl, ap, sym, subst, ◌∙◌, inl, inr, arith}
+use Rattle.std.proofs.Common.{◌≡◌, ℕ, ◌+◌, ◌<◌, ◌≤◌, true, cond, length, map, get_or, refl, ap, sym, subst, ◌∙◌, inl, inr, arith}
 use Rattle.std.proofs.lemmas.Bool.{cases_eq, ne_eqb, eq-eqb}
 use Rattle.std.specs.declared.option.Option.{Option}
 use Rattle.std.specs.declared.option.Option.TheVariants.{None, Some}
@@ -36,6 +36,11 @@ module _ {T U : Type 0} (f : Fields T U) (sound : IsDomain f) (i : ℕ) (x : Pub
   pub remembered-in_use : (slot : ℕ) → 0 < times slot (x.history).items → 0 < holders_at b slot
   remembered-in_use slot some =
       omega (arith, some, book-counts f sound.parts i x here b at slot)
+
+  -- and stands there once
+  pub remembered-once : (slot : ℕ) → times slot (x.history).items ≤ 1
+  remembered-once slot =
+      once-times (numbers_of f.books x.id) slot (x.history).items (sound.well_formed.publishers x.id (seen_publisher f x) (publisher-stands f sound.parts i x here)).history_once
 
   -- ---- how often a slot stands in one connection
 
@@ -95,9 +100,6 @@ module _ {T U : Type 0} (f : Fields T U) (sound : IsDomain f) (i : ℕ) (x : Pub
     held-few slot =
         let u = sound.well_formed.publishers x.id (seen_publisher f x) (publisher-stands f sound.parts i x here) in
         let lent : times slot x.loans ≤ 1 = once-times (numbers_of f.books x.id) slot x.loans u.loans_once in
-        let remembered : times slot (x.history).items ≤ 1 = once-times (numbers_of f.books x.id) slot (x.history).items u.history_once in
+        let remembered : times slot (x.history).items ≤ 1 = remembered-once slot in
         let standing : sum_by (stands x.id slot) f.connections.slots ≤ length x.keys = sum-keys (stands x.id slot) refl x.keys f.connections.slots (few slot) (known slot) in
         (omega (arith, book-counts f sound.parts i x here b at slot, lent, remembered, standing), remembered)
-
-    pub remembered-fits : length x.keys < 2 ^ 63 → (slot : ℕ) → holders_at b slot + times slot (x.history).items < 2 ^ 64
-    remembered-fits short slot = omega (arith, (held-few slot).0, (held-few slot).1, short)

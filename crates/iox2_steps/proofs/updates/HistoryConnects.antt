@@ -1,5 +1,5 @@
 -- A publisher's end is made, and the last messages of its history wait there.
-use Rattle.std.proofs.Common.{◌≡◌, ℕ, Bool, true, false, cond, ◌+◌, ◌<◌, ◌^◌, List, [], length, map, get_or, slice_set, refl, ap, sym, subst, ◌∙◌, set-set}
+use Rattle.std.proofs.Common.{arith, ◌≡◌, ℕ, Bool, true, false, cond, ◌+◌, ◌<◌, ◌≤◌, ◌^◌, List, [], length, map, get_or, slice_set, refl, ap, sym, subst, ◌∙◌, set-set}
 use Rattle.std.proofs.lemmas.List.{get_or-set_same}
 use Rattle.std.specs.declared.option.Option.{Option}
 use Rattle.std.specs.declared.option.Option.TheVariants.{None, Some}
@@ -21,9 +21,6 @@ use Rattle.iox2_machine.specs.machine.State.{State, receiving_buffer, has_receiv
 use Rattle.iox2_machine.specs.machine.WellFormed.{IsWellFormed}
 use Rattle.iox2_connections.specs.Counters.{times, with_counters}
 use Rattle.iox2_connections.specs.Mailboxes.{with_box}
-use Rattle.iox2_connections.specs.Receivers.{HasReclaimed}
-use Rattle.iox2_connections.specs.Reclaims.{Reclaims}
-use Rattle.iox2_connections.proofs.Empties.{still-empty}
 use Rattle.iox2_connections.proofs.MailboxChanges.{within_if_some}
 use Rattle.iox2_laws.proofs.PublisherUpdates.{with_sender_side_keeps}
 use Rattle.iox2_laws.proofs.Puts.{put_at-same, put_at-twice}
@@ -37,92 +34,30 @@ use Rattle.iox2_domain.specs.Histories.{with_history_waiting, HasNewEnd, HandsOu
 use Rattle.iox2_domain.proofs.lemmas.fields.ConnectionEnds.{publisher-stands}
 use Rattle.iox2_domain.proofs.lemmas.fields.Standing.{place-within}
 use Rattle.iox2_domain.proofs.lemmas.fields.Views.{unblocked}
-use Rattle.iox2_domain.proofs.lemmas.slots.BookChanges.{book-here}
-use Rattle.iox2_domain.proofs.lemmas.slots.PublisherBooks.{book-own, book-owned}
-use Rattle.iox2_domain.proofs.lemmas.slots.ReclaimSteps.{with_reclaimed, reclaimed-is, reclaimed-reaches}
-use Rattle.iox2_domain.proofs.lemmas.slots.RecountedFields.{same-numbers}
-use Rattle.iox2_steps.proofs.updates.HistoryBounds.{remembered-in_use, remembered-fits}
-use Rattle.iox2_steps.proofs.updates.HistoryHanded.{handed, hands-out}
+use Rattle.iox2_steps.proofs.updates.HistoryBounds.{remembered-in_use, remembered-once}
+use Rattle.iox2_steps.proofs.updates.HistoryHanded.{hands-out}
+use Rattle.iox2_connections.proofs.Histories.{times-last}
 use Rattle.iox2_domain.proofs.lemmas.fields.PlacesKept.{places-still, places-then}
 use Rattle.iox2_domain.specs.KeptPlaces.{KeepsPlaces}
 
--- ---- slots are reclaimed, and the history goes out
+-- ---- the history goes out
 
 module _ {T U : Type 0} (before f : Fields T U) (same : f ≡ before) (sound : IsDomain f) (i : ℕ) (x : PublisherFields) (here : get_or f.publishers i None ≡ Some x)
     (key : ℕ) (c : Link) (there : get f.connections key ≡ Some c) (its : c.home.publisher ≡ x.id) (empty : load c ≡ 0)
-    (b : Book) (at : get f.books x.book ≡ Some b) (b1 : Book) (is1 : b1 ≡ with_counters b b1.holders) (new : Slab Link) (r : Reclaims x.id b.holders f.connections b1.holders new) where
-  -- the fields without what was given back
-  abbrev g : Fields T U
-  g = with_reclaimed f sound x.id x.book b at (book-own f sound.parts i x here b at) (book-owned f sound.parts i x here) b1.holders new r
-
-  g-agrees : IsDomain (with_reclaimed f sound x.id x.book b at (book-own f sound.parts i x here b at) (book-owned f sound.parts i x here) b1.holders new r)
-  g-agrees = (reclaimed-reaches f sound x.id x.book b at (book-own f sound.parts i x here b at) (book-owned f sound.parts i x here) b1.holders new r).agrees
-
-  at-g : get g.books x.book ≡ Some (with_counters b b1.holders)
-  at-g = book-here f x.book b (with_counters b b1.holders) at (record { publisher = refl; node = refl; numbers = refl; slots = r.recounts.slots })
-
-  -- the connection is still there
-  pub new-there : get new key ≡ Some c
-  new-there = still-empty x.id b.holders b1.holders f.connections new sound.parts.apart r key c there empty
-
-  -- each slot of the history has a holder, and may have one more
-  pub new-in_use : (slot : ℕ) → 0 < times slot (x.history).items → 0 < holders_at b1 slot
-  new-in_use slot some = subst (λ (d : Book). 0 < holders_at d slot) (sym is1) (remembered-in_use g g-agrees i x here (with_counters b b1.holders) at-g slot some)
-
-  pub new-fits : HasReclaimed new x.keys → length x.keys < 2 ^ 63 → (slot : ℕ) → holders_at b1 slot + times slot (x.history).items < 2 ^ 64
-  new-fits reclaimed short slot =
-      subst (λ (d : Book). holders_at d slot + times slot (x.history).items < 2 ^ 64) (sym is1)
-      (remembered-fits g g-agrees i x here (with_counters b b1.holders) at-g (record { at = reclaimed.at }) short slot)
-
-  waiting-same : with_history_waiting g x c ≡ with_history_waiting f x c
-  waiting-same = λ t. record (state t) {
-    mailboxes = with_box (state t).mailboxes x.id c.home.subscriber (with_waiting (last_n c.buffer (map (numbers t x.id) (x.history).items)) ((state t).mailboxes x.id c.home.subscriber));
-  } where
-    state : state_of (kept_of (with_reclaimed f sound x.id x.book b at (book-own f sound.parts i x here b at) (book-owned f sound.parts i x here) b1.holders new r)) ≡ state_of (kept_of f)
-    state = reclaimed-is f sound x.id x.book b at (book-own f sound.parts i x here b at) (book-owned f sound.parts i x here) b1.holders new r
-
-    numbers : numbers_of (with_value f.books x.book (with_counters b b1.holders)) ≡ numbers_of f.books
-    numbers = same-numbers f sound.parts x.id x.book b at (book-own f sound.parts i x here b at) b1.holders new r.recounts
-
+    (b : Book) (at : get f.books x.book ≡ Some b) where
   -- it waits in the connection
-  pub reclaimed-hands-out : (b2 : Book) → b2 ≡ with_counters b1 b2.holders → length b2.holders ≡ length b1.holders
-      → ((slot : ℕ) → holders_at b2 slot ≡ holders_at b1 slot + times slot (last_n c.buffer (x.history).items))
+  pub history-waits : (b2 : Book) → b2 ≡ with_counters b b2.holders → length b2.holders ≡ length b.holders
+      → ((slot : ℕ) → holders_at b2 slot ≡ holders_at b slot + times slot (last_n c.buffer (x.history).items))
       → IsWellFormed (with_history_waiting before x c)
-      → HandsOut before x c (record f { connections = with_value new key (record c { waiting = last_n c.buffer (x.history).items }); books = with_value f.books x.book b2 })
-  reclaimed-hands-out b2 is2 long counters well = subst (λ (h : Fields T U). HandsOut h x c (record f { connections = with_value new key (record c { waiting = last_n c.buffer (x.history).items }); books = with_value f.books x.book b2 })) same
-      (subst (λ (h : Fields T U). HandsOut f x c h) as-made (record {
-        agrees = out.agrees;
-        fields = refl;
-        homes = SameHomes-trans f.connections new (with_value new key (record c { waiting = last_n c.buffer (x.history).items })) r.recounts.homes out.homes;
-        state = out.state ∙ waiting-same;
-        entries = λ n entry e. (reclaimed-reaches f sound x.id x.book b at (book-own f sound.parts i x here b at) (book-owned f sound.parts i x here) b1.holders new r).entries n entry (out.entries n entry e);
-        places = places-then (reclaimed-reaches f sound x.id x.book b at (book-own f sound.parts i x here b at) (book-owned f sound.parts i x here) b1.holders new r).places out.places;
-      }))
-    where
-      after : Fields T U
-      after = handed g g-agrees i x here (with_counters b b1.holders) at-g key c new-there its empty b2.holders long counters
-
-      well-f : IsWellFormed (with_history_waiting f x c)
-      well-f = subst (λ (h : Fields T U). IsWellFormed (with_history_waiting h x c)) (sym same) well
-
-      out : HandsOut g x c (handed g g-agrees i x here (with_counters b b1.holders) at-g key c new-there its empty b2.holders long counters)
-      out = hands-out g g-agrees i x here (with_counters b b1.holders) at-g key c new-there its empty b2.holders long counters (subst IsWellFormed (sym waiting-same) well-f)
-
-      book2 : with_counters b b2.holders ≡ b2
-      book2 = sym (is2 ∙ ap (λ (d : Book). with_counters d b2.holders) is1)
-
-      as-made : handed g g-agrees i x here (with_counters b b1.holders) at-g key c new-there its empty b2.holders long counters
-          ≡ record f { connections = with_value new key (record c { waiting = last_n c.buffer (x.history).items }); books = with_value f.books x.book b2 }
-      as-made =
-          ap (λ (slots : List (Option Book)). let slab : Slab Book = record f.books { slots = slots } in
-          let h : Fields T U = record f { connections = with_value new key (record c { waiting = last_n c.buffer (x.history).items }); books = slab } in h)
-          (set-set f.books.slots x.book (Some (with_counters b b1.holders)) (Some (with_counters b b2.holders))
-          ∙ ap (λ (d : Book). slice_set f.books.slots x.book (Some d)) book2)
+      → HandsOut before x c (record f { connections = with_value f.connections key (record c { waiting = last_n c.buffer (x.history).items }); books = with_value f.books x.book b2 })
+  history-waits b2 is2 long counters well =
+      subst (λ (h : Fields T U). HandsOut h x c (record f { connections = with_value f.connections key (record c { waiting = last_n c.buffer (x.history).items }); books = with_value f.books x.book b2 })) same
+      (subst (λ (d : Book). HandsOut f x c (record f { connections = with_value f.connections key (record c { waiting = last_n c.buffer (x.history).items }); books = with_value f.books x.book d })) (sym is2)
+      (hands-out f sound i x here b at key c there its empty b2.holders long counters (subst (λ (h : Fields T U). IsWellFormed (with_history_waiting h x c)) (sym same) well)))
 
 -- with the end that a call of it names
 module _ {T U : Type 0} (before f : Fields T U) (same : f ≡ before) (agrees : IsDomain before) (i key : ℕ) (end : HasNewEnd before i key)
-    (x : PublisherFields) (here : get_or f.publishers i None ≡ Some x)
-    (b : Book) (at : get f.books x.book ≡ Some b) (b1 : Book) (is1 : b1 ≡ with_counters b b1.holders) (new : Slab Link) (r : Reclaims x.id b.holders f.connections b1.holders new) where
+    (x : PublisherFields) (here : get_or f.publishers i None ≡ Some x) where
   sound : IsDomain f
   sound = subst (IsDomain {T = T} {U = U}) (sym same) agrees
 
@@ -135,45 +70,52 @@ module _ {T U : Type 0} (before f : Fields T U) (same : f ≡ before) (agrees : 
   its : (end.link).home.publisher ≡ x.id
   its = end.is_its ∙ ap (λ (z : PublisherFields). z.id) (publisher-is end)
 
-  link-there : get new key ≡ Some end.link
-  link-there = new-there before f same sound i x here key end.link there its end.empty b at b1 is1 new r
-
   -- the connection is there
-  pub end-there : ContainsKey new key
-  end-there = rw link-there refl
+  pub end-there : ContainsKey f.connections key
+  end-there = rw there refl
 
-  link-is : (c : Link) → get new key ≡ Some c → c ≡ end.link
-  link-is c at_c = let both : Some c ≡ Some end.link = sym at_c ∙ link-there in cc
+  link-is : (c : Link) → get f.connections key ≡ Some c → c ≡ end.link
+  link-is c at_c = let both : Some c ≡ Some end.link = sym at_c ∙ there in cc
 
   -- no slot stands in it
-  pub end-empty : (c : Link) → get new key ≡ Some c → load c ≡ 0
+  pub end-empty : (c : Link) → get f.connections key ≡ Some c → load c ≡ 0
   end-empty c at_c = ap load (link-is c at_c) ∙ end.empty
 
-  pub end-in_use : (slot : ℕ) → 0 < times slot (x.history).items → 0 < holders_at b1 slot
-  end-in_use = new-in_use before f same sound i x here key end.link there its end.empty b at b1 is1 new r
+  module _ (b : Book) (at : get f.books x.book ≡ Some b) where
+    -- each slot of the history has a holder, and may have one more
+    pub end-in_use : (slot : ℕ) → 0 < times slot (x.history).items → 0 < holders_at b slot
+    end-in_use = remembered-in_use f sound i x here b at
 
-  pub end-fits : HasReclaimed new x.keys → length x.keys < 2 ^ 63 → (slot : ℕ) → holders_at b1 slot + times slot (x.history).items < 2 ^ 64
-  end-fits = new-fits before f same sound i x here key end.link there its end.empty b at b1 is1 new r
+    pub end-fits : ((d : Book) → get before.books (end.publisher).book ≡ Some d → (slot : ℕ) → holders_at d slot + 1 < 2 ^ 64)
+        → (slot : ℕ) → holders_at b slot + times slot (x.history).items < 2 ^ 64
+    end-fits room slot =
+        let there_before : get before.books (end.publisher).book ≡ Some b =
+        ap (λ (z : PublisherFields). get before.books z.book) (publisher-is end) ∙ sym (ap (λ (h : Fields T U). get h.books x.book) same) ∙ at in
+        omega (arith, room b there_before slot, remembered-once f sound i x here b at slot)
 
-  -- the history waits there
-  pub end-handed : (c : Link) → get new key ≡ Some c → (d : Link) → d ≡ record c { waiting = last_n c.buffer (x.history).items } → (b2 : Book) → b2 ≡ with_counters b1 b2.holders
-      → length b2.holders ≡ length b1.holders → ((slot : ℕ) → holders_at b2 slot ≡ holders_at b1 slot + times slot (last_n c.buffer (x.history).items))
-      → (e : HasNewEnd before i key) → HandsOut before e.publisher e.link (record f { connections = with_value new key d; books = with_value f.books x.book b2 })
-  end-handed c at_c d is_d b2 is2 long counters e =
-      subst (λ (z : PublisherFields). HandsOut before z e.link after) (sym (publisher-is e))
-      (subst (λ (k : Link). HandsOut before x k after) (sym one)
-      (subst (λ (k : Link). HandsOut before x end.link (record f { connections = with_value new key k; books = with_value f.books x.book b2 })) (sym d-is)
-      (reclaimed-hands-out before f same sound i x here key end.link there its end.empty b at b1 is1 new r b2 is2 long (λ slot. counters slot ∙ ap (λ (k : Link). holders_at b1 slot + times slot (last_n k.buffer (x.history).items)) (link-is c at_c))
-      (subst (λ (z : PublisherFields). IsWellFormed (with_history_waiting before z end.link)) (publisher-is end) end.well_formed))))
-    where
-      after : Fields T U
-      after = record f { connections = with_value new key d; books = with_value f.books x.book b2 }
+    -- it gets one at most
+    pub end-gains : (n : ℕ) (b2 : Book) → ((slot : ℕ) → holders_at b2 slot ≡ holders_at b slot + times slot (last_n n (x.history).items)) → (slot : ℕ) → holders_at b2 slot ≤ holders_at b slot + 1
+    end-gains n b2 counters slot = omega (arith, counters slot, times-last slot n (x.history).items, remembered-once f sound i x here b at slot)
 
-      one : e.link ≡ end.link
-      one = let both : Some e.link ≡ Some end.link = sym e.connected ∙ end.connected in cc
+    -- the history waits there
+    pub end-handed : (c : Link) → get f.connections key ≡ Some c → (d : Link) → d ≡ record c { waiting = last_n c.buffer (x.history).items } → (b2 : Book) → b2 ≡ with_counters b b2.holders
+        → length b2.holders ≡ length b.holders → ((slot : ℕ) → holders_at b2 slot ≡ holders_at b slot + times slot (last_n c.buffer (x.history).items))
+        → (e : HasNewEnd before i key) → HandsOut before e.publisher e.link (record f { connections = with_value f.connections key d; books = with_value f.books x.book b2 })
+    end-handed c at_c d is_d b2 is2 long counters e =
+        subst (λ (z : PublisherFields). HandsOut before z e.link after) (sym (publisher-is e))
+        (subst (λ (k : Link). HandsOut before x k after) (sym one)
+        (subst (λ (k : Link). HandsOut before x end.link (record f { connections = with_value f.connections key k; books = with_value f.books x.book b2 })) (sym d-is)
+        (history-waits before f same sound i x here key end.link there its end.empty b at b2 is2 long (λ slot. counters slot ∙ ap (λ (k : Link). holders_at b slot + times slot (last_n k.buffer (x.history).items)) (link-is c at_c))
+        (subst (λ (z : PublisherFields). IsWellFormed (with_history_waiting before z end.link)) (publisher-is end) end.well_formed))))
+      where
+        after : Fields T U
+        after = record f { connections = with_value f.connections key d; books = with_value f.books x.book b2 }
 
-      d-is : d ≡ record end.link { waiting = last_n (end.link).buffer (x.history).items }
-      d-is = is_d ∙ ap (λ (k : Link). let filled : Link = record k { waiting = last_n k.buffer (x.history).items } in filled) (link-is c at_c)
+        one : e.link ≡ end.link
+        one = let both : Some e.link ≡ Some end.link = sym e.connected ∙ end.connected in cc
+
+        d-is : d ≡ record end.link { waiting = last_n (end.link).buffer (x.history).items }
+        d-is = is_d ∙ ap (λ (k : Link). let filled : Link = record k { waiting = last_n k.buffer (x.history).items } in filled) (link-is c at_c)
 
 -- ---- the machine's step
 

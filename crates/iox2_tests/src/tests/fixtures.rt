@@ -3,12 +3,13 @@
 //! Those below the line test at run time what they ask of their handles, so that a test of many calls
 //! has nothing to carry from one to the next.
 
+ghost use Rattle.std.specs.Prelude.{IfSome};
 ghost use Rattle.iox2_pubsub.specs.Live.{IsLivePublisher, IsLiveSample, IsLiveSubscriber, IsSingleValued, IsWritten, Stays};
 
 use iox2_fixtures::{
     Reading, Weather, factory_for, is_ready, is_single_valued, receiver_count, settings,
 };
-use iox2_pubsub::{Domain, Publisher, Sample, SampleMut, Subscriber, UpdateConnections};
+use iox2_pubsub::{Domain, Publisher, Sample, SampleMut, Subscriber, UpdateConnections, Value};
 use std::alloc::Global;
 use std::process::Abort;
 
@@ -45,13 +46,6 @@ pub(crate) fn subscriber_of<T: Drop, U: Default + Drop>(
 
 // ---- what a call asks for is tested
 
-/// Asserts that the sample is one of the domain's.
-pub(crate) fn assert_borrowed(rt: &impl Abort, domain: &Weather, sample: &Sample)
-    ensures { IsLiveSample domain.now sample.now }
-{
-    assert!(rt; domain.holds_sample(sample.key()));
-}
-
 /// Sends a message. Returns how many subscribers took it.
 pub(crate) fn send<T: Drop, U: Default + Drop>(
     rt: &impl Abort,
@@ -85,7 +79,9 @@ pub(crate) fn received(
     rt: &impl Abort,
     domain: &mut Weather,
     subscriber: &Subscriber,
-) -> Option<Sample> {
+) -> Option<Sample>
+    ensures { IfSome result (λ sample. IsLiveSample domain.new sample) }
+{
     assert!(rt; subscriber.is_in(domain));
     subscriber.receive(domain).expect(rt, "an answer")
 }
@@ -97,16 +93,17 @@ pub(crate) fn waits(rt: &impl Abort, domain: &mut Weather, subscriber: &Subscrib
 }
 
 /// What the sample reads.
-pub(crate) fn celsius_of(rt: &impl Abort, domain: &Weather, sample: &Sample) -> u64 {
+pub(crate) fn celsius_of(rt: &impl Abort, domain: &Weather, sample: &Sample) -> u64
+    requires { IsLiveSample domain.now sample.now }
+{
     assert!(rt; is_single_valued(domain));
-    assert_borrowed(rt, domain, sample);
     sample.payload(domain).celsius
 }
 
 /// Gives a sample back.
 pub(crate) fn release(rt: &impl Abort, domain: &mut Weather, sample: Sample) {
-    assert_borrowed(rt, domain, &sample);
-    sample.release(domain);
+    let found = domain.sample_of::<Value>(&sample.into_parts());
+    found.expect(rt, "a sample").release(domain);
 }
 
 /// Reads and releases what the subscriber receives next. `None` where no message waits.
@@ -117,7 +114,7 @@ pub(crate) fn next_reading(
 ) -> Option<u64> {
     let sample = received(rt, domain, subscriber)?;
     let celsius = celsius_of(rt, domain, &sample);
-    release(rt, domain, sample);
+    sample.release(domain);
     Some(celsius)
 }
 

@@ -1,6 +1,6 @@
-use crate::tests::fixtures::{
-    assert_borrowed, copied, domain, publisher_of, received, release, subscriber_of,
-};
+ghost use Rattle.iox2_pubsub.specs.Live.{IsLiveSample};
+
+use crate::tests::fixtures::{copied, domain, publisher_of, received, release, subscriber_of};
 use iox2_fixtures::{Weather, is_single_valued};
 use iox2_machine::Header;
 use iox2_pubsub::Sample;
@@ -8,7 +8,9 @@ use std::alloc::Global;
 use std::process::Abort;
 
 // A domain with a borrowed message, and its sample.
-fn with_a_sample(rt: &impl Abort, alloc: Global) -> (Weather, Sample) {
+fn with_a_sample(rt: &impl Abort, alloc: Global) -> (Weather, Sample)
+    ensures { IsLiveSample result.0 result.1 }
+{
     let mut domain = domain(rt, alloc);
     let subscriber = subscriber_of(rt, &mut domain);
     let publisher = publisher_of(rt, &mut domain);
@@ -21,9 +23,10 @@ fn with_a_sample(rt: &impl Abort, alloc: Global) -> (Weather, Sample) {
 }
 
 // The sample's reading, header and user header.
-fn parts_of(rt: &impl Abort, domain: &Weather, sample: &Sample) -> (u64, Header, u32) {
+fn parts_of(rt: &impl Abort, domain: &Weather, sample: &Sample) -> (u64, Header, u32)
+    requires { IsLiveSample domain.now sample.now }
+{
     assert!(rt; is_single_valued(domain));
-    assert_borrowed(rt, domain, sample);
     let celsius = sample.payload(domain).celsius;
     (
         celsius,

@@ -25,7 +25,7 @@ map_from-alike f' f start (x ∷ xs) each =
     let next : start + suc i ≡ start + 1 + i = omega arith in subst (λ (n : ℕ). f' n y ≡ f n y) next (each (suc i) y at)) in
     λ t. head t ∷ tail t
 
-map_from_zero-alike : {A B : Type 0} (f' f : ℕ → A → B) (xs : List A) → ((i : ℕ) (x : A) → slice_get xs i ≡ Some x → f' i x ≡ f i x) → map_from f' 0 xs ≡ map_from f 0 xs
+pub map_from_zero-alike : {A B : Type 0} (f' f : ℕ → A → B) (xs : List A) → ((i : ℕ) (x : A) → slice_get xs i ≡ Some x → f' i x ≡ f i x) → map_from f' 0 xs ≡ map_from f 0 xs
 map_from_zero-alike f' f xs each = map_from-alike f' f 0 xs (λ i x at. let e : i ≡ 0 + i = omega arith in subst (λ (n : ℕ). f' n x ≡ f n x) e (each i x at))
 
 module _ {T U : Type 0} (f : Fields T U) (key : ℕ) (cs : List (ContentState T U)) (at_c : get_or f.contents key None ≡ Some cs) (slot : ℕ) (g : ContentState T U → ContentState T U)

@@ -41,9 +41,9 @@ returns g c = λ x at. (
   some-left {T = g.row.T.Denot} {U = g.row.U.Denot} _ _ c.state.view_is c.requires.agrees c.args.place _ (read-there _ c.args.place _ _ (ap (λ (f : Fields g.row.T.Denot g.row.U.Denot). slice_index_or f.publishers c.args.place None) c.state.view_is ∙ c.requires.stands.1) c.index_mut.ensures.value ∙ c.in-Some.is ∙ ap Some (sym c.publisher.view_is)) _ refl x at c.if-publisher-ge-SEGMENT_LIMIT.false,
   c.in-Some-next_length.longest,
   c.in-Some-next_length.ensures.long,
-  grew {T = g.row.T.Denot} {U = g.row.U.Denot} _ _ c.state.view_is c.requires.agrees c.args.place _ (read-there _ c.args.place _ _ (ap (λ (f : Fields g.row.T.Denot g.row.U.Denot). slice_index_or f.publishers c.args.place None) c.state.view_is ∙ c.requires.stands.1) c.index_mut.ensures.value ∙ c.in-Some.is ∙ ap Some (sym c.publisher.view_is)) _ c.publisher.view_is x at
+  rw c.count_older.ensures (grew {T = g.row.T.Denot} {U = g.row.U.Denot} _ _ c.state.view_is c.requires.agrees c.args.place _ (read-there _ c.args.place _ _ (ap (λ (f : Fields g.row.T.Denot g.row.U.Denot). slice_index_or f.publishers c.args.place None) c.state.view_is ∙ c.requires.stands.1) c.index_mut.ensures.value ∙ c.in-Some.is ∙ ap Some (sym c.publisher.view_is)) _ c.publisher.view_is x at
       c.in-Ok.start c.args.len c.in-Some-next_length.longest c.index_mut-book.result.now c.add_slots.new.book c.in-Some-index_mut.contents c.add_slots.new.contents c.units_of-room.result _ _
       c.index_mut-book.ensures.value c.in-Ok.ensures.book _ c.index_mut-2.ensures.value c.in-Some-index_mut.is c.in-Ok.ensures.contents
       (c.units_of-room.ensures ∙ ap (λ (n : ℕ). n * c.state.inside.config.units_per_element) (c.max.ensures ∙ max_comm _ _))
-      (ap not c.is_single_valued-in_lists.ensures) (c.lists_wanted-lists.ensures ∙ ap (λ (y : PublisherFields). lists_wanted c.state.inside.config y.max_loaned_samples) c.publisher.view_is) c.in-Ok.ensures.start c.in-Some-next_length.ensures.fits c.in-Some-next_length.ensures.longer c.in-Some-next_length.ensures.next,
+      (ap not c.is_single_valued-in_lists.ensures) (c.lists_wanted-lists.ensures ∙ ap (λ (y : PublisherFields). lists_wanted c.state.inside.config y.max_loaned_samples) c.publisher.view_is) c.in-Ok.ensures.start c.in-Some-next_length.ensures.fits c.in-Some-next_length.ensures.longer c.in-Some-next_length.ensures.next),
 )

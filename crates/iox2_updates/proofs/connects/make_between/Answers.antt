@@ -1,4 +1,4 @@
-use Rattle.std.proofs.Common.{◌<◌, ◌∙◌, ℕ, ap, sym, subst, get_or}
+use Rattle.std.proofs.Common.{arith, ◌≤◌, ◌<◌, ◌∙◌, ℕ, ap, sym, subst, get_or}
 use Rattle.std.proofs.lemmas.List.{with_items_is}
 use Rattle.std.specs.declared.option.Option.TheVariants.{None}
 use Rattle.std.specs.Prelude.{IfOk}
@@ -68,6 +68,9 @@ returns-clause-made g c =
 pub returns-clause-expired_room : goal.returns-clause-expired_room
 returns-clause-expired_room g c =
     let subscribers = with_items_is c.state.inside.subscribers c.reserve_connection_at.new.subscribers (c.reserve_connection_at.auto.subscribers ∙ c.deref_mut-2.ensures.len) in
-    let counted = c.connection_count-others.ensures ∙ ap (λ (f : Fields g.row.T.Denot g.row.U.Denot). connection_count f.connections c.args.home.subscriber) c.state.view_is in
-    always c.make_connection.result (λ y at. subst (λ (n : ℕ). n < y.expired_room) counted
-    (c.in_ok-reserve_connection_at.ensures.expired_room y (sym (ap (λ zs. get_or zs c.args.at.subscriber None) subscribers) ∙ at)))
+    let apart = c.requires.apart in
+    let few : connection_count c.args.state.now.connections c.args.home.subscriber ≤ c.most_connections-most.result =
+    rw apart.home_is (c.most_connections-most.ensures apart.subscriber apart.subscriber_stands) in
+    always c.make_connection.result (λ y at.
+    let room = c.in_ok-reserve_connection_at.ensures.expired_room y (sym (ap (λ zs. get_or zs c.args.at.subscriber None) subscribers) ∙ at) in
+    omega (arith, few, room))

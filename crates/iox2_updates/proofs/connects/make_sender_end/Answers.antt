@@ -40,24 +40,24 @@ make_between-requires-clause-buffer g c =
     let apart = c.ports_at-buffer.ensures in
     rw apart.buffer_is (some-buffer c.args.state.now c.requires.settled.agrees.parts c.requires.settled.agrees.well_formed c.args.at.subscriber apart.subscriber apart.subscriber_stands)
 
-pub returns-in-Some : goal.returns-in-Some
-returns-in-Some g c = λ settled.
+pub returns-in-Some-clause-made : goal.returns-in-Some-clause-made
+returns-in-Some-clause-made g c = λ settled.
     let old = c.args.state.now in
     let viewed = c.state.view_is in
     let publishers : c.state.inside.publishers.items ≡ old.publishers = ap (λ (f : Fields g.row.T.Denot g.row.U.Denot). f.publishers) viewed in
-    let found = looked g (goal.at.returns-in-Some g c).After-key_from ∙ c.in-Some.is in
+    let found = looked g (goal.at.returns-in-Some-clause-made g c).After-key_from ∙ c.in-Some.is in
     let written : _ ≡ changed_at (with_sender_key c.args.at.subscriber c.in-Some.key) old.publishers c.args.at.publisher =
     with_items_is c.state.inside.publishers c.set_key_at.new.ports (c.set_key_at.auto.ports ∙ c.deref_mut.ensures.len)
     ∙ c.set_key_at.ensures ∙ ap (λ xs. changed_at (with_sender_key c.args.at.subscriber c.in-Some.key) xs c.args.at.publisher) (c.deref_mut.ensures.value ∙ publishers) in
     joins-as (answers_of g.F.BackpressureFn.allows g.G.DegradationFn.allows c.args.boxes.now.boxes) old c.requires.settled.agrees c.args.at.publisher c.args.at.subscriber settled.publisher settled.stands settled.settled settled.unblocked _ _ c.ports_at-buffer.ensures c.requires.none c.requires.opened
     c.in-Some.key found _ (λ k. record (viewed k) { publishers = written k })
 
-pub returns-in_default-make_between : goal.returns-in_default-make_between
-returns-in_default-make_between g c = λ settled.
+pub returns-in_default-make_between-clause-made : goal.returns-in_default-make_between-clause-made
+returns-in_default-make_between-clause-made g c = λ settled.
     let old = c.args.state.now in
     let viewed = c.state.view_is in
     let publishers : c.state.inside.publishers.items ≡ old.publishers = ap (λ (f : Fields g.row.T.Denot g.row.U.Denot). f.publishers) viewed in
-    let found = looked g (goal.at.returns-in_default-make_between g c).After-key_from ∙ c.in_default.is in
+    let found = looked g (goal.at.returns-in_default-make_between-clause-made g c).After-key_from ∙ c.in_default.is in
     let mid = c.make_between.new.state in
     rw c.degrade.ensures.failure (misses-as (answers_of g.F.BackpressureFn.allows g.G.DegradationFn.allows c.args.boxes.now.boxes) old c.requires.settled.agrees c.args.at.publisher c.args.at.subscriber settled.publisher settled.stands settled.settled settled.unblocked _ _ c.ports_at-buffer.ensures c.requires.none c.requires.opened
     found mid c.make_between.ensures.grows tt _ _ (ap (λ (f : Fields g.row.T.Denot g.row.U.Denot). (f.config).service_id) viewed)
@@ -66,12 +66,12 @@ returns-in_default-make_between g c = λ settled.
     (c.degrade.ensures.warnings ∙ ap (λ (f : Fields g.row.T.Denot g.row.U.Denot). warning_ring (warnings_after c.ports_at-buffer.result.0.publisher c.ports_at-buffer.result.0.subscriber c.ask-answer.result f.warnings.items) warning_limit) (c.state-2.view_is ∙ c.make_between.ensures.grows.fields))
     _ (λ k. record (c.state-2.view_is k) { warnings = c.degrade.new.warnings }))
 
-pub returns : goal.returns
-returns g c = λ settled.
+pub returns-clause-made : goal.returns-clause-made
+returns-clause-made g c = λ settled.
     let old = c.args.state.now in
     let viewed = c.state.view_is in
     let publishers : c.state.inside.publishers.items ≡ old.publishers = ap (λ (f : Fields g.row.T.Denot g.row.U.Denot). f.publishers) viewed in
-    let found = looked g (goal.at.returns g c).After-key_from ∙ c.in_default.is in
+    let found = looked g (goal.at.returns-clause-made g c).After-key_from ∙ c.in_default.is in
     let mid = c.make_between.new.state in
     let written : _ ≡ changed_at (with_sender_key c.args.at.subscriber c.in-Ok.key) mid.publishers c.args.at.publisher =
     with_items_is c.state-2.inside.publishers c.set_key_at-2.new.ports (c.set_key_at-2.auto.ports ∙ c.deref_mut-2.ensures.len)

@@ -1,67 +1,19 @@
-use Rattle.std.proofs.Common.{rules, ◌≡◌, ◌∙◌, ◌<◌, ℕ, length, true, false, refl, ap, sym, subst, arith, vec_len, slice_set}
-use Rattle.std.proofs.lemmas.List.{with_items_is}
-use Rattle.std.specs.declared.option.Option.{Option}
-use Rattle.std.specs.declared.option.Option.TheVariants.{None}
-use Rattle.std.specs.Option.{option_map}
-use Rattle.iox2_machine.specs.machine.Records.{Environment}
-use Rattle.iox2_machine.specs.declared.errors.ConnectionFailure.{ConnectionFailure}
+use Rattle.std.proofs.Common.{◌∙◌, ap, sym, get_or, None}
 use Rattle.iox2_domain.specs.Boxes.{answers_of}
 use Rattle.iox2_domain.specs.Fields.{Fields}
-use Rattle.iox2_domain.specs.Updates.{changed_at}
-use Rattle.iox2_domain.specs.Ports.{PublisherFields}
-use Rattle.iox2_steps.proofs.updates.SenderUpdates.{WalksSender, walk-begins, walk-more, walk-updates, walking-stands, walking-subscribers, due-at}
-use Rattle.iox2_updates.specs.Ends.{IsSenderDue, IsSettledAt}
+use Rattle.iox2_updates.proofs.ReclaimedUpdates.{due-still, updates-from}
 use Rattle.iox2_updates.proofs.updates.connect_publisher.Goals as goal
 
--- The publisher, due no more.
-abbrev updated_publisher : PublisherFields → PublisherFields
-updated_publisher x = record x { is_due = false }
+pub walk_places-requires-clause-due : goal.walk_places-requires-clause-due
+walk_places-requires-clause-due g c =
+    due-still (answers_of g.F.BackpressureFn.allows g.G.DegradationFn.allows c.args.boxes.now.boxes) c.args.state.now c.reclaim.new.state c.reclaim.ensures.reaches c.reclaim.ensures.only c.args.place c.requires
 
--- midway the publisher isn't due any more
-abbrev settled : {T U : Type 0} (environment : Environment) (old : Fields T U) (place : ℕ) (due : IsSenderDue old place) (other : ℕ) (mid : Fields T U) (first : Option ConnectionFailure)
-    → WalksSender environment old place due.publisher other mid first → other < length old.subscribers → IsSettledAt mid (record { publisher = place; subscriber = other })
-settled environment old place due other mid first walks low = record {
-  agrees = walks.agrees;
-  publisher = record (due.publisher) { keys = walks.keys; key_room = walks.key_room; is_due = false };
-  stands = walking-stands environment old due.agrees place due.publisher due.stands other mid first walks;
-  settled = refl;
-  unblocked = due.unblocked;
-  within = rw (walking-subscribers environment old place due.publisher other mid first walks) low;
-}
-
-pub loop-other-init : goal.loop-other-init
-loop-other-init g c = λ due.
-    let old = c.args.state.now in
-    let viewed = c.state.view_is in
-    let written : _ ≡ changed_at updated_publisher old.publishers c.args.place =
-    with_items_is c.state.inside.publishers c.clear_due.new.ports (c.clear_due.auto.ports ∙ c.deref_mut.ensures.len)
-    ∙ c.clear_due.ensures
-    ∙ ap (λ xs. changed_at updated_publisher xs c.args.place) (c.deref_mut.ensures.value ∙ ap (λ (f : Fields g.row.T.Denot g.row.U.Denot). f.publishers) viewed) in
-    subst (λ (f : Fields g.row.T.Denot g.row.U.Denot). WalksSender (answers_of g.F.BackpressureFn.allows g.G.DegradationFn.allows c.args.boxes.now.boxes) old c.args.place due.publisher 0 f None)
-    (sym ((λ k. record (viewed k) { publishers = written k }) ∙ ap (λ o. record old { publishers = slice_set old.publishers c.args.place (option_map updated_publisher o) }) due.stands))
-    (walk-begins (answers_of g.F.BackpressureFn.allows g.G.DegradationFn.allows c.args.boxes.now.boxes) old due.agrees c.args.place due.publisher due.stands due.unblocked)
-
-pub update_sender_place-failure-requires : goal.update_sender_place-failure-requires
-update_sender_place-failure-requires g c =
-    let due = c.requires in
-    let size : vec_len c.state.inside.subscribers ≡ length c.state.inside.subscribers.items = search rules in
-    let same : length c.state.inside.subscribers.items ≡ length c.args.state.now.subscribers = ap (λ (f : Fields g.row.T.Denot g.row.U.Denot). length f.subscribers) c.state.view_is in
-    settled (answers_of g.F.BackpressureFn.allows g.G.DegradationFn.allows c.args.boxes.now.boxes) c.args.state.now c.args.place due c.loop-other.other c.loop-other.state c.loop-other.first (c.loop-other.invariant due) (omega arith)
-
-pub loop-other-preserved : goal.loop-other-preserved
-loop-other-preserved g c = λ due.
-    let old = c.args.state.now in
-    let walks = c.loop-other.invariant due in
-    let size : vec_len c.state.inside.subscribers ≡ length c.state.inside.subscribers.items = search rules in
-    let same : length c.state.inside.subscribers.items ≡ length old.subscribers = ap (λ (f : Fields g.row.T.Denot g.row.U.Denot). length f.subscribers) c.state.view_is in
-    let low : c.loop-other.other < length old.subscribers = omega arith in
-    rw c.first_of-first.ensures (walk-more (answers_of g.F.BackpressureFn.allows g.G.DegradationFn.allows c.args.boxes.now.boxes) old due.agrees c.args.place due.publisher due.stands c.loop-other.other c.loop-other.state c.loop-other.first walks low c.update_sender_place-failure.new.state c.update_sender_place-failure.result
-    (c.update_sender_place-failure.ensures (settled (answers_of g.F.BackpressureFn.allows g.G.DegradationFn.allows c.args.boxes.now.boxes) old c.args.place due c.loop-other.other c.loop-other.state c.loop-other.first walks low)))
+pub walk_places-requires-clause-few : goal.walk_places-requires-clause-few
+walk_places-requires-clause-few g c = λ due.
+    c.reclaim.ensures.few due.publisher (sym (ap (λ (f : Fields g.row.T.Denot g.row.U.Denot). get_or f.publishers c.args.place None) c.reclaim.ensures.only) ∙ due.stands)
 
 pub returns : goal.returns
 returns g c = λ due.
-    let old = c.args.state.now in
-    let was_due : due.publisher.is_due ≡ true = sym (due-at old.publishers c.args.place due.publisher due.stands) ∙ due.due in
-    let size : vec_len c.state.inside.subscribers ≡ length c.state.inside.subscribers.items = search rules in
-    let same : length c.state.inside.subscribers.items ≡ length old.subscribers = ap (λ (f : Fields g.row.T.Denot g.row.U.Denot). length f.subscribers) c.state.view_is in
-    walk-updates (answers_of g.F.BackpressureFn.allows g.G.DegradationFn.allows c.args.boxes.now.boxes) old due.agrees c.args.place due.publisher due.stands c.loop-other.other c.loop-other.state c.loop-other.first (c.loop-other.invariant due) was_due (omega arith)
+    updates-from (answers_of g.F.BackpressureFn.allows g.G.DegradationFn.allows c.args.boxes.now.boxes) c.args.state.now c.reclaim.new.state c.reclaim.ensures.reaches c.reclaim.ensures.only c.args.place due
+    c.walk_places.new.state c.walk_places.result
+    (c.walk_places.ensures (due-still (answers_of g.F.BackpressureFn.allows g.G.DegradationFn.allows c.args.boxes.now.boxes) c.args.state.now c.reclaim.new.state c.reclaim.ensures.reaches c.reclaim.ensures.only c.args.place due))
