@@ -66,12 +66,12 @@ def of_iceoryx(work):
     return work / "iceoryx"
 
 
-def programs(work):
-    """The columns: what each is called, and its program."""
+def programs(work, is_proved):
+    """The columns: what each is called, and its program. That in Rattle is made of proofs."""
     columns = [("this library, from C", of_c(work, "iox2_pubsub"))]
     if is_here("cargo"):
         columns.append(("from Rust", of_rust(work, "iox2_pubsub", "iox2_pubsub")))
-    if is_here("rt"):
+    if is_proved and is_here("rt"):
         columns.append((IN_RATTLE, of_rattle(work)))
     if is_here("cargo"):
         columns.append(("a pool of eight `Rc<[u8]>`", of_rust(work, "pool")))
@@ -130,9 +130,9 @@ def times(columns):
     return found
 
 
-def run_lengths(work):
+def run_lengths(work, is_proved):
     """Prints the table."""
-    columns, loads = programs(work), [machine.load()]
+    columns, loads = programs(work, is_proved), [machine.load()]
     measured = times(columns)
     loads.append(machine.load())
     print("\n| A message of | " + " | ".join(name for name, _ in columns) + " |\n|---|" + "---|" * len(columns))

@@ -96,7 +96,7 @@ def page(text):
         words, path = link.groups()
         return f"`{path}` of the repository" if words == path else f"{words} (`{path}` of the repository)"
 
-    return re.sub(r"\[([^\]]+)\]\(\.\./([^)#]+)[^)]*\)", named, text)
+    return re.sub(r"\[([^\]]+)\]\((?:\.\./|(?=docs/))([^)#]+)[^)]*\)", named, text)
 
 
 def write_sums(folder):
@@ -120,7 +120,7 @@ def make(to, commit_, kit_, archive, work):
         shutil.copyfile(top / "bindings" / name, to / "examples" / Path(name).name)
     for name in PAGES:
         (to / name).write_text(page((top / "bindings" / name).read_text()))
-    shutil.copyfile(top / "CHANGELOG.md", to / "CHANGELOG.md")
+    (to / "CHANGELOG.md").write_text(page((top / "CHANGELOG.md").read_text()))
     (to / PROOFS).write_text(proofs(commit_, kit_, top))
     write_sums(to)
 

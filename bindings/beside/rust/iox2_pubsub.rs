@@ -1,7 +1,6 @@
 //! `lengths.h` by this library's crate: a loan whose bytes nobody chose.
 use iox2_pubsub::{Domain, Publisher, Subscriber};
-use lengths::has;
-use std::mem::MaybeUninit;
+use lengths::{has, write};
 
 struct World {
     publisher: Publisher<[u8]>,
@@ -26,12 +25,11 @@ impl World {
     }
 
     fn pass(&mut self, word: u64) -> Option<bool> {
-        let mut loan = self.publisher.loan_slice_uninit(self.length).ok()?;
-        for (to, byte) in loan.payload_mut().iter_mut().zip(word.to_ne_bytes()) {
-            *to = MaybeUninit::new(byte);
-        }
-        // SAFETY: the other bytes are those of an earlier message, or 0, which is what this measures.
-        let sent = unsafe { loan.assume_init() }.send().ok()?;
+        let loan = self.publisher.loan_slice_uninit(self.length).ok()?;
+        // SAFETY: the bytes are those of an earlier message, or 0, which is what this measures.
+        let mut loan = unsafe { loan.assume_init() };
+        write(&mut loan, word);
+        let sent = loan.send().ok()?;
         let sample = self.subscriber.receive().ok()??;
         Some(sent.delivered() == Some(1) && has(&sample, word) && sample.len() == self.length)
     }
