@@ -38,11 +38,10 @@ loop-other-init g c = λ due.
     let written : _ ≡ changed_at updated_publisher old.publishers c.args.place =
     with_items_is c.state.inside.publishers c.clear_due.new.ports (c.clear_due.auto.ports ∙ c.deref_mut.ensures.len)
     ∙ c.clear_due.ensures
-    ∙ ap (λ xs. changed_at updated_publisher xs c.args.place) (c.deref_mut.ensures.value ∙ ap (λ (f : Fields g.row.T.Denot g.row.U.Denot). f.publishers) viewed) in
-    (
+    ∙ ap (λ xs. changed_at updated_publisher xs c.args.place) (c.deref_mut.ensures.value ∙ ap (λ (f : Fields g.row.T.Denot g.row.U.Denot). f.publishers) viewed) in (
       subst (λ (f : Fields g.row.T.Denot g.row.U.Denot). WalksSender (answers_of g.F.BackpressureFn.allows g.G.DegradationFn.allows c.args.boxes.now.boxes) old c.args.place due.publisher 0 f None)
-      (sym ((λ k. record (viewed k) { publishers = written k }) ∙ ap (λ o. record old { publishers = slice_set old.publishers c.args.place (option_map updated_publisher o) }) due.stands))
-      (walk-begins (answers_of g.F.BackpressureFn.allows g.G.DegradationFn.allows c.args.boxes.now.boxes) old due.agrees c.args.place due.publisher due.stands due.unblocked),
+          (sym ((λ k. record (viewed k) { publishers = written k }) ∙ ap (λ o. record old { publishers = slice_set old.publishers c.args.place (option_map updated_publisher o) }) due.stands))
+          (walk-begins (answers_of g.F.BackpressureFn.allows g.G.DegradationFn.allows c.args.boxes.now.boxes) old due.agrees c.args.place due.publisher due.stands due.unblocked),
       subst (λ (f : Fields g.row.T.Denot g.row.U.Denot). HasFewHolders f.books due.publisher.book (2 ^ 62)) (sym viewed) (c.requires.few due),
     )
 
@@ -70,12 +69,11 @@ loop-other-preserved g c = λ due.
     let size : vec_len c.state.inside.subscribers ≡ length c.state.inside.subscribers.items = search rules in
     let same : length c.state.inside.subscribers.items ≡ length old.subscribers = ap (λ (f : Fields g.row.T.Denot g.row.U.Denot). length f.subscribers) c.state.view_is in
     let low : c.loop-other.other < length old.subscribers = omega arith in
-    let now = settled (answers_of g.F.BackpressureFn.allows g.G.DegradationFn.allows c.args.boxes.now.boxes) old c.args.place due c.loop-other.other c.loop-other.state c.loop-other.first walks low in
-    (
+    let now = settled (answers_of g.F.BackpressureFn.allows g.G.DegradationFn.allows c.args.boxes.now.boxes) old c.args.place due c.loop-other.other c.loop-other.state c.loop-other.first walks low in (
       rw c.first_of-first.ensures (walk-more (answers_of g.F.BackpressureFn.allows g.G.DegradationFn.allows c.args.boxes.now.boxes) old due.agrees c.args.place due.publisher due.stands c.loop-other.other c.loop-other.state c.loop-other.first walks low c.update_sender_place-failure.new.state c.update_sender_place-failure.result
-      (c.update_sender_place-failure.ensures.connects now)),
+          (c.update_sender_place-failure.ensures.connects now)),
       few-more c.update_sender_place-failure.new.state.books due.publisher.book (2 ^ 62 + c.loop-other.other + 1) (2 ^ 62 + (c.loop-other.other + 1)) (omega arith)
-      (c.update_sender_place-failure.ensures.gains.at due.publisher.book (2 ^ 62 + c.loop-other.other) (c.loop-other.invariant due).1),
+          (c.update_sender_place-failure.ensures.gains.at due.publisher.book (2 ^ 62 + c.loop-other.other) (c.loop-other.invariant due).1),
     )
 
 pub returns : goal.returns
