@@ -16,6 +16,7 @@ use Rattle.iox2_domain.specs.Ports.{PublisherFields}
 use Rattle.iox2_domain.specs.Kept.{state_of, entries_of}
 use Rattle.iox2_domain.specs.Fields.{Fields, kept_of, numbers_of, within_reach, blocked_send}
 use Rattle.iox2_domain.specs.Invariant.{IsDomain}
+use Rattle.iox2_domain.specs.KeptPlaces.{KeepsPlaces}
 use Rattle.iox2_domain.specs.Deliveries.{DeliversFrom}
 
 -- The publisher after a delivery that had been blocked: the loan is out no more, or it waits for a receiver again.
@@ -62,9 +63,11 @@ pub record RetriesAs {T U : Type 0} (environment : Environment) (old new : Field
   pub agrees : IsDomain new
   pub retries : Retry environment (state_of (kept_of old)) x.id (waiting_send old x b) elapsed (state_of (kept_of new)) result
   pub entries : (m : ℕ) (entry : Entry T U) → entries_of (kept_of new) m ≡ Some entry → entries_of (kept_of old) m ≡ Some entry
+  pub places : KeepsPlaces old new
 
 -- The blocked send of the publisher x was given up at the receiver that it waits for, with this result. No entry is newly kept.
 pub record GivesUpAs {T U : Type 0} (environment : Environment) (old new : Fields T U) (x : PublisherFields) (b : BlockedDelivery) (result : SendResult) : Type 0 where
   pub agrees : IsDomain new
   pub gives_up : GiveUp environment (state_of (kept_of old)) x.id (waiting_send old x b) (state_of (kept_of new)) result
   pub entries : (m : ℕ) (entry : Entry T U) → entries_of (kept_of new) m ≡ Some entry → entries_of (kept_of old) m ≡ Some entry
+  pub places : KeepsPlaces old new

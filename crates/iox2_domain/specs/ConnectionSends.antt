@@ -14,6 +14,7 @@ use Rattle.iox2_domain.specs.declared.publisher_state.BlockedDelivery.{BlockedDe
 use Rattle.iox2_domain.specs.Deliveries.{with_sent}
 use Rattle.iox2_domain.specs.Fields.{Fields, kept_of}
 use Rattle.iox2_domain.specs.Invariant.{IsDomain}
+use Rattle.iox2_domain.specs.KeptPlaces.{KeepsPlaces}
 use Rattle.iox2_domain.specs.Kept.{state_of, entries_of}
 use Rattle.iox2_domain.specs.Ports.{PublisherFields}
 
@@ -41,5 +42,6 @@ pub record SendsLoanTo {T U : Type 0} (environment : Environment) (old new : Fie
   pub sends : SendToConnection environment (state_of (kept_of old)) n loan channel connection (state_of (kept_of new)) result
   pub entries : (m : ℕ) (entry : Entry T U) → entries_of (kept_of new) m ≡ Some entry
       → ((m ≡ n) × (entry ≡ entry_of loan)) ⊎ (entries_of (kept_of old) m ≡ Some entry)
+  pub places : KeepsPlaces old new
   -- After an error no entry is newly kept, except if a handler failed the send.
   pub lost : (error : SendError) → error ≢ UnableToDeliver → result ≡ Send_error error → (m : ℕ) (entry : Entry T U) → entries_of (kept_of new) m ≡ Some entry → entries_of (kept_of old) m ≡ Some entry

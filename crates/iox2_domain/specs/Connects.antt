@@ -14,6 +14,7 @@ use Rattle.iox2_domain.specs.Ports.{PublisherFields}
 use Rattle.iox2_domain.specs.Kept.{state_of, entries_of}
 use Rattle.iox2_domain.specs.Fields.{Fields, kept_of, publisher_of}
 use Rattle.iox2_domain.specs.Invariant.{IsDomain}
+use Rattle.iox2_domain.specs.KeptPlaces.{KeepsPlaces}
 use Rattle.iox2_domain.specs.Updates.{changed_at, with_sender_room, with_receiver_rooms, sender_room, receiver_room, expired_room_at, subscriber_but_room}
 use Rattle.iox2_domain.specs.KeptLinks.{ChannelsFollow}
 use Rattle.iox2_domain.specs.Midway.{with_channels_of}
@@ -78,6 +79,7 @@ module _ {T U : Type 0} (environment : Environment) where
     pub state : state_of (kept_of f') ≡ with_channels_of f' (with_sender_side (state_of (kept_of f)) x.id (publisher_of f.books f.connections x).port side)
     pub channels : SenderChannelsFollow f x f'
     pub entries : (n : ℕ) (entry : Entry T U) → entries_of (kept_of f') n ≡ Some entry → entries_of (kept_of f) n ≡ Some entry
+    pub places : KeepsPlaces f f'
 
   -- The publisher x at the place i is updated, with this failure if any, and nothing changed except its keys, its mark,
   -- connections, counters of slots, warnings and the room for keys.

@@ -15,6 +15,7 @@ use Rattle.iox2_domain.specs.Ports.{PublisherFields, SubscriberFields}
 use Rattle.iox2_domain.specs.Kept.{state_of, entries_of}
 use Rattle.iox2_domain.specs.Fields.{Fields, kept_of, publisher_of}
 use Rattle.iox2_domain.specs.Invariant.{IsDomain}
+use Rattle.iox2_domain.specs.KeptPlaces.{KeepsPlaces}
 use Rattle.iox2_domain.specs.KeptLinks.{ChannelsFollow}
 use Rattle.iox2_domain.specs.Midway.{with_channels_of}
 
@@ -48,6 +49,7 @@ module _ {T U : Type 0} where
     pub homes : SameHomes f.connections f'.connections
     pub state : state_of (kept_of f') ≡ with_waiting_dropped f x c
     pub entries : (n : ℕ) (entry : Entry T U) → entries_of (kept_of f') n ≡ Some entry → entries_of (kept_of f) n ≡ Some entry
+    pub places : KeepsPlaces f f'
 
   -- The publisher x at the place i, which isn't due, has lost its end at the subscriber's place j as the machine takes it
   -- away: what waited there is lost, and nothing changed except its keys, connections and counters of slots.
@@ -58,3 +60,4 @@ module _ {T U : Type 0} where
     pub state : state_of (kept_of f') ≡ with_channels_of f' (with_sender_side (state_of (kept_of f)) x.id (publisher_of f.books f.connections x).port
         (disconnected (sender_side (state_of (kept_of f)) x.id (publisher_of f.books f.connections x).port) j (occupant (publisher_of f.books f.connections x).port.ends j)))
     pub entries : (n : ℕ) (entry : Entry T U) → entries_of (kept_of f') n ≡ Some entry → entries_of (kept_of f) n ≡ Some entry
+    pub places : KeepsPlaces f f'

@@ -14,6 +14,7 @@ use Rattle.iox2_domain.specs.Ports.{PublisherFields}
 use Rattle.iox2_domain.specs.Kept.{state_of, entries_of}
 use Rattle.iox2_domain.specs.Fields.{Fields, kept_of, publisher_of}
 use Rattle.iox2_domain.specs.Invariant.{IsDomain}
+use Rattle.iox2_domain.specs.KeptPlaces.{KeepsPlaces}
 
 module _ {T U : Type 0} where
   -- The state in which the last messages of the history of the publisher x wait in the connection c, as many as fit.
@@ -42,3 +43,4 @@ module _ {T U : Type 0} where
     pub homes : SameHomes f.connections f'.connections
     pub state : state_of (kept_of f') ≡ with_history_waiting f x c
     pub entries : (n : ℕ) (entry : Entry T U) → entries_of (kept_of f') n ≡ Some entry → entries_of (kept_of f) n ≡ Some entry
+    pub places : KeepsPlaces f f'

@@ -7,6 +7,7 @@ pub mod Shows
 pub mod WarningRing
 pub mod Fields
 pub mod Invariant
+pub mod KeptPlaces
 pub mod FreshFields
 pub mod OpenMarks
 pub mod Placed

@@ -10,6 +10,7 @@ use Rattle.iox2_domain.specs.Fields.{Fields, kept_of}
 use Rattle.iox2_domain.specs.KeptLinks.{HasLink}
 use Rattle.iox2_domain.specs.Shows.{KeepsEntries}
 use Rattle.iox2_domain.specs.Invariant.{HasParts, HasLoneLoans, KeepsBooksBut}
+use Rattle.iox2_domain.specs.KeptPlaces.{KeepsPlaces}
 
 module _ {T U : Type 0} where
   -- The state with the channels of the connections that these fields have.
@@ -26,6 +27,7 @@ module _ {T U : Type 0} where
     pub state : state_of (kept_of new) ≡ with_channels_of new s
     pub channels : (key : ℕ) (d : Link) → get new.connections key ≡ Some d → HasLink old.connections d
     pub entries : (n : ℕ) (entry : Entry T U) → entries_of (kept_of new) n ≡ Some entry → entries_of (kept_of old) n ≡ Some entry
+    pub places : KeepsPlaces old new
     pub complete : KeepsEntries (kept_of new)
 
   -- Nothing changed except books and what lies in their slots.

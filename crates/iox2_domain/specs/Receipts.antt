@@ -13,7 +13,7 @@ use Rattle.iox2_machine.specs.machine.Receives.{ReceiveResult, Got_sample, No_sa
 use Rattle.iox2_machine.specs.declared.errors.ReceiveError.{ReceiveError}
 use Rattle.iox2_connections.specs.declared.receiver.Taken.{Taken}
 use Rattle.iox2_domain.specs.Kept.{state_of}
-use Rattle.iox2_domain.specs.Fields.{Fields, kept_of}
+use Rattle.iox2_domain.specs.Fields.{Fields, kept_of, numbers_of}
 use Rattle.iox2_domain.specs.Reaches.{Reaches}
 use Rattle.iox2_domain.specs.declared.sample_slots.Receipt.{Receipt}
 
@@ -36,7 +36,7 @@ pub record IsReceiptFor (books : Slab Book) (taken : Taken) (receipt : Receipt) 
 
 module _ {T U : Type 0} where
   -- The sample of the receipt is the subscriber q's. The connection that it names stands between the receipt's publisher and q,
-  -- the book is that publisher's, and the slot that it names is borrowed there.
+  -- the book is that publisher's, and the slot that it names is borrowed there and has its number.
   pub record LiesAt (f : Fields T U) (q : ℕ) (receipt : Receipt) : Type 0 where
     pub connection : Link
     pub stands : get f.connections receipt.sample.connection ≡ Some connection
@@ -45,6 +45,7 @@ module _ {T U : Type 0} where
     pub its : receipt.sample.subscriber ≡ q
     pub book_is : receipt.sample.book ≡ connection.home.book
     pub borrowed : Contains connection.borrowed receipt.sample.slot
+    pub number_is : receipt.sample.number ≡ numbers_of f.books connection.home.publisher receipt.sample.slot
 
   -- The same of what a call returns.
   abbrev pub LiesIfAny : Fields T U → (q : ℕ) → Result (Option Receipt) ReceiveError → Type 0

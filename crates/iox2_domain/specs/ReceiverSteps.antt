@@ -21,6 +21,7 @@ use Rattle.iox2_domain.specs.Ports.{PublisherFields, SubscriberFields}
 use Rattle.iox2_domain.specs.Kept.{state_of, entries_of}
 use Rattle.iox2_domain.specs.Fields.{Fields, kept_of, subscriber_of}
 use Rattle.iox2_domain.specs.Invariant.{IsDomain}
+use Rattle.iox2_domain.specs.KeptPlaces.{KeepsPlaces}
 use Rattle.iox2_domain.specs.KeptLinks.{ChannelsFollow}
 use Rattle.iox2_domain.specs.Midway.{with_channels_of}
 use Rattle.iox2_domain.specs.Updates.{publisher_but_room}
@@ -84,6 +85,7 @@ module _ {T U : Type 0} where
     pub state : state_of (kept_of f') ≡ with_channels_of f' (with_receiver_side (state_of (kept_of f)) y.id (subscriber_of f.books f.connections y).port side)
     pub channels : ChannelsFollow (λ home. home.subscriber ≡ y.id) (λ p q. (state_of (kept_of f)).publishers p ≡ None) f.connections f'.connections
     pub entries : (n : ℕ) (entry : Entry T U) → entries_of (kept_of f') n ≡ Some entry → entries_of (kept_of f) n ≡ Some entry
+    pub places : KeepsPlaces f f'
 
   -- The same, and the fields agree with one another.
   abbrev pub ChangesReceiver : (f : Fields T U) (j : ℕ) → SubscriberFields → ReceiverSide → (f' : Fields T U) → Type 0

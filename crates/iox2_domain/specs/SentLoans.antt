@@ -14,6 +14,7 @@ use Rattle.iox2_domain.specs.Kept.{state_of, entries_of}
 use Rattle.iox2_domain.specs.Fields.{Fields, kept_of}
 use Rattle.iox2_domain.specs.Connects.{UpdatesPublisher}
 use Rattle.iox2_domain.specs.Invariant.{IsDomain, is_publisher}
+use Rattle.iox2_domain.specs.KeptPlaces.{KeepsPlaces}
 use Rattle.iox2_domain.specs.LoanSlots.{LiesInSlot}
 use Rattle.iox2_domain.specs.Ports.{PublisherFields}
 
@@ -47,6 +48,7 @@ pub record SendsLoan {T U : Type 0} (environment : Environment) (old new : Field
   pub loans : (state_of (kept_of new)).loans ≡ put_at (state_of (kept_of old)).loans n None
   pub entries : (m : ℕ) (entry : Entry T U) → entries_of (kept_of new) m ≡ Some entry
       → ((m ≡ n) × (entry ≡ entry_of loan)) ⊎ (entries_of (kept_of old) m ≡ Some entry)
+  pub places : KeepsPlaces old new
   -- After an error no entry is newly kept, except if the message was sent and a handler failed the send.
   pub lost : (error : SendError) → error ≢ UnableToDeliver → result ≡ Send_error error → (m : ℕ) (entry : Entry T U) → entries_of (kept_of new) m ≡ Some entry → entries_of (kept_of old) m ≡ Some entry
   -- A handler that fails no send fails none.

@@ -32,6 +32,7 @@ use Rattle.iox2_domain.proofs.lemmas.fields.Standing.{occupant-receiver_ends, so
 use Rattle.iox2_messages.specs.ChannelChanges.{changed_channel, changed_link}
 use Rattle.iox2_messages.specs.declared.changed_channels.ChannelChange.{ChannelChange}
 use Rattle.iox2_messages.proofs.ChangedChannels.{apart-still, channel-there, channels-changed, reaches-changed}
+use Rattle.iox2_domain.specs.KeptPlaces.{KeepsPlaces}
 
 module _ {T U : Type 0} (f : Fields T U) (sound : IsDomain f) (i : ℕ) (y : SubscriberFields) (at : get_or f.subscribers i None ≡ Some y) where
   abbrev expired_ends : List (Option ℕ)
@@ -132,4 +133,5 @@ reaches-then-marks {T} {U} f g h s step marks = record {
   agrees = marks.agrees;
   state = ap state_of marks.kept ∙ step.state;
   entries = λ n entry e. step.entries n entry (sym (ap (λ (k : Kept T U ⊥ ⊥). entries_of k n) marks.kept) ∙ e);
+  places = subst (λ (k : Fields T U). KeepsPlaces f k) (sym marks.fields) step.places;
 }

@@ -4,45 +4,19 @@ ghost use Rattle.iox2_machine.specs.machine.SingleCalls.{HoldsSample};
 ghost use Rattle.iox2_domain.specs.Kept.{state_of};
 ghost use Rattle.iox2_domain.specs.Fields.{kept_of};
 ghost use Rattle.iox2_domain.specs.Invariant.{HasNumber, IsDomain};
-ghost use Rattle.iox2_domain.specs.SampleSlots.{IsReturnable, LiesAtHint, LiesBorrowed, LiesBorrowedInSlot};
+ghost use Rattle.iox2_domain.specs.SampleSlots.{IsReturnable, LiesAtHint, LiesBorrowed};
 
 use iox2_connections::Connection;
 use iox2_connections::receiver::{BorrowedMessage, is_last_at};
-use iox2_domain::{DomainState, MessageSlot, SampleAt, SampleSlot};
+use iox2_domain::{DomainState, SampleAt, SampleSlot};
 
 /// The slot that the sample names is in use and has its number. No other slot in use has it.
-pub(crate) fn is_at_slot<T: Drop, U: Default + Drop>(
-    state: &DomainState<T, U>,
-    sample: &SampleAt,
-) -> bool
+fn is_at_slot<T: Drop, U: Default + Drop>(state: &DomainState<T, U>, sample: &SampleAt) -> bool
     ensures { IsTrue result ↔ HasNumber state.now.books sample.now.book sample.now.slot sample.now.number }
 {
     match state.books.get(sample.book) {
         Some(book) => book.has(sample.slot, sample.number),
         None => false,
-    }
-}
-
-/// Where the message of a live sample lies. The slot that the sample names is tested first, by
-/// the number alone.
-pub(crate) fn find_message<T: Drop, U: Default + Drop>(
-    state: &DomainState<T, U>,
-    sample: &SampleAt,
-) -> MessageSlot
-    requires domain { IsDomain state.now }
-    requires live { HoldsSample (state_of (kept_of state.now)) sample.now.subscriber sample.now.number }
-    ensures { LiesBorrowedInSlot state.now sample.now.subscriber sample.now.number result }
-{
-    if is_at_slot(state, sample) {
-        return MessageSlot {
-            book: sample.book,
-            slot: sample.slot,
-        };
-    }
-    let at = state.search_sample(sample);
-    MessageSlot {
-        book: at.book,
-        slot: at.slot,
     }
 }
 

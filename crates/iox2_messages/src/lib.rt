@@ -43,8 +43,6 @@ pub use loan_calls::{
 pub use loans::loan;
 pub use questions::has_samples_at;
 pub use receipts::{receive_at, release_sample};
-pub use sample_reads::{
-    sample_header, sample_payload, sample_payloads, sample_user_header, sample_values_at_hint,
-};
+pub use sample_reads::{sample_header, sample_payload, sample_payloads, sample_user_header};
 pub use send_end::SendEnd;
 pub use sends::send;

@@ -8,12 +8,13 @@ ghost use Rattle.iox2_machine.specs.declared.service_config.TypeVariant.TheVaria
 ghost use Rattle.iox2_domain.specs.Kept.{state_of};
 ghost use Rattle.iox2_domain.specs.Fields.{kept_of};
 ghost use Rattle.iox2_domain.specs.Invariant.{IsDomain};
+ghost use Rattle.iox2_domain.specs.LoanSlots.{LiesInSlot};
 ghost use Rattle.iox2_domain.specs.LoanCalls.{HoldsUnwritten, HoldsWritten, HasCells, HasCell, HasLoanHeader, HasLoanUserHeader, WritesLoan, AssumesLoan};
 
 use crate::contents::{contents_mut, mark_written};
-use crate::hinted_loans::{find_live_loan, mark_at_hint, mark_loan};
-use iox2_domain::{DomainState, LoanAt, MessageSlot};
-use iox2_machine::{Header, UniquePublisherId};
+use crate::hinted_loans::find_live_loan;
+use iox2_domain::{DomainState, LoanAt};
+use iox2_machine::Header;
 
 /// Writes the value of a publisher's unwritten loan of one element, which counts as written from
 /// then on. Returns the loan.
@@ -26,36 +27,13 @@ pub fn write_loan<T: Drop, U: Default + Drop>(
     requires fixed_size { (state.old.config).variant ≡ FixedSize }
     requires single { (state.old.config).units_per_element ≡ 1 }
     requires live { HoldsUnwritten (state_of (kept_of state.old)) loan.publisher loan.number }
+    requires lies { LiesInSlot state.old loan.publisher loan.number loan.book loan.slot }
     ensures writes { WritesLoan state.old state.new loan.number (value ∷ []) }
     ensures same { result ≡ loan }
 {
-    if mark_at_hint(state, &loan) {
-        contents_mut(state, loan.book).write_payload(loan.slot, value);
-    } else {
-        search_and_write(state, loan.publisher, loan.number, value);
-    }
+    mark_written(state, loan.book, loan.slot);
+    contents_mut(state, loan.book).write_payload(loan.slot, value);
     loan
-}
-
-// The same, wherever the loan lies
-// (docs/decisions/cost.md, "What a message takes is cleared and asked once").
-#[cold]
-#[inline(never)]
-fn search_and_write<T: Drop, U: Default + Drop>(
-    state: &mut DomainState<T, U>,
-    publisher: UniquePublisherId,
-    number: u128,
-    value: T,
-)
-    requires agrees { IsDomain state.old }
-    requires fixed_size { (state.old.config).variant ≡ FixedSize }
-    requires single { (state.old.config).units_per_element ≡ 1 }
-    requires live { HoldsUnwritten (state_of (kept_of state.old)) publisher number }
-    ensures { WritesLoan state.old state.new number (value ∷ []) }
-{
-    let at = state.search_loan(publisher, number);
-    mark_written(state, at.book, at.slot);
-    contents_mut(state, at.book).write_payload(at.slot, value);
 }
 
 /// Writes into each cell of a publisher's unwritten loan what the function returns for its index. It
@@ -68,40 +46,18 @@ pub fn write_loan_from_fn<T: Drop, U: Default + Drop, F: FnMut(usize) -> T + Dro
     requires agrees { IsDomain state.old }
     requires several { is_single_valued state.old.config ≡ false }
     requires live { HoldsUnwritten (state_of (kept_of state.old)) loan.publisher loan.number }
+    requires lies { LiesInSlot state.old loan.publisher loan.number loan.book loan.slot }
     requires callable { F.IsAlwaysCallable f }
     ensures writes { (answers : List T) × AnswersInOrder F.step f answers × WritesLoan state.old state.new loan.number answers }
-    ensures same { result ≡ record loan { book = result.book; slot = result.slot } }
+    ensures same { result ≡ loan }
 {
-    if mark_at_hint(state, &loan) {
-        contents_mut(state, loan.book).write_from_fn(loan.slot, f);
-    } else {
-        search_and_write_from_fn(state, loan.publisher, loan.number, f);
-    }
+    mark_written(state, loan.book, loan.slot);
+    contents_mut(state, loan.book).write_from_fn(loan.slot, f);
     loan
 }
 
-// The same, wherever the loan lies.
-#[cold]
-#[inline(never)]
-fn search_and_write_from_fn<T: Drop, U: Default + Drop, F: FnMut(usize) -> T + Drop>(
-    state: &mut DomainState<T, U>,
-    publisher: UniquePublisherId,
-    number: u128,
-    f: F,
-)
-    requires agrees { IsDomain state.old }
-    requires several { is_single_valued state.old.config ≡ false }
-    requires live { HoldsUnwritten (state_of (kept_of state.old)) publisher number }
-    requires callable { F.IsAlwaysCallable f }
-    ensures { (answers : List T) × AnswersInOrder F.step f answers × WritesLoan state.old state.new number answers }
-{
-    let at = state.search_loan(publisher, number);
-    mark_written(state, at.book, at.slot);
-    contents_mut(state, at.book).write_from_fn(at.slot, f);
-}
-
 /// Writes copies of the values, one into each cell of a publisher's unwritten loan, which has as
-/// many. It counts as written from then on. Returns it with its book and the slot in which it lies.
+/// many. It counts as written from then on. Returns it.
 pub fn write_loan_from_slice<T: Copy + Drop, U: Default + Drop>(
     state: &mut DomainState<T, U>,
     loan: LoanAt,
@@ -110,18 +66,18 @@ pub fn write_loan_from_slice<T: Copy + Drop, U: Default + Drop>(
     requires agrees { IsDomain state.old }
     requires several { is_single_valued state.old.config ≡ false }
     requires live { HoldsUnwritten (state_of (kept_of state.old)) loan.publisher loan.number }
+    requires lies { LiesInSlot state.old loan.publisher loan.number loan.book loan.slot }
     requires lengths { (l : Loan T U) → (state_of (kept_of state.old)).loans loan.number ≡ Some l → length values.now ≡ length l.cells }
     ensures writes { WritesLoan state.old state.new loan.number values.now }
-    ensures same { result ≡ record loan { book = result.book; slot = result.slot } }
+    ensures same { result ≡ loan }
 {
-    let at = mark_loan(state, &loan);
-    contents_mut(state, at.book).write_from_slice(at.slot, values);
-    found(loan, at)
+    mark_written(state, loan.book, loan.slot);
+    contents_mut(state, loan.book).write_from_slice(loan.slot, values);
+    loan
 }
 
 /// Writes some value into each cell of a publisher's unwritten loan, which counts as written from then
-/// on: what lay there before, and default values where less lay there. Returns it with its book and
-/// the slot in which it lies.
+/// on: what lay there before, and default values where less lay there. Returns it.
 pub fn write_loan_unspecified<T: Copy + Default + Drop, U: Default + Drop>(
     state: &mut DomainState<T, U>,
     loan: LoanAt,
@@ -129,12 +85,13 @@ pub fn write_loan_unspecified<T: Copy + Default + Drop, U: Default + Drop>(
     requires agrees { IsDomain state.old }
     requires several { is_single_valued state.old.config ≡ false }
     requires live { HoldsUnwritten (state_of (kept_of state.old)) loan.publisher loan.number }
+    requires lies { LiesInSlot state.old loan.publisher loan.number loan.book loan.slot }
     ensures writes { (values : List T) × WritesLoan state.old state.new loan.number values }
-    ensures same { result ≡ record loan { book = result.book; slot = result.slot } }
+    ensures same { result ≡ loan }
 {
-    let at = mark_loan(state, &loan);
-    contents_mut(state, at.book).write_unspecified(at.slot);
-    found(loan, at)
+    mark_written(state, loan.book, loan.slot);
+    contents_mut(state, loan.book).write_unspecified(loan.slot);
+    loan
 }
 
 /// Takes a publisher's unwritten loan as written, if each of its cells is, and returns whether it
@@ -142,25 +99,14 @@ pub fn write_loan_unspecified<T: Copy + Default + Drop, U: Default + Drop>(
 pub fn assume_loan<T: Drop, U: Default + Drop>(state: &mut DomainState<T, U>, loan: &LoanAt) -> bool
     requires agrees { IsDomain state.old }
     requires live { HoldsUnwritten (state_of (kept_of state.old)) loan.now.publisher loan.now.number }
+    requires lies { LiesInSlot state.old loan.now.publisher loan.now.number loan.now.book loan.now.slot }
     ensures { AssumesLoan state.old state.new loan.now.number result }
 {
-    let at = find_live_loan(state, loan);
-    if !contents_mut(state, at.book).assume_init(at.slot) {
+    if !contents_mut(state, loan.book).assume_init(loan.slot) {
         return false;
     }
-    mark_written(state, at.book, at.slot);
+    mark_written(state, loan.book, loan.slot);
     true
-}
-
-// The loan, with its book and the slot in which it lies.
-fn found(loan: LoanAt, at: MessageSlot) -> LoanAt
-    ensures { result ≡ record loan { book = at.book; slot = at.slot } }
-{
-    LoanAt {
-        book: at.book,
-        slot: at.slot,
-        ..loan
-    }
 }
 
 /// The cell of a publisher's unwritten loan of one element.
@@ -172,13 +118,13 @@ pub fn loan_cell<'a, T: Drop, U: Default + Drop>(
     requires fixed_size { (state.now.config).variant ≡ FixedSize }
     requires single { (state.now.config).units_per_element ≡ 1 }
     requires live { HoldsUnwritten (state_of (kept_of state.now)) loan.now.publisher loan.now.number }
+    requires lies { LiesInSlot state.now loan.now.publisher loan.now.number loan.now.book loan.now.slot }
     ensures { HasCell (state_of (kept_of state.now)) loan.now.number result.now }
 {
-    let at = find_live_loan(state, loan);
-    let Some(contents) = &state.contents[at.book] else {
+    let Some(contents) = &state.contents[loan.book] else {
         unreachable!()
     };
-    contents.cell(at.slot)
+    contents.cell(loan.slot)
 }
 
 /// The value of a publisher's written loan of one element.
@@ -190,13 +136,13 @@ pub fn loan_value<'a, T: Drop, U: Default + Drop>(
     requires fixed_size { (state.now.config).variant ≡ FixedSize }
     requires single { (state.now.config).units_per_element ≡ 1 }
     requires live { HoldsWritten (state_of (kept_of state.now)) loan.now.publisher loan.now.number }
+    requires lies { LiesInSlot state.now loan.now.publisher loan.now.number loan.now.book loan.now.slot }
     ensures { HasCell (state_of (kept_of state.now)) loan.now.number (Some result.now) }
 {
-    let at = find_live_loan(state, loan);
-    let Some(contents) = &state.contents[at.book] else {
+    let Some(contents) = &state.contents[loan.book] else {
         unreachable!()
     };
-    contents.value(at.slot)
+    contents.value(loan.slot)
 }
 
 /// The cells of a publisher's unwritten loan, where messages aren't single values and cells are handed
@@ -209,13 +155,13 @@ pub fn loan_cells<'a, T: Drop, U: Default + Drop>(
     requires several { is_single_valued state.now.config ≡ false }
     requires lists_cells { (state.now.config).lists_cells ≡ true }
     requires live { HoldsUnwritten (state_of (kept_of state.now)) loan.now.publisher loan.now.number }
+    requires lies { LiesInSlot state.now loan.now.publisher loan.now.number loan.now.book loan.now.slot }
     ensures { HasCells (state_of (kept_of state.now)) loan.now.number result.now }
 {
-    let at = find_live_loan(state, loan);
-    let Some(contents) = &state.contents[at.book] else {
+    let Some(contents) = &state.contents[loan.book] else {
         unreachable!()
     };
-    contents.cells(at.slot)
+    contents.cells(loan.slot)
 }
 
 /// The values of a publisher's written loan, where messages aren't single values.
@@ -226,13 +172,13 @@ pub fn loan_values<'a, T: Drop, U: Default + Drop>(
     requires agrees { IsDomain state.now }
     requires several { is_single_valued state.now.config ≡ false }
     requires live { HoldsWritten (state_of (kept_of state.now)) loan.now.publisher loan.now.number }
+    requires lies { LiesInSlot state.now loan.now.publisher loan.now.number loan.now.book loan.now.slot }
     ensures { HasCells (state_of (kept_of state.now)) loan.now.number (map Some result.now) }
 {
-    let at = find_live_loan(state, loan);
-    let Some(contents) = &state.contents[at.book] else {
+    let Some(contents) = &state.contents[loan.book] else {
         unreachable!()
     };
-    contents.values(at.slot)
+    contents.values(loan.slot)
 }
 
 /// The header of a publisher's loan.

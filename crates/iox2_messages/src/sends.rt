@@ -7,6 +7,7 @@ ghost use Rattle.iox2_domain.specs.Kept.{state_of};
 ghost use Rattle.iox2_domain.specs.Fields.{kept_of};
 ghost use Rattle.iox2_domain.specs.Invariant.{IsDomain};
 ghost use Rattle.iox2_domain.specs.LoanCalls.{HoldsWritten};
+ghost use Rattle.iox2_domain.specs.LoanSlots.{LiesInSlot};
 ghost use Rattle.iox2_domain.specs.SentLoans.{IsLeftLoan, IsNotUpdated, IsReadyToSend, SendsLoan};
 ghost use Rattle.iox2_machine.specs.machine.State.{is_blocked};
 ghost use Rattle.iox2_messages.specs.SendEnds.{IsNotLost, end_result};
@@ -14,19 +15,18 @@ ghost use Rattle.iox2_messages.specs.declared.send_end.SendEnd.{SendEnd};
 
 use crate::deliveries::{has_handler_at, send_ready, send_unasked};
 use crate::discards::discard_loan;
-use crate::hinted_loans::is_loan_at_hint;
 use crate::send_end::SendEnd;
 use iox2_domain::{Boxes, DomainState, LoanAt};
 use iox2_machine::{BackpressureFn, ConnectionFailure, DegradationFn, UniquePublisherId};
 use iox2_updates::update_publisher;
 
-// Whether a publisher's written loan lies where its handle says, and its publisher is due for no update:
-// so it may be sent at once, if its publisher has no handler. It returns at each test that fails
+// Whether the publisher of a loan that lies where its handle says is there, and due for no update: so the
+// loan may be sent at once, if its publisher has no handler. It returns at each test that fails
 // (docs/decisions/cost.md, "A call goes on where its look-up ended").
 #[inline(always)]
 fn is_ready<T: Drop, U: Default + Drop>(state: &DomainState<T, U>, loan: &LoanAt) -> bool
     requires agrees { IsDomain state.now }
-    requires live { HoldsWritten (state_of (kept_of state.now)) loan.now.publisher loan.now.number }
+    requires lies { LiesInSlot state.now loan.now.publisher loan.now.number loan.now.book loan.now.slot }
     ensures { IsTrue result → IsReadyToSend fixed_handlers state.now state.now loan.now.publisher loan.now.number loan.now.place loan.now.slot }
 {
     let Some(Some(publisher)) = state.publishers.get(loan.place) else {
@@ -38,7 +38,7 @@ fn is_ready<T: Drop, U: Default + Drop>(state: &DomainState<T, U>, loan: &LoanAt
     if publisher.book != loan.book {
         return false;
     }
-    is_loan_at_hint(state, loan)
+    true
 }
 
 // Where a loan may be sent: the place of its publisher, which is due for no update, and its slot.
@@ -165,6 +165,7 @@ pub fn send<
 >(state: &mut DomainState<T, U>, boxes: &Boxes<F, G>, loan: LoanAt, outcome: C) -> R
     requires agrees { IsDomain state.old }
     requires live { HoldsWritten (state_of (kept_of state.old)) loan.publisher loan.number }
+    requires lies { LiesInSlot state.old loan.publisher loan.number loan.book loan.slot }
     requires unblocked { is_blocked (state_of (kept_of state.old)) loan.publisher ≡ false }
     requires callable { C.IsAlwaysCallable outcome }
     ensures { (end : SendEnd) × SendsLoan (answers_of F.allows G.allows (boxes.now).boxes) state.old state.new loan.number (end_result end)

@@ -88,7 +88,7 @@ module _ {T U F G : Type 0} {boxes : DomainBoxes F G} (f g : Fields T U) (sound 
         let parts = unwritten-parts kept loan live in
         let out : HoldsLoan (state_of (kept_of f)) loan.loan.publisher n =
         subst (λ (k : Kept T U F G). HoldsLoan (state_of k) loan.loan.publisher n) (sym view) (subst (HoldsLoan (state_of kept) loan.loan.publisher) its ((parts.1).0, (parts.1).1, (parts.1).2)) in
-        change-written f g kept view n assumes.0 assumed assumes.1 reaches refl loan.loan.publisher loan.service_id parts.0 out refl (record { service_id = loan.service_id; loan = loan.loan }) its refl refl
+        change-written f g kept view n assumes.0 assumed assumes.1 reaches refl loan.loan.publisher loan.service_id parts.0 out refl (record { service_id = loan.service_id; loan = loan.loan }) its refl refl sound live.placed
 
     pub taken-reads : (loan : SampleMutUninit) (value : T) → loan.loan.number ≡ n → UnwrittenReads kept loan (Some value) → LoanReads (keeping boxes g) (record { service_id = loan.service_id; loan = loan.loan }) value
     taken-reads loan value its reads =
@@ -102,7 +102,7 @@ module _ {T U F G : Type 0} {boxes : DomainBoxes F G} (f g : Fields T U) (sound 
     taken-stays =
         let it = always-shown f kept sound view in
         let step = taken-shown it.0 it.1 it.2 in
-        change-stays kept (keeping boxes g) it.0 it.1 it.2 n (record (step.0) { is_written = true }) step.3 (same-boxes f g kept view)
+        change-stays kept (keeping boxes g) it.0 it.1 it.2 n (record (step.0) { is_written = true }) step.3 (same-boxes f g kept view sound reaches.places)
 
     pub taken-left : LoansLeftStay kept (keeping boxes g)
     taken-left =

@@ -23,6 +23,7 @@ use Rattle.iox2_domain.specs.Invariant.{IsDomain}
 use Rattle.iox2_domain.specs.Kept.{Kept, state_of, entries_of}
 use Rattle.iox2_domain.specs.Ports.{PublisherFields}
 use Rattle.iox2_domain.specs.Shows.{Shows}
+use Rattle.iox2_domain.specs.KeptPlaces.{KeepsPlaces}
 use Rattle.iox2_domain.proofs.lemmas.fields.ConnectionEnds.{publisher-stands}
 use Rattle.iox2_pubsub.specs.Live.{A_blocked_send, IsUnblocked, StaysBut}
 use Rattle.iox2_pubsub.specs.SendCalls.{result_of_send}
@@ -88,16 +89,16 @@ module _ {T U F G : Type 0} {boxes : DomainBoxes F G} (f g : Fields T U) (kept :
     unsent = λ k loan e. here.unsent k loan (ap (λ (all : ℕ → Option (Loan T U)). all k) (sym loans) ∙ e);
   }
 
-  goes-stays : Shows (kept_of g) m (state_of (kept_of g)) → PortsRemain s (state_of (kept_of g)) → (state_of (kept_of g)).loans ≡ s.loans
+  goes-stays : IsDomain f → KeepsPlaces f g → Shows (kept_of g) m (state_of (kept_of g)) → PortsRemain s (state_of (kept_of g)) → (state_of (kept_of g)).loans ≡ s.loans
       → Waits (IsSpared (A_blocked_send p)) s (state_of (kept_of g)) → SparedPublishers (A_blocked_send p) kept s (state_of (kept_of g)) → StaysBut (A_blocked_send p) kept (keeping boxes g)
-  goes-stays shown' remain loans waits goes-on =
+  goes-stays sound places shown' remain loans waits goes-on =
       stays-between (A_blocked_send p) kept (keeping boxes g) m m s (state_of (kept_of g)) shown shown' (λ k entry at. at) (record {
         config = remain.config;
         publishers = λ q x at _. remain.publishers q x at;
         subscribers = λ q y at is_open _. remain.subscribers q y at is_open;
       })
       (λ k loan at _. ap (λ (all : ℕ → Option (Loan T U)). all k) loans ∙ at)
-      (λ i j k at _. ap (λ (ns : List ℕ). is_borrowed k (record { waiting = []; borrowed = ns; others = [] })) (remain.borrowed i j) ∙ at) waits goes-on (same-boxes f g kept view)
+      (λ i j k at _. ap (λ (ns : List ℕ). is_borrowed k (record { waiting = []; borrowed = ns; others = [] })) (remain.borrowed i j) ∙ at) waits goes-on (same-boxes f g kept view sound places)
 
   -- the publisher is the one whose send is blocked
   spared-on : (x : Publisher) (b : BlockedSend) → s.publishers p ≡ Some x → x.blocked ≡ Some b
@@ -125,8 +126,8 @@ module _ {T U F G : Type 0} {boxes : DomainBoxes F G} (f g : Fields T U) (kept :
     pub retry-shown : Shows (kept_of g) m (state_of (kept_of g))
     retry-shown = goes-shown agrees (retry_advances environment s p b elapsed _ result h) (retry_loans environment s p b elapsed _ result h) entries
 
-    pub retry-stays : StaysBut (A_blocked_send p) kept (keeping boxes g)
-    retry-stays = goes-stays retry-shown (retry_remains environment s p b elapsed _ result h) (retry_loans environment s p b elapsed _ result h)
+    pub retry-stays : IsDomain f → KeepsPlaces f g → StaysBut (A_blocked_send p) kept (keeping boxes g)
+    retry-stays sound places = goes-stays sound places retry-shown (retry_remains environment s p b elapsed _ result h) (retry_loans environment s p b elapsed _ result h)
         (retry_waits (IsSpared (A_blocked_send p)) p spared environment s b elapsed _ result h)
         (spared-on x b at has (λ mild none. (retry-unfailed environment s p b elapsed _ result mild none h).0))
 
@@ -135,8 +136,8 @@ module _ {T U F G : Type 0} {boxes : DomainBoxes F G} (f g : Fields T U) (kept :
     pub give-up-shown : Shows (kept_of g) m (state_of (kept_of g))
     give-up-shown = goes-shown agrees (give_up_advances environment s p b _ result h) (give_up_loans environment s p b _ result h) entries
 
-    pub give-up-stays : StaysBut (A_blocked_send p) kept (keeping boxes g)
-    give-up-stays = goes-stays give-up-shown (give_up_remains environment s p b _ result h) (give_up_loans environment s p b _ result h)
+    pub give-up-stays : IsDomain f → KeepsPlaces f g → StaysBut (A_blocked_send p) kept (keeping boxes g)
+    give-up-stays sound places = goes-stays sound places give-up-shown (give_up_remains environment s p b _ result h) (give_up_loans environment s p b _ result h)
         (give_up_waits (IsSpared (A_blocked_send p)) p spared environment s b _ result h)
         (spared-on x b at has (λ mild none. (give-up-unfailed environment s p b _ result mild none h).0))
 

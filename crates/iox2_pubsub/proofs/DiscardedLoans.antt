@@ -32,7 +32,7 @@ module _ {T U F G : Type 0} {boxes : DomainBoxes F G} (f g : Fields T U) (sound 
         spent = discard-spends kept new it.0 it.1 it.2 key.message l step key refl;
         given_back = discard-gives kept new it.0 it.0 it.1 _ it.2 step key.message l (it.3).1 key.port (it.3).2 refl;
         leaves = record {
-          stays = discard-stays kept new it.0 it.1 it.2 key.message l step (same-boxes f g kept view);
+          stays = discard-stays kept new it.0 it.1 it.2 key.message l step (same-boxes f g kept view sound discards.2.places);
           waits = discard-waits kept new it.0 it.1 it.2 key.message l step;
           up_to_date = discard-leaves kept new it.0 it.1 it.2 key.message l step;
           loans_left = discard-left kept new it.0 it.0 it.1 _ it.2 step key.message l (it.3).1 refl;

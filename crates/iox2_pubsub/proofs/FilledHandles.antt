@@ -1,5 +1,5 @@
 -- An unwritten loan that was filled at once, under the handle of the written one that it became.
-use Rattle.std.proofs.Common.{◌≡◌, List, refl, sym, subst}
+use Rattle.std.proofs.Common.{ap, ◌≡◌, List, refl, sym, subst}
 use Rattle.iox2_machine.specs.declared.key.Key.{Key}
 use Rattle.iox2_domain.specs.Boxes.{DomainBoxes}
 use Rattle.iox2_domain.specs.Fields.{Fields, keeping}
@@ -33,11 +33,13 @@ module _ {T U F G : Type 0} {boxes : DomainBoxes F G} (f g : Fields T U) (sound 
     borrows_left = filled-borrows f g sound kept view loan.loan.number values writes;
   }
 
-  pub was-filled : (at : LoanAt) → at.publisher ≡ loan.loan.publisher → at.number ≡ loan.loan.number → Filled kept (keeping boxes g) loan (record { service_id = loan.service_id; loan = at }) values
-  was-filled at publisher number =
+  pub was-filled : (at : LoanAt) → at ≡ loan.loan → Filled kept (keeping boxes g) loan (record { service_id = loan.service_id; loan = at }) values
+  was-filled at same =
+      let publisher : at.publisher ≡ loan.loan.publisher = ap (λ (it : LoanAt). it.publisher) same in
+      let number : at.number ≡ loan.loan.number = ap (λ (it : LoanAt). it.number) same in
       let filled : SampleMut = record { service_id = loan.service_id; loan = at } in
       let key : written_key filled ≡ unwritten_key loan = λ i. record { service_id = loan.service_id; port = publisher i; message = number i } in
-      let out : IsWritten (keeping boxes g) filled = filled-live f g sound kept view loan.loan.number values writes loan filled refl refl publisher number live in
+      let out : IsWritten (keeping boxes g) filled = filled-live f g sound kept view loan.loan.number values writes loan filled refl refl publisher number same live in
       record {
         shown = filled-shown f g sound kept view loan.loan.number values writes;
         written = filled-values f g sound kept view loan.loan.number values writes at.number number;

@@ -5,6 +5,7 @@ use Rattle.iox2_machine.specs.machine.SingleCalls.{HoldsLoan, WriteAllFrom}
 use Rattle.iox2_machine.specs.machine.State.{State, Messages, with_loan}
 use Rattle.iox2_machine.specs.declared.header.Header.{Header}
 use Rattle.iox2_machine.specs.declared.key.Key.{Key}
+use Rattle.iox2_domain.specs.declared.loan_slots.LoanAt.{LoanAt}
 use Rattle.iox2_domain.specs.Kept.{Kept, state_of}
 use Rattle.iox2_domain.specs.Boxes.{DomainBoxes}
 use Rattle.iox2_domain.specs.Fields.{Fields, kept_of, keeping}
@@ -12,7 +13,7 @@ use Rattle.iox2_domain.specs.Invariant.{IsDomain}
 use Rattle.iox2_domain.specs.LoanCalls.{WritesLoan}
 use Rattle.iox2_domain.specs.Shows.{Shows}
 use Rattle.iox2_pubsub.specs.BorrowsLeft.{BorrowsLeftStay}
-use Rattle.iox2_pubsub.specs.Live.{IsUnwritten, IsWritten, LoanHasHeader, LoanHasUserHeader, A_loan, StaysBut, UpToDateStay, WaitingStays}
+use Rattle.iox2_pubsub.specs.Live.{IsPlaced, IsUnwritten, IsWritten, LoanHasHeader, LoanHasUserHeader, A_loan, StaysBut, UpToDateStay, WaitingStays}
 use Rattle.iox2_pubsub.specs.LoansLeft.{LoansLeftStay}
 use Rattle.iox2_pubsub.specs.Slices.{HasValues}
 use Rattle.iox2_pubsub.specs.declared.sample_mut.SampleMut.{SampleMut}
@@ -42,18 +43,19 @@ module _ {T U F G : Type 0} {boxes : DomainBoxes F G} (f g : Fields T U) (sound 
       (filled, ap (state_of (kept_of g)).loans its ∙ changed-out f g kept view n writes.0 filled writes.1 writes.3, λ i. map Some values)
 
   pub filled-live : (loan : SampleMutUninit) (loan' : SampleMut) → loan.loan.number ≡ n → loan'.service_id ≡ loan.service_id → loan'.loan.publisher ≡ loan.loan.publisher
-      → loan'.loan.number ≡ n → IsUnwritten kept loan → IsWritten (keeping boxes g) loan'
-  filled-live loan loan' its service publisher number live =
+      → loan'.loan.number ≡ n → loan'.loan ≡ loan.loan → IsUnwritten kept loan → IsWritten (keeping boxes g) loan'
+  filled-live loan loan' its service publisher number same live =
       let parts = unwritten-parts kept loan live in
       let out : HoldsLoan (state_of (kept_of f)) loan.loan.publisher n =
       subst (λ (k : Kept T U F G). HoldsLoan (state_of k) loan.loan.publisher n) (sym view) (subst (HoldsLoan (state_of kept) loan.loan.publisher) its ((parts.1).0, (parts.1).1, (parts.1).2)) in
-      change-written f g kept view n writes.0 filled writes.1 writes.3 (λ i. (writes.0).publisher) loan.loan.publisher loan.service_id parts.0 out (λ i. true) loan' number service publisher
+      change-written f g kept view n writes.0 filled writes.1 writes.3 (λ i. (writes.0).publisher) loan.loan.publisher loan.service_id parts.0 out (λ i. true) loan' number service publisher sound
+      (subst (λ (at : LoanAt). IsPlaced kept at.number at.book at.slot) (sym same) live.placed)
 
   pub filled-stays : StaysBut (A_loan n) kept (keeping boxes g)
   filled-stays =
       let it = always-shown f kept sound view in
       let step = change-shown f g kept view n writes.0 filled writes.1 writes.3 it.0 it.1 it.2 in
-      change-stays kept (keeping boxes g) it.0 it.1 it.2 n filled step.1 (same-boxes f g kept view)
+      change-stays kept (keeping boxes g) it.0 it.1 it.2 n filled step.1 (same-boxes f g kept view sound writes.3.places)
 
   pub filled-left : LoansLeftStay kept (keeping boxes g)
   filled-left =

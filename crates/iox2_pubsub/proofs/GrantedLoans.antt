@@ -12,6 +12,8 @@ use Rattle.iox2_domain.specs.Kept.{Kept}
 use Rattle.iox2_domain.specs.Lending.{IsNamed, LoanCall, LoanReaches, header_for}
 use Rattle.iox2_domain.specs.Shows.{Shows}
 use Rattle.iox2_domain.specs.declared.loan_slots.LoanAt.{LoanAt}
+use Rattle.iox2_domain.specs.LoanSlots.{LiesInSlot}
+use Rattle.iox2_domain.specs.KeptPlaces.{KeepsPlaces}
 use Rattle.iox2_pubsub.specs.GrantedLoans.{IsLent, IsLentUnwritten, IsUnfilled}
 use Rattle.iox2_pubsub.specs.Leaves.{LeavesLending}
 use Rattle.iox2_pubsub.specs.Live.{A_loan, IsNewIn, IsPublisherKey, IsReadyPublisher, IsUnwritten, LoanHasHeader, Stays, lender_key, publisher_key, unwritten_key}
@@ -25,7 +27,7 @@ use Rattle.iox2_pubsub.proofs.BorrowsLeftShown.{loan-borrows}
 use Rattle.iox2_pubsub.proofs.LoansLeftShown.{loan-takes, refused-left}
 use Rattle.iox2_pubsub.proofs.PlacedHandles.{StandsAtPlace, publisher-at-place}
 use Rattle.iox2_pubsub.proofs.StaysBut.{same-boxes}
-use Rattle.iox2_pubsub.proofs.UninitLoans.{ok-cells, ok-header, ok-lengths, ok-live, ok-number, ok-publisher, ok-shown}
+use Rattle.iox2_pubsub.proofs.UninitLoans.{loan-places, ok-cells, ok-header, ok-lengths, ok-live, ok-number, ok-publisher, ok-shown}
 use Rattle.iox2_pubsub.proofs.UpToDateShown.{loan-leaves}
 use Rattle.iox2_pubsub.proofs.WaitingShown.{loan-waits}
 
@@ -48,13 +50,13 @@ module _ {T U F G : Type 0} {boxes : DomainBoxes F G} (is_default : U → Type 0
     (publisher : Publisher) (ready : IsReadyPublisher kept publisher) where
   -- what the call leaves, granted or refused
   module _ {A : Type 0} (how : Result A LoanError) (step : (m : Messages T U) (s : State T U) → Shows kept m s → (s' : State T U) × Shows (kept_of mid) m s' × LoanCall {A = A} is_default checks len s publisher.id how s') where
-    pub call-leaves : LeavesLending publisher kept (keeping boxes mid)
-    call-leaves =
+    pub call-leaves : KeepsPlaces f mid → LeavesLending publisher kept (keeping boxes mid)
+    call-leaves places =
         let new : Kept T U F G = keeping boxes mid in
         let it = always-shown f kept sound view in
         let now = step it.0 it.1 it.2 in
         record {
-          stays = loan-stays kept new it.0 it.1 it.2 {A = A} is_default checks len publisher.id how now.0 now.1 now.2 (same-boxes f mid kept view);
+          stays = loan-stays kept new it.0 it.1 it.2 {A = A} is_default checks len publisher.id how now.0 now.1 now.2 (same-boxes f mid kept view sound places);
           waits = loan-waits kept new it.0 it.0 it.1 now.0 it.2 now.1 (λ n entry at. at) {A = A} is_default checks len publisher.id how now.2;
           up_to_date = loan-leaves kept new it.0 it.0 it.1 now.0 it.2 now.1 {A = A} is_default checks len publisher.id how now.2;
           loans_left = loan-takes kept new it.0 it.0 it.1 now.0 it.2 now.1 {A = A} is_default checks len publisher how now.2;
@@ -79,7 +81,7 @@ module _ {T U F G : Type 0} {boxes : DomainBoxes F G} (is_default : U → Type 0
     granted-step m s shown = ok-shown is_default checks len f mid sound publisher.place publisher.id answer stands reaches LoanAt loan loan is kept view m s shown
 
     pub granted-leaves : LeavesLending publisher kept (keeping boxes mid)
-    granted-leaves = call-leaves {A = LoanAt} (Ok loan) granted-step
+    granted-leaves = call-leaves {A = LoanAt} (Ok loan) granted-step (loan-places is_default checks len f mid sound publisher.place publisher.id answer stands reaches)
 
     pub next : loan.number ≡ kept.next_message
     next = ok-number is_default checks len f mid sound publisher.place publisher.id answer stands reaches loan named ∙ ap (λ (k : Kept T U F G). k.next_message) view
@@ -90,14 +92,14 @@ module _ {T U F G : Type 0} {boxes : DomainBoxes F G} (is_default : U → Type 0
     pub granted-new : IsNewIn kept (A_loan loan.number)
     granted-new = let it = always-shown f kept sound view in loan-is-new kept kept it.0 it.1 it.2 loan.number next
 
-    pub granted-live : IsUnwritten (keeping boxes mid) unwritten
+    pub granted-live : LiesInSlot mid loan.publisher loan.number loan.book loan.slot → IsUnwritten (keeping boxes mid) unwritten
     granted-live = ok-live is_default checks len f mid sound publisher.place publisher.id answer stands reaches unwritten is named kept view (publisher-parts kept _ ready.there).1
 
-    pub lent-unwritten : IsLentUnwritten publisher unwritten kept (keeping boxes mid)
-    lent-unwritten = record {
-      out = granted-live;
+    pub lent-unwritten : LiesInSlot mid loan.publisher loan.number loan.book loan.slot → IsLentUnwritten publisher unwritten kept (keeping boxes mid)
+    lent-unwritten lies = record {
+      out = granted-live lies;
       live = λ never. record {
-        out = granted-live;
+        out = granted-live lies;
         never_waits = never-waits-alike (keeping boxes mid) (publisher_key publisher) (unwritten_key unwritten) granted-publisher (granted-leaves.stays.never_wait (publisher_key publisher) never);
       };
       lent = is-lent publisher kept (keeping boxes mid) ready granted-leaves.stays (unwritten_key unwritten) refl granted-publisher next granted-new;

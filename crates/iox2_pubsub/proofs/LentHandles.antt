@@ -139,7 +139,7 @@ module _ {T U F G : Type 0} {boxes : DomainBoxes F G} (f g : Fields T U) (sound 
       let one : (parts.1).0 ≡ l = loan-there (parts.1).0 (ap (state_of kept).loans (sym its) ∙ (parts.1).1) in
       let written : (h l).is_written ≡ true = mark ∙ ap (λ (k : Loan T U). k.is_written) (sym one) ∙ (parts.1).3 in
       subst (λ (k : Kept T U F G). IsWritten k loan) lent-is
-      (change-written f g kept view n l (h l) found lent.reaches same loan.loan.publisher loan.service_id parts.0 out written loan its refl refl)
+      (change-written f g kept view n l (h l) found lent.reaches same loan.loan.publisher loan.service_id parts.0 out written loan its refl refl sound live.placed)
 
   lent-unwritten : (h l).publisher ≡ l.publisher → (h l).is_written ≡ l.is_written → (loan : SampleMutUninit) → loan.loan.number ≡ n → IsUnwritten kept loan → IsUnwritten after loan
   lent-unwritten same mark loan its live =
@@ -147,14 +147,14 @@ module _ {T U F G : Type 0} {boxes : DomainBoxes F G} (f g : Fields T U) (sound 
       let one : (parts.1).0 ≡ l = loan-there (parts.1).0 (ap (state_of kept).loans (sym its) ∙ (parts.1).1) in
       let unwritten : (h l).is_written ≡ false = mark ∙ ap (λ (k : Loan T U). k.is_written) (sym one) ∙ (parts.1).3 in
       subst (λ (k : Kept T U F G). IsUnwritten k loan) lent-is
-      (change-unwritten f g kept view n l (h l) found lent.reaches same loan its live unwritten)
+      (change-unwritten f g kept view n l (h l) found lent.reaches same sound loan its live unwritten)
 
   pub was-lent : Lent (keeping boxes g) kept after n l h
   was-lent =
       let it = always-shown f kept sound view in
       let step = lent-shown it.0 it.1 it.2 in
       let all_else : LeavesBut (A_loan n) kept after = record {
-        stays = change-stays kept after it.0 it.1 it.2 n (h step.0) step.2 (subst (BoxesStayBut (A_loan n) kept) lent-is (same-boxes f g kept view));
+        stays = change-stays kept after it.0 it.1 it.2 n (h step.0) step.2 (subst (BoxesStayBut (A_loan n) kept) lent-is (same-boxes f g kept view sound lent.reaches.places));
         waits = set-waits kept after it.0 it.1 it.2 n (Some (h step.0)) step.2;
         up_to_date = set-leaves kept after it.0 it.1 it.2 n (Some (h step.0)) step.2;
         loans_left = set-left kept after it.0 it.0 it.1 (with_loan it.1 n (Some (h step.0))) it.2 step.2 n (Some (h step.0)) refl;

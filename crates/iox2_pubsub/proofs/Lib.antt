@@ -31,6 +31,7 @@ pub mod ReceptionShown
 pub mod LiveParts
 pub mod StaysBut
 pub mod PlacedHandles
+pub mod PlacedLoans
 mod ReadyPublishers
 pub mod CallsStay
 mod SentLoans

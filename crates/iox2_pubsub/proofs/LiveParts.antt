@@ -14,7 +14,7 @@ use Rattle.iox2_domain.specs.Kept.{Kept, state_of, entries_of}
 use Rattle.iox2_domain.specs.LoanCalls.{HasCell, HasLoanHeader, HasLoanUserHeader, HoldsUnwritten, HoldsWritten}
 use Rattle.iox2_pubsub.proofs.UnfailedSends.{HasNotFailed}
 use Rattle.iox2_pubsub.specs.Handlers.{may_wait}
-use Rattle.iox2_pubsub.specs.Live.{IsSingleValued, HasItsBuffer, IsPlacedPublisher, IsPlacedSubscriber, IsPublisherKey, IsSubscriberKey, IsLoanKey, IsSampleKey, IsBlockedKey, IsUnblocked, Overflows, PassesFull, NeverFails, NeverWaits, HasMark, IsFromOrigin, UnwrittenReads, LoanReads, SampleReads, LoanHasHeader, LoanHasUserHeader, SampleHasHeader, SampleHasUserHeader, IsUnwritten, IsWritten}
+use Rattle.iox2_pubsub.specs.Live.{IsPlaced, IsSingleValued, HasItsBuffer, IsPlacedPublisher, IsPlacedSubscriber, IsPublisherKey, IsSubscriberKey, IsLoanKey, IsSampleKey, IsBlockedKey, IsUnblocked, Overflows, PassesFull, NeverFails, NeverWaits, HasMark, IsFromOrigin, UnwrittenReads, LoanReads, SampleReads, LoanHasHeader, LoanHasUserHeader, SampleHasHeader, SampleHasUserHeader, IsUnwritten, IsWritten}
 use Rattle.iox2_pubsub.specs.Slices.{HasUnwrittenCells, HasValues, SampleHasValues}
 use Rattle.iox2_pubsub.specs.declared.publisher.Publisher.{Publisher as PublisherHandle}
 use Rattle.iox2_pubsub.specs.declared.subscriber.Subscriber.{Subscriber as SubscriberHandle}
@@ -193,18 +193,20 @@ module _ {T U F G : Type 0} (kept : Kept T U F G) where
       let parts = loan-parts _ live.live in
       (parts.0, ((parts.1).0, (parts.1).1, (parts.1).2, marked loan.loan.publisher loan.loan.number (parts.1).0 (parts.1).1 (parts.1).2 _ live.unwritten))
 
-  pub unwritten-live : (loan : SampleMutUninit) → loan.service_id ≡ (kept.config).service_id → HoldsUnwritten (state_of kept) loan.loan.publisher loan.loan.number → IsUnwritten kept loan
-  unwritten-live loan service has =
-      record { live = loan-live _ (service, (has.0, has.1, has.2)); unwritten = has-mark loan.loan.number _ has.0 has.1 has.3 }
+  pub unwritten-live : (loan : SampleMutUninit) → loan.service_id ≡ (kept.config).service_id → HoldsUnwritten (state_of kept) loan.loan.publisher loan.loan.number
+      → IsPlaced kept loan.loan.number loan.loan.book loan.loan.slot → IsUnwritten kept loan
+  unwritten-live loan service has placed =
+      record { live = loan-live _ (service, (has.0, has.1, has.2)); unwritten = has-mark loan.loan.number _ has.0 has.1 has.3; placed = placed }
 
   pub written-parts : (loan : SampleMut) → IsWritten kept loan → (loan.service_id ≡ (kept.config).service_id) × HoldsWritten (state_of kept) loan.loan.publisher loan.loan.number
   written-parts loan live =
       let parts = loan-parts _ live.live in
       (parts.0, ((parts.1).0, (parts.1).1, (parts.1).2, marked loan.loan.publisher loan.loan.number (parts.1).0 (parts.1).1 (parts.1).2 _ live.written))
 
-  pub written-live : (loan : SampleMut) → loan.service_id ≡ (kept.config).service_id → HoldsWritten (state_of kept) loan.loan.publisher loan.loan.number → IsWritten kept loan
-  written-live loan service has =
-      record { live = loan-live _ (service, (has.0, has.1, has.2)); written = has-mark loan.loan.number _ has.0 has.1 has.3 }
+  pub written-live : (loan : SampleMut) → loan.service_id ≡ (kept.config).service_id → HoldsWritten (state_of kept) loan.loan.publisher loan.loan.number
+      → IsPlaced kept loan.loan.number loan.loan.book loan.loan.slot → IsWritten kept loan
+  written-live loan service has placed =
+      record { live = loan-live _ (service, (has.0, has.1, has.2)); written = has-mark loan.loan.number _ has.0 has.1 has.3; placed = placed }
 
   -- ---- what is read
 

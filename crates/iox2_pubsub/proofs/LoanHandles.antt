@@ -12,10 +12,11 @@ use Rattle.iox2_domain.specs.Kept.{Kept, state_of}
 use Rattle.iox2_domain.specs.Boxes.{DomainBoxes}
 use Rattle.iox2_domain.specs.Fields.{Fields, kept_of, keeping}
 use Rattle.iox2_machine.specs.declared.key.Key.{Key}
-use Rattle.iox2_pubsub.specs.Live.{IsLoanKey, IsUnwritten, IsWritten, LoanHasHeader, LoanHasUserHeader, LoanReads}
+use Rattle.iox2_pubsub.specs.Live.{IsPlaced, IsLoanKey, IsUnwritten, IsWritten, LoanHasHeader, LoanHasUserHeader, LoanReads}
 use Rattle.iox2_pubsub.specs.declared.sample_mut.SampleMut.{SampleMut}
 use Rattle.iox2_pubsub.specs.declared.sample_mut_uninit.SampleMutUninit.{SampleMutUninit}
 use Rattle.iox2_pubsub.proofs.LiveParts.{loan-header, loan-header-parts, loan-parts, loan-reads, loan-user-header, loan-user-header-parts, unwritten-parts, unwritten-live, written-parts, written-live}
+use Rattle.iox2_pubsub.proofs.PlacedLoans.{placed-after}
 use Rattle.iox2_machine.specs.declared.header.Header.{Header}
 use Rattle.iox2_domain.specs.Invariant.{IsDomain}
 use Rattle.iox2_domain.specs.LoanCalls.{HoldsUnwritten, HoldsWritten, HasLoanHeader, WritesLoan}
@@ -94,19 +95,22 @@ module _ {T U F G : Type 0} {boxes : DomainBoxes F G} (f g : Fields T U) (kept :
         → (service ≡ ((kept_of g).config).service_id) × ((state_of (kept_of g)).loans n ≡ Some changed) × (changed.publisher ≡ p)
     change-live p service ours live = (service-still service ours, changed-out, same ∙ its-publisher p live)
 
-    pub change-unwritten : (loan : SampleMutUninit) → loan.loan.number ≡ n → IsUnwritten kept loan → changed.is_written ≡ false → IsUnwritten (keeping boxes g) loan
-    change-unwritten loan its live mark =
+    pub change-unwritten : IsDomain f → (loan : SampleMutUninit) → loan.loan.number ≡ n → IsUnwritten kept loan → changed.is_written ≡ false → IsUnwritten (keeping boxes g) loan
+    change-unwritten sound loan its live mark =
         let parts = unwritten-parts kept loan live in
         let out = subst (λ (k : Kept T U F G). HoldsLoan (state_of k) loan.loan.publisher loan.loan.number) (sym view) ((parts.1).0, (parts.1).1, (parts.1).2) in
         let is = change-live loan.loan.publisher loan.service_id parts.0 (subst (HoldsLoan (state_of (kept_of f)) loan.loan.publisher) its out) in
         unwritten-live (keeping boxes g) loan is.0 (changed, ap (state_of (kept_of g)).loans its ∙ is.1, is.2, mark)
+        (placed-after boxes f g kept view sound reaches.places loan.loan.number loan.loan.book loan.loan.slot live.placed)
 
-    -- a written loan is live under a handle with the same key
+    -- a written loan is live under a handle with the same key and the same place
     pub change-written : (p service : ℕ) → service ≡ (kept.config).service_id → HoldsLoan (state_of (kept_of f)) p n → changed.is_written ≡ true
-        → (loan : SampleMut) → loan.loan.number ≡ n → loan.service_id ≡ service → loan.loan.publisher ≡ p → IsWritten (keeping boxes g) loan
-    change-written p service ours out mark loan number its publisher =
+        → (loan : SampleMut) → loan.loan.number ≡ n → loan.service_id ≡ service → loan.loan.publisher ≡ p → IsDomain f → IsPlaced kept loan.loan.number loan.loan.book loan.loan.slot
+        → IsWritten (keeping boxes g) loan
+    change-written p service ours out mark loan number its publisher sound placed =
         let is = change-live p service ours out in
         written-live (keeping boxes g) loan (its ∙ is.0) (changed, ap (state_of (kept_of g)).loans number ∙ is.1, is.2 ∙ sym publisher, mark)
+        (placed-after boxes f g kept view sound reaches.places loan.loan.number loan.loan.book loan.loan.slot placed)
 
     -- it has the changed cells
     pub change-cells : (loan : SampleMut) (value : T) → loan.loan.number ≡ n → changed.cells ≡ Some value ∷ [] → LoanReads (keeping boxes g) loan value

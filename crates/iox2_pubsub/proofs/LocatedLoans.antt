@@ -17,6 +17,7 @@ use Rattle.iox2_domain.specs.LoanCalls.{HoldsUnwritten, WritesLoan}
 use Rattle.iox2_domain.specs.Ports.{PublisherFields}
 use Rattle.iox2_domain.specs.Shows.{Shows}
 use Rattle.iox2_domain.specs.declared.loan_slots.LoanAt.{LoanAt}
+use Rattle.iox2_domain.specs.LoanSlots.{LiesInSlot}
 use Rattle.iox2_domain.proofs.lemmas.fields.SingleSettings.{dynamic-several}
 use Rattle.iox2_pubsub.specs.GrantedLoans.{IsLentWritten, IsReadyForSlices}
 use Rattle.iox2_pubsub.specs.BorrowsLeft.{BorrowsLeftStay}
@@ -36,7 +37,7 @@ use Rattle.iox2_pubsub.proofs.LoanHandles.{unwritten-out}
 use Rattle.iox2_pubsub.proofs.PlacedHandles.{StandsAtPlace, publisher-at-place}
 use Rattle.iox2_pubsub.proofs.StaysBut.{stays-on}
 use Rattle.iox2_pubsub.proofs.SureLoans.{sure-granted, sure-of-loan}
-use Rattle.iox2_pubsub.proofs.UninitLoans.{err-shown, ok-cells, ok-shown}
+use Rattle.iox2_pubsub.proofs.UninitLoans.{loan-places, err-shown, ok-cells, ok-shown}
 use Rattle.iox2_pubsub.proofs.WrittenLoanCalls.{default-grants, default-refused}
 
 -- What each call says that lends a slice and fills it, where it was refused.
@@ -87,7 +88,7 @@ module _ {T U F G : Type 0} {boxes : DomainBoxes F G} (is_default : U → Type 0
     refused-step m s shown = err-shown is_default true len f mid sound publisher.place publisher.id answer stands reaches LoanAt e is (Err e) refl kept view m s shown
 
     refused-leaves : LeavesLending publisher kept (keeping boxes mid)
-    refused-leaves = call-leaves is_default true len f mid sound kept view publisher ready.ready {A = LoanAt} (Err e) refused-step
+    refused-leaves = call-leaves is_default true len f mid sound kept view publisher ready.ready {A = LoanAt} (Err e) refused-step (loan-places is_default true len f mid sound publisher.place publisher.id answer stands reaches)
 
     -- none that isn't too long, where the publisher has one left
     refused-none : (loans numbers : ℕ) → HasLoansLeft kept publisher (loans + 1) → HasNumbersLeft kept (numbers + 1) → len ≤ publisher.initial_max_slice_len → ⊥
@@ -105,7 +106,8 @@ module _ {T U F G : Type 0} {boxes : DomainBoxes F G} (is_default : U → Type 0
       leaves = refused-leaves;
     }
 
-  module _ (loan : LoanAt) (is : answer ≡ Ok loan) (named : IsSomeAnd (get_or f.publishers publisher.place None) (λ x. IsNamed f x loan)) where
+  module _ (loan : LoanAt) (is : answer ≡ Ok loan) (named : IsSomeAnd (get_or f.publishers publisher.place None) (λ x. IsNamed f x loan))
+      (lies : LiesInSlot mid loan.publisher loan.number loan.book loan.slot) where
     abbrev unwritten : SampleMutUninit
     unwritten = record { service_id = publisher.service_id; loan = loan }
 
@@ -113,7 +115,7 @@ module _ {T U F G : Type 0} {boxes : DomainBoxes F G} (is_default : U → Type 0
     lent = granted-leaves is_default true len f mid sound kept view publisher ready.ready answer reaches loan is named
 
     live : IsUnwritten (keeping boxes mid) unwritten
-    live = granted-live is_default true len f mid sound kept view publisher ready.ready answer reaches loan is named
+    live = granted-live is_default true len f mid sound kept view publisher ready.ready answer reaches loan is named lies
 
     -- it agrees with the fields, and is out
     pub granted-sound : IsDomain mid
@@ -185,7 +187,7 @@ module _ {T U F G : Type 0} {boxes : DomainBoxes F G} (is_default : U → Type 0
         filled-out : IsWritten (keeping boxes new) handle
         filled-out =
             filled-live mid new granted-sound (keeping boxes mid) refl loan.number values writes unwritten handle refl
-            (ap (λ (it : SampleMut). it.service_id) same) (ap (λ (it : SampleMut). (it.loan).publisher) same) (ap (λ (it : SampleMut). (it.loan).number) same) live
+            (ap (λ (it : SampleMut). it.service_id) same) (ap (λ (it : SampleMut). (it.loan).publisher) same) (ap (λ (it : SampleMut). (it.loan).number) same) (ap (λ (it : SampleMut). it.loan) same) live
 
         filled-lent : IsLentWritten publisher handle kept (keeping boxes new)
         filled-lent =

@@ -56,7 +56,7 @@ module _ {T U F G : Type 0} {boxes : DomainBoxes F G} {publishers : List (PortBo
         let it = always-shown f kept sound view in
         let next = created-shows f g given environment kept view it.0 it.1 t refusal it.2 made reached in
         record {
-          stays = publisher-creation-stays kept new it.0 it.1 it.2 environment given refusal t next.0 next.1 (live-boxes f g kept view (λ key live other. others key.port (apart-from-next f kept sound view key live)));
+          stays = publisher-creation-stays kept new it.0 it.1 it.2 environment given refusal t next.0 next.1 (live-boxes f g kept view sound reached.places (λ key live other. others key.port (apart-from-next f kept sound view key live)));
           no_fewer = publisher-no-fewer kept new it.0 it.0 it.1 t it.2 next.0 environment given refusal next.1;
           connections = made-connections kept new it.0 it.0 it.1 t it.2 next.0 environment given refusal next.1;
           room = publisher-creation-room kept new it.0 it.0 it.1 t it.2 next.0 environment given refusal next.1;

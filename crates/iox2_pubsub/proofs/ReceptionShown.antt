@@ -9,7 +9,7 @@ use Rattle.iox2_machine.specs.declared.service_config.ServiceConfig.{ServiceConf
 use Rattle.iox2_laws.proofs.LoanKeeping.{receive_loans}
 use Rattle.iox2_laws.proofs.ReceiveLaws.{receive_advances}
 use Rattle.iox2_domain.specs.Ports.{SubscriberFields}
-use Rattle.iox2_pubsub.specs.Live.{IsLiveSubscriber, IsLiveSample, IsFromOrigin}
+use Rattle.iox2_pubsub.specs.Live.{IsPlaced, IsLiveSubscriber, IsLiveSample, IsFromOrigin}
 use Rattle.iox2_pubsub.specs.ReceivedSamples.{received_result}
 use Rattle.iox2_pubsub.specs.declared.subscriber.Subscriber.{Subscriber}
 use Rattle.iox2_pubsub.proofs.LiveParts.{subscriber-parts, sample-live, origin-live}
@@ -25,6 +25,10 @@ use Rattle.iox2_domain.specs.declared.sample_slots.Receipt.{Receipt}
 use Rattle.iox2_domain.specs.declared.sample_slots.SampleAt.{SampleAt}
 use Rattle.iox2_pubsub.proofs.UpdateShown.{step-shows}
 use Rattle.iox2_domain.proofs.lemmas.receives.Reception.{received-borrowed}
+use Rattle.slab.specs.Slab.{get}
+use Rattle.iox2_domain.proofs.lemmas.samples.SampleEntries.{its-slot}
+use Rattle.iox2_domain.proofs.lemmas.slots.ConnectionSlots.{book-numbers}
+use Rattle.iox2_pubsub.proofs.PlacedLoans.{numbered-placed}
 
 module _ {T U : Type 0} where
   -- the domain shows what the receive comes to, with the same messages
@@ -48,13 +52,32 @@ module _ {T U : Type 0} where
     -- it is live
     pub reception-live : sample.service_id ≡ subscriber.service_id → IsLiveSubscriber kept subscriber → IsLiveSample (keeping boxes g) sample
     reception-live service live =
+        let sound = receives.1.agrees in
+        let lies = receives.3 in
+        let named = sound.parts.names.at receipt.sample.connection lies.connection lies.stands in
         let config : g.config ≡ f.config =
         ap (λ (s : State T U). s.config) receives.1.state
         ∙ (receive_advances environment (state_of (kept_of f)) subscriber.id receives.0 (Got_sample receipt.publisher receipt.sample.number) receives.2).config in
-        sample-live (keeping boxes g) _ (
-          service ∙ (subscriber-parts kept _ live.there).1 ∙ ap (λ (k : Kept T U F G). (k.config).service_id) (sym same) ∙ ap (λ (x : ServiceConfig). x.service_id) (sym config),
-          (sample.origin, is-borrowed),
-        )
+        record {
+          there = sample-live (keeping boxes g) _ (
+            service ∙ (subscriber-parts kept _ live.there).1 ∙ ap (λ (k : Kept T U F G). (k.config).service_id) (sym same) ∙ ap (λ (x : ServiceConfig). x.service_id) (sym config),
+            (sample.origin, is-borrowed),
+          );
+          placed = subst (λ (at : SampleAt). IsPlaced (keeping boxes g) at.number at.book at.slot) (sym its)
+              (numbered-placed boxes g sound receipt.sample.book receipt.sample.slot receipt.sample.number
+              (its-slot g sound subscriber.id receipt.sample.number (record { connection = receipt.sample.connection; book = receipt.sample.book; slot = receipt.sample.slot }) (record {
+                connection = lies.connection;
+                book = named.book;
+                has_connection = lies.stands;
+                has_book = ap (get g.books) lies.book_is ∙ named.stands;
+                subscriber_is = lies.subscriber_is;
+                book_is = named.is_its;
+                slot_is = record {
+                  borrowed = lies.borrowed;
+                  number_is = sym (book-numbers g sound receipt.sample.connection (lies.connection).home.book lies.connection named.book lies.stands named.stands named.is_its receipt.sample.slot) ∙ sym lies.number_is;
+                };
+              })));
+        }
 
     -- and names whom it is from
     pub reception-origin : IsFromOrigin (keeping boxes g) sample

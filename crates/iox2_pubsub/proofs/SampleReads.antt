@@ -9,9 +9,16 @@ use Rattle.iox2_domain.specs.Fields.{Fields, kept_of, keeping}
 use Rattle.iox2_domain.specs.Kept.{Kept, entries_of, state_of}
 use Rattle.iox2_domain.specs.Shows.{Shows}
 use Rattle.iox2_domain.specs.declared.sample_slots.SampleAt.{SampleAt}
-use Rattle.iox2_pubsub.specs.Live.{IsFromOrigin, IsLiveSample}
+use Rattle.iox2_pubsub.specs.Live.{IsFromOrigin, IsLiveSample, IsPlaced}
 use Rattle.iox2_pubsub.specs.Sample.{Sample}
 use Rattle.iox2_pubsub.proofs.LiveParts.{origin-parts, sample-parts}
+use Rattle.iox2_machine.specs.Stored.{IsHeldMessage, In_mailbox}
+use Rattle.iox2_laws.proofs.MailboxLemmas.{contains_borrowed}
+use Rattle.iox2_domain.specs.Invariant.{IsDomain}
+use Rattle.iox2_domain.specs.SampleSlots.{LiesBorrowedInSlot}
+use Rattle.iox2_domain.proofs.lemmas.samples.HintedSamples.{lies-in-slot}
+use Rattle.iox2_domain.proofs.lemmas.slots.HeldMessages.{held-message-slot}
+use Rattle.iox2_pubsub.proofs.PlacedLoans.{placed-number}
 
 -- what of its fields a clause sees of a sample
 pub its-place : {it it' : Sample} → it ≡ it' → it.sample ≡ it'.sample
@@ -22,7 +29,18 @@ module _ {T U F G : Type 0} {boxes : DomainBoxes F G} (f : Fields T U) (kept : K
   pub sample-held : IsLiveSample kept it → HoldsSample (state_of (kept_of f)) at.subscriber at.number
   sample-held live =
       subst (λ (a : SampleAt). HoldsSample (state_of (kept_of f)) a.subscriber a.number) (sym same)
-      (subst (λ (k : Kept T U F G). HoldsSample (state_of k) it.sample.subscriber it.sample.number) (sym view) (sample-parts kept _ live).1)
+      (subst (λ (k : Kept T U F G). HoldsSample (state_of k) it.sample.subscriber it.sample.number) (sym view) (sample-parts kept _ live.there).1)
+
+  -- and lies where the sample says
+  pub sample-lies : IsDomain f → IsLiveSample kept it → LiesBorrowedInSlot f at.subscriber at.number (record { book = at.book; slot = at.slot })
+  sample-lies sound live =
+      let held = sample-held live in
+      let message : IsHeldMessage (state_of (kept_of f)) held.0 at.number =
+      In_mailbox at.subscriber (contains_borrowed ((state_of (kept_of f)).mailboxes held.0 at.subscriber) at.number held.1) in
+      let there = held-message-slot f sound.parts.counted sound.parts.publisher_ids sound.parts.plain held.0 at.number message in
+      let placed : IsPlaced kept at.number at.book at.slot = subst (λ (a : SampleAt). IsPlaced kept a.number a.book a.slot) (sym same) live.placed in
+      lies-in-slot f sound at.subscriber at.number held at.book at.slot
+      (placed-number f sound kept view at.number at.book at.slot placed there.0 there.1 there.2)
 
   -- and from whom, where the sample names that
   pub sample-from : IsFromOrigin kept it → is_borrowed at.number ((state_of (kept_of f)).mailboxes it.origin at.subscriber) ≡ true

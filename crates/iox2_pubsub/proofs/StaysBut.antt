@@ -18,13 +18,16 @@ use Rattle.iox2_domain.specs.declared.boxes.PortBox.{PortBox}
 use Rattle.iox2_domain.specs.declared.boxes.PortBoxes.{PortBoxes}
 use Rattle.iox2_domain.specs.Fields.{Fields, keeping}
 use Rattle.iox2_domain.specs.Handlers.{may_fail, may_fail_update}
+use Rattle.iox2_domain.specs.Invariant.{IsDomain}
+use Rattle.iox2_domain.specs.KeptPlaces.{KeepsPlaces}
 use Rattle.iox2_domain.specs.Kept.{Kept, state_of, entries_of}
 use Rattle.iox2_domain.specs.Shows.{Shows}
 use Rattle.iox2_pubsub.proofs.UnfailedSends.{IsMild, HasNotFailed}
 use Rattle.iox2_pubsub.proofs.LiveParts.{loan-parts, origin-parts, sample-parts}
+use Rattle.iox2_pubsub.proofs.PlacedLoans.{placed-after}
 use Rattle.iox2_pubsub.proofs.SliceParts.{cells-parts, values-parts}
 use Rattle.iox2_pubsub.specs.Handlers.{may_wait}
-use Rattle.iox2_pubsub.specs.Live.{degradation_box, handler_box, subscriber_box, IsSingleValued, IsPlacedPublisher, IsPlacedSubscriber, HasItsBuffer, IsPublisherKey, IsSubscriberKey, IsLoanKey, IsSampleKey, IsBlockedKey, HasMark, IsFromOrigin, LoanHasHeader, LoanHasUserHeader, SampleHasHeader, SampleHasUserHeader, Item, No_item, A_publisher, A_subscriber, A_loan, A_sample, A_blocked_send, A_sent_loan, A_sent_copy, Both, IsOtherPublisher, IsOtherSubscriber, IsOtherLoan, IsOtherSample, IsUnblocked, IsUnwritten, IsWritten, PassesFull, NeverFails, NeverWaits, IsOtherBlocked, StaysBut, Stays, IsNewIn, unwritten_key, written_key}
+use Rattle.iox2_pubsub.specs.Live.{sample_key, IsPlaced, degradation_box, handler_box, subscriber_box, IsSingleValued, IsPlacedPublisher, IsPlacedSubscriber, HasItsBuffer, IsPublisherKey, IsSubscriberKey, IsLoanKey, IsSampleKey, IsBlockedKey, HasMark, IsFromOrigin, LoanHasHeader, LoanHasUserHeader, SampleHasHeader, SampleHasUserHeader, Item, No_item, A_publisher, A_subscriber, A_loan, A_sample, A_blocked_send, A_sent_loan, A_sent_copy, Both, IsOtherPublisher, IsOtherSubscriber, IsOtherLoan, IsOtherSample, IsUnblocked, IsUnwritten, IsWritten, PassesFull, NeverFails, NeverWaits, IsOtherBlocked, StaysBut, Stays, IsNewIn, unwritten_key, written_key}
 use Rattle.iox2_pubsub.specs.Slices.{HoldsSlices, IsSliced, HasUnwrittenCells, HasValues, SampleHasValues}
 use Rattle.iox2_pubsub.specs.declared.publisher.Publisher.{Publisher as PublisherHandle}
 use Rattle.iox2_pubsub.specs.Sample.{Sample}
@@ -58,50 +61,56 @@ module _ {T U : Type 0} where
   SamplesStayBut spent s s' = (p q n : ℕ) → is_borrowed n (s.mailboxes p q) ≡ true → IsOtherSample spent q n → is_borrowed n (s'.mailboxes p q) ≡ true
 
 module _ {T U F G : Type 0} where
-  -- each port keeps its boxes, but for the item
+  -- each port keeps its boxes, but for the item, and each message its slot
   pub record BoxesStayBut (spent : Item) (old new : Kept T U F G) : Type 0 where
     pub at : (key : Key) → IsPublisherKey old key → IsOtherPublisher spent key.port → boxes_of key.port (new.boxes).publishers ≡ boxes_of key.port (old.boxes).publishers
     pub subscribers : (key : Key) → IsSubscriberKey old key → IsOtherSubscriber spent key.port → boxes_of key.port (new.boxes).subscribers ≡ boxes_of key.port (old.boxes).subscribers
+    pub placed : (n key slot : ℕ) → IsPlaced old n key slot → IsPlaced new n key slot
 
   -- where the call changes no box
-  pub same-boxes : {boxes : DomainBoxes F G} {spent : Item} (f g : Fields T U) (kept : Kept T U F G) → keeping boxes f ≡ kept → BoxesStayBut spent kept (keeping boxes g)
-  same-boxes f g kept view = record {
+  pub same-boxes : {boxes : DomainBoxes F G} {spent : Item} (f g : Fields T U) (kept : Kept T U F G) → keeping boxes f ≡ kept → IsDomain f → KeepsPlaces f g → BoxesStayBut spent kept (keeping boxes g)
+  same-boxes {boxes} f g kept view sound places = record {
     at = λ key live other. ap (λ (k : Kept T U F G). boxes_of key.port (k.boxes).publishers) view;
     subscribers = λ key live other. ap (λ (k : Kept T U F G). boxes_of key.port (k.boxes).subscribers) view;
+    placed = placed-after boxes f g kept view sound places;
   }
 
   -- where it changes no box but those of the publisher that is the item
-  pub other-boxes : {boxes : DomainBoxes F G} {publishers : List (PortBox F G)} {spent : Item} (f g : Fields T U) (kept : Kept T U F G) → keeping boxes f ≡ kept
+  pub other-boxes : {boxes : DomainBoxes F G} {publishers : List (PortBox F G)} {spent : Item} (f g : Fields T U) (kept : Kept T U F G) → keeping boxes f ≡ kept → IsDomain f → KeepsPlaces f g
       → ((p : ℕ) → IsOtherPublisher spent p → boxes_of p publishers ≡ boxes_of p boxes.publishers) → BoxesStayBut spent kept (keeping (record boxes { publishers = publishers }) g)
-  other-boxes f g kept view same = record {
+  other-boxes {boxes} {publishers} f g kept view sound places same = record {
     at = λ key live other. same key.port other ∙ ap (λ (k : Kept T U F G). boxes_of key.port (k.boxes).publishers) view;
     subscribers = λ key live other. ap (λ (k : Kept T U F G). boxes_of key.port (k.boxes).subscribers) view;
+    placed = placed-after (record boxes { publishers = publishers }) f g kept view sound places;
   }
 
   -- where it changes no box but those of the subscriber that is the item
-  pub other-subscriber-boxes : {boxes : DomainBoxes F G} {subscribers : List (PortBox F G)} {spent : Item} (f g : Fields T U) (kept : Kept T U F G) → keeping boxes f ≡ kept
+  pub other-subscriber-boxes : {boxes : DomainBoxes F G} {subscribers : List (PortBox F G)} {spent : Item} (f g : Fields T U) (kept : Kept T U F G) → keeping boxes f ≡ kept → IsDomain f → KeepsPlaces f g
       → ((q : ℕ) → IsOtherSubscriber spent q → boxes_of q subscribers ≡ boxes_of q boxes.subscribers) → BoxesStayBut spent kept (keeping (record boxes { subscribers = subscribers }) g)
-  other-subscriber-boxes f g kept view same = record {
+  other-subscriber-boxes {boxes} {subscribers} f g kept view sound places same = record {
     at = λ key live other. ap (λ (k : Kept T U F G). boxes_of key.port (k.boxes).publishers) view;
     subscribers = λ key live other. same key.port other ∙ ap (λ (k : Kept T U F G). boxes_of key.port (k.boxes).subscribers) view;
+    placed = placed-after (record boxes { subscribers = subscribers }) f g kept view sound places;
   }
 
   -- where it changes the boxes of no publisher that is there
-  pub live-boxes : {boxes : DomainBoxes F G} {publishers : List (PortBox F G)} {spent : Item} (f g : Fields T U) (kept : Kept T U F G) → keeping boxes f ≡ kept
+  pub live-boxes : {boxes : DomainBoxes F G} {publishers : List (PortBox F G)} {spent : Item} (f g : Fields T U) (kept : Kept T U F G) → keeping boxes f ≡ kept → IsDomain f → KeepsPlaces f g
       → ((key : Key) → IsPublisherKey kept key → IsOtherPublisher spent key.port → boxes_of key.port publishers ≡ boxes_of key.port boxes.publishers)
       → BoxesStayBut spent kept (keeping (record boxes { publishers = publishers }) g)
-  live-boxes f g kept view same = record {
+  live-boxes {boxes} {publishers} f g kept view sound places same = record {
     at = λ key live other. same key live other ∙ ap (λ (k : Kept T U F G). boxes_of key.port (k.boxes).publishers) view;
     subscribers = λ key live other. ap (λ (k : Kept T U F G). boxes_of key.port (k.boxes).subscribers) view;
+    placed = placed-after (record boxes { publishers = publishers }) f g kept view sound places;
   }
 
   -- where it changes the boxes of no subscriber that is there
-  pub live-subscriber-boxes : {boxes : DomainBoxes F G} {subscribers : List (PortBox F G)} {spent : Item} (f g : Fields T U) (kept : Kept T U F G) → keeping boxes f ≡ kept
+  pub live-subscriber-boxes : {boxes : DomainBoxes F G} {subscribers : List (PortBox F G)} {spent : Item} (f g : Fields T U) (kept : Kept T U F G) → keeping boxes f ≡ kept → IsDomain f → KeepsPlaces f g
       → ((key : Key) → IsSubscriberKey kept key → IsOtherSubscriber spent key.port → boxes_of key.port subscribers ≡ boxes_of key.port boxes.subscribers)
       → BoxesStayBut spent kept (keeping (record boxes { subscribers = subscribers }) g)
-  live-subscriber-boxes f g kept view same = record {
+  live-subscriber-boxes {boxes} {subscribers} f g kept view sound places same = record {
     at = λ key live other. ap (λ (k : Kept T U F G). boxes_of key.port (k.boxes).publishers) view;
     subscribers = λ key live other. same key live other ∙ ap (λ (k : Kept T U F G). boxes_of key.port (k.boxes).subscribers) view;
+    placed = placed-after (record boxes { subscribers = subscribers }) f g kept view sound places;
   }
 
   -- a port with the same boxes has the same one of each kind
@@ -345,9 +354,14 @@ module _ {T U F G : Type 0} (spent : Item) (old new : Kept T U F G) (remain : Po
     placed_subscribers = placed-subscriber;
     buffers = buffered;
     loans = loan;
-    unwritten_loans = λ it live other. record { live = loan (unwritten_key it) live.live other; unwritten = mark it.loan.number _ live.unwritten other };
-    written_loans = λ it live other. record { live = loan (written_key it) live.live other; written = mark it.loan.number _ live.written other };
+    unwritten_loans = λ it live other. record { live = loan (unwritten_key it) live.live other; unwritten = mark it.loan.number _ live.unwritten other; placed = boxes.placed it.loan.number it.loan.book it.loan.slot live.placed };
+    written_loans = λ it live other. record { live = loan (written_key it) live.live other; written = mark it.loan.number _ live.written other; placed = boxes.placed it.loan.number it.loan.book it.loan.slot live.placed };
     samples = sample;
+    live_samples = λ it live other. record {
+      there = sample (sample_key it) live.there other;
+      placed = boxes.placed it.sample.number it.sample.book it.sample.slot live.placed;
+    };
+    placed_messages = boxes.placed;
     origins = origin;
     unblocked = free;
     never_wait = λ key was. record {
@@ -401,6 +415,7 @@ new-in {T} {U} start made publishers subscribers loans samples unblocked blocked
   unwritten_loans = λ it live. out (unwritten_key it) live.live;
   written_loans = λ it live. out (written_key it) live.live;
   samples = λ key live. let has = (sample-parts start key live).1 in samples has.0 key.port key.message has.1;
+  live_samples = λ it live. let has = (sample-parts start (sample_key it) live.there).1 in samples has.0 it.sample.subscriber it.sample.number has.1;
   origins = λ it from. samples it.origin it.sample.subscriber it.sample.number (origin-parts start it from);
   cells = λ n cells has. let it = cells-parts start n cells has in loans n it.0 it.1;
   payloads = λ n values has. let it = values-parts start n values has in loans n it.0 it.1;
@@ -434,6 +449,8 @@ unchanged-stays spent kept = record {
   unwritten_loans = λ it live other. live;
   written_loans = λ it live other. live;
   samples = λ key live other. live;
+  live_samples = λ it live other. live;
+  placed_messages = λ number book slot was. was;
   origins = λ it from other. from;
   unblocked = λ key free other. free;
   never_wait = λ key was. was;
@@ -463,6 +480,7 @@ module _ {T U F G : Type 0} (start : Kept T U F G) where
     unwritten_loans = λ it live. (a.unwritten_loans it live, b.unwritten_loans it live);
     written_loans = λ it live. (a.written_loans it live, b.written_loans it live);
     samples = λ key live. (a.samples key live, b.samples key live);
+    live_samples = λ it live. (a.live_samples it live, b.live_samples it live);
     origins = λ it from. (a.origins it from, b.origins it from);
     cells = λ n cells has. (a.cells n cells has, b.cells n cells has);
     payloads = λ n values has. (a.payloads n values has, b.payloads n values has);
@@ -542,6 +560,7 @@ part-new start part whole is new = record {
   unwritten_loans = λ it live. is.loans it.loan.number (new.unwritten_loans it live);
   written_loans = λ it live. is.loans it.loan.number (new.written_loans it live);
   samples = λ key live. is.samples key.port key.message (new.samples key live);
+  live_samples = λ it live. is.samples it.sample.subscriber it.sample.number (new.live_samples it live);
   origins = λ it from. is.samples it.sample.subscriber it.sample.number (new.origins it from);
   cells = λ n cells has. is.loans n (new.cells n cells has);
   payloads = λ n values has. is.loans n (new.payloads n values has);
@@ -568,6 +587,8 @@ stays-but-whole part whole is old new stays = record {
   unwritten_loans = λ it live other. stays.unwritten_loans it live (is.loans it.loan.number other);
   written_loans = λ it live other. stays.written_loans it live (is.loans it.loan.number other);
   samples = λ key live other. stays.samples key live (is.samples key.port key.message other);
+  live_samples = λ it live other. stays.live_samples it live (is.samples it.sample.subscriber it.sample.number other);
+  placed_messages = stays.placed_messages;
   origins = λ it from other. stays.origins it from (is.samples it.sample.subscriber it.sample.number other);
   unblocked = λ key free other. stays.unblocked key free (is.blocked_sends key.port other);
   never_wait = stays.never_wait;
@@ -625,6 +646,8 @@ stays-through start old new first second spent spares before next unblocked = re
   unwritten_loans = λ it live other. let apart = spares.unwritten_loans it live other in next.unwritten_loans it (before.unwritten_loans it live apart.0) apart.1;
   written_loans = λ it live other. let apart = spares.written_loans it live other in next.written_loans it (before.written_loans it live apart.0) apart.1;
   samples = λ key live other. let apart = spares.samples key live other in next.samples key (before.samples key live apart.0) apart.1;
+  live_samples = λ it live other. let apart = spares.samples (sample_key it) live.there other in next.live_samples it (before.live_samples it live apart.0) apart.1;
+  placed_messages = λ number book slot was. next.placed_messages number book slot (before.placed_messages number book slot was);
   origins = λ it from other. let apart = spares.origins it from other in next.origins it (before.origins it from apart.0) apart.1;
   unblocked = unblocked;
   never_wait = λ key was. next.never_wait key (before.never_wait key was);
@@ -684,6 +707,7 @@ module _ {T U F G : Type 0} (start old : Kept T U F G) (before : Stays start old
     unwritten_loans = λ it live. new.unwritten_loans it (before.unwritten_loans it live tt);
     written_loans = λ it live. new.written_loans it (before.written_loans it live tt);
     samples = λ key live. new.samples key (before.samples key live tt);
+    live_samples = λ it live. new.live_samples it (before.live_samples it live tt);
     origins = λ it from. new.origins it (before.origins it from tt);
     cells = λ n cells has. new.cells n cells (before.loan_cells n cells has tt);
     payloads = λ n values has. new.payloads n values (before.loan_payloads n values has tt);

@@ -17,6 +17,8 @@ use Rattle.iox2_pubsub.specs.Slices.{HasUnwrittenCells}
 use Rattle.iox2_pubsub.specs.declared.sample_mut_uninit.SampleMutUninit.{SampleMutUninit}
 use Rattle.iox2_pubsub.proofs.LiveParts.{loan-header, unwritten-live}
 use Rattle.iox2_pubsub.proofs.SliceParts.{has-cells, cells-parts}
+use Rattle.iox2_domain.specs.LoanSlots.{LiesInSlot}
+use Rattle.iox2_pubsub.proofs.PlacedLoans.{loan-placed}
 use Rattle.iox2_domain.specs.Ports.{PublisherFields}
 use Rattle.iox2_domain.specs.Kept.{Kept, state_of}
 use Rattle.iox2_domain.specs.Boxes.{DomainBoxes}
@@ -25,6 +27,7 @@ use Rattle.iox2_domain.specs.Invariant.{IsDomain}
 use Rattle.iox2_domain.specs.Lending.{IsNamed, LoanReaches, LoanCall, header_for, loan_memory, memory_for, memory_if_any}
 use Rattle.iox2_domain.specs.declared.loan_slots.LoanAt.{LoanAt}
 use Rattle.iox2_domain.specs.Shows.{Shows}
+use Rattle.iox2_domain.specs.KeptPlaces.{KeepsPlaces}
 use Rattle.iox2_domain.proofs.lemmas.fields.ConnectionEnds.{publisher-stands}
 use Rattle.iox2_domain.proofs.lemmas.fields.ReachesShows.{reaches-shows, reaches-shows-same}
 
@@ -92,10 +95,12 @@ module _ {T U : Type 0} (f : Fields T U) where
 
   -- and isn't written
   granted-live : {F G : Type 0} {boxes : DomainBoxes F G} (is_default : U → Type 0) (checks : Bool) (len : ℕ) (new : Fields T U) (x : PublisherFields) (loan : SampleMutUninit) → loan.service_id ≡ (f.config).service_id
-      → IsNamed f x loan.loan → LoanReaches {A = LoanAt} is_default checks len f x (Ok loan.loan) new → IsUnwritten (keeping boxes new) loan
-  granted-live {F} {G} {boxes} is_default checks len new x loan its names reaches =
+      → IsNamed f x loan.loan → LoanReaches {A = LoanAt} is_default checks len f x (Ok loan.loan) new → LiesInSlot new loan.loan.publisher loan.loan.number loan.loan.book loan.loan.slot
+      → IsUnwritten (keeping boxes new) loan
+  granted-live {F} {G} {boxes} is_default checks len new x loan its names reaches lies =
       unwritten-live (keeping boxes new) loan (its ∙ ap (λ (t : State T U). (t.config).service_id) (sym reaches.4.state))
       (lent_loan x reaches.0 len, granted-out is_default checks len new x loan.loan names reaches, sym names.publisher, refl)
+      (loan-placed boxes new reaches.4.agrees loan.loan.publisher loan.loan.book loan.loan.slot loan.loan.number lies)
 
 module _ {T U : Type 0} (is_default : U → Type 0) (checks : Bool) (len : ℕ) (f new : Fields T U) (sound : IsDomain f) (i p : ℕ) (answer : Result LoanAt LoanError)
     (stands : (x : PublisherFields) × (get_or f.publishers i None ≡ Some x) × (x.id ≡ p))
@@ -132,11 +137,18 @@ module _ {T U : Type 0} (is_default : U → Type 0) (checks : Bool) (len : ℕ) 
 
   -- it is out
   pub ok-live : {F G : Type 0} {boxes : DomainBoxes F G} (loan : SampleMutUninit) → answer ≡ Ok loan.loan → IsSomeAnd (get_or f.publishers i None) (λ z. IsNamed f z loan.loan) → (kept : Kept T U F G) → keeping boxes f ≡ kept
-      → loan.service_id ≡ (kept.config).service_id → IsUnwritten (keeping boxes new) loan
-  ok-live {F} {G} loan is named kept view service =
+      → loan.service_id ≡ (kept.config).service_id → LiesInSlot new loan.loan.publisher loan.loan.number loan.loan.book loan.loan.slot → IsUnwritten (keeping boxes new) loan
+  ok-live {F} {G} loan is named kept view service lies =
       granted-live f is_default checks len new stands.0 loan (service ∙ sym (ap (λ (k : Kept T U F G). (k.config).service_id) view))
       (subst (λ (o : Option PublisherFields). IsSomeAnd o (λ z. IsNamed f z loan.loan)) stands.1 named)
-      (subst (λ (r : Result LoanAt LoanError). LoanReaches is_default checks len f stands.0 r new) is its)
+      (subst (λ (r : Result LoanAt LoanError). LoanReaches is_default checks len f stands.0 r new) is its) lies
+
+  -- no message moves
+  pub loan-places : KeepsPlaces f new
+  loan-places = by answer its where
+    by : (r : Result LoanAt LoanError) → LoanReaches is_default checks len f stands.0 r new → KeepsPlaces f new
+    by (Ok loan) granted = granted.4.places
+    by (Err e) refused = refused.1.places
 
   -- it is the publisher's
   pub ok-publisher : (loan : LoanAt) → IsSomeAnd (get_or f.publishers i None) (λ z. IsNamed f z loan) → loan.publisher ≡ p

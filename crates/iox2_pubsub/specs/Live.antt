@@ -1,5 +1,5 @@
 -- What handles name in a domain, and what of it a call leaves.
-use Rattle.std.specs.Prelude.{ℕ, Bool, [], ◌∷◌, ◌≡◌, ◌≢◌, ◌⊎◌, true, false, IsTrue, List, length, map, drop, suc, ◌++◌, ◌≤◌, ◌<◌, ◌+◌}
+use Rattle.std.specs.Prelude.{ℕ, Bool, [], ◌∷◌, ◌≡◌, ◌≢◌, ◌⊎◌, true, false, IsTrue, List, length, map, drop, slice_index_or, suc, ◌++◌, ◌≤◌, ◌<◌, ◌+◌}
 use Rattle.std.specs.declared.option.Option.{Option}
 use Rattle.std.specs.Bool.{MatchBool}
 use Rattle.std.specs.List.{AllByRecursion}
@@ -14,7 +14,7 @@ use Rattle.iox2_machine.specs.declared.service_config.TypeVariant.TheVariants.{F
 use Rattle.iox2_machine.specs.machine.Waiting.{waiting_from}
 use Rattle.iox2_domain.specs.Boxes.{box_of, degradation_box_of}
 use Rattle.iox2_domain.specs.Handlers.{may_fail, may_fail_update}
-use Rattle.iox2_domain.specs.Kept.{Kept, state_of, entries_of}
+use Rattle.iox2_domain.specs.Kept.{Kept, KeptBook, KeptMessage, is_numbered, state_of, entries_of}
 use Rattle.iox2_domain.specs.LoanCalls.{HasLoanHeader, HasLoanUserHeader}
 use Rattle.iox2_pubsub.specs.ConnectedPorts.{Awaits, Connects}
 use Rattle.iox2_pubsub.specs.DepartedPorts.{HasRoom}
@@ -121,6 +121,18 @@ module _ {T U F G : Type 0} (domain : Kept T U F G) where
   unfoldable pub HasMark : (number : ℕ) → (is_written : Bool) → Type 0
   HasMark number is_written = (loan : Loan T U) × ((state_of domain).loans number ≡ Some loan) × (loan.is_written ≡ is_written)
 
+  -- A message with this number lies in that slot of the book at that key.
+  pub record LiesAt (key slot number : ℕ) : Type 0 where
+    pub book : KeptBook T U
+    pub message : KeptMessage T U
+    pub has_book : slice_index_or domain.books key None ≡ Some book
+    pub has_message : slice_index_or book.slots slot None ≡ Some message
+    pub numbered : is_numbered number message ≡ true
+
+  -- The message with this number, if it is there still, lies in that slot of the book at that key.
+  unfoldable pub IsPlaced : (number key slot : ℕ) → Type 0
+  IsPlaced number key slot = (number < domain.next_message) × ((k s : ℕ) → LiesAt k s number → (k ≡ key) × (s ≡ slot))
+
   -- The publisher, if it wasn't closed, stands at the place that its handle says.
   unfoldable pub IsPlacedPublisher : Publisher → Type 0
   IsPlacedPublisher publisher =
@@ -155,15 +167,17 @@ module _ {T U F G : Type 0} (domain : Kept T U F G) where
     pub there : IsSubscriberKey (subscriber_key subscriber)
     pub placed : IsPlacedSubscriber subscriber
 
-  -- The loan is one of the domain's that is out, and isn't written.
+  -- The loan is one of the domain's that is out, lies where its handle says, and isn't written.
   pub record IsUnwritten (loan : SampleMutUninit) : Type 0 where
     pub live : IsLoanKey (unwritten_key loan)
     pub unwritten : HasMark loan.loan.number false
+    pub placed : IsPlaced loan.loan.number loan.loan.book loan.loan.slot
 
-  -- The loan is one of the domain's that is out, and is written.
+  -- The loan is one of the domain's that is out, lies where its handle says, and is written.
   pub record IsWritten (loan : SampleMut) : Type 0 where
     pub live : IsLoanKey (written_key loan)
     pub written : HasMark loan.loan.number true
+    pub placed : IsPlaced loan.loan.number loan.loan.book loan.loan.slot
 
   -- The loan is one of the domain's that is out and isn't written, and no send of its publisher is ever blocked, or failed by a handler.
   pub record IsUnwrittenLoan (loan : SampleMutUninit) : Type 0 where
@@ -183,9 +197,10 @@ module _ {T U F G : Type 0} (domain : Kept T U F G) where
   abbrev pub HasLender : Key → Type 0
   HasLender loan = IsPublisherKey (lender_key loan)
 
-  -- The sample's message is borrowed by its subscriber.
-  abbrev pub IsLiveSample : Sample → Type 0
-  IsLiveSample sample = IsSampleKey (sample_key sample)
+  -- The sample's message is borrowed by its subscriber, and lies where the sample says.
+  pub record IsLiveSample (sample : Sample) : Type 0 where
+    pub there : IsSampleKey (sample_key sample)
+    pub placed : IsPlaced sample.sample.number sample.sample.book sample.sample.slot
 
   -- The sample's message is borrowed from the publisher that the sample names as its origin.
   unfoldable pub IsFromOrigin : Sample → Type 0
@@ -474,6 +489,8 @@ module _ {T U F G : Type 0} where
     pub unwritten_loans : (loan : SampleMutUninit) → IsUnwritten old loan → IsOtherLoan spent loan.loan.number → IsUnwritten new loan
     pub written_loans : (loan : SampleMut) → IsWritten old loan → IsOtherLoan spent loan.loan.number → IsWritten new loan
     pub samples : (key : Key) → IsSampleKey old key → IsOtherSample spent key.port key.message → IsSampleKey new key
+    pub live_samples : (sample : Sample) → IsLiveSample old sample → IsOtherSample spent sample.sample.subscriber sample.sample.number → IsLiveSample new sample
+    pub placed_messages : (number book slot : ℕ) → IsPlaced old number book slot → IsPlaced new number book slot
     pub origins : (sample : Sample) → IsFromOrigin old sample → IsOtherSample spent sample.sample.subscriber sample.sample.number → IsFromOrigin new sample
     pub unblocked : (key : Key) → IsUnblocked old key → IsOtherBlocked spent key.port → IsUnblocked new key
     pub never_wait : (key : Key) → NeverWaits old key → NeverWaits new key
@@ -503,6 +520,7 @@ module _ {T U F G : Type 0} where
     pub unwritten_loans : (loan : SampleMutUninit) → IsUnwritten old loan → IsOtherLoan made loan.loan.number
     pub written_loans : (loan : SampleMut) → IsWritten old loan → IsOtherLoan made loan.loan.number
     pub samples : (key : Key) → IsSampleKey old key → IsOtherSample made key.port key.message
+    pub live_samples : (sample : Sample) → IsLiveSample old sample → IsOtherSample made sample.sample.subscriber sample.sample.number
     pub origins : (sample : Sample) → IsFromOrigin old sample → IsOtherSample made sample.sample.subscriber sample.sample.number
     pub cells : (number : ℕ) (cells : List (Option T)) → HasUnwrittenCells old number cells → IsOtherLoan made number
     pub payloads : (number : ℕ) (values : List T) → HasValues old number values → IsOtherLoan made number

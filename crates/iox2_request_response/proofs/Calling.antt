@@ -1,7 +1,7 @@
 -- What a caller's functions are proved by: what is live stays so, and one call follows another.
 use Rattle.iox2_domain.specs.Kept.{Kept}
 use Rattle.iox2_pubsub.specs.Handles.{publisher_id, receiver_of, sample_number, subscriber_id}
-use Rattle.iox2_pubsub.specs.Live.{Both, IsNewIn, IsOtherBlocked, IsOtherPublisher, IsOtherSample, IsOtherSubscriber, Item, No_item, publisher_key, publisher_port, received_sample, sample_key, subscriber_port}
+use Rattle.iox2_pubsub.specs.Live.{Both, IsNewIn, IsOtherBlocked, IsOtherPublisher, IsOtherSample, IsOtherSubscriber, Item, No_item, publisher_key, publisher_port, received_sample, subscriber_port}
 use Rattle.iox2_pubsub.specs.declared.publisher.Publisher.{Publisher}
 use Rattle.iox2_pubsub.specs.declared.subscriber.Subscriber.{Subscriber}
 use Rattle.iox2_pubsub.proofs.StaysBut.{both-new, first-part, new-since, nothing-is-new, part-new, second-part, stays-on}
@@ -46,10 +46,10 @@ module _ {Q P F G : Type 0} where
   pending_stays old new stays pending live = subscriber-live old.responses new.responses No_item pending.slot stays.responses tt live
 
   pub active_stays : (old new : RequestResponse Q P F G) → StaysService old new → (active : ActiveRequest) → IsLiveActive old active → IsLiveActive new active
-  active_stays old new stays active live = stays.requests.samples (sample_key active.sample) live tt
+  active_stays old new stays active live = stays.requests.live_samples active.sample live tt
 
   pub response_stays : (old new : RequestResponse Q P F G) → StaysService old new → (response : Response) → IsLiveResponse old response → IsLiveResponse new response
-  response_stays old new stays response live = stays.responses.samples (sample_key response.sample) live tt
+  response_stays old new stays response live = stays.responses.live_samples response.sample live tt
 
 -- ---- what is spent
 
@@ -105,11 +105,11 @@ module _ {Q P F G : Type 0} where
   }
 
   pub active_but_client : (old new : RequestResponse Q P F G) (client : Client) → StaysButClient old new client → (active : ActiveRequest) → IsLiveActive old active → IsLiveActive new active
-  active_but_client old new client stays active live = stays.requests.samples (sample_key active.sample) live tt
+  active_but_client old new client stays active live = stays.requests.live_samples active.sample live tt
 
   pub response_but_client : (old new : RequestResponse Q P F G) (client : Client) → StaysButClient old new client → (response : Response) → IsLiveResponse old response → IsLiveResponse new response
   response_but_client old new client stays response live =
-      stays.responses.samples (sample_key response.sample) live (ports-sample (client.slots).items (receiver_of response.sample) (sample_number response.sample))
+      stays.responses.live_samples response.sample live (ports-sample (client.slots).items (receiver_of response.sample) (sample_number response.sample))
 
   -- where what is spent is neither its publisher nor one of its subscribers, a client stays
   client-apart : (asked answered : Item) (old new : RequestResponse Q P F G) → StaysBoth asked answered old new → ((id : ℕ) → IsOtherPublisher asked id) → ((id : ℕ) → IsOtherBlocked asked id)

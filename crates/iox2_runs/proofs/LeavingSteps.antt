@@ -67,15 +67,15 @@ module _ {T U F G : Type 0} (start : Domain T U F G) where
   sent-placed (Err error) = tt
 
 module _ {T U F G : Type 0} (old new : Domain T U F G) (table : List Made) where
-  -- a port stands where it did
+  -- a port, a loan and a sample are where they were
   still-placed : (spent : Item) → StaysBut spent old new → (made : Made) → IsPlacedMade old made → IsPlacedMade new made
   still-placed spent stays Nothing placed = tt
   still-placed spent stays (MadePublisher publisher) placed = stays.placed_publishers publisher placed
   still-placed spent stays (MadeSubscriber subscriber) placed = stays.placed_subscribers subscriber placed
-  still-placed spent stays (Unwritten loan) placed = tt
-  still-placed spent stays (Written loan) placed = tt
+  still-placed spent stays (Unwritten loan) placed = stays.placed_messages loan.loan.number loan.loan.book loan.loan.slot placed
+  still-placed spent stays (Written loan) placed = stays.placed_messages loan.loan.number loan.loan.book loan.loan.slot placed
   still-placed spent stays (Blocked blocked) placed = tt
-  still-placed spent stays (MadeSample sample) placed = tt
+  still-placed spent stays (MadeSample sample) placed = stays.placed_messages sample.sample.number sample.sample.book sample.sample.slot placed
 
   -- and so each of the table's
   all-placed : (spent : Item) → StaysBut spent old new → ArePlaced old table → ArePlaced new table

@@ -80,12 +80,12 @@ module _ {T U F G : Type 0} (domain : Domain T U F G) (held : Made) (keeps : IsH
   pub live_unwritten : (h : SampleMutUninit) → held ≡ Unwritten h → IsUnwritten domain h
   live_unwritten h is =
       let v = (has_entry (Unwritten h) is (λ e. let clash : Unwritten h ≡ Nothing = e in cc)).1 in
-      unwritten-live domain h v.0 (v.2).0
+      unwritten-live domain h v.0 (v.2).0 (subst (IsPlacedMade domain) (keeps.stands ∙ is) (((keeps.live).6).ports keeps.of))
 
   pub live_written : (h : SampleMut) → held ≡ Written h → IsWritten domain h
   live_written h is =
       let v = (has_entry (Written h) is (λ e. let clash : Written h ≡ Nothing = e in cc)).1 in
-      written-live domain h v.0 (v.2).0
+      written-live domain h v.0 (v.2).0 (subst (IsPlacedMade domain) (keeps.stands ∙ is) (((keeps.live).6).ports keeps.of))
 
   -- the id of its publisher was given out
   pub known_lender : (h : SampleMut) → held ≡ Written h → h.loan.publisher < (state_of domain).next_port
@@ -101,7 +101,7 @@ module _ {T U F G : Type 0} (domain : Domain T U F G) (held : Made) (keeps : IsH
   pub live_sample : (h : SampleHandle) → held ≡ MadeSample h → IsLiveSample domain h
   live_sample h is =
       let v = (has_entry (MadeSample h) is (λ e. let clash : MadeSample h ≡ Nothing = e in cc)).1 in
-      sample-live domain _ (v.0, (h.origin, v.2))
+      record { there = sample-live domain _ (v.0, (h.origin, v.2)); placed = (subst (IsPlacedMade domain) (keeps.stands ∙ is) (((keeps.live).6).ports keeps.of)) }
 
   -- its message is borrowed from its publisher
   pub borrowed_there : (h : SampleHandle) → held ≡ MadeSample h → is_borrowed h.sample.number ((state_of domain).mailboxes h.origin h.sample.subscriber) ≡ true

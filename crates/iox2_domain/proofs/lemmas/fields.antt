@@ -1,6 +1,7 @@
 -- What the fields of a domain show of the machine, and where its ports stand.
 pub mod Views
 pub mod SingleSettings
+pub mod PlacesKept
 pub mod Parts
 pub mod ReachesShows
 pub mod NamedPorts

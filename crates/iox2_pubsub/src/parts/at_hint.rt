@@ -14,7 +14,7 @@ use iox2_messages::is_last_at_hint;
 
 impl<T: Drop, U: Default + Drop, F: BackpressureFn, G: DegradationFn> Domain<T, U, F, G> {
     ghost use Rattle.iox2_machine.specs.declared.allocation.AllocationStrategy.TheVariants.{Static};
-    ghost use Rattle.iox2_pubsub.specs.Live.{HasMark, IsLiveSample, IsLiveSubscriber, IsLoanKey, IsPlacedPublisher, IsPublisherKey, IsReadyPublisher, IsSampleKey, IsUnblocked, IsUpToDate};
+    ghost use Rattle.iox2_pubsub.specs.Live.{HasMark, IsLiveSample, IsLiveSubscriber, IsLoanKey, IsPlaced, IsPlacedPublisher, IsPublisherKey, IsReadyPublisher, IsSampleKey, IsUnblocked, IsUpToDate};
     ghost use Rattle.iox2_pubsub.specs.LoansLeft.{GrowsBy, HasNumbersLeft};
     ghost use Rattle.iox2_pubsub.specs.Parts.{LenderIsPlaced, loan_named, publisher_named, publisher_with, sample_named, sample_parts, subscriber_with};
 
@@ -42,6 +42,7 @@ impl<T: Drop, U: Default + Drop, F: BackpressureFn, G: DegradationFn> Domain<T, 
     // borrowed last of the connection that they name, and both ports of that are open.
     fn is_sample_at_hint(&mut self, parts: &SampleParts) -> bool
         ensures live { IsTrue result → IsSampleKey self.old (sample_named parts.now) }
+        ensures placed { IsTrue result → IsPlaced self.old (parts.now).number (parts.now).book (parts.now).slot }
         ensures same { self.new ≡ self.old }
     {
         if parts.service_id != self.state.config().service_id {

@@ -9,10 +9,11 @@ ghost use Rattle.iox2_domain.specs.Invariant.{IsDomain};
 ghost use Rattle.iox2_domain.specs.LoanCalls.{HoldsWritten};
 ghost use Rattle.iox2_domain.specs.Ports.{PublisherFields, SubscriberFields};
 ghost use Rattle.iox2_domain.specs.LoanSlots.{IsLoanSlot, LiesInSlot};
+ghost use Rattle.iox2_domain.specs.SampleSlots.{LiesBorrowed};
 ghost use Rattle.iox2_slots.specs.declared.slots.mark.SlotMark.{SlotMark};
 ghost use Rattle.iox2_pubsub.specs.Parts.{HoldsMarked, written_mark};
 
-use iox2_domain::{DomainState, LoanAt, SampleAt, is_loan_slot};
+use iox2_domain::{DomainState, LoanAt, MessageSlot, SampleAt, SampleSlot, is_loan_slot};
 use iox2_machine::{AllocationStrategy, UniquePublisherId, UniqueSubscriberId};
 use iox2_slots::{SlotBook, SlotMark};
 
@@ -204,62 +205,74 @@ fn is_written(mark: SlotMark) -> bool
     matches!(mark, SlotMark::Written)
 }
 
-// What the mark of the publisher's loan is, where it is out.
-fn mark_of<T: Drop, U: Default + Drop>(state: &DomainState<T, U>, loan: &LoanAt) -> Option<SlotMark>
+// Where the publisher's loan lies, where it is out. The slot that is named is looked at first.
+#[inline(always)]
+fn find_lent<T: Drop, U: Default + Drop>(
+    state: &DomainState<T, U>,
+    loan: &LoanAt,
+) -> Option<MessageSlot>
     requires { IsDomain state.now }
-    ensures { MatchOption result (HoldsLoan (state_of (kept_of state.now)) loan.now.publisher loan.now.number → ⊥) (λ mark. HoldsMarked (state_of (kept_of state.now)) loan.now.publisher loan.now.number (written_mark mark)) }
+    ensures { MatchOption result (HoldsLoan (state_of (kept_of state.now)) loan.now.publisher loan.now.number → ⊥) (λ at. LiesInSlot state.now loan.now.publisher loan.now.number at.book at.slot) }
 {
     if is_lent_at_hint(state, loan) {
-        return Some(state.books[loan.book].mark(loan.slot));
+        return Some(MessageSlot {
+            book: loan.book,
+            slot: loan.slot,
+        });
     }
-    search_mark(state, loan.publisher, loan.number)
+    search_lent(state, loan.publisher, loan.number)
 }
 
 // The same, where the loan doesn't lie in the slot that is named. The publisher's loans are gone
 // through.
 #[inline(never)]
-fn search_mark<T: Drop, U: Default + Drop>(
+fn search_lent<T: Drop, U: Default + Drop>(
     state: &DomainState<T, U>,
     publisher: UniquePublisherId,
     number: u128,
-) -> Option<SlotMark>
+) -> Option<MessageSlot>
     requires { IsDomain state.now }
-    ensures { MatchOption result (HoldsLoan (state_of (kept_of state.now)) publisher number → ⊥) (λ mark. HoldsMarked (state_of (kept_of state.now)) publisher number (written_mark mark)) }
+    ensures { MatchOption result (HoldsLoan (state_of (kept_of state.now)) publisher number → ⊥) (λ at. LiesInSlot state.now publisher number at.book at.slot) }
 {
-    let Some(at) = state.find_loan(publisher, number) else {
-        return None;
-    };
-    Some(state.books[at.book].mark(at.slot))
+    state.find_loan(publisher, number)
 }
 
-/// Whether the publisher's loan is out, and is written as `wants_written` says.
+/// Where the publisher's loan lies, where it is out and is written as `wants_written` says.
 #[inline(always)]
-pub(crate) fn has_marked<T: Drop, U: Default + Drop>(
+pub(crate) fn find_marked<T: Drop, U: Default + Drop>(
     state: &DomainState<T, U>,
     loan: &LoanAt,
     wants_written: bool,
-) -> bool
+) -> Option<MessageSlot>
     requires { IsDomain state.now }
-    ensures { IsTrue result ↔ HoldsMarked (state_of (kept_of state.now)) loan.now.publisher loan.now.number wants_written }
+    ensures { MatchOption result (HoldsMarked (state_of (kept_of state.now)) loan.now.publisher loan.now.number wants_written → ⊥)
+        (λ at. HoldsMarked (state_of (kept_of state.now)) loan.now.publisher loan.now.number wants_written × LiesInSlot state.now loan.now.publisher loan.now.number at.book at.slot) }
 {
-    match mark_of(state, loan) {
-        Some(mark) => is_written(mark) == wants_written,
-        None => false,
+    let Some(at) = find_lent(state, loan) else {
+        return None;
+    };
+    if is_written(state.books[at.book].mark(at.slot)) != wants_written {
+        return None;
     }
+    Some(at)
 }
 
-/// Whether the subscriber has borrowed the message.
-pub(crate) fn has_sample<T: Drop, U: Default + Drop>(
+/// Where the message is that the subscriber has borrowed. The connection that is named is looked at first.
+pub(crate) fn find_borrowed<T: Drop, U: Default + Drop>(
     state: &DomainState<T, U>,
     sample: &SampleAt,
-) -> bool
+) -> Option<SampleSlot>
     requires { IsDomain state.now }
-    ensures { IsTrue result ↔ HoldsSample (state_of (kept_of state.now)) sample.now.subscriber sample.now.number }
+    ensures { MatchOption result (HoldsSample (state_of (kept_of state.now)) sample.now.subscriber sample.now.number → ⊥) (LiesBorrowed state.now sample.now.subscriber sample.now.number) }
 {
-    match state.find_sample_at(sample.connection, sample.subscriber, sample.number) {
-        Some(_) => true,
-        None => state.has_sample(sample.subscriber, sample.number),
+    let found = state.find_sample_at(sample.connection, sample.subscriber, sample.number);
+    if found.is_some() {
+        return found;
     }
+    if !state.has_sample(sample.subscriber, sample.number) {
+        return None;
+    }
+    Some(state.search_sample(sample))
 }
 
 /// Whether a subscriber has this id, wasn't closed and stands at the place.

@@ -4,7 +4,7 @@ ghost use Rattle.std.specs.Prelude.{◌↔◌, ◌≡◌, IfNone, IfSome, IsTrue
 use crate::blocked_send::BlockedSend;
 use crate::domain::Domain;
 use crate::parts::LoanParts;
-use crate::parts::hints::has_marked;
+use crate::parts::hints::find_marked;
 use crate::sample_mut::SampleMut;
 use crate::sample_mut_uninit::SampleMutUninit;
 use iox2_domain::LoanAt;
@@ -64,51 +64,72 @@ impl SampleMut {
 }
 
 impl<T: Drop, U: Default + Drop, F: BackpressureFn, G: DegradationFn> Domain<T, U, F, G> {
-    ghost use Rattle.iox2_pubsub.specs.Live.{HasMark, IsLoanKey, IsUnwritten, IsWritten};
+    ghost use Rattle.iox2_pubsub.specs.Live.{HasMark, IsLoanKey, IsPlaced, IsUnwritten, IsWritten};
     ghost use Rattle.iox2_pubsub.specs.Parts.{loan_named, unwritten_parts, written_parts};
 
-    // Whether the numbers are those of a loan of this domain that is out, and is written as
-    // `wants_written` says.
+    // The private part of a handle of the loan of this domain with these numbers that is out, and is
+    // written as `wants_written` says. Its book and slot are those in which it lies.
     #[inline(always)]
     #[tactic(auto, unfolding(crate::specs::Live::IsLoanKey))]
-    fn has_marked_of(&self, parts: &LoanParts, wants_written: bool) -> bool
-        ensures { IsTrue result ↔ (IsLoanKey self.now (loan_named parts.now) × HasMark self.now (parts.now).number wants_written) }
+    fn marked_of(&self, parts: &LoanParts, wants_written: bool) -> Option<LoanAt>
+        ensures out { IfSome result (λ loan. IsLoanKey self.now (loan_named parts.now) × HasMark self.now (parts.now).number wants_written) }
+        ensures placed { IfSome result (λ loan. IsPlaced self.now (parts.now).number loan.book loan.slot) }
+        ensures named { IfSome result (λ loan. loan ≡ record { publisher = parts.now.publisher; number = parts.now.number; place = parts.now.place; book = loan.book; slot = loan.slot }) }
+        ensures none { IfNone result (IsLoanKey self.now (loan_named parts.now) → HasMark self.now (parts.now).number wants_written → ⊥) }
     {
         if parts.service_id != self.state.config().service_id {
-            return false;
+            return None;
         }
-        has_marked(&self.state, &parts.loan(), wants_written)
+        let Some(at) = find_marked(&self.state, &parts.loan(), wants_written) else {
+            return None;
+        };
+        Some(LoanAt {
+            book: at.book,
+            slot: at.slot,
+            ..parts.loan()
+        })
     }
 
     /// A handle of the written loan with these numbers, and `None` if this domain has none that
     /// is out and written. This library's own.
+    ///
+    /// The service, the publisher and the message's number decide which loan it is. Where it lies
+    /// (`book` and `slot`) is a hint: the domain looks there first, and puts into the handle where it
+    /// found the loan. So numbers with another place give the same loan, and the handle's numbers are
+    /// theirs but for `book` and `slot`.
+    #[inline(always)]
     pub fn written_of(&self, parts: &LoanParts) -> Option<SampleMut>
         ensures out { IfSome result (λ loan. IsWritten self.now loan) }
-        ensures named { IfSome result (λ loan. written_parts loan ≡ parts.now) }
+        ensures named { IfSome result (λ loan. record (written_parts loan) { book = parts.now.book; slot = parts.now.slot } ≡ parts.now) }
         ensures none { IfNone result (IsLoanKey self.now (loan_named parts.now) → HasMark self.now (parts.now).number true → ⊥) }
     {
-        if !self.has_marked_of(parts, true) {
+        let Some(loan) = self.marked_of(parts, true) else {
             return None;
-        }
+        };
         Some(SampleMut {
             service_id: parts.service_id,
-            loan: parts.loan(),
+            loan,
         })
     }
 
     /// A handle of the unwritten loan with these numbers, and `None` if this domain has none that
     /// is out and not written. This library's own.
+    ///
+    /// The service, the publisher and the message's number decide which loan it is. Where it lies
+    /// (`book` and `slot`) is a hint: the domain looks there first, and puts into the handle where it
+    /// found the loan. So numbers with another place give the same loan, and the handle's numbers are
+    /// theirs but for `book` and `slot`.
     pub fn unwritten_of(&self, parts: &LoanParts) -> Option<SampleMutUninit>
         ensures out { IfSome result (λ loan. IsUnwritten self.now loan) }
-        ensures named { IfSome result (λ loan. unwritten_parts loan ≡ parts.now) }
+        ensures named { IfSome result (λ loan. record (unwritten_parts loan) { book = parts.now.book; slot = parts.now.slot } ≡ parts.now) }
         ensures none { IfNone result (IsLoanKey self.now (loan_named parts.now) → HasMark self.now (parts.now).number false → ⊥) }
     {
-        if !self.has_marked_of(parts, false) {
+        let Some(loan) = self.marked_of(parts, false) else {
             return None;
-        }
+        };
         Some(SampleMutUninit {
             service_id: parts.service_id,
-            loan: parts.loan(),
+            loan,
         })
     }
 }

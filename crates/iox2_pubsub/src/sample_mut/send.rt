@@ -7,6 +7,7 @@ ghost use Rattle.iox2_domain.specs.Fields.{kept_of};
 ghost use Rattle.iox2_domain.specs.Invariant.{IsDomain};
 ghost use Rattle.iox2_domain.specs.Kept.{state_of};
 ghost use Rattle.iox2_domain.specs.LoanCalls.{HoldsWritten};
+ghost use Rattle.iox2_domain.specs.LoanSlots.{LiesInSlot};
 ghost use Rattle.iox2_domain.specs.SentLoans.{SendsLoan};
 ghost use Rattle.iox2_messages.specs.SendEnds.{IsNotLost, end_result};
 ghost use Rattle.iox2_messages.specs.declared.send_end.SendEnd.{SendEnd};
@@ -95,6 +96,7 @@ fn send_loan<T: Drop, U: Default + Drop, F: BackpressureFn, G: DegradationFn>(
 ) -> Result<SendOutcome, SendError>
     requires agrees { IsDomain state.old }
     requires live { HoldsWritten (state_of (kept_of state.old)) loan.publisher loan.number }
+    requires lies { LiesInSlot state.old loan.publisher loan.number loan.book loan.slot }
     requires unblocked { is_blocked (state_of (kept_of state.old)) loan.publisher ≡ false }
     ensures ends { (end : SendEnd) × SendsLoan (answers_of F.allows G.allows (boxes.now).boxes) state.old state.new loan.number (end_result end)
         × (HoldsPublisher (state_of (kept_of state.old)) loan.publisher → IsNotLost end) × (result_of_send result ≡ end_result end) }

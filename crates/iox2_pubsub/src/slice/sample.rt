@@ -5,7 +5,7 @@ use crate::domain::Domain;
 use crate::kinds::Slice;
 use crate::sample;
 use iox2_machine::{BackpressureFn, DegradationFn};
-use iox2_messages::{sample_payloads, sample_values_at_hint};
+use iox2_messages::sample_payloads;
 
 /// A slice that a subscriber has received and not yet released. It is a value to be spent, as the
 /// sample of a single value is, and has its other calls.
@@ -53,6 +53,6 @@ impl Sample {
         ensures reads { IfSome result (λ values. SampleHasValues domain.now (sample_key self.now) values.now) }
         ensures same { IfSome result (λ found. (values : List T) → SampleHasValues domain.now (sample_key self.now) values → found.now ≡ values) }
     {
-        sample_values_at_hint(&domain.state, &self.sample)
+        Some(sample_payloads(&domain.state, &self.sample))
     }
 }

@@ -153,6 +153,7 @@ pub(crate) fn write_cells<T: Copy + Drop, U: Default + Drop, F: BackpressureFn, 
     requires { IsUnwritten domain.old loan }
     ensures written { (m : Messages T U) (s : State T U) → Shows domain.old m s
         → (l : Loan T U) × (s.loans loan.loan.number ≡ Some l) × Shows domain.new m (with_loan s loan.loan.number (Some (written l value))) }
+    ensures out { IsWritten domain.new result }
     ensures key { written_key result ≡ unwritten_key loan }
     ensures stays { StaysBut (unwritten_loan loan) domain.old domain.new }
 {

@@ -38,6 +38,7 @@ module _ {T U : Type 0} (key : ℕ) (old new : Fields T U) (s : State T U) (left
     state = but-channels new s left.state;
     channels = left.channels;
     entries = left.entries;
+    places = left.places;
     complete = left.agrees.entries;
   }
 

@@ -40,6 +40,7 @@ use Rattle.iox2_domain.proofs.lemmas.fields.ConnectionEnds.{publisher-stands}
 use Rattle.iox2_steps.proofs.sends.LoanAlone.{loan-once}
 use Rattle.iox2_domain.specs.OpenMarks.{IsUnmarkedSender}
 use mathlib.Core.Path.{fun_ext}
+use Rattle.iox2_domain.proofs.lemmas.fields.PlacesKept.{places-back}
 
 module _ {T U : Type 0} (f : Fields T U) (sound : IsDomain f) (i : ℕ) (x : PublisherFields) (here : get_or f.publishers i None ≡ Some x)
     (b : Book) (at : get f.books x.book ≡ Some b) (new : Slab Link) (left : LeavesConnections x.id f.subscribers f.connections new) (holders : List ℕ)
@@ -177,4 +178,5 @@ module _ {T U : Type 0} (f : Fields T U) (sound : IsDomain f) (i : ℕ) (x : Pub
     state = left-is unmarked;
     channels = λ k d at_d. left-had x.id f.subscribers f.connections new left k d at_d;
     entries = left-entries;
+    places = places-back (number-back f sound i x here b at new left holders slots);
   }

@@ -23,6 +23,7 @@ use Rattle.iox2_domain.proofs.lemmas.fields.ReachesShows.{reaches-then}
 use Rattle.iox2_domain.proofs.lemmas.fields.Views.{held-before}
 use Rattle.iox2_steps.proofs.receivers.LeftChanges.{parts-warned}
 use Rattle.iox2_domain.proofs.lemmas.receives.Reception.{updated, updated-stands, updated-reaches}
+use Rattle.iox2_domain.proofs.lemmas.fields.PlacesKept.{places-still}
 
 module _ {T U : Type 0} where
   -- warnings change, and nothing else
@@ -35,6 +36,7 @@ module _ {T U : Type 0} where
         (λ x at. (x, at, record { history = refl; blocked = refl })) held));
     state = refl;
     entries = λ n entry at. at;
+    places = places-still;
   }
 
   failure-reaches : (f : Fields T U) → IsDomain f → (warning : ConnectionFailure → Warning) (failure : Option ConnectionFailure)

@@ -20,7 +20,7 @@ use Rattle.iox2_domain.specs.Invariant.{HasForms, IsDomain, HasPublisherRoom, ce
 use Rattle.iox2_domain.specs.Reaches.{Reaches}
 use Rattle.iox2_steps.proofs.creations.SubscribersDue.{with_subscribers_due, subscribers_due-are, subscribers_due-agree}
 use Rattle.iox2_steps.proofs.creations.PublisherEntered.{PublisherEnters, with_entered_publisher, newcomer, entered-is}
-use Rattle.iox2_steps.proofs.creations.PublisherEnteredAgrees.{entered-agrees, entries_same}
+use Rattle.iox2_steps.proofs.creations.PublisherEnteredAgrees.{entered-agrees, entries_same, entered-places}
 use Rattle.iox2_domain.proofs.lemmas.fields.NamedPorts.{named-at}
 use Rattle.iox2_domain.proofs.lemmas.slots.NewBook.{BookEnters}
 
@@ -67,4 +67,5 @@ module _ {T U : Type 0} (f : Fields T U) (sound : IsDomain f) (place : ℕ) (giv
     agrees = admitted-agrees rooms low next;
     state = admitted-is;
     entries = λ n entry at. sym (entries_same (with_subscribers_due f) place given loan_room key_room key books contents enters n) ∙ at;
+    places = entered-places (with_subscribers_due f) place given loan_room key_room key books contents enters;
   }

@@ -28,11 +28,12 @@ use Rattle.iox2_domain.specs.Kept.{state_of, entries_of, entry_in, KeptMessage}
 use Rattle.iox2_domain.specs.Fields.{Fields, kept_of, is_book_of, message_in, contents_at}
 use Rattle.iox2_domain.specs.Invariant.{IsDomain, IsBook, IsLinked, HasBook, HasBooks, KeepsBooks, HasShape, IsCounted, SenderHas, ReceiverHas, HasPublisherRoom, HasRoomFrom, is_publisher, is_loan_in, holders_of, own_holders, HasOpenLoans, cell_count, cell_lists}
 use Rattle.iox2_domain.specs.Placed.{placed}
+use Rattle.iox2_domain.specs.KeptPlaces.{KeepsPlaces}
 use Rattle.iox2_machine.specs.Stored.{IsHeldMessage, In_history, In_mailbox, In_blocked_send}
 use Rattle.iox2_domain.proofs.lemmas.fields.KeptBooks.{StoodOrEnters, kept-publishers}
 use Rattle.iox2_domain.proofs.lemmas.fields.NamedBooks.{names-books}
 use Rattle.iox2_domain.proofs.lemmas.containers.Placed.{placed-here}
-use Rattle.iox2_domain.proofs.lemmas.slots.NewBook.{sender_before, no_book, books-apart, book-found, unheld, was_book, away_from, still_book, nothing_in, contents-same, messages-same, numbered-still, lone-still}
+use Rattle.iox2_domain.proofs.lemmas.slots.NewBook.{sender_before, no_book, books-apart, book-found, unheld, was_book, away_from, still_book, nothing_in, contents-same, messages-same, new-places, numbered-still, lone-still}
 use Rattle.iox2_domain.proofs.lemmas.slots.SlotCells.{cells_if, cells_in, cells-read}
 use Rattle.iox2_steps.proofs.creations.PublisherEntered.{PublisherEnters, newcomer, with_entered_publisher, ids_apart, stood, still, publisher-found, entered-is}
 use Rattle.iox2_steps.proofs.creations.SubscriberEnteredAgrees.{nothing_at}
@@ -259,6 +260,10 @@ module _ {T U : Type 0} (f : Fields T U) (place : ℕ) (given : PublisherSetting
   -- the entries are the same
   pub entries_same : (n : ℕ) → entries_of (kept_of after) n ≡ entries_of (kept_of f) n
   entries_same n = ap (option_and_then entry_in) (messages-same f enters.sound slots needed key books contents enters.book n)
+
+  -- and each message lies where it lay
+  pub entered-places : KeepsPlaces f after
+  entered-places = new-places f enters.sound slots needed key books contents enters.book
 
   -- the new publisher's slots have no cells
   no-cells : (slot : ℕ) → cell_count contents key slot ≡ 0

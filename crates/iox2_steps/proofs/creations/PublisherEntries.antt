@@ -30,6 +30,7 @@ use Rattle.iox2_domain.proofs.lemmas.slots.OpenLoans.{lists-some, same-lists, op
 use Rattle.iox2_domain.proofs.lemmas.slots.NewBook.{BookEnters}
 use Rattle.iox2_steps.proofs.creations.PublisherAdmitted.{with_admitted, admitted-reaches}
 use Rattle.iox2_steps.proofs.creations.SubscribersDue.{subscriber_due}
+use Rattle.iox2_domain.proofs.lemmas.fields.PlacesKept.{places-back}
 
 -- the tests of a place that a publisher has, in their order
 pub record HasPlace {T U : Type 0} (f : Fields T U) (place : ℕ) : Type 0 where
@@ -119,7 +120,7 @@ module _ {T U : Type 0} (f : Fields T U) where
       → Reaches f new (state_of (kept_of f))
   room-reaches before new capacity e sound changed =
       let same : new ≡ with_room capacity = changed ∙ ap (λ (g : Fields T U). record g { books = record (g.books) { capacity = capacity } }) e in
-      subst (λ (g : Fields T U). Reaches f g (state_of (kept_of f))) (sym same) (record { agrees = room-agrees capacity sound; state = refl; entries = λ n entry at. at })
+      subst (λ (g : Fields T U). Reaches f g (state_of (kept_of f))) (sym same) (record { agrees = room-agrees capacity sound; state = refl; entries = λ n entry at. at; places = places-back (λ k slot n has. record { book = has.book; stands = has.stands; in_use = has.in_use; number = has.number }) })
 
   -- ---- it enters
 

@@ -126,5 +126,6 @@ module _ {T U : Type 0} (f : Fields T U) where
     state = publishers_due-are ∙ ap publishers_due midway.state;
     channels = midway.channels;
     entries = midway.entries;
+    places = midway.places;
     complete = λ p n held. midway.complete p n (held-due p n held);
   }

@@ -28,6 +28,7 @@ use Rattle.iox2_steps.proofs.creations.PublishersDue.{due}
 use Rattle.iox2_domain.proofs.lemmas.containers.Placed.{placed-here}
 use Rattle.iox2_domain.proofs.lemmas.fields.ReachesShows.{reaches-then}
 use Rattle.iox2_domain.proofs.lemmas.containers.FreePlaces.{lowest_empty-low, lowest_empty-free, lowest_free-ids, lowest_empty-map}
+use Rattle.iox2_domain.proofs.lemmas.fields.PlacesKept.{places-still}
 
 -- the tests of a place that a subscriber has, in their order
 record HasPlace {T U : Type 0} (f : Fields T U) (given : SubscriberSettings) (place : ℕ) : Type 0 where
@@ -114,6 +115,7 @@ module _ {T U : Type 0} (f : Fields T U) (given : SubscriberSettings) where
             (ltb-false _ _ has.fits) (subst (λ (p : ℕ). suc p ≤ (f.config).max_subscribers) has.lowest (ltb-true _ _ has.low)) next;
         state = admitted-is f sound warnings place given y.key_room y.expired_room free warned;
         entries = λ n entry at. at;
+        places = places-still;
       })
 
   -- a subscriber that has entered, where the fields are known by another name, and two of the new ones

@@ -35,13 +35,14 @@ use Rattle.iox2_domain.proofs.lemmas.fields.NamedBooks.{names-books}
 use Rattle.iox2_domain.proofs.lemmas.fields.Views.{held-before}
 use Rattle.iox2_domain.proofs.lemmas.slots.BookChanges.{KeepsSlots, book-after, book-here, book-others, other-book, books-apart, book-state, books-changed, linked-book}
 use Rattle.iox2_domain.proofs.lemmas.slots.HeldMessages.{held-message-slot}
-use Rattle.iox2_domain.proofs.lemmas.slots.HolderGone.{given, left, keeps_slots, free, others-held, given-aligned, left-numbered, unnumbered, others-same, left-entries, left-loans, left-shapes, left-lone}
+use Rattle.iox2_domain.proofs.lemmas.slots.HolderGone.{given, left, keeps_slots, free, others-held, given-aligned, left-numbered, unnumbered, others-same, left-entries, left-places, left-loans, left-shapes, left-lone}
 use Rattle.iox2_domain.proofs.lemmas.slots.LeftConnections.{unknown, stands-nowhere}
 use Rattle.iox2_domain.proofs.lemmas.slots.LoneLoans.{is-loan}
 use Rattle.iox2_domain.proofs.lemmas.slots.OpenLoans.{open-rebooked}
 use Rattle.iox2_domain.proofs.lemmas.slots.SettledBooks.{settles}
 use Rattle.iox2_domain.proofs.lemmas.slots.Messages.{lies_at, message_in-parts, message_at-slot}
 use Rattle.iox2_domain.proofs.lemmas.slots.RecountedLoans.{loan-publisher}
+use Rattle.iox2_domain.proofs.lemmas.fields.PlacesKept.{places-then}
 
 module _ {T U : Type 0} (f : Fields T U) (sound : IsDomain f) (p n key slot : ℕ) (at : LiesInSlot f p n key slot) (none : look_up (is_publisher p) f.publishers ≡ None) where
   abbrev was : State T U
@@ -212,6 +213,7 @@ module _ {T U : Type 0} (f : Fields T U) (sound : IsDomain f) (p n key slot : �
     agrees = settled.agrees;
     state = settled.state ∙ left-is ∙ sym discarded-is;
     entries = λ m entry e. left-entries f parts key at.book at.stands slot n at.loan lies alone m entry (settled.entries m entry e);
+    places = places-then (left-places f parts key at.book at.stands slot n at.loan lies alone) settled.places;
   } where
     same : l.book ≡ at.book
     same = let both : Some l.book ≡ Some at.book = sym l.stands ∙ at.stands in cc
@@ -235,6 +237,7 @@ module _ {T U : Type 0} (f : Fields T U) (sound : IsDomain f) (p n key slot : �
     sends = match-none (was.publishers at.loan.publisher) _ _ absent ((left-reaches new l).state ∙ discarded-is, refl);
     loans = ap (λ (s : State T U). s.loans) ((left-reaches new l).state ∙ discarded-is);
     entries = λ m entry e. inr ((left-reaches new l).entries m entry e);
+    places = (left-reaches new l).places;
     lost = λ error other is. (left-reaches new l).entries;
     unfailed = λ quiet is. absurd cc;
   } where

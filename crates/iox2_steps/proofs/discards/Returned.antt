@@ -40,7 +40,7 @@ use Rattle.iox2_domain.proofs.lemmas.slots.SlotCells.{cells-here, cells-elsewher
 use Rattle.iox2_domain.proofs.lemmas.slots.SlotChanges.{forms-changed, lists-changed}
 use Rattle.iox2_steps.proofs.sends.LoanAlone.{loan-number, loan-is, loan-of, loan-slot, loan-once, blocked-other}
 use Rattle.iox2_steps.proofs.sends.SentSlots.{times-without-one, map-without}
-use Rattle.iox2_domain.proofs.lemmas.slots.HolderGone.{keeps_slots, free, fewer-holders, given-aligned, left-numbered, unnumbered, others-same, left-entries, left-loans, left-shapes, left-lone}
+use Rattle.iox2_domain.proofs.lemmas.slots.HolderGone.{keeps_slots, free, fewer-holders, given-aligned, left-numbered, unnumbered, others-same, left-entries, left-places, left-loans, left-shapes, left-lone}
 use Rattle.iox2_domain.proofs.lemmas.slots.BookChanges.{KeepsSlots, book-here}
 use Rattle.iox2_domain.proofs.lemmas.slots.HeldMessages.{held-message-slot}
 use Rattle.iox2_domain.proofs.lemmas.slots.Messages.{lies_at}
@@ -193,4 +193,5 @@ module _ {T U : Type 0} (f : Fields T U) (sound : IsDomain f) (i : ℕ) (x : Pub
     agrees = whole_of returned returned-parts (left-lone f parts x.book b at slot n l lies alone sound.lone) kept (subst IsWellFormed (sym returned-is) (loan_discarded_keeps was sound.well_formed n l (loan-is f sound i x here slot n l lies))) keeps_entries;
     state = returned-is;
     entries = λ m entry kept. left-entries f parts x.book b at slot n l lies alone m entry (sym (ap (λ (k : Kept T U ⊥ ⊥). entries_of k m) same-kept) ∙ kept);
+    places = left-places f parts x.book b at slot n l lies alone;
   }

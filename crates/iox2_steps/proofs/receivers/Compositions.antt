@@ -25,6 +25,7 @@ use Rattle.iox2_domain.proofs.lemmas.containers.ChangedRecords.{changed-here}
 use Rattle.iox2_steps.proofs.receivers.LeftChanges.{present}
 use Rattle.iox2_domain.proofs.lemmas.fields.ConnectionEnds.{subscriber-stands}
 use mathlib.Core.Path.{fun_ext}
+use Rattle.iox2_domain.proofs.lemmas.fields.PlacesKept.{places-still, places-then}
 
 module _ {T U : Type 0} (f : Fields T U) (sound : IsDomain f) (j : ℕ) (y : SubscriberFields) (at : get_or f.subscribers j None ≡ Some y) where
   abbrev s : State T U
@@ -46,6 +47,7 @@ module _ {T U : Type 0} (f : Fields T U) (sound : IsDomain f) (j : ℕ) (y : Sub
     state = but-channels f (with_receiver_side s y.id Q (current_side s y.id Q)) (λ k. record s { subscribers = (put_at-own s.subscribers y.id ∙ ap (put_at s.subscribers y.id) (present f sound j y at)) k; mailboxes = λ p. put_at-own (s.mailboxes p) y.id k });
     channels = follow-same (λ home. home.subscriber ≡ y.id) (λ p q. s.publishers p ≡ None) f.connections f.connections (record { same = λ k. refl });
     entries = λ n entry e. e;
+    places = places-still;
   }
 
   module _ (side : ReceiverSide) (f' : Fields T U) (ch : ChangesReceiver f j y side f') where
@@ -119,4 +121,5 @@ module _ {T U : Type 0} (f : Fields T U) (sound : IsDomain f) (j : ℕ) (y : Sub
       channels = follow-both (λ home. home.subscriber ≡ y.id) (λ p q. s.publishers p ≡ None) f.connections f'.connections f''.connections ch.channels
           (subst (λ (publishers : ℕ → Option Publisher). ChannelsFollow (λ home. home.subscriber ≡ y.id) (λ p q. publishers p ≡ None) f'.connections f''.connections) (ap (λ (t : State T U). t.publishers) ch.state) more.channels);
       entries = λ n entry e. ch.entries n entry (more.entries n entry e);
+      places = places-then ch.places more.places;
     }

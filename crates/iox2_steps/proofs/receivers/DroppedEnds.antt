@@ -38,6 +38,7 @@ use Rattle.iox2_steps.proofs.receivers.LeftStates.{left-is, ends-left, expired-l
 use mathlib.Core.Path.{fun_ext}
 use Rattle.iox2_laws.proofs.MailboxLemmas.{contains_borrowed}
 use Rattle.iox2_domain.proofs.lemmas.fields.NamedPorts.{seen, seen_subscriber, named-nowhere}
+use Rattle.iox2_domain.specs.KeptPlaces.{KeepsPlaces}
 
 -- the mailboxes of which one's waiting messages are lost, as the subscriber sees them
 pub dropped-box : (boxes : ℕ → ℕ → Mailbox) (p q : ℕ) (box : Mailbox) → with_box boxes p q box ≡ (λ (r : ℕ). put_at (boxes r) q (put_at (λ (i : ℕ). boxes i q) p box r))
@@ -130,6 +131,9 @@ module _ {T U : Type 0} (f : Fields T U) (sound : IsDomain f) (j : ℕ) (y : Sub
 
   pub dropped-entries : (n : ℕ) (entry : Entry T U) → entries_of (kept_of dropped_fields) n ≡ Some entry → entries_of (kept_of f) n ≡ Some entry
   dropped-entries = counts.recounted-entries f sound p c.home.book b at_b mine holders between recounts
+
+  pub dropped-places : KeepsPlaces f dropped_fields
+  dropped-places = counts.recounted-places f sound p c.home.book b at_b mine holders between recounts
 
   -- each message that somebody holds has its entry
   pub dropped-keeps : (r n : ℕ) → IsHeldMessage (state_of (kept_of dropped_fields)) r n → (entry : Entry T U) × (entries_of (kept_of dropped_fields) n ≡ Some entry) × ((entry.header).publisher_id ≡ r)

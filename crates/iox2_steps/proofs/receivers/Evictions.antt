@@ -40,7 +40,7 @@ use Rattle.iox2_steps.proofs.receivers.LeftEnds.{IsDeparted, LeavesReceiver, lef
 use Rattle.iox2_steps.proofs.receivers.LeftStates.{left-is, occupants-pushed, occupants-without, same-lead}
 use Rattle.iox2_steps.proofs.receivers.LeftChanges.{parts-warned, present, side-well_formed}
 use Rattle.iox2_steps.proofs.receivers.Retirements.{retired_side, here, absent}
-use Rattle.iox2_steps.proofs.receivers.DroppedEnds.{dropped-follows, dropped_fields, dropped-is, dropped-box, dropped-lone, dropped-kept, dropped-gone, dropped-entries, dropped-keeps, expired-fits, removed_fields, removed-parts, removed-is, ends-removed, expired-removed}
+use Rattle.iox2_steps.proofs.receivers.DroppedEnds.{dropped-follows, dropped_fields, dropped-is, dropped-box, dropped-lone, dropped-kept, dropped-gone, dropped-entries, dropped-places, dropped-keeps, expired-fits, removed_fields, removed-parts, removed-is, ends-removed, expired-removed}
 use Rattle.iox2_domain.proofs.lemmas.samples.HintedSamples.{contained}
 use Rattle.iox2_domain.proofs.lemmas.fields.NamedPorts.{seen, seen_subscriber}
 
@@ -181,6 +181,7 @@ module _ {T U : Type 0} (f : Fields T U) (sound : IsDomain f) (j i : ℕ) (y : S
       state = state;
       channels = dropped-follows f sound j y end.stands first d old.link lost-departed old.unborrowed b at_b mine holders new removes;
       entries = dropped-entries f sound j y end.stands first d old.link lost-departed old.unborrowed b at_b mine holders new removes;
+      places = dropped-places f sound j y end.stands first d old.link lost-departed old.unborrowed b at_b mine holders new removes;
     } where
       between : Fields T U
       between = dropped_fields f sound j y end.stands first d old.link lost-departed old.unborrowed b at_b mine holders new removes

@@ -43,6 +43,7 @@ module _ {T U : Type 0} (f : Fields T U) (sound : IsDomain f) (i j : ℕ) (x : P
     state = ch.state ∙ ap (λ (t : State T U). with_channels_of f' (with_receiver_side t y.id Q side)) grown-state;
     channels = subst (λ (t : State T U). ChannelsFollow (λ home. home.subscriber ≡ y.id) (λ p q. t.publishers p ≡ None) f.connections f'.connections) grown-state ch.channels;
     entries = ch.entries;
+    places = ch.places;
   }
 
   pub end-from-grown : (environment : Environment) (f' : Fields T U) (failure : Option ConnectionFailure) → ConnectsEnd environment (grown f i j x y n m e) j i (with_receiver_rooms m e y) x.id f' failure

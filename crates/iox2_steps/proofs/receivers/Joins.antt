@@ -45,6 +45,7 @@ use Rattle.iox2_steps.proofs.receivers.LeftChanges.{present, side-well_formed}
 use Rattle.iox2_steps.proofs.receivers.JoinChanges.{joins-follow, receiver-is, receiver_fits-same}
 use Rattle.iox2_steps.proofs.receivers.JoinAgrees.{receiver-agrees}
 use Rattle.iox2_domain.proofs.lemmas.fields.NamedPorts.{seen, seen_subscriber}
+use Rattle.iox2_domain.proofs.lemmas.fields.PlacesKept.{places-still}
 
 module _ {T U : Type 0} (environment : Environment) (f : Fields T U) (sound : IsDomain f) (i j : ℕ) (x : PublisherFields) (y : SubscriberFields)
     (at_x : get_or f.publishers i None ≡ Some x) (at_y : get_or f.subscribers j None ≡ Some y) (none : get_or y.keys i None ≡ None) where
@@ -90,6 +91,7 @@ module _ {T U : Type 0} (environment : Environment) (f : Fields T U) (sound : Is
       state = but-channels (joined_fields keys connections warnings) (with_receiver_side (seen f) y.id (seen_subscriber f y) (side_with keys connections warnings)) state;
       channels = joins-follow f sound.parts j y at_y keys y.key_room y.expired_room y.is_due connections warnings fits;
       entries = λ n entry e. e;
+      places = places-still;
     },
     step,
   ) where

@@ -23,6 +23,7 @@ use Rattle.iox2_steps.proofs.receivers.LeftStates.{left-still, left_port}
 use Rattle.iox2_domain.proofs.lemmas.fields.ConnectionEnds.{subscriber-stands}
 use Rattle.iox2_domain.proofs.lemmas.fields.SameLinks.{linked-same}
 use Rattle.iox2_domain.proofs.lemmas.fields.NamedPorts.{seen, seen_subscriber}
+use Rattle.iox2_domain.proofs.lemmas.fields.PlacesKept.{places-still}
 
 -- warnings matter to nothing else
 pub parts-warned : {T U : Type 0} (f : Fields T U) (warnings : WarningRing) → HasParts f → warnings.capacity ≡ warning_limit → HasParts (record f { warnings = warnings })
@@ -74,6 +75,7 @@ module _ {T U : Type 0} (f : Fields T U) (sound : IsDomain f) (j : ℕ) (y : Sub
     state = but-channels after (with_receiver_side (seen f) y.id (seen_subscriber f y) side) state;
     channels = follow-same (λ home. home.subscriber ≡ y.id) (λ p q. (seen f).publishers p ≡ None) f.connections f.connections (record { same = λ k. refl });
     entries = λ n entry e. e;
+    places = places-still;
   } where
     after : Fields T U
     after = left_fields f parts j y at keys expired side.is_due f.connections fits

@@ -36,6 +36,8 @@ use Rattle.iox2_steps.proofs.receivers.Evictions.{HasExpiredEnd, lost-departed, 
 use Rattle.iox2_steps.proofs.receivers.ExpiredKeys.{expired-link}
 use Rattle.iox2_steps.proofs.receivers.Choices.{none-borrowed, borrows-are, publisher_at, in_machine, length-expired, chosen-is}
 use Rattle.iox2_domain.proofs.lemmas.slots.PublisherBooks.{its-book}
+use Rattle.iox2_domain.proofs.lemmas.fields.PlacesKept.{places-then}
+use Rattle.iox2_domain.specs.KeptPlaces.{KeepsPlaces}
 
 -- The book at the key is gone where no slot of it has a holder. The state stays.
 pub record FreesBook {T U : Type 0} (f f' : Fields T U) : Type 0 where
@@ -43,6 +45,7 @@ pub record FreesBook {T U : Type 0} (f f' : Fields T U) : Type 0 where
   pub fields : f' ≡ record f { books = f'.books; contents = f'.contents }
   pub state : state_of (kept_of f') ≡ state_of (kept_of f)
   pub entries : (n : ℕ) (entry : Entry T U) → entries_of (kept_of f') n ≡ Some entry → entries_of (kept_of f) n ≡ Some entry
+  pub places : KeepsPlaces f f'
 
 -- the same book is spared
 pub spares-same : {T U : Type 0} (f : Fields T U) (k key : ℕ) → k ≡ key → IsDomainBut key f → IsDomainBut k f
@@ -53,7 +56,7 @@ pub frees-book : {T U : Type 0} (f f' : Fields T U) (key : ℕ) → IsDomainBut 
     → ((before : Fields T U) (s : State T U) → IsMidway before f s key → state_of (kept_of f) ≡ s → IsWellFormed s → Reaches before f' s) → ChangesBooks f f' → FreesBook f f'
 frees-book f f' key sound kept books =
     let attained = kept f (state_of (kept_of f)) (midway-but f key sound) refl sound.well_formed in
-    record { agrees = attained.agrees; fields = books; state = attained.state; entries = attained.entries }
+    record { agrees = attained.agrees; fields = books; state = attained.state; entries = attained.entries; places = attained.places }
 
 module _ {T U : Type 0} (f f' f'' : Fields T U) (j : ℕ) (y : SubscriberFields) (side : ReceiverSide) (key : ℕ) (changes : ChangesReceiverTo (IsDomainBut key) f j y side f') (frees : FreesBook f' f'') where
   publishers : f'.publishers ≡ f''.publishers
@@ -87,6 +90,7 @@ module _ {T U : Type 0} (f f' f'' : Fields T U) (j : ℕ) (y : SubscriberFields)
         ∙ ap (λ (t : State T U). record (with_receiver_side (state_of (kept_of f)) y.id (subscriber_of f.books f.connections y).port side) { channels = t.channels }) (sym frees.state);
     channels = subst (λ (c : Slab Link). ChannelsFollow (λ home. home.subscriber ≡ y.id) (λ p q. (state_of (kept_of f)).publishers p ≡ None) f.connections c) connections changes.channels;
     entries = λ n entry e. changes.entries n entry (frees.entries n entry e);
+    places = places-then changes.places frees.places;
   }
 
 -- ---- a connection goes

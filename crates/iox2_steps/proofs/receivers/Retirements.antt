@@ -37,7 +37,7 @@ use Rattle.iox2_steps.proofs.receivers.DepartedEnds.{departed-nowhere}
 use Rattle.iox2_steps.proofs.receivers.LeftEnds.{IsDeparted, LeavesReceiver, left_fields, end-expires, nothing-leaves}
 use Rattle.iox2_steps.proofs.receivers.LeftStates.{left-still, occupants-pushed}
 use Rattle.iox2_steps.proofs.receivers.LeftChanges.{parts-warned, present, side-well_formed, left-changes}
-use Rattle.iox2_steps.proofs.receivers.DroppedEnds.{dropped-follows, dropped_fields, dropped-is, dropped-box, dropped-lone, dropped-kept, dropped-gone, dropped-entries, dropped-keeps, place-fits, removed_fields, removed-parts, removed-is}
+use Rattle.iox2_steps.proofs.receivers.DroppedEnds.{dropped-follows, dropped_fields, dropped-is, dropped-box, dropped-lone, dropped-kept, dropped-gone, dropped-entries, dropped-places, dropped-keeps, place-fits, removed_fields, removed-parts, removed-is}
 use Rattle.iox2_domain.proofs.lemmas.fields.NamedPorts.{seen, seen_subscriber, named-nowhere}
 
 module _ {T U : Type 0} (f : Fields T U) (sound : IsDomain f) (j i : ℕ) (y : SubscriberFields) (key : ℕ) (c : Link) (end : HasDepartedEnd f j i y key c) where
@@ -152,6 +152,7 @@ module _ {T U : Type 0} (f : Fields T U) (sound : IsDomain f) (j i : ℕ) (y : S
       state = state;
       channels = dropped-follows f sound j y end.stands key c end.link departed unborrowed b at_b mine holders new removes;
       entries = dropped-entries f sound j y end.stands key c end.link departed unborrowed b at_b mine holders new removes;
+      places = dropped-places f sound j y end.stands key c end.link departed unborrowed b at_b mine holders new removes;
     } where
       between : Fields T U
       between = dropped_fields f sound j y end.stands key c end.link departed unborrowed b at_b mine holders new removes

@@ -23,6 +23,7 @@ use Rattle.iox2_domain.proofs.lemmas.fields.KeptBooks.{none-stands}
 use Rattle.iox2_domain.proofs.lemmas.fields.Parts.{whole_of}
 use Rattle.iox2_domain.proofs.lemmas.slots.LeftConnections.{stands-nowhere}
 use Rattle.iox2_domain.proofs.lemmas.slots.SettledBooks.{goes}
+use Rattle.iox2_domain.proofs.lemmas.fields.PlacesKept.{places-then}
 
 -- ---- counters
 
@@ -65,6 +66,7 @@ module _ {T U : Type 0} (f : Fields T U) where
     agrees = whole_of f midway.consistent midway.lone kept (subst IsWellFormed (sym is) well) midway.complete;
     state = is;
     entries = midway.entries;
+    places = midway.places;
   }
 
   -- a book is kept where it is used if its publisher is gone
@@ -97,7 +99,7 @@ pub frees : {T U : Type 0} (f : Fields T U) (key : ℕ) (b : Book) → get f.boo
     → (before : Fields T U) (s : State T U) → IsMidway before f s key → state_of (kept_of f) ≡ s → IsWellFormed s → Reaches before (with_book_gone f key) s
 frees f key b at_b free gone before s midway is well =
     let gone_now = goes f midway.consistent midway.lone (subst IsWellFormed (sym is) well) midway.complete key b at_b known absent (λ k c away at_c. midway.kept_books.others k c away at_c) free in
-    record { agrees = gone_now.agrees; state = gone_now.state ∙ is; entries = λ n entry e. midway.entries n entry (gone_now.entries n entry e) }
+    record { agrees = gone_now.agrees; state = gone_now.state ∙ is; entries = λ n entry e. midway.entries n entry (gone_now.entries n entry e); places = places-then midway.places gone_now.places }
   where
     absent : (i : ℕ) (x : PublisherFields) → get_or f.publishers i None ≡ Some x → x.id ≢ b.publisher
     absent = stands-nowhere f.publishers b.publisher gone

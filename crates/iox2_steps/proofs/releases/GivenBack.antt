@@ -68,6 +68,7 @@ module _ {T U : Type 0} (f : Fields T U) (sound : IsDomain f) (q n : ℕ) (at : 
       state = but-channels left (released s home.publisher home.subscriber number) settled;
       channels = midway.channels;
       entries = midway.entries;
+      places = midway.places;
       complete = midway.complete;
     },
   )

@@ -75,6 +75,7 @@ module _ {T U : Type 0} (f : Fields T U) (sound : IsDomain f) (key slot : ℕ) (
       state = but-channels let_go (unborrowed_here f sound key slot c at_c new releases held) let_go-is;
       channels = links-same f.connections new r.homes;
       entries = counts.recounted-entries f sound p c.home.book b at_b its (one_holder_less slot b.holders) new r;
+      places = counts.recounted-places f sound p c.home.book b at_b its (one_holder_less slot b.holders) new r;
       complete = λ q n is_held.
           let old = sound.entries q n (held-within (state_of (kept_of f)) (mailboxes_of (numbers_of f.books) new) q n (λ k. numbers-were f sound key slot c at_c new releases held q k n)
           (subst (λ (s : State T U). IsHeldMessage s q n) (let_go-is ∙ sym (unborrows f sound key slot c at_c new releases held)) is_held)) in

@@ -29,6 +29,7 @@ use Rattle.iox2_domain.proofs.lemmas.receives.SenderEnds.{sender-has}
 use Rattle.iox2_domain.proofs.lemmas.fields.KeptChannels.{but-channels}
 use Rattle.iox2_steps.proofs.releases.Pruning.{pruned-none}
 use Rattle.iox2_steps.proofs.updates.FollowedChannels.{links-same}
+use Rattle.iox2_domain.proofs.lemmas.fields.PlacesKept.{places-still}
 
 -- nothing is borrowed twice where no number stands twice
 pub once-borrowed : (box : Mailbox) → IsOnce (numbers_in box) → IsOnce box.borrowed
@@ -92,6 +93,7 @@ module _ {T U : Type 0} (f : Fields T U) (sound : IsDomain f) (key slot : ℕ) (
         (connections-are f new same ∙ unborrows ∙ sym (nobody-forgotten (or_left (is_present unborrowed_here c.home.publisher) _ present)));
     channels = links-same f.connections new same;
     entries = λ n entry e. e;
+    places = places-still;
     complete = reconnected-complete f sound key c at_c new same others stay returned numbers-were;
   }
     where

@@ -52,12 +52,13 @@ use Rattle.iox2_domain.proofs.lemmas.slots.PublisherBooks.{book-own, book-owned}
 use Rattle.iox2_steps.proofs.sends.GoneOn.{goes-on, ConcludesAs}
 use Rattle.iox2_steps.proofs.sends.LoanAlone.{loan-is, loan-of, loan-once, loan-number, loan-alone}
 use Rattle.iox2_steps.proofs.sends.Reach.{reach-ends}
-use Rattle.iox2_steps.proofs.sends.SendEnded.{ended-numbered, ended-loans, ended-shapes, ended-entries, only-slot, sent-there, others-same, marked-written}
+use Rattle.iox2_steps.proofs.sends.SendEnded.{was-number as ended-was, ended-numbered, ended-loans, ended-shapes, ended-entries, only-slot, sent-there, others-same, marked-written}
 use Rattle.iox2_steps.proofs.sends.SentSlots.{sent-keeps}
 use Rattle.iox2_slots.specs.declared.slots.mark.SlotMark.TheVariants.{Unwritten, Written, Sent}
 use Rattle.circular_buffer.proofs.Places.{slice_get-set_other}
 use Rattle.std.specs.Prelude.{slice_get}
 use Rattle.iox2_domain.proofs.lemmas.fields.NamedPorts.{seen, seen_publisher}
+use Rattle.iox2_domain.proofs.lemmas.fields.PlacesKept.{places-back, places-then}
 
 -- at a key's place stands an end
 keyed-end : (connections : Slab Link) (keys : List (Option ℕ)) (place key : ℕ) (c : Link) → get_or keys place None ≡ Some key → get connections key ≡ Some c → occupant (sender_ends connections keys) place ≡ Some c.home.subscriber
@@ -253,5 +254,6 @@ module _ {T U : Type 0} (f : Fields T U) (sound : IsDomain f) (i : ℕ) (x : Pub
       agrees = went.agrees;
       sends = sends;
       entries = entries-new;
+      places = places-then (places-back (ended-was f sound.parts i x here b at own slot n l is_in_use lies is_written once free)) (places-then reclaimed.places went.places);
       lost = λ error other failed. absurd (fails outcome error other failed);
     }

@@ -37,6 +37,7 @@ use Rattle.iox2_steps.proofs.updates.HistoryBounds.{held-few}
 use Rattle.iox2_steps.proofs.sends.LoanAlone.{once-times}
 use Rattle.iox2_steps.proofs.sends.GoneOn.{goes-on, ConcludesAs}
 use Rattle.iox2_steps.proofs.sends.Reach.{reach-ends}
+use Rattle.iox2_domain.proofs.lemmas.fields.PlacesKept.{places-then}
 
 module _ {T U : Type 0} (f : Fields T U) (sound : IsDomain f) (i : ℕ) (x : PublisherFields) (here : get_or f.publishers i None ≡ Some x)
     (w : BlockedDelivery) (waits : x.blocked ≡ Some w) where
@@ -121,6 +122,7 @@ module _ {T U : Type 0} (environment : Environment) (f0 f1 f2 : Fields T U) (sou
           (subst (λ (ends : List (Option ℕ)). DeliverAndConclude environment (state_of (kept_of f1)) x.id (numbers_of f1.books x.id w.slot) w.channel (more_retries (w.progress).retries) elapsed (w.progress).place (drop (w.progress).place ends) (w.progress).count (w.progress).has_failed
           (state_of (kept_of f2)) (result_of_send outcome)) (reach-ends f1.connections w x.keys) went.concludes));
       entries = λ m entry e. reclaimed.entries m entry (went.entries m entry e);
+      places = places-then reclaimed.places went.places;
     } where
       went : ConcludesAs environment f1 f2 x (numbers_of f1.books x.id w.slot) w.channel (within_reach w x.keys) (record w.progress { retries = more_retries (w.progress).retries }) elapsed (result_of_send outcome)
       went = goes-on environment f1 reclaimed.agrees i x now w waits (record w.progress { retries = more_retries (w.progress).retries })
@@ -137,6 +139,7 @@ module _ {T U : Type 0} (environment : Environment) (f0 f1 f2 : Fields T U) (sou
           (subst (λ (ends : List (Option ℕ)). DeliverAndConclude environment (state_of (kept_of f1)) x.id (numbers_of f1.books x.id w.slot) w.channel 0 no_time ((w.progress).place + 1) ends (w.progress).count (w.progress).has_failed (state_of (kept_of f2)) (result_of_send outcome))
           (ap (drop ((w.progress).place + 1)) (reach-ends f1.connections w x.keys) ∙ sym (drop-drop 1 (w.progress).place (within_reach w (sender_ends f1.connections x.keys)))) went.concludes));
       entries = λ m entry e. reclaimed.entries m entry (went.entries m entry e);
+      places = places-then reclaimed.places went.places;
     } where
       went : ConcludesAs environment f1 f2 x (numbers_of f1.books x.id w.slot) w.channel (within_reach w x.keys) (record w.progress { place = (w.progress).place + 1; retries = 0 }) no_time (result_of_send outcome)
       went = goes-on environment f1 reclaimed.agrees i x now w waits (record w.progress { place = (w.progress).place + 1; retries = 0 })

@@ -22,6 +22,7 @@ use Rattle.iox2_domain.specs.Ports.{PublisherFields}
 use Rattle.iox2_domain.specs.SentLoans.{IsNotUpdated, SendsLoan}
 use Rattle.iox2_domain.proofs.lemmas.fields.ConnectionEnds.{publisher-stands}
 use Rattle.iox2_laws.proofs.Cases.{match_some}
+use Rattle.iox2_domain.proofs.lemmas.fields.PlacesKept.{places-then}
 
 module _ {T U : Type 0} (environment : Environment) (f0 : Fields T U) (sound : IsDomain f0) (p n : ℕ) (holds : HoldsWritten (state_of (kept_of f0)) p n)
     (place : ℕ) (failure : ConnectionFailure) (f1 : Fields T U) (fails : IsNotUpdated environment f0 f1 p place failure) where
@@ -65,6 +66,7 @@ module _ {T U : Type 0} (environment : Environment) (f0 : Fields T U) (sound : I
     );
     loans = ap (λ (s : State T U). s.loans) (d.2).state ∙ ap (λ (loans : ℕ → Option (Loan T U)). put_at loans n None) loans-are;
     entries = λ m entry e. inr (u.reaches.entries m entry ((d.2).entries m entry e));
+    places = places-then u.reaches.places (d.2).places;
     lost = λ error other is m entry e. u.reaches.entries m entry ((d.2).entries m entry e);
     unfailed = λ quiet failed. absurd cc;
   }

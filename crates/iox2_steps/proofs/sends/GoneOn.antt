@@ -50,9 +50,9 @@ use Rattle.iox2_domain.proofs.lemmas.slots.HeldMessages.{own-in_use, holders-the
 use Rattle.iox2_domain.proofs.lemmas.slots.PublisherBooks.{book-own, book-owned, book-counts}
 use Rattle.iox2_domain.proofs.lemmas.slots.Recounts.{back}
 use Rattle.iox2_domain.proofs.lemmas.slots.RecountedFields.{same-numbers}
-use Rattle.iox2_domain.proofs.lemmas.slots.RecountedLoans.{recounted_fields, recounted-kept, parts-recounted, recounted-is, recounted-entries, recounted-keeps}
+use Rattle.iox2_domain.proofs.lemmas.slots.RecountedLoans.{recounted_fields, recounted-kept, parts-recounted, recounted-is, recounted-entries, recounted-places, recounted-keeps}
 use Rattle.iox2_domain.proofs.lemmas.slots.LoneLoans.{IsLoneIn, lone-changed, lone-fewer}
-use Rattle.iox2_domain.proofs.lemmas.slots.Rebooked.{CanRebook, rebooked, rebooked-parts, rebooked-is, rebooked-entries, rebooked-keeps, rebooked-kept}
+use Rattle.iox2_domain.proofs.lemmas.slots.Rebooked.{CanRebook, rebooked, rebooked-parts, rebooked-is, rebooked-entries, rebooked-places, rebooked-keeps, rebooked-kept}
 use Rattle.iox2_steps.proofs.sends.LoanAlone.{once-times}
 use Rattle.iox2_steps.proofs.sends.SentSlots.{times-without-one, map-without}
 use Rattle.iox2_steps.proofs.sends.Published.{taking-are}
@@ -61,6 +61,8 @@ use Rattle.iox2_domain.proofs.lemmas.loans.PublisherChanges.{other_slots}
 use Rattle.iox2_domain.proofs.lemmas.slots.Holders.{book-by_id}
 use mathlib.Core.Path.{fun_ext}
 use Rattle.iox2_laws.proofs.Cases.{match_some}
+use Rattle.iox2_domain.specs.KeptPlaces.{KeepsPlaces}
+use Rattle.iox2_domain.proofs.lemmas.fields.PlacesKept.{places-then}
 
 -- The machine's delivery of the message n of the publisher x goes on from there, into that channel at these keys, and its send ends
 -- or is blocked again. No entry is newly kept.
@@ -69,6 +71,7 @@ pub record ConcludesAs {T U : Type 0} (environment : Environment) (old new : Fie
   pub concludes : DeliverAndConclude environment (state_of (kept_of old)) x.id n channel start.retries elapsed start.place (drop start.place (sender_ends old.connections keys)) start.count start.has_failed
       (state_of (kept_of new)) result
   pub entries : (m : ℕ) (entry : Entry T U) → entries_of (kept_of new) m ≡ Some entry → entries_of (kept_of old) m ≡ Some entry
+  pub places : KeepsPlaces old new
 
 -- a message that was sent has that mark
 mark-sent : {T U : Type 0} (p number : ℕ) (header : _) (content : _) (n : ℕ) (entry : Entry T U) (mark : SlotMark) → Sent_message n entry ≡ message_of {T = T} {U = U} p number header content mark → mark ≡ Sent
@@ -437,6 +440,8 @@ module _ {T U : Type 0} (environment : Environment) (f : Fields T U) (sound : Is
     concludes = subst (λ (ends : List (Option ℕ)). DeliverAndConclude environment s x.id n w.channel start.retries elapsed start.place (drop start.place ends) start.count start.has_failed (state_of (kept_of after)) (result_of_send outcome)) (sym reach-is) concludes;
     entries = λ m entry e. recounted-entries f sound x.id x.book d.book d.stands own d.holders d.connections d.recounts m entry
         (rebooked-entries mid parts i x changed here book book-stands own counters (can-conclude outcome) m entry e);
+    places = places-then (recounted-places f sound x.id x.book d.book d.stands own d.holders d.connections d.recounts)
+        (rebooked-places mid parts i x changed here book book-stands own counters (can-conclude outcome));
   }
 
   -- with the fields that the code makes of those after the delivery

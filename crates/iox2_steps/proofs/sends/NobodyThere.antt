@@ -93,6 +93,7 @@ module _ {T U : Type 0} (environment : Environment) (f g : Fields T U) (sound : 
     agrees = d.2.agrees;
     sends = subst (λ (t : State T U). SendToConnection environment (state_of (kept_of f)) n d.0 channel connection t result) (sym d.2.state) sends;
     entries = λ m entry e. inr (d.2.entries m entry e);
+    places = d.2.places;
     lost = λ error other failed m entry e. d.2.entries m entry e;
   }
 

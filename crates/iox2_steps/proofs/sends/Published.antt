@@ -47,9 +47,9 @@ use Rattle.iox2_domain.proofs.lemmas.slots.HeldMessages.{held-message-slot}
 use Rattle.iox2_domain.proofs.lemmas.slots.PublisherBooks.{book-own, book-owned, book-counts}
 use Rattle.iox2_domain.proofs.lemmas.slots.Recounts.{back, forth}
 use Rattle.iox2_domain.proofs.lemmas.slots.RecountedFields.{same-numbers}
-use Rattle.iox2_domain.proofs.lemmas.slots.RecountedLoans.{recounted_fields, recounted-kept, parts-recounted, recounted-is, recounted-entries, recounted-keeps}
+use Rattle.iox2_domain.proofs.lemmas.slots.RecountedLoans.{recounted_fields, recounted-kept, parts-recounted, recounted-is, recounted-entries, recounted-places, recounted-keeps}
 use Rattle.iox2_steps.proofs.sends.LoanAlone.{loan-is, loan-of, loan-slot, loan-once, loan-number}
-use Rattle.iox2_steps.proofs.sends.SendEnded.{ended, lies-sent, others-lie, only-slot, sent-there, others-same, ended-entries, ended-is, ended-parts, with_remembered}
+use Rattle.iox2_steps.proofs.sends.SendEnded.{was-number as ended-was, ended, lies-sent, others-lie, only-slot, sent-there, others-same, ended-entries, ended-is, ended-parts, with_remembered}
 use Rattle.iox2_steps.proofs.sends.Trimmed.{Trims, trims}
 use Rattle.iox2_domain.proofs.lemmas.slots.NumbersInUse.{contains-map}
 use Rattle.iox2_domain.proofs.lemmas.loans.PublisherChanges.{changed-kept_books, changed-here, other_slots}
@@ -67,6 +67,8 @@ use mathlib.Core.Path.{fun_ext}
 use Rattle.iox2_domain.proofs.lemmas.fields.KeptBooks.{kept-own}
 use Rattle.iox2_laws.proofs.Cases.{match_some}
 use Rattle.iox2_domain.proofs.lemmas.fields.NamedPorts.{named-stands}
+use Rattle.iox2_domain.specs.KeptPlaces.{KeepsPlaces}
+use Rattle.iox2_domain.proofs.lemmas.fields.PlacesKept.{places-back, places-then}
 
 -- The fields after the publisher x, which stands at that place, has sent the loan in the slot of its book. The loan's one
 -- holder is the history now.
@@ -91,6 +93,7 @@ pub record Publishes {T U : Type 0} (environment : Environment) (old new : Field
   pub loans : (state_of (kept_of new)).loans ≡ put_at (state_of (kept_of old)).loans n None
   pub entries : (m : ℕ) (entry : Entry T U) → entries_of (kept_of new) m ≡ Some entry
       → ((m ≡ n) × (entry ≡ entry_of l)) ⊎ (entries_of (kept_of old) m ≡ Some entry)
+  pub places : KeepsPlaces old new
 
 -- a publisher that stands somewhere is in the state, where ids are apart
 named : {T U : Type 0} (f : Fields T U) → ((p : ℕ) → IsOnly (is_publisher p) f.publishers) → (i : ℕ) (x : PublisherFields) → get_or f.publishers i None ≡ Some x
@@ -473,6 +476,11 @@ module _ {T U : Type 0} (environment : Environment) (f : Fields T U) (sound : Is
     | inr old ↦ inr (recounted-entries f sound x.id x.book d.book d.stands own d.holders d.connections d.recounts m entry old)
   ]
 
+  -- and each message lies where it lay
+  places-new : KeepsPlaces f remembered
+  places-new = places-then (recounted-places f sound x.id x.book d.book d.stands own d.holders d.connections d.recounts)
+      (places-back (ended-was mid parts i x here book book-stands own slot n l is_in_use lies-still is_written once free))
+
   delivered-book : (b : Book) → get g.books x.book ≡ Some b → b ≡ book
   delivered-book b there = let both : Some b ≡ Some book = sym there ∙ ap (λ (h : Fields T U). get h.books x.book) d.delivered ∙ book-stands in cc
 
@@ -492,6 +500,7 @@ module _ {T U : Type 0} (environment : Environment) (f : Fields T U) (sound : Is
       publishes = publishes;
       loans = ap (λ (t : State T U). t.loans) ended-state;
       entries = λ m entry e. entries-new m entry (trim.entries m entry e);
+      places = places-then places-new (places-back (λ k s m has. (trim.numbers k s m has).0));
     }
 
     -- with the fields that the code makes of those after the delivery
@@ -667,6 +676,7 @@ module _ {T U : Type 0} (environment : Environment) (f : Fields T U) (sound : Is
       loans = ap (λ (t : State T U). t.loans) blocked-state;
       entries = λ m entry e. entries-new m entry
           (rebooked-entries remembered parts-remembered i remembering relender stands-remembered (with_sent slot book) book-remembered own more_holders can-relend m entry (trim-relent.entries m entry e));
+      places = places-then places-new (places-back (λ k s m has. (relent-number k s m (trim-relent.numbers k s m has).0).0));
     }
 
     pub blocked-publishes : (h : Fields T U) (c : Book) → get g.books x.book ≡ Some c → h ≡ with_send_blocked g i x slot progress c → Publishes environment f h x.id n l Blocked_send

@@ -37,6 +37,7 @@ use Rattle.iox2_steps.proofs.sends.Published.{send-publishes, Publishes}
 use Rattle.iox2_domain.proofs.lemmas.loans.LoanSlots.{book-its}
 use Rattle.iox2_steps.proofs.updates.SenderUpdates.{idle-updates}
 use Rattle.iox2_laws.proofs.Cases.{match_some}
+use Rattle.iox2_domain.proofs.lemmas.fields.PlacesKept.{places-then}
 
 -- a loan that lies in its publisher's book may be sent at once where the publisher isn't due
 pub ready-in-book : {T U : Type 0} (environment : Environment) (f : Fields T U) → IsDomain f → (p n place key slot : ℕ)
@@ -122,6 +123,7 @@ module _ {T U : Type 0} (environment : Environment) (f0 : Fields T U) (sound : I
         | inl new ↦ inl new
         | inr old ↦ inr (u.reaches.entries m entry old)
       ];
+      places = places-then u.reaches.places published.places;
       lost = λ error other failed. absurd (goes outcome error other failed);
       unfailed = λ quiet failed. fails outcome refl (quiet _ (ap (state_of (kept_of f0)).publishers holds.2 ∙ present)) failed;
     }

@@ -51,6 +51,8 @@ use Rattle.iox2_steps.proofs.subscriber_closes.KeptMessages.{keeps-trans, keeps-
 use Rattle.iox2_steps.proofs.subscriber_closes.Sheds.{sheds-closed, HasLost}
 use Rattle.iox2_steps.proofs.subscriber_closes.CloseSteps.{box-numbers, link-empty, is_empty_link}
 use Rattle.iox2_steps.proofs.subscriber_closes.CloseWalk.{IsClosing, IsDrained}
+use Rattle.iox2_domain.specs.KeptPlaces.{StayInSlots}
+use Rattle.iox2_domain.proofs.lemmas.fields.PlacesKept.{places-back}
 
 -- the machine's publisher, due
 abbrev due_publisher : Publisher → Publisher
@@ -191,6 +193,7 @@ module _ {T U : Type 0} (f : Fields T U) (sound : IsDomain f) (place : ℕ) (y :
     state = g-is;
     channels = closing.channels;
     entries = keeps-entries f g sound.parts.numbered g-parts keeps;
+    places = subst (λ (next : ℕ). StayInSlots f.next_message f.books next g.books) (sym (ap (λ (v : State T U). v.next_message) (closing.sheds).state)) (places-back keeps.number);
     complete = keeps-complete f g sound.parts.numbered g-parts keeps sound.entries (λ p n held.
         held-less s t p n same-publishers (λ q. fewer p q n) (subst (λ (v : State T U). IsHeldMessage v p n) (publishers_due-are f') held));
   }
@@ -217,6 +220,7 @@ module _ {T U : Type 0} (f : Fields T U) (sound : IsDomain f) (place : ℕ) (y :
         (subst IsWellFormed (sym state-is) (subscriber_closed_keeps s sound.well_formed y.id port here)) one.complete;
     state = state-is;
     entries = one.entries;
+    places = one.places;
   } where
     one : IsMidway f new (freed_if_unused (subscriber_pruned (subscriber_shut s y.id port) y.id) z.id) 0
     one = frees f (subscriber_pruned (subscriber_shut s y.id port) y.id) 0 (midway 0)

@@ -67,6 +67,7 @@ module _ {T U : Type 0} (before f : Fields T U) (same : f ≡ before) (agrees : 
           homes = drops.recounts.homes;
           state = reached.state;
           entries = reached.entries;
+          places = reached.places;
         }))))
       where
         after : Fields T U

@@ -88,6 +88,7 @@ module _ {T U : Type 0} (f : Fields T U) (i j : ℕ) (x : PublisherFields) (y : 
       state = step.state ∙ ap (λ (s : State T U). with_channels_of f' (with_sender_side s x.id P step.side)) grown-state;
       channels = subst (λ (s : State T U). ChannelsFollow (λ home. home.publisher ≡ x.id) (λ p q. s.subscribers q ≡ None) f.connections f'.connections) grown-state step.channels;
       entries = step.entries;
+      places = step.places;
     }
 
     -- an end that it gets from there it gets from here

@@ -43,6 +43,8 @@ use Rattle.iox2_domain.proofs.lemmas.slots.ReclaimSteps.{with_reclaimed, reclaim
 use Rattle.iox2_domain.proofs.lemmas.slots.RecountedFields.{same-numbers}
 use Rattle.iox2_steps.proofs.updates.HistoryBounds.{remembered-in_use, remembered-fits}
 use Rattle.iox2_steps.proofs.updates.HistoryHanded.{handed, hands-out}
+use Rattle.iox2_domain.proofs.lemmas.fields.PlacesKept.{places-still, places-then}
+use Rattle.iox2_domain.specs.KeptPlaces.{KeepsPlaces}
 
 -- ---- slots are reclaimed, and the history goes out
 
@@ -94,6 +96,7 @@ module _ {T U : Type 0} (before f : Fields T U) (same : f ≡ before) (sound : I
         homes = SameHomes-trans f.connections new (with_value new key (record c { waiting = last_n c.buffer (x.history).items })) r.recounts.homes out.homes;
         state = out.state ∙ waiting-same;
         entries = λ n entry e. (reclaimed-reaches f sound x.id x.book b at (book-own f sound.parts i x here b at) (book-owned f sound.parts i x here) b1.holders new r).entries n entry (out.entries n entry e);
+        places = places-then (reclaimed-reaches f sound x.id x.book b at (book-own f sound.parts i x here b at) (book-owned f sound.parts i x here) b1.holders new r).places out.places;
       }))
     where
       after : Fields T U
@@ -261,6 +264,7 @@ module _ {T U : Type 0} (environment : Environment) (f : Fields T U) (sound : Is
     state = but-channels f1 (with_sender_side s x.id P bare) made.state;
     channels = made.channels;
     entries = λ n entry e. sym (ap (λ (h : Fields T U). entries_of (kept_of h) n) made.fields) ∙ e;
+    places = subst (λ (h : Fields T U). KeepsPlaces f h) (sym made.fields) places-still;
   } where
     is : made.link ≡ c
     is = let both : Some made.link ≡ Some c = sym made.stands ∙ at_c in cc
@@ -316,6 +320,7 @@ module _ {T U : Type 0} (environment : Environment) (f : Fields T U) (sound : Is
       channels = follow-both (λ home. home.publisher ≡ x.id) (λ p r. s.subscribers r ≡ None) f.connections f1.connections f2.connections made.channels
           (follow-same (λ home. home.publisher ≡ x.id) (λ p r. s.subscribers r ≡ None) f1.connections f2.connections out.homes);
       entries = λ n entry e. sym (ap (λ (h : Fields T U). entries_of (kept_of h) n) made.fields) ∙ out.entries n entry e;
+      places = places-then (subst (λ (h : Fields T U). KeepsPlaces f h) (sym made.fields) places-still) out.places;
     } where
       out : HandsOut f1 keyed made.link f2
       out = hands new-end

@@ -36,7 +36,7 @@ use Rattle.iox2_domain.proofs.lemmas.slots.LoneLoans.{IsLoneIn, lone-changed, lo
 use Rattle.iox2_domain.proofs.lemmas.slots.Messages.{LiesIn, message_in-parts, lies_at, message_at-slot, has_number, entry-there}
 use Rattle.iox2_domain.proofs.lemmas.slots.NumbersInUse.{contains-map, times-stands}
 use Rattle.iox2_domain.proofs.lemmas.slots.PublisherBooks.{book-own, book-owned}
-use Rattle.iox2_domain.proofs.lemmas.slots.RecountedLoans.{recounted_fields, recounted-kept, parts-recounted, recounted-is, recounted-entries, recounted-keeps}
+use Rattle.iox2_domain.proofs.lemmas.slots.RecountedLoans.{recounted_fields, recounted-kept, parts-recounted, recounted-is, recounted-entries, recounted-places, recounted-keeps}
 use Rattle.iox2_steps.proofs.updates.HistoryBounds.{remembered-in_use}
 use Rattle.iox2_connections.proofs.Recounts.{Recounts-one}
 use mathlib.Core.Path.{fun_ext}
@@ -192,4 +192,5 @@ module _ {T U : Type 0} (f : Fields T U) (sound : IsDomain f) (i : ℕ) (x : Pub
     homes = recounts.homes;
     state = handed-is;
     entries = recounted-entries f sound x.id x.book b at mine holders connections recounts;
+    places = recounted-places f sound x.id x.book b at mine holders connections recounts;
   }

@@ -25,6 +25,8 @@ use Rattle.iox2_steps.proofs.updates.FollowedChannels.{follow-both, follow-still
 use Rattle.iox2_domain.proofs.lemmas.containers.LookUps.{map-at}
 use Rattle.iox2_domain.proofs.lemmas.fields.ChangedMarks.{changes-mark, mark-was}
 use Rattle.iox2_domain.proofs.lemmas.fields.Standing.{key-sender, some_is}
+use Rattle.iox2_domain.specs.KeptPlaces.{KeepsPlaces}
+use Rattle.iox2_domain.proofs.lemmas.fields.PlacesKept.{places-still, places-then}
 
 module _ {T U : Type 0} (f : Fields T U) where
   -- nothing changed
@@ -65,6 +67,7 @@ connects-marked {T} {U} environment f g h i j x failure connects marks =
       channels = follow-both (λ home. home.publisher ≡ x.id) (λ p q. (state_of (kept_of f)).subscribers q ≡ None) f.connections g.connections h.connections connects.channels
           (follow-still (λ home. home.publisher ≡ x.id) (λ p q. (state_of (kept_of f)).subscribers q ≡ None) g.connections h.connections marks.same);
       entries = λ n entry e. connects.entries n entry (sym (ap (λ (k : Kept T U ⊥ ⊥). entries_of k n) kept) ∙ e);
+      places = connects.places;
     })
   where
     kept : kept_of (record g { connections = h.connections }) ≡ kept_of g
@@ -226,6 +229,7 @@ module _ {T U : Type 0} (f g : Fields T U) (marks : ChangesMarks f g) where
     agrees = step.agrees;
     state = step.state;
     entries = λ n entry e. sym (ap (λ (k : Kept T U ⊥ ⊥). entries_of k n) marks.kept) ∙ step.entries n entry e;
+    places = places-then (subst (λ (k : Fields T U). KeepsPlaces f k) (sym marks.fields) places-still) step.places;
   }
 
   -- a publisher stands where it stood, and is to the machine what it was

@@ -183,4 +183,5 @@ module _ {T U : Type 0} (f : Fields T U) (sound : IsDomain f) (i j : ℕ) (x : P
     channels = follows;
     state = after-is;
     entries = λ n entry e. mid-reached.entries n entry e;
+    places = mid-reached.places;
   }

@@ -38,6 +38,7 @@ use Rattle.iox2_steps.proofs.updates.SenderSteps.{StepsSender, now, port}
 use Rattle.iox2_steps.proofs.updates.SenderWalk.{publisher_mid, state-again, step-again}
 use Rattle.iox2_steps.proofs.updates.WaitingDropped.{end-leads, dropped-side}
 use Rattle.iox2_domain.proofs.lemmas.fields.NamedPorts.{seen, seen_publisher, named-at}
+use Rattle.iox2_domain.proofs.lemmas.fields.PlacesKept.{places-still, places-then}
 
 module _ {T U : Type 0} (environment : Environment) (f : Fields T U) (sound : IsDomain f) (i j : ℕ) (x : PublisherFields)
     (here : get_or f.publishers i None ≡ Some x) (due : x.is_due ≡ false) where
@@ -80,6 +81,7 @@ module _ {T U : Type 0} (environment : Environment) (f : Fields T U) (sound : Is
     });
     channels = follow-same (λ home. home.publisher ≡ x.id) (λ p q. (seen f).subscribers q ≡ None) f.connections f.connections (record { same = λ k. refl });
     entries = λ n entry e. e;
+    places = places-still;
   }
 
   -- where it has no end and no open subscriber stands
@@ -106,6 +108,7 @@ module _ {T U : Type 0} (environment : Environment) (f : Fields T U) (sound : Is
     state = but-channels f' (with_sender_side (seen f) x.id (seen_publisher f x) (dropped side c.home.subscriber)) (loses.state ∙ dropped-side f sound i j x here due key has c there);
     channels = follow-same (λ home. home.publisher ≡ x.id) (λ p q. (seen f).subscribers q ≡ None) f.connections f'.connections loses.homes;
     entries = loses.entries;
+    places = loses.places;
   } where
     subscribers : f'.subscribers ≡ f.subscribers
     subscribers = ap (λ (h : Fields T U). h.subscribers) loses.fields
@@ -172,6 +175,7 @@ module _ {T U : Type 0} (environment : Environment) (f : Fields T U) (sound : Is
       channels = follow-both (λ home. home.publisher ≡ x.id) (λ p q. (seen f).subscribers q ≡ None) f.connections f1.connections f2.connections loses.channels
           (subst (λ (subscribers : ℕ → Option Subscriber). ChannelsFollow (λ home. home.publisher ≡ x.id) (λ p q. subscribers q ≡ None) f1.connections f2.connections) (ap (λ (t : State T U). t.subscribers) loses.state) step.channels);
       entries = λ n entry e. loses.entries n entry (step.entries n entry e);
+      places = places-then loses.places step.places;
     } where
       same-history : (q : ℕ) → occupant (seen f).subscriber_places j ≡ Some q → histories_of f1 without_end q ≡ histories_of f x q
       same-history q stands =

@@ -35,6 +35,7 @@ use Rattle.iox2_steps.proofs.updates.SenderAgrees.{sender-agrees}
 use Rattle.iox2_domain.proofs.lemmas.fields.Standing.{subscriber-listed, subscriber-place}
 use Rattle.iox2_laws.proofs.MailboxLemmas.{nothing_anywhere}
 use Rattle.iox2_domain.proofs.lemmas.fields.NamedPorts.{seen, seen_publisher}
+use Rattle.iox2_domain.proofs.lemmas.fields.PlacesKept.{places-still}
 
 module _ {T U : Type 0} (f : Fields T U) where
   abbrev pub now : State T U
@@ -75,6 +76,7 @@ module _ {T U : Type 0} (environment : Environment) (f : Fields T U) (sound : Is
     state = but-channels (connected_sender f i x keys connections warnings) (with_sender_side (seen f) x.id (seen_publisher f x) (side_with f x keys connections warnings)) state;
     channels = fits-follow f sound i x at_x keys x.key_room x.is_due connections warnings fits;
     entries = λ n entry e. e;
+    places = places-still;
   } where
     after : SenderSide
     after = side_with f x keys connections warnings

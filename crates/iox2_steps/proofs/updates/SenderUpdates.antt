@@ -36,6 +36,8 @@ use Rattle.iox2_steps.proofs.updates.SenderChanges.{sender-is, fits-same}
 use Rattle.iox2_steps.proofs.updates.SenderAgrees.{sender-agrees}
 use Rattle.iox2_steps.proofs.updates.SenderWalk.{AtPlace, publisher_mid, state-again, step-again, walk-goes-on, walk-ends, due-updates, idle-updates as machine-idle, first_failure-none, first_failure-assoc}
 use Rattle.iox2_domain.proofs.lemmas.fields.NamedPorts.{seen, seen_publisher}
+use Rattle.iox2_domain.proofs.lemmas.fields.PlacesKept.{places-still, places-then}
+use Rattle.iox2_domain.specs.KeptPlaces.{KeepsPlaces}
 
 -- The publisher x at the place i was updated at the places below j, with this failure if any: whatever the rest of the
 -- walk comes to from here, the whole walk comes to.
@@ -55,6 +57,7 @@ pub record WalksSender {T U : Type 0} (environment : Environment) (f : Fields T 
       (receiving_buffer (state_of (kept_of f))) (has_receiver_end (state_of (kept_of f)) x.id)) 0 (state_of (kept_of f)).subscriber_places
       (sender_side (state_of (kept_of f)) x.id (publisher_of f.books f.connections x).port) end (first_failure failure later)
   pub entries : (n : ℕ) (entry : Entry T U) → entries_of (kept_of f') n ≡ Some entry → entries_of (kept_of f) n ≡ Some entry
+  pub places : KeepsPlaces f f'
 
 module _ {T U : Type 0} (environment : Environment) (f : Fields T U) (sound : IsDomain f) (i : ℕ) (x : PublisherFields) (at : get_or f.publishers i None ≡ Some x) where
   -- the walk over all places
@@ -84,6 +87,7 @@ module _ {T U : Type 0} (environment : Environment) (f : Fields T U) (sound : Is
     channels = follow-same (λ home. home.publisher ≡ x.id) (λ p q. (seen f).subscribers q ≡ None) f.connections f.connections (record { same = λ key. refl });
     walk = λ end later rest. rest;
     entries = λ n entry e. e;
+    places = places-still;
   }
 
   listed : length (seen f).subscriber_places ≡ length f.subscribers
@@ -125,6 +129,7 @@ module _ {T U : Type 0} (environment : Environment) (f : Fields T U) (sound : Is
       walk = λ end later rest. subst (Whole end) (sym (first_failure-assoc failure first later))
           (walks.walk end (first_failure first later) (walk-goes-on environment (seen f) x.id (seen_publisher f x) (publisher-stands f sound.parts i x at) j walks.side step.side end first later (omega (arith, listed)) machine rest));
       entries = λ n entry e. walks.entries n entry (step.entries n entry e);
+      places = places-then walks.places step.places;
     } where
       -- what is handed out to whoever stands there
       same-history : (q : ℕ) → occupant (seen f).subscriber_places j ≡ Some q → histories_of f' walking q ≡ histories_of f x q
@@ -154,6 +159,7 @@ module _ {T U : Type 0} (environment : Environment) (f : Fields T U) (sound : Is
         agrees = walks.agrees;
         state = sender-reset f f' sound.parts walks.agrees.parts x.id (λ p q. (seen f).subscribers q ≡ None) walks.channels (with_sender_side (seen f) x.id (seen_publisher f x) walks.side) walks.state refl;
         entries = walks.entries;
+        places = walks.places;
       };
       keys = walks.keys;
       key_room = walks.key_room;
@@ -166,7 +172,7 @@ module _ {T U : Type 0} (environment : Environment) (f : Fields T U) (sound : Is
   idle-updates due = record {
     after = (seen f);
     updates = machine-idle environment (seen f) x.id (seen_publisher f x) (publisher-stands f sound.parts i x at) due;
-    reaches = record { agrees = sound; state = refl; entries = λ n entry e. e };
+    reaches = record { agrees = sound; state = refl; entries = λ n entry e. e; places = places-still };
     keys = x.keys;
     key_room = x.key_room;
     others = refl;

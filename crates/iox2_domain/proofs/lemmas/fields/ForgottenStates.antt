@@ -93,6 +93,7 @@ forgotten-midway {T} {U} f parts subscribers connections g old s s' book is midw
   state = is;
   channels = λ key d at. let was = g.fewer key d at in midway.channels key d was;
   entries = midway.entries;
+  places = midway.places;
   complete = λ p n held. midway.complete p n (held-before (state_of (kept_of f)) (state_of (kept_of after)) p n
       (λ q. ap (λ (t : State T U). t.mailboxes p q) seen)
       (λ w at_w. (w, sym (ap (λ (t : State T U). t.publishers p) seen) ∙ at_w, record { history = refl; blocked = refl })) held);

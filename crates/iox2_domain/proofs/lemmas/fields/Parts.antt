@@ -14,6 +14,7 @@ use Rattle.iox2_domain.specs.Midway.{IsMidway}
 use Rattle.iox2_domain.specs.Ports.{PublisherFields}
 use Rattle.iox2_connections.specs.LookUp.{IsOnly}
 use Rattle.iox2_machine.specs.machine.Limits.{warning_limit}
+use Rattle.iox2_domain.proofs.lemmas.fields.PlacesKept.{places-still}
 
 module _ {T U : Type 0} (f : Fields T U) where
   -- fields that agree are a domain's where each loan has one holder, each book is somebody's or left, and what they keep is
@@ -35,6 +36,7 @@ module _ {T U : Type 0} (f : Fields T U) where
     state = refl;
     channels = λ k d at. record { key = k; link = d; stands = at; home = refl; channels = refl };
     entries = λ n entry e. e;
+    places = places-still;
     complete = sound.entries;
   }
 

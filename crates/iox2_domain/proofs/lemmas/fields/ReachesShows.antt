@@ -9,15 +9,16 @@ use Rattle.iox2_domain.specs.Invariant.{IsDomain}
 use Rattle.iox2_domain.specs.Reaches.{Reaches}
 use Rattle.iox2_domain.specs.Shows.{Shows}
 use Rattle.iox2_domain.proofs.lemmas.fields.Views.{shows-next}
+use Rattle.iox2_domain.proofs.lemmas.fields.PlacesKept.{places-still, places-then}
 
 module _ {T U : Type 0} where
   -- nothing changes
   pub reaches-same : (f : Fields T U) → IsDomain f → Reaches f f (state_of (kept_of f))
-  reaches-same f sound = record { agrees = sound; state = refl; entries = λ n entry at. at }
+  reaches-same f sound = record { agrees = sound; state = refl; entries = λ n entry at. at; places = places-still }
 
   -- one step after another
   pub reaches-then : (f g h : Fields T U) (s t : State T U) → Reaches f g s → Reaches g h t → Reaches f h t
-  reaches-then f g h s t first next = record { agrees = next.agrees; state = next.state; entries = λ n entry at. first.entries n entry (next.entries n entry at) }
+  reaches-then f g h s t first next = record { agrees = next.agrees; state = next.state; entries = λ n entry at. first.entries n entry (next.entries n entry at); places = places-then first.places next.places }
 
   -- the domain shows what the step comes to, where a loan has no message and no number is taken back
   pub reaches-shows : (f g : Fields T U) (m : Messages T U) (s t : State T U) → Shows (kept_of f) m s → Reaches f g t → s.next_message ≤ t.next_message

@@ -21,6 +21,7 @@ use Rattle.iox2_domain.proofs.lemmas.fields.Parts.{whole_of, connected_parts}
 use Rattle.iox2_domain.proofs.lemmas.fields.SameSeats.{SameSeats, seat_of, senders-seated, receivers-seated, sender-seated, linked-seated}
 use Rattle.iox2_domain.proofs.lemmas.fields.Views.{mailboxes-are, held-before}
 use Rattle.iox2_domain.proofs.lemmas.slots.Recounts.{sum-alike}
+use Rattle.iox2_domain.proofs.lemmas.fields.PlacesKept.{places-still}
 use mathlib.Core.Path.{fun_ext}
 
 -- The connection, whatever channels it has, and whether it is marked as open.
@@ -149,4 +150,5 @@ module _ {T U : Type 0} (f : Fields T U) (sound : IsDomain f) (new : Slab Link) 
         (subst IsWellFormed (sym rechanneled-is) (with_all_channels_keeps (state_of (kept_of f)) sound.well_formed (channels_in new))) entries;
     state = rechanneled-is;
     entries = λ n entry e. e;
+    places = places-still;
   }

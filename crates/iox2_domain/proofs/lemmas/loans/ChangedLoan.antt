@@ -27,10 +27,11 @@ use Rattle.iox2_domain.proofs.lemmas.fields.KeptBooks.{kept-used}
 use Rattle.iox2_domain.proofs.lemmas.fields.NamedBooks.{names-books}
 use Rattle.iox2_domain.proofs.lemmas.slots.BookChanges.{book-after}
 use Rattle.iox2_domain.proofs.lemmas.slots.Messages.{LiesIn, lies_at, message_in-parts, message_at-slot, message_at-book, message_numbered-found, has_number}
-use Rattle.iox2_domain.proofs.lemmas.slots.SlotChanges.{slot-forms, slot-open, with_slot, marked, marked-keeps, renewed, slot-books, slot-numbered, slot-counted, slot-state, others-lie, slot-lies, others-found, slot-found}
+use Rattle.iox2_domain.proofs.lemmas.slots.SlotChanges.{slot-forms, slot-open, with_slot, marked, marked-keeps, renewed, slot-books, slot-numbered, slot-counted, slot-state, others-lie, slot-lies, others-found, slot-found, number-was}
 use Rattle.iox2_domain.proofs.lemmas.fields.Views.{held-before}
 use Rattle.iox2_domain.proofs.lemmas.slots.LoneLoans.{lone-marked}
 use Rattle.iox2_domain.proofs.lemmas.fields.SameLinks.{linked-same}
+use Rattle.iox2_domain.proofs.lemmas.fields.PlacesKept.{places-back}
 use mathlib.Core.Path.{fun_ext}
 
 -- ---- what lies in a loan's slot
@@ -267,7 +268,7 @@ module _ {T U : Type 0} (f : Fields T U) (sound : IsDomain f) (p n key slot : �
 
       -- the step
       pub change-reaches : Reaches f with_change (with_loan state n (Some changed))
-      change-reaches = record { agrees = change-agrees; state = change-is; entries = λ k entry kept. sym (change-entries k) ∙ kept }
+      change-reaches = record { agrees = change-agrees; state = change-is; entries = λ k entry kept. sym (change-entries k) ∙ kept; places = places-back (number-was f sound key slot at.book at.stands cs at_c mark g) }
 
       -- ---- what is kept
 

@@ -39,7 +39,7 @@ use Rattle.iox2_domain.proofs.lemmas.loans.PublisherChanges.{KeepsSettings, chan
 use Rattle.iox2_domain.proofs.lemmas.slots.SlotChanges.{forms-changed, lists-changed}
 use Rattle.iox2_domain.proofs.lemmas.slots.OpenLoans.{HasItsLists, kept-lists, mark-here, open-own}
 use Rattle.iox2_domain.proofs.lemmas.slots.SlotCells.{cells-elsewhere}
-use Rattle.iox2_domain.proofs.lemmas.loans.Taken.{taken-after, CanTakeSlot, with_taken, taken_book, taken_books, begun, begun_contents, lent, next_header, taken-stands, others-stand, begun-has, others-have, taken-one_each, taken-found, taken-holders, taken-numbered, taken-entries, lent-lies, others-lie, length-with_changed, room-with_changed, taken-lone}
+use Rattle.iox2_domain.proofs.lemmas.loans.Taken.{taken-after, CanTakeSlot, with_taken, taken_book, taken_books, begun, begun_contents, lent, next_header, taken-stands, others-stand, begun-has, others-have, taken-one_each, taken-found, taken-holders, taken-numbered, number-was, taken-entries, lent-lies, others-lie, length-with_changed, room-with_changed, taken-lone}
 use Rattle.iox2_domain.proofs.lemmas.loans.Granted.{lender, with_granted, granted-is, taken-is}
 use Rattle.iox2_domain.proofs.lemmas.fields.Views.{held-before}
 use Rattle.iox2_domain.proofs.lemmas.fields.SameLinks.{linked-same}
@@ -292,4 +292,11 @@ module _ {T U : Type 0} (f : Fields T U) (sound : IsDomain f) (i : ℕ) (x : Pub
       agrees = granted-agrees;
       state = granted-is f sound i x at slot can user_header len segments;
       entries = λ n entry kept. sym (taken-entries f sound x slot can user_header len n) ∙ kept;
+      places = record {
+        rises = omega arith;
+        back = λ key k n low has. elim (number-was f sound x slot can user_header len key k n has) [
+          | inl new ↦ let same = new.2 in absurd (omega (arith, low, same))
+          | inr old ↦ old
+        ];
+      };
     }

@@ -32,12 +32,13 @@ use Rattle.iox2_domain.proofs.lemmas.fields.NamedBooks.{names-books}
 use Rattle.iox2_domain.proofs.lemmas.fields.SameLinks.{linked-same}
 use Rattle.iox2_domain.proofs.lemmas.loans.LendingSteps.{contents-of}
 use Rattle.iox2_domain.proofs.lemmas.loans.PublisherChanges.{with_publisher, map-set, changed-here, changed-was, changed-ids_apart, look_up-publisher, changed-linked_same, changed-kept_books}
-use Rattle.iox2_domain.proofs.lemmas.slots.GrownBooks.{more_slots, grown_books, with_grown_book, grown-length, grown-aligned, grown-here, grown-others, contents-here, contents-others, grown-one_each, grown-after, numbers-same, holders-same, loans-same, grown-lone, lies-same, grown-numbered, grown-loans, grown-entries}
+use Rattle.iox2_domain.proofs.lemmas.slots.GrownBooks.{more_slots, grown_books, with_grown_book, grown-length, grown-aligned, grown-here, grown-others, contents-here, contents-others, grown-one_each, grown-after, numbers-same, holders-same, loans-same, grown-lone, lies-same, grown-numbered, grown-number, grown-loans, grown-entries}
 use Rattle.iox2_domain.proofs.lemmas.slots.Messages.{message_at-book, message_at-slot}
 use Rattle.iox2_domain.proofs.lemmas.slots.OpenLoans.{lists-some, mark-here, open-own}
 use Rattle.iox2_domain.proofs.lemmas.slots.SlotCells.{cells_if, cells-some, cells-read}
 use Rattle.iox2_domain.proofs.lemmas.slots.PublisherBooks.{book-own, book-owned}
 use Rattle.iox2_domain.proofs.lemmas.slots.Renumbered.{with_books-is}
+use Rattle.iox2_domain.proofs.lemmas.fields.PlacesKept.{places-back}
 use mathlib.Core.Path.{fun_ext}
 
 module _ {T U : Type 0} (f : Fields T U) (sound : IsDomain f) (i : ℕ) (x : PublisherFields) (at : get_or f.publishers i None ≡ Some x)
@@ -294,6 +295,7 @@ module _ {T U : Type 0} (f : Fields T U) (sound : IsDomain f) (i : ℕ) (x : Pub
     };
     state = grown-is;
     entries = λ n entry kept. sym (entries-same n) ∙ kept;
+    places = places-back (grown-number f sound x.book g.book g.stood x.slots g.contents g.grown g.had shaped (g.grows).kept);
   } where
     entries-same : (n : ℕ) → entries_of (kept_of after) n ≡ entries_of (kept_of f) n
     entries-same n = ap (λ (k : Kept T U ⊥ ⊥). entries_of k n) after-kept ∙ grown-entries f sound x.book g.book g.stood x.slots g.contents g.grown g.had shaped (g.grows).kept n

@@ -258,7 +258,7 @@ module _ {T U : Type 0} (f : Fields T U) (sound : IsDomain f) (x : PublisherFiel
   -- ---- numbers
 
   -- a slot in use with a number is the new one, or it was in use before
-  number-was : (key k n : ℕ) → HasNumber taken_books key k n
+  pub number-was : (key k n : ℕ) → HasNumber taken_books key k n
       → ((key ≡ x.book) × (k ≡ slot) × (n ≡ f.next_message)) ⊎ HasNumber f.books key k n
   number-was key k n has = elim (cases_eq key x.book) [
     | inr other ↦ inr (record { book = has.book; stands = sym (others-stand key other) ∙ has.stands; in_use = has.in_use; number = has.number })

@@ -129,7 +129,8 @@ module _ {T U : Type 0} (f : Fields T U) (sound : IsDomain f) (i : ℕ) (y : Sub
             (subst (λ (n : ℕ). TakeSample (state_of (kept_of f)) y.id (receiver f sound i y at_y) (with_all_mailboxes (state_of (kept_of f)) (mailboxes_of (numbers_of f.books) new.connections)) (Got_sample (from.link).home.publisher n)) (sym from.number_is)
             (takes-message f sound i y at_y key receipt.sample.slot from.link from.stands new.connections finds from.takes))),
         lies-there f.connections new.connections key receipt.sample.slot from.link from.stands from.homes reached.agrees.parts.apart from.takes new y.id receipt refl from.connection_is refl from.publisher_is from.subscriber_is from.book_is
-            (found-ready f sound i y at_y key receipt.sample.slot from.link from.stands new.connections finds from.takes).0,
+            (found-ready f sound i y at_y key receipt.sample.slot from.link from.stands new.connections finds from.takes).0
+            (from.number_is ∙ ap (λ (h : Fields T U). numbers_of h.books (from.link).home.publisher receipt.sample.slot) (sym from.only)),
       )
 
   -- none can be taken

@@ -37,7 +37,7 @@ module _ {T U : Type 0} where
 
   -- what the update comes to
   pub updated-reaches : (environment : Environment) (f mid : Fields T U) (place : ℕ) (y : SubscriberFields) (failure : Option ConnectionFailure) → UpdatesReceiver environment f place y mid failure → Reaches f mid (state_of (kept_of mid))
-  updated-reaches environment f mid place y failure u = record { agrees = u.changes.agrees; state = refl; entries = u.changes.entries }
+  updated-reaches environment f mid place y failure u = record { agrees = u.changes.agrees; state = refl; entries = u.changes.entries; places = u.changes.places }
 
   -- an update and what is taken after it are a receive
   pub receives-after : (environment : Environment) (f mid new : Fields T U) (q : ℕ) (after : State T U) → UpdateSubscriber environment (state_of (kept_of f)) q after None → Reaches f mid after

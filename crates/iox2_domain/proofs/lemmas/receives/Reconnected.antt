@@ -23,6 +23,7 @@ use Rattle.iox2_domain.proofs.lemmas.fields.Parts.{whole_of, connected_parts}
 use Rattle.iox2_domain.proofs.lemmas.fields.ExpiredRoom.{room-still}
 use Rattle.iox2_domain.proofs.lemmas.fields.NamedBooks.{names-still}
 use Rattle.iox2_domain.proofs.lemmas.fields.SameEnds.{with_connections, connections-are, sender-same, linked-still}
+use Rattle.iox2_domain.proofs.lemmas.fields.PlacesKept.{places-still}
 
 module _ {T U : Type 0} where
   -- the state with these mailboxes
@@ -94,4 +95,5 @@ module _ {T U : Type 0} (f : Fields T U) (sound : IsDomain f) (key : ℕ) (c : L
         sound.kept_books (subst IsWellFormed (sym (connections-are f new same)) well) (reconnected-complete before);
     state = connections-are f new same;
     entries = λ n entry is. is;
+    places = places-still;
   }

@@ -141,13 +141,15 @@ module _ {T U : Type 0} (f : Fields T U) (parts : HasParts f) (key : ℕ) (b : B
 
   -- ---- the parts
 
+  -- a slot in use was so before, with its number
+  pub gone-number : (k slot n : ℕ) → HasNumber after.books k slot n → HasNumber f.books k slot n
+  gone-number k slot n has = record { book = has.book; stands = (was_book k has.book has.stands).1; in_use = has.in_use; number = has.number }
+
   numbered : IsNumbered f.next_message after.books
   numbered = record {
-    one = λ k k' slot slot' n this that. parts.numbered.one k k' slot slot' n (had_number k slot n this) (had_number k' slot' n that);
-    below = λ k slot n this. parts.numbered.below k slot n (had_number k slot n this);
-  } where
-    had_number : (k slot n : ℕ) → HasNumber after.books k slot n → HasNumber f.books k slot n
-    had_number k slot n has = record { book = has.book; stands = (was_book k has.book has.stands).1; in_use = has.in_use; number = has.number }
+    one = λ k k' slot slot' n this that. parts.numbered.one k k' slot slot' n (gone-number k slot n this) (gone-number k' slot' n that);
+    below = λ k slot n this. parts.numbered.below k slot n (gone-number k slot n this);
+  }
 
   -- what the publisher itself has of the slot, or what is out of one that is gone
   abbrev own : (s : ℕ) → Option PublisherFields → Option Book → ℕ

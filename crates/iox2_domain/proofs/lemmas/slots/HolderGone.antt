@@ -20,6 +20,8 @@ use Rattle.iox2_domain.proofs.lemmas.slots.BookChanges.{KeepsSlots, book-here, b
 use Rattle.iox2_domain.proofs.lemmas.slots.LoneLoans.{lone-counters}
 use Rattle.iox2_domain.proofs.lemmas.slots.Messages.{lies_at, message_in-free, message_at-book, message_at-slot, has_number, loan-there, entry-there, ChangesSlot, message_numbered-others}
 use mathlib.Core.Path.{fun_ext}
+use Rattle.iox2_domain.proofs.lemmas.fields.PlacesKept.{places-back}
+use Rattle.iox2_domain.specs.KeptPlaces.{KeepsPlaces}
 
 module _ {T U : Type 0} (f : Fields T U) (parts : HasParts f) (key : ℕ) (b : Book) (at : get f.books key ≡ Some b) (slot n : ℕ) (l : Loan T U)
     (lies : lies_at f key slot ≡ Some (Lent_message n l)) (alone : holders_at b slot ≡ 1) where
@@ -91,6 +93,9 @@ module _ {T U : Type 0} (f : Fields T U) (parts : HasParts f) (key : ℕ) (b : B
         )
     | inr away ↦ (record { book = has.book; stands = away.1; in_use = has.in_use; number = has.number }, λ both. away.0 both.0)
   ]
+
+  pub left-places : KeepsPlaces f left
+  left-places = places-back (λ k s m has. (was-number k s m has).0)
 
   pub left-numbered : IsNumbered f.next_message left.books
   left-numbered = record {

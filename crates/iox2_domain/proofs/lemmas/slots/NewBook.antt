@@ -22,6 +22,8 @@ use Rattle.iox2_domain.proofs.lemmas.slots.MessageLists.{look_up-nothing_there, 
 use Rattle.iox2_domain.proofs.lemmas.slots.Messages.{map_from_zero-at}
 use Rattle.iox2_domain.proofs.lemmas.slots.Renumbered.{map-alike}
 use Rattle.iox2_connections.proofs.MailboxChanges.{both-true}
+use Rattle.iox2_domain.proofs.lemmas.fields.PlacesKept.{places-back}
+use Rattle.iox2_domain.specs.KeptPlaces.{StayInSlots}
 
 -- A book of the publisher, none of whose slots is in use, is among the books now, at a key that had none. At that key are
 -- contents for its slots, each without cells and with room for so many elements. Nothing else changes.
@@ -162,6 +164,9 @@ module _ {T U : Type 0} (f : Fields T U) (sound : IsDomain f) (slots room key : 
         absurd (omega arith)
     | inr old ↦ record { book = has.book; stands = old.1; in_use = has.in_use; number = has.number }
   ]
+
+  pub new-places : StayInSlots f.next_message f.books f.next_message books
+  new-places = places-back had_number
 
   pub numbered-still : IsNumbered f.next_message books
   numbered-still = record {

@@ -21,6 +21,8 @@ use Rattle.iox2_domain.proofs.lemmas.slots.HeldMessages.{held-message-slot}
 use Rattle.iox2_domain.proofs.lemmas.slots.LoneLoans.{IsLoneIn, lone-changed}
 use Rattle.iox2_domain.proofs.lemmas.loans.PublisherChanges.{KeepsSettings, changed-kept_books}
 use Rattle.iox2_domain.proofs.lemmas.slots.OwnSlots.{own-is, own-parts}
+use Rattle.iox2_domain.proofs.lemmas.fields.PlacesKept.{places-back}
+use Rattle.iox2_domain.specs.KeptPlaces.{KeepsPlaces}
 
 zero_or_more : (n : ℕ) → (n ≡ 0) ⊎ (0 < n)
 zero_or_more zero = inl refl
@@ -69,6 +71,9 @@ module _ {T U : Type 0} (f : Fields T U) (parts : HasParts f) (i : ℕ) (x y : P
     )
     | inr away ↦ (record { book = has.book; stands = away.1; in_use = has.in_use; number = has.number }, refl)
   ]
+
+  pub rebooked-places : KeepsPlaces f after
+  rebooked-places = places-back (λ k s m has. (rebooked-number k s m has).0)
 
   pub rebooked-numbered : IsNumbered f.next_message after.books
   rebooked-numbered = record {

@@ -18,7 +18,7 @@ use Rattle.iox2_domain.proofs.lemmas.fields.Parts.{whole_of}
 use Rattle.iox2_domain.proofs.lemmas.fields.Views.{mailboxes-are}
 use Rattle.iox2_domain.proofs.lemmas.slots.LoneLoans.{lone-counters}
 use Rattle.iox2_domain.proofs.lemmas.slots.PublisherBooks.{book-own, book-owned}
-use Rattle.iox2_domain.proofs.lemmas.slots.RecountedLoans.{recounted_fields, recounted-kept, parts-recounted, recounted-is, recounted-entries, recounted-keeps}
+use Rattle.iox2_domain.proofs.lemmas.slots.RecountedLoans.{recounted_fields, recounted-kept, parts-recounted, recounted-is, recounted-entries, recounted-places, recounted-keeps}
 use mathlib.Core.Path.{fun_ext}
 
 module _ {T U : Type 0} (f : Fields T U) (sound : IsDomain f) (p key : ℕ) (b : Book) (at : get f.books key ≡ Some b) (mine : b.publisher ≡ p) (owned : IsOwned f.publishers key p)
@@ -46,6 +46,7 @@ module _ {T U : Type 0} (f : Fields T U) (sound : IsDomain f) (p key : ℕ) (b :
         (old.0, recounted-keeps f sound p key b at mine holders new r.recounts q n old.0 held old.1, old.2));
     state = reclaimed-is;
     entries = recounted-entries f sound p key b at mine holders new r.recounts;
+    places = recounted-places f sound p key b at mine holders new r.recounts;
   }
 
 -- ---- a publisher that stands somewhere

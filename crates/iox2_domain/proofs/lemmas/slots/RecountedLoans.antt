@@ -26,6 +26,7 @@ use Rattle.iox2_domain.specs.Ports.{PublisherFields}
 use Rattle.iox2_domain.specs.Kept.{KeptMessage, Lent_message, Sent_message, state_of, entries_of}
 use Rattle.iox2_domain.specs.Fields.{Fields, kept_of, numbers_of, message_of, contents_at, is_book_of}
 use Rattle.iox2_domain.specs.Invariant.{IsDomain, IsOwned, KeepsBooks, HasLoneLoans, HasNumber, is_publisher, is_lent, is_loan_in, holders_of, own_holders, HasParts}
+use Rattle.iox2_domain.specs.KeptPlaces.{KeepsPlaces}
 use Rattle.iox2_domain.proofs.lemmas.fields.ConnectionEnds.{publisher-stands}
 use Rattle.iox2_domain.proofs.lemmas.fields.KeptBooks.{kept-own}
 use Rattle.iox2_domain.proofs.lemmas.fields.SameEnds.{with_connections}
@@ -33,8 +34,9 @@ use Rattle.iox2_domain.proofs.lemmas.slots.Messages.{LiesIn, message_in-parts, l
 use Rattle.iox2_domain.proofs.lemmas.slots.BookChanges.{KeepsSlots, books-apart, book-here, book-others}
 use Rattle.iox2_domain.proofs.lemmas.slots.HeldMessages.{held-message-slot, slot_numbered, own-in_use, lies_with}
 use Rattle.iox2_domain.proofs.lemmas.slots.RecountedFields as fields
-use Rattle.iox2_domain.proofs.lemmas.slots.Recounts.{OwnStays, recounted-consistent}
+use Rattle.iox2_domain.proofs.lemmas.slots.Recounts.{number-back, OwnStays, recounted-consistent}
 use Rattle.iox2_domain.proofs.lemmas.slots.Holders.{book-by_id, book-holders}
+use Rattle.iox2_domain.proofs.lemmas.fields.PlacesKept.{places-back}
 
 -- the publisher of a loan is that of the book in which it lies
 pub loan-publisher : {T U : Type 0} (b : Book) (contents : List (ContentState T U)) (slot n : ℕ) (l : Loan T U) → LiesIn b contents slot (Lent_message n l) → l.publisher ≡ b.publisher
@@ -190,6 +192,10 @@ module _ {T U : Type 0} (f : Fields T U) (sound : IsDomain f) (p key : ℕ) (b :
   -- the machine sees the mailboxes alone
   pub recounted-is : state_of (kept_of recounted_fields) ≡ record (state_of (kept_of f)) { mailboxes = mailboxes_of (numbers_of f.books) new }
   recounted-is = fields.recounted-is f parts p key b at mine holders new r own loans-stay
+
+  -- a slot in use was so before, with its number
+  pub recounted-places : KeepsPlaces f recounted_fields
+  recounted-places = places-back (number-back f parts p key b at mine holders new r)
 
   -- no entry is newly kept
   pub recounted-entries : (n : ℕ) (entry : Entry T U) → entries_of (kept_of recounted_fields) n ≡ Some entry → entries_of (kept_of f) n ≡ Some entry

@@ -18,9 +18,10 @@ use Rattle.iox2_domain.specs.Invariant.{HasLoneLoans, IsOwned, IsLeft, HasParts}
 use Rattle.iox2_domain.specs.Reaches.{Reaches}
 use Rattle.iox2_domain.specs.Shows.{KeepsEntries}
 use Rattle.iox2_domain.proofs.lemmas.fields.Parts.{whole_of}
-use Rattle.iox2_domain.proofs.lemmas.slots.BookGone.{gone-parts, gone-state, messages-same, gone-lone, gone-kept}
+use Rattle.iox2_domain.proofs.lemmas.slots.BookGone.{gone-parts, gone-state, messages-same, gone-lone, gone-kept, gone-number}
 use Rattle.iox2_domain.proofs.lemmas.slots.HeldMessages.{held-message-slot}
 use Rattle.iox2_domain.proofs.lemmas.slots.LeftConnections.{some-number, left-numbers}
+use Rattle.iox2_domain.proofs.lemmas.fields.PlacesKept.{places-back, places-still}
 
 -- no counter, or some, is above zero
 all-zero : (xs : List ℕ) → All (λ n. n ≡ 0) xs → (k : ℕ) → get_or xs k 0 ≡ 0
@@ -74,6 +75,7 @@ module _ {T U : Type 0} (f : Fields T U) (parts : HasParts f) (lone : HasLoneLoa
         (old.0, same-entries m ∙ old.1, old.2));
     state = gone-state f parts key b at unused gone (unnamed unused);
     entries = λ m entry e. sym (same-entries m) ∙ e;
+    places = places-back (gone-number f parts key b at unused gone (unnamed unused));
   } where
     -- the same entries are kept
     same-entries : (m : ℕ) → entries_of (kept_of (with_book_gone f key)) m ≡ entries_of (kept_of f) m
@@ -85,6 +87,7 @@ module _ {T U : Type 0} (f : Fields T U) (parts : HasParts f) (lone : HasLoneLoa
     agrees = whole_of f parts lone (record { at = kept }) well entries;
     state = refl;
     entries = λ m entry e. e;
+    places = places-still;
   } where
     kept : (k : ℕ) (c : Book) → get f.books k ≡ Some c → IsOwned f.publishers k c.publisher ⊎ IsLeft f.next_port f.publishers c
     kept k c there = elim (cases_eq k key) [

@@ -179,7 +179,7 @@ module _ {T U : Type 0} (f : Fields T U) (sound : IsDomain f) (key slot : ℕ) (
 
   -- ---- numbers and counters
 
-  number-was : (k s n : ℕ) → HasNumber (with_value f.books key marked) k s n → HasNumber f.books k s n
+  pub number-was : (k s n : ℕ) → HasNumber (with_value f.books key marked) k s n → HasNumber f.books k s n
   number-was k s n has = elim (book-was f key b marked at_b marked-keeps k has.book has.stands) [
     | inl is ↦ record {
       book = b;

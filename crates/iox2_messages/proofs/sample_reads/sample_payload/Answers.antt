@@ -1,7 +1,29 @@
-use Rattle.iox2_domain.proofs.lemmas.samples.HintedSamples.{lies-in-slot}
+use Rattle.std.proofs.Common.{◌≡◌, ◌<◌, rules, arith, length, vec_len}
+use Rattle.iox2_domain.proofs.lemmas.samples.SampleReads.{book-within, no-contents, value-there, value-read}
 use Rattle.iox2_messages.proofs.sample_reads.sample_payload.Goals as goal
 
-pub payload_at-requires-clause-lies : goal.payload_at-requires-clause-lies
-payload_at-requires-clause-lies g c =
-    lies-in-slot c.args.state.now c.requires.agrees c.args.sample.now.subscriber c.args.sample.now.number c.requires.live
-    c.args.sample.now.book c.args.sample.now.slot (c.is_at_slot.ensures.0 c.if-is_at_slot.true)
+pub index-requires : goal.index-requires
+index-requires g c =
+    let long : vec_len c.state.inside.contents ≡ length c.state.inside.contents.items = search rules in
+    let within : c.args.sample.now.book < length c.state.inside.contents.items =
+    book-within _ c.args.state.now c.args.sample.now.subscriber c.args.sample.now.number (record { connection = c.requires.lies.0; book = c.args.sample.now.book; slot = c.args.sample.now.slot })
+    (record { same = c.state.view_is; sound = c.requires.agrees; lies = c.requires.lies.1 }) in
+    omega arith
+
+pub unreachable-requires : goal.unreachable-requires
+unreachable-requires g c =
+    no-contents _ c.args.state.now c.args.sample.now.subscriber c.args.sample.now.number (record { connection = c.requires.lies.0; book = c.args.sample.now.book; slot = c.args.sample.now.slot })
+    (record { same = c.state.view_is; sound = c.requires.agrees; lies = c.requires.lies.1 })
+    c.index.result.now c.index.ensures c.in_default.is
+
+pub value-requires : goal.value-requires
+value-requires g c =
+    value-there _ c.args.state.now c.args.sample.now.subscriber c.args.sample.now.number (record { connection = c.requires.lies.0; book = c.args.sample.now.book; slot = c.args.sample.now.slot })
+    (record { same = c.state.view_is; sound = c.requires.agrees; lies = c.requires.lies.1 })
+    c.index.result.now c.index.ensures c.in-Some.contents c.in-Some.is c.requires.fixed_size c.requires.single
+
+pub returns : goal.returns
+returns g c =
+    value-read _ c.args.state.now c.args.sample.now.subscriber c.args.sample.now.number (record { connection = c.requires.lies.0; book = c.args.sample.now.book; slot = c.args.sample.now.slot })
+    (record { same = c.state.view_is; sound = c.requires.agrees; lies = c.requires.lies.1 })
+    c.index.result.now c.index.ensures c.in-Some.contents c.in-Some.is c.requires.fixed_size c.requires.single c.value.result.now c.value.ensures

@@ -27,7 +27,7 @@ returns-in-Ok-Some-clause-copied c = λ ok. (
     receives =
         receives-moved c.service.inside.domain c.args.service.now.domain c.receive-received.new.domain _ (receiver_of c.in-Ok-Some.sample) _ _
         (ap (λ (s : Serving). s.domain) c.service.view_is) (sym (receiver c)) (ap (λ (o : Option Sample). received_result (Ok o)) c.in-Ok-Some.field-0-is) c.in-Ok-Some.ensures.receives;
-    live = let got = rw c.in-Ok-Some.field-0-is at c.in-Ok-Some.ensures.received in got.live;
+    live = let got = rw c.in-Ok-Some.field-0-is at c.in-Ok-Some.ensures.received in got.live.there;
     reads = c.copy_out.ensures.copied ok;
     releases = c.copy_out.ensures.releases ok;
   },

@@ -16,7 +16,7 @@ use Rattle.iox2_c.proofs.calls.subscribers.receive_named.Goals as goal
 pub tell_received-requires-clause-service : goal.tell_received-requires-clause-service
 tell_received-requires-clause-service c =
     let live : IsLiveSample c.receive-received.new.domain c.in-Ok-Some.sample = search rules in
-    (sample-parts c.receive-received.new.domain _ live).0
+    (sample-parts c.receive-received.new.domain _ live.there).0
     ∙ ap (λ (config : ServiceConfig). config.service_id) c.in-Ok-Some.ensures.leaves.stays.settings
     ∙ sym (subscriber-parts c.service.inside.domain _ c.in-Some.ensures.live.there).1
     ∙ ap (λ (k : Key). k.service_id) c.in-Some.ensures.named

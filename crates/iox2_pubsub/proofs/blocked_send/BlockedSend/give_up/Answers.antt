@@ -44,7 +44,7 @@ pub returns-clause-goes_on : goal.returns-clause-goes_on
 returns-clause-goes_on g c =
     let it = from-blocked {T = g.row.T.Denot} {U = g.row.U.Denot} c.domain.inside.state c.domain.invariant c.args.domain.now c.domain.view_is c.args.self c.requires.live (returns-clause-gives_up g c) in
     let step = goes-there {T = g.row.T.Denot} {U = g.row.U.Denot} c.domain.inside.state c.domain.invariant c.args.domain.now c.domain.view_is c.args.self c.requires.live c.find_live_publisher-place.result c.find_live_publisher-place.ensures c.give_up_send-end.ensures.goes in
-    let stays = give-up-stays {T = g.row.T.Denot} {U = g.row.U.Denot} c.domain.inside.state c.give_up_send-end.new.state c.args.domain.now c.domain.view_is it.m it.s it.shown c.args.self.loan.publisher (result_of_send c.outcome_of.result) (answers_of g.F.BackpressureFn.allows g.G.DegradationFn.allows c.args.domain.now.boxes.publishers) it.held.0 it.held.1 it.at it.held.3 step.agrees (subst (λ (t : State g.row.T.Denot g.row.U.Denot). GiveUp (answers_of g.F.BackpressureFn.allows g.G.DegradationFn.allows c.args.domain.now.boxes.publishers) it.s c.args.self.loan.publisher it.held.1 t (result_of_send c.outcome_of.result)) (it.step.1).state it.step.2) step.entries in
+    let stays = give-up-stays {T = g.row.T.Denot} {U = g.row.U.Denot} c.domain.inside.state c.give_up_send-end.new.state c.args.domain.now c.domain.view_is it.m it.s it.shown c.args.self.loan.publisher (result_of_send c.outcome_of.result) (answers_of g.F.BackpressureFn.allows g.G.DegradationFn.allows c.args.domain.now.boxes.publishers) it.held.0 it.held.1 it.at it.held.3 step.agrees (subst (λ (t : State g.row.T.Denot g.row.U.Denot). GiveUp (answers_of g.F.BackpressureFn.allows g.G.DegradationFn.allows c.args.domain.now.boxes.publishers) it.s c.args.self.loan.publisher it.held.1 t (result_of_send c.outcome_of.result)) (it.step.1).state it.step.2) step.entries c.domain.invariant step.places in
     went-on c.args.domain.now _ c.args.self c.outcome_of.result c.outcome_of.ensures.blocked (record {
       stays = stays;
       again = blocked-again {T = g.row.T.Denot} {U = g.row.U.Denot} c.domain.inside.state c.domain.invariant c.args.domain.now c.domain.view_is c.args.self c.requires.live (keeping _ c.give_up_send-end.new.state) stays.settings c.outcome_of.result c.outcome_of.ensures.blocked it.held it.step.0 (it.step.1).state (give_up_waits_with (answers_of g.F.BackpressureFn.allows g.G.DegradationFn.allows c.args.domain.now.boxes.publishers) it.s c.args.self.loan.publisher it.held.1 it.step.0 _ it.step.2);

@@ -31,5 +31,6 @@ returns g c =
       loans_left = it.loans_left;
       numbers_left = it.numbers_left;
       borrows_left = it.borrows_left;
-      stays = it.stays (other-boxes c.domain.inside.state c.close_publisher.new.state c.args.domain.now c.domain.view_is (λ p other. c.remove.ensures.others p (λ same. other (same ∙ c.value.ensures))));
+      stays = it.stays (other-boxes c.domain.inside.state c.close_publisher.new.state c.args.domain.now c.domain.view_is c.domain.invariant
+          (let at = ready-stands {T = g.row.T.Denot} {U = g.row.U.Denot} c.domain.inside.state c.domain.invariant c.args.domain.now c.domain.view_is c.args.self c.requires.ready in (c.close_publisher.ensures at.0 at.1).places) (λ p other. c.remove.ensures.others p (λ same. other (same ∙ c.value.ensures))));
     }

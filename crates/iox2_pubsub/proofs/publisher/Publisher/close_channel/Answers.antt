@@ -31,7 +31,7 @@ returns-clause-leaves g c =
     changed-leaves {T = g.row.T.Denot} {U = g.row.U.Denot} c.domain.inside.state c.args.domain.now c.domain.view_is
     (λ s. sent_closed s c.args.self.now.id c.args.channel c.args.connection c.args.expected) (λ s. sent-closed-is s c.args.self.now.id c.args.channel c.args.connection c.args.expected)
     c.domain.invariant (keeping _ c.close_sent.new.state) (returns-clause-closed g c)
-    (same-boxes c.domain.inside.state c.close_sent.new.state c.args.domain.now c.domain.view_is) _
+    (same-boxes c.domain.inside.state c.close_sent.new.state c.args.domain.now c.domain.view_is c.domain.invariant (let at = publisher-there {T = g.row.T.Denot} {U = g.row.U.Denot} c.domain.inside.state c.domain.invariant c.args.domain.now c.domain.view_is c.args.self.now c.requires.there c.requires.placed in (c.close_sent.ensures at.0 at.1).places)) _
     (λ p subscriber stays well_formed takes. elim stays [
       | inl away ↦ ap (λ (channels : ℕ → Channel). is_closed (channels 0)) (sent-others s well_formed c.args.self.now.id c.args.channel c.args.connection c.args.expected p subscriber.id (inl away)) ∙ takes
       | inr more ↦ elim more [

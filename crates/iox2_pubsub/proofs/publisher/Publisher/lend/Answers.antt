@@ -3,7 +3,7 @@ use Rattle.iox2_domain.specs.Kept.{Kept}
 use Rattle.iox2_pubsub.proofs.GrantedLoans.{call-leaves, call-refused, granted-leaves, lent-unfilled, lent-unwritten}
 use Rattle.iox2_pubsub.proofs.PlacedHandles.{publisher-at-place}
 use Rattle.iox2_pubsub.proofs.SureLoans.{sure-granted, sure-of-loan}
-use Rattle.iox2_pubsub.proofs.UninitLoans.{err-shown, ok-domain, ok-shown}
+use Rattle.iox2_pubsub.proofs.UninitLoans.{loan-places, err-shown, ok-domain, ok-shown}
 use Rattle.iox2_pubsub.proofs.publisher.Publisher.lend.Goals as goal
 
 pub invariant_of-domain-2 : goal.invariant_of-domain-2
@@ -44,9 +44,10 @@ returns-in_err-loan-clause-refused g c = call-refused {T = g.row.T.Denot} {U = g
 
 pub returns-in_err-loan-clause-leaves : goal.returns-in_err-loan-clause-leaves
 returns-in_err-loan-clause-leaves g c = call-leaves {T = g.row.T.Denot} {U = g.row.U.Denot} g.U.Default.is_default c.args.checks_length c.args.len c.domain.inside.state c.loan.new.state c.domain.invariant c.args.domain.now c.domain.view_is c.args.self.now c.requires.ready c.from_residual.result (returns-in_err-loan-clause-lends g c)
+    (loan-places {T = g.row.T.Denot} {U = g.row.U.Denot} g.U.Default.is_default c.args.checks_length c.args.len c.domain.inside.state c.loan.new.state c.domain.invariant c.args.self.now.place c.args.self.now.id c.loan.result (publisher-at-place {T = g.row.T.Denot} {U = g.row.U.Denot} c.domain.inside.state c.domain.invariant c.args.domain.now c.domain.view_is c.args.self.now c.requires.ready) c.loan.ensures.reaches)
 
 pub returns-clause-loan : goal.returns-clause-loan
-returns-clause-loan g c = lent-unwritten {T = g.row.T.Denot} {U = g.row.U.Denot} g.U.Default.is_default c.args.checks_length c.args.len c.domain.inside.state c.loan.new.state c.domain.invariant c.args.domain.now c.domain.view_is c.args.self.now c.requires.ready c.loan.result c.loan.ensures.reaches c.in_ok-loan.loan c.in_ok-loan.was c.in_ok-loan.ensures.named
+returns-clause-loan g c = lent-unwritten {T = g.row.T.Denot} {U = g.row.U.Denot} g.U.Default.is_default c.args.checks_length c.args.len c.domain.inside.state c.loan.new.state c.domain.invariant c.args.domain.now c.domain.view_is c.args.self.now c.requires.ready c.loan.result c.loan.ensures.reaches c.in_ok-loan.loan c.in_ok-loan.was c.in_ok-loan.ensures.named c.in_ok-loan.ensures.lies
 
 pub returns-clause-unfilled : goal.returns-clause-unfilled
 returns-clause-unfilled g c = lent-unfilled {T = g.row.T.Denot} {U = g.row.U.Denot} g.U.Default.is_default c.args.checks_length c.args.len c.domain.inside.state c.loan.new.state c.domain.invariant c.args.domain.now c.domain.view_is c.args.self.now c.requires.ready c.loan.result c.loan.ensures.reaches c.in_ok-loan.loan c.in_ok-loan.was c.in_ok-loan.ensures.named _ refl

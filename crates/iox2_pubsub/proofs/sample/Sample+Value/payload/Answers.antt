@@ -1,11 +1,11 @@
 use Rattle.std.proofs.Common.{ap, ◌∙◌}
 use Rattle.iox2_domain.specs.Kept.{Kept}
 use Rattle.iox2_pubsub.proofs.LiveParts.{single-parts, sample-reads, sample-reads-one}
-use Rattle.iox2_pubsub.proofs.SampleReads.{entry-kept, entry-shown, its-place, sample-held}
+use Rattle.iox2_pubsub.proofs.SampleReads.{entry-kept, entry-shown, its-place, sample-lies}
 use Rattle.iox2_pubsub.proofs.sample.Sample+Value.payload.Goals as goal
 
-pub sample_payload-requires-clause-live : goal.sample_payload-requires-clause-live
-sample_payload-requires-clause-live g c = sample-held {T = g.row.T.Denot} {U = g.row.U.Denot} c.domain.inside.state c.args.domain.now c.domain.view_is c.args.self.now (its-place c.self.view_is) c.requires.live
+pub sample_payload-requires-clause-lies : goal.sample_payload-requires-clause-lies
+sample_payload-requires-clause-lies g c = sample-lies {T = g.row.T.Denot} {U = g.row.U.Denot} c.domain.inside.state c.args.domain.now c.domain.view_is c.args.self.now (its-place c.self.view_is) c.domain.invariant c.requires.live
 
 pub returns-clause-entry : goal.returns-clause-entry
 returns-clause-entry g c = entry-shown {T = g.row.T.Denot} {U = g.row.U.Denot} c.domain.inside.state c.args.domain.now c.domain.view_is c.args.self.now (its-place c.self.view_is) c.sample_payload.ensures

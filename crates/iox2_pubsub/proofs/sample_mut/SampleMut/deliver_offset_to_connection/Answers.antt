@@ -67,7 +67,7 @@ returns-clause-spends g c =
     let stays = sent-to-stays {T = g.row.T.Denot} {U = g.row.U.Denot} c.args.domain.now _ it.m it.s it.shown (answers_of g.F.BackpressureFn.allows g.G.DegradationFn.allows c.args.domain.now.boxes.publishers) c.args.self it.l it.out it.its c.args.channel c.args.connection it.step.0
     (λ x at. (unblocked-parts c.args.domain.now (written_key c.args.self) c.requires.unblocked).1 x
     (sym (ap (λ (t : State g.row.T.Denot g.row.U.Denot). t.publishers c.args.self.loan.publisher) it.shown.state) ∙ ap it.s.publishers (sym it.its) ∙ at))
-    c.outcome_of.result it.step.1 it.step.2 (same-boxes c.domain.inside.state c.send_to_connection-end.new.state c.args.domain.now c.domain.view_is) in
+    c.outcome_of.result it.step.1 it.step.2 (same-boxes c.domain.inside.state c.send_to_connection-end.new.state c.args.domain.now c.domain.view_is c.domain.invariant c.send_to_connection-end.ensures.places) in
     record {
       ok = λ lent never. sent-to-ok {T = g.row.T.Denot} {U = g.row.U.Denot} c.args.domain.now (keeping c.args.domain.now.boxes c.send_to_connection-end.new.state) it.m it.s it.shown (answers_of g.F.BackpressureFn.allows g.G.DegradationFn.allows c.args.domain.now.boxes.publishers) c.args.self it.l it.out it.its c.args.channel c.args.connection it.step.0 (written_key c.args.self) (sym it.its) lent never c.outcome_of.result it.step.2;
       delivered = λ never.

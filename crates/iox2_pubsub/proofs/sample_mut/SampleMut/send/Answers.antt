@@ -30,11 +30,15 @@ use Rattle.iox2_pubsub.proofs.PublisherWaits.{send-arrives, send-joins}
 use Rattle.iox2_pubsub.proofs.KeptReceives.{others-send}
 use Rattle.iox2_pubsub.proofs.RoomySends.{alone-roomy, roomy-free, unhindered-is}
 use Rattle.iox2_pubsub.proofs.StaysBut.{same-boxes}
+use Rattle.iox2_pubsub.proofs.PlacedLoans.{written-lies}
 use Rattle.iox2_pubsub.proofs.sample_mut.SampleMut.send.Goals as goal
 
 pub send_loan-requires-clause-live : goal.send_loan-requires-clause-live
 send_loan-requires-clause-live g c =
     subst (λ (k : Kept g.row.T.Denot g.row.U.Denot g.row.F.Denot g.row.G.Denot). HoldsWritten (state_of k) c.args.self.loan.publisher c.args.self.loan.number) (sym c.domain.view_is) (written-parts c.args.domain.now c.args.self c.requires.live).1
+
+pub send_loan-requires-clause-lies : goal.send_loan-requires-clause-lies
+send_loan-requires-clause-lies g c = written-lies {T = g.row.T.Denot} {U = g.row.U.Denot} _ c.domain.invariant c.args.domain.now c.domain.view_is c.args.self c.requires.live
 
 pub returns-clause-sent : goal.returns-clause-sent
 returns-clause-sent g c = λ m s l shown out.
@@ -124,7 +128,7 @@ returns-clause-spends g c =
     let stays = sent-stays {T = g.row.T.Denot} {U = g.row.U.Denot} c.args.domain.now _ it.m it.s it.shown (answers_of g.F.BackpressureFn.allows g.G.DegradationFn.allows c.args.domain.now.boxes.publishers) c.args.self it.l it.out it.its
     (λ x at. (unblocked-parts c.args.domain.now (written_key c.args.self) c.requires.unblocked).1 x
     (sym (ap (λ (t : State g.row.T.Denot g.row.U.Denot). t.publishers c.args.self.loan.publisher) it.shown.state) ∙ ap it.s.publishers (sym it.its) ∙ at))
-    c.send_loan.result it.step.0 it.step.1 it.step.2 (same-boxes c.domain.inside.state c.send_loan.new.state c.args.domain.now c.domain.view_is) in
+    c.send_loan.result it.step.0 it.step.1 it.step.2 (same-boxes c.domain.inside.state c.send_loan.new.state c.args.domain.now c.domain.view_is c.domain.invariant c.send_loan.ensures.ends.1.places) in
     record {
       ok = λ lent never.
           let has = (written-parts c.args.domain.now c.args.self c.requires.live).1 in

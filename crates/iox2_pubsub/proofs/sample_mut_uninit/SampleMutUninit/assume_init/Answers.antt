@@ -3,7 +3,11 @@ use Rattle.std.proofs.lemmas.Bool.{true≢false}
 use Rattle.iox2_pubsub.proofs.LoanHandles.{unwritten-out}
 use Rattle.iox2_pubsub.proofs.AssumedLoans.{all-taken, some-left, taken-values, taken-becomes, left-leaves, written-taken, unwritten-left, taken-shown, taken-reads, left-same, left-shown, left-stays, left-loans, left-borrows}
 use Rattle.iox2_pubsub.proofs.WaitingShown.{waiting-same}
+use Rattle.iox2_pubsub.proofs.PlacedLoans.{unwritten-lies}
 use Rattle.iox2_pubsub.proofs.sample_mut_uninit.SampleMutUninit.assume_init.Goals as goal
+
+pub assume_loan-requires-clause-lies : goal.assume_loan-requires-clause-lies
+assume_loan-requires-clause-lies g c = unwritten-lies {T = g.row.T.Denot} {U = g.row.U.Denot} _ c.domain.invariant c.args.domain.now c.domain.view_is c.args.self c.requires.live
 
 pub assume_loan-requires-clause-live : goal.assume_loan-requires-clause-live
 assume_loan-requires-clause-live g c = unwritten-out {T = g.row.T.Denot} {U = g.row.U.Denot} _ c.args.domain.now c.domain.view_is c.args.self c.requires.live

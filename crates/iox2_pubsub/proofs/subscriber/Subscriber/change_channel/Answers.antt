@@ -35,7 +35,7 @@ returns-clause-leaves g c =
     changed-leaves {T = g.row.T.Denot} {U = g.row.U.Denot} c.domain.inside.state c.args.domain.now c.domain.view_is
     (λ s. received_changed s c.args.self.now.id c.args.channel c.args.expected (changed_channel c.args.change)) (λ s. refl)
     c.domain.invariant (keeping _ c.change_received.new.state) (returns-clause-changed g c)
-    (same-boxes c.domain.inside.state c.change_received.new.state c.args.domain.now c.domain.view_is) _
+    (same-boxes c.domain.inside.state c.change_received.new.state c.args.domain.now c.domain.view_is c.domain.invariant (let at = (subscriber-there {T = g.row.T.Denot} {U = g.row.U.Denot} c.domain.inside.state c.domain.invariant c.args.domain.now c.domain.view_is c.args.self.now c.requires.live) in (c.change_received.ensures at.0 at.1).places)) _
     (λ p other stays well_formed takes. elim stays [
       | inl none ↦ received-takes s c.args.self.now.id c.args.channel c.args.expected (changed_channel c.args.change) none p other.id takes
       | inr apart ↦ elim apart [

@@ -32,7 +32,8 @@ returns-clause-spent g c =
 pub returns-clause-leaves : goal.returns-clause-leaves
 returns-clause-leaves g c =
     subscriber-close-left {T = g.row.T.Denot} {U = g.row.U.Denot} c.domain.inside.state c.args.domain.now (keeping _ c.close_subscriber.new.state) c.domain.invariant c.domain.view_is c.args.self c.requires.live.there (returns-clause-closed g c)
-    (other-subscriber-boxes c.domain.inside.state c.close_subscriber.new.state c.args.domain.now c.domain.view_is
+    (other-subscriber-boxes c.domain.inside.state c.close_subscriber.new.state c.args.domain.now c.domain.view_is c.domain.invariant
+    (let at = subscriber-at-place {T = g.row.T.Denot} {U = g.row.U.Denot} c.domain.inside.state c.domain.invariant c.args.domain.now c.domain.view_is c.args.self c.requires.live in (c.close_subscriber.ensures at.0 at.1).places)
     (λ q other. c.remove.ensures.others q (λ same. other (same ∙ c.value.ensures))))
 
 pub returns-clause-unboxed : goal.returns-clause-unboxed

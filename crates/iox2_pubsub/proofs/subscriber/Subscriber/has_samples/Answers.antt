@@ -20,12 +20,12 @@ returns-clause-answers g c =
 pub returns-clause-leaves : goal.returns-clause-leaves
 returns-clause-leaves g c =
     question-left {T = g.row.T.Denot} {U = g.row.U.Denot} c.domain.inside.state c.args.domain.now (keeping _ c.has_samples_at.new.state) c.domain.invariant c.domain.view_is
-    (same-boxes c.domain.inside.state c.has_samples_at.new.state c.args.domain.now c.domain.view_is) (answers_of g.F.BackpressureFn.allows g.G.DegradationFn.allows c.args.domain.now.boxes.subscribers) c.args.self.now c.has_samples_at.result (returns-clause-answers g c)
+    (same-boxes c.domain.inside.state c.has_samples_at.new.state c.args.domain.now c.domain.view_is c.domain.invariant (let at = (subscriber-there {T = g.row.T.Denot} {U = g.row.U.Denot} c.domain.inside.state c.domain.invariant c.args.domain.now c.domain.view_is c.args.self.now c.requires.live) in (c.has_samples_at.ensures at.0 at.1).1.places)) (answers_of g.F.BackpressureFn.allows g.G.DegradationFn.allows c.args.domain.now.boxes.subscribers) c.args.self.now c.has_samples_at.result (returns-clause-answers g c)
 
 pub returns-clause-borrows_left : goal.returns-clause-borrows_left
 returns-clause-borrows_left g c =
     question-borrows {T = g.row.T.Denot} {U = g.row.U.Denot} c.domain.inside.state c.args.domain.now (keeping _ c.has_samples_at.new.state) c.domain.invariant c.domain.view_is
-    (same-boxes c.domain.inside.state c.has_samples_at.new.state c.args.domain.now c.domain.view_is) (answers_of g.F.BackpressureFn.allows g.G.DegradationFn.allows c.args.domain.now.boxes.subscribers) c.args.self.now c.has_samples_at.result (returns-clause-answers g c)
+    (same-boxes c.domain.inside.state c.has_samples_at.new.state c.args.domain.now c.domain.view_is c.domain.invariant (let at = (subscriber-there {T = g.row.T.Denot} {U = g.row.U.Denot} c.domain.inside.state c.domain.invariant c.args.domain.now c.domain.view_is c.args.self.now c.requires.live) in (c.has_samples_at.ensures at.0 at.1).1.places)) (answers_of g.F.BackpressureFn.allows g.G.DegradationFn.allows c.args.domain.now.boxes.subscribers) c.args.self.now c.has_samples_at.result (returns-clause-answers g c)
 
 pub returns-clause-waits : goal.returns-clause-waits
 returns-clause-waits g c =
@@ -36,7 +36,7 @@ returns-clause-waits g c =
 pub returns-clause-updated : goal.returns-clause-updated
 returns-clause-updated g c =
     question-updated {T = g.row.T.Denot} {U = g.row.U.Denot} c.domain.inside.state c.args.domain.now (keeping _ c.has_samples_at.new.state) c.domain.invariant c.domain.view_is
-    (same-boxes c.domain.inside.state c.has_samples_at.new.state c.args.domain.now c.domain.view_is) (answers_of g.F.BackpressureFn.allows g.G.DegradationFn.allows c.args.domain.now.boxes.subscribers) c.args.self.now c.requires.live c.has_samples_at.result (returns-clause-answers g c)
+    (same-boxes c.domain.inside.state c.has_samples_at.new.state c.args.domain.now c.domain.view_is c.domain.invariant (let at = (subscriber-there {T = g.row.T.Denot} {U = g.row.U.Denot} c.domain.inside.state c.domain.invariant c.args.domain.now c.domain.view_is c.args.self.now c.requires.live) in (c.has_samples_at.ensures at.0 at.1).1.places)) (answers_of g.F.BackpressureFn.allows g.G.DegradationFn.allows c.args.domain.now.boxes.subscribers) c.args.self.now c.requires.live c.has_samples_at.result (returns-clause-answers g c)
 
 pub returns-clause-undisturbed : goal.returns-clause-undisturbed
 returns-clause-undisturbed g c = λ keeps.

@@ -22,7 +22,7 @@ returns-in-Ok g c =
     taken_carried {T = g.row.T.Denot} {U = g.row.U.Denot} _ c.args.domain.now c.assume_init.new.domain table _ of c.in-Unwritten.loan c.in-Ok.loan at c.in-Ok.ensures.step
     (ap (λ (k : Key). k.service_id) c.in-Ok.ensures.becomes.key) (ap (λ (k : Key). k.port) c.in-Ok.ensures.becomes.key) (ap (λ (k : Key). k.message) c.in-Ok.ensures.becomes.key) refl)
     (stays-but-more _ _ _ _ c.assume_init.ensures.leaves.stays)
-    (λ start fresh. subst (λ (k : Key). IsNewIn start (Both (A_loan k.message) (A_blocked_send k.port))) (sym c.in-Ok.ensures.becomes.key) fresh) tt)
+    (λ start fresh. subst (λ (k : Key). IsNewIn start (Both (A_loan k.message) (A_blocked_send k.port))) (sym c.in-Ok.ensures.becomes.key) fresh) c.in-Ok.ensures.becomes.out.placed)
 
 pub returns-in-Err : goal.returns-in-Err
 returns-in-Err g c =

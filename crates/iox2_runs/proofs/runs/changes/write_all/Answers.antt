@@ -22,7 +22,7 @@ returns-in-Unwritten g c =
     write_carried {T = g.row.T.Denot} {U = g.row.U.Denot} fixed_handlers _ c.args.domain.now c.write_cells-loan.new.domain table _ of c.args.value c.in-Unwritten.loan c.write_cells-loan.result at c.write_cells-loan.ensures.written
     (ap (λ (k : Key). k.service_id) c.write_cells-loan.ensures.key) (ap (λ (k : Key). k.port) c.write_cells-loan.ensures.key) (ap (λ (k : Key). k.message) c.write_cells-loan.ensures.key) refl)
     (stays-but-more _ _ _ _ c.write_cells-loan.ensures.stays)
-    (λ start new. subst (λ (k : Key). IsNewIn start (Both (A_loan k.message) (A_blocked_send k.port))) (sym c.write_cells-loan.ensures.key) new) tt)
+    (λ start new. subst (λ (k : Key). IsNewIn start (Both (A_loan k.message) (A_blocked_send k.port))) (sym c.write_cells-loan.ensures.key) new) c.write_cells-loan.ensures.out.placed)
 
 pub returns-in_default : goal.returns-in_default
 returns-in_default g c =

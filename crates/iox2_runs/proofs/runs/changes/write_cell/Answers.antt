@@ -20,7 +20,7 @@ pub returns-in-Unwritten : goal.returns-in-Unwritten
 returns-in-Unwritten g c =
     rw c.in-Unwritten.is (spends {T = g.row.T.Denot} {U = g.row.U.Denot} _ _ c.args.domain.now c.write_cell_at-is_there.new.domain _ _ _ (Unwritten c.write_cell_at-is_there.result.1) (λ table of at.
     cell_carried {T = g.row.T.Denot} {U = g.row.U.Denot} _ c.args.domain.now c.write_cell_at-is_there.new.domain table _ of c.in-Unwritten.loan c.write_cell_at-is_there.result.1 c.args.at c.args.value c.write_cell_at-is_there.result.0 c.done_if.result at c.write_cell_at-is_there.ensures.same c.write_cell_at-is_there.ensures.writes c.done_if.ensures refl)
-    (stays-but-more _ _ _ _ c.write_cell_at-is_there.ensures.stays) (λ start fresh. rw c.write_cell_at-is_there.ensures.same fresh) tt)
+    (stays-but-more _ _ _ _ c.write_cell_at-is_there.ensures.stays) (λ start fresh. rw c.write_cell_at-is_there.ensures.same fresh) (rw c.write_cell_at-is_there.ensures.same (c.write_cell_at-is_there.ensures.stays.placed_messages c.in-Unwritten.loan.loan.number c.in-Unwritten.loan.loan.book c.in-Unwritten.loan.loan.slot (live_unwritten {T = g.row.T.Denot} {U = g.row.U.Denot} c.args.domain.now c.args.held c.requires c.in-Unwritten.loan c.in-Unwritten.is).placed)))
 
 pub returns-in_default : goal.returns-in_default
 returns-in_default g c =

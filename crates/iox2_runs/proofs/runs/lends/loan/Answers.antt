@@ -23,7 +23,7 @@ returns-in-Ok-loan g c =
     default_carried {T = g.row.T.Denot} {U = g.row.U.Denot} _ c.args.domain.now c.loan.new.domain table of c.in-Ok.publisher c.in-Ok-loan.loan at (shown_free {T = g.row.T.Denot} {U = g.row.U.Denot} c.args.domain.now (publisher_key c.in-Ok.publisher) (c.in-Ok.ensures.1).unblocked) (sym c.is_single_valued.ensures ∙ c.if-not-is_single_valued.false)
     c.in-Ok-loan.ensures.lends (written-parts {T = g.row.T.Denot} {U = g.row.U.Denot} c.loan.new.domain c.in-Ok-loan.loan c.in-Ok-loan.ensures.loan.out).0 c.in-Ok-loan.ensures.loan.lent.publisher c.in-Ok-loan.ensures.loan.lent.number)
     (λ table of at. leaves-lending {T = g.row.T.Denot} {U = g.row.U.Denot} c.args.domain.now c.loan.new.domain table table refl of c.in-Ok.publisher (Written c.in-Ok-loan.loan) (A_loan c.in-Ok-loan.loan.loan.number) at
-    c.loan.ensures.leaves.stays c.in-Ok-loan.ensures.loan.lent.is_new (ap (λ (p : ℕ). Both (A_loan c.in-Ok-loan.loan.loan.number) (A_blocked_send p)) c.in-Ok-loan.ensures.loan.lent.publisher) tt))
+    c.loan.ensures.leaves.stays c.in-Ok-loan.ensures.loan.lent.is_new (ap (λ (p : ℕ). Both (A_loan c.in-Ok-loan.loan.loan.number) (A_blocked_send p)) c.in-Ok-loan.ensures.loan.lent.publisher) c.in-Ok-loan.ensures.loan.out.placed))
 
 pub returns-in-Err-loan : goal.returns-in-Err-loan
 returns-in-Err-loan g c =

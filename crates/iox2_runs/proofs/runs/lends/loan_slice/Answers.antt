@@ -31,7 +31,7 @@ returns-in-Ok-loan_slice_uninit g c =
     slice_carried {T = g.row.T.Denot} {U = g.row.U.Denot} _ c.args.domain.now c.loan_slice_uninit.new.domain table of c.args.len c.in-Ok.publisher at (shown_free {T = g.row.T.Denot} {U = g.row.U.Denot} c.args.domain.now (publisher_key c.in-Ok.publisher) (c.in-Ok.ensures.1).unblocked) (sym c.has_slices.ensures ∙ c.if-not-has_slices.false)
     c.in-Ok-loan_slice_uninit.loan.sample (rw c.new-publisher.ensures at c.in-Ok-loan_slice_uninit.ensures.lends) (unwritten-parts {T = g.row.T.Denot} {U = g.row.U.Denot} c.loan_slice_uninit.new.domain c.in-Ok-loan_slice_uninit.loan.sample c.in-Ok-loan_slice_uninit.ensures.loan.out).0 (rw c.new-publisher.ensures at c.in-Ok-loan_slice_uninit.ensures.loan.lent.publisher) c.in-Ok-loan_slice_uninit.ensures.loan.lent.number)
     (λ table of at. leaves-lending {T = g.row.T.Denot} {U = g.row.U.Denot} c.args.domain.now c.loan_slice_uninit.new.domain table table refl of c.in-Ok.publisher (Unwritten c.in-Ok-loan_slice_uninit.loan.sample) (unwritten_loan c.in-Ok-loan_slice_uninit.loan.sample) at
-    c.loan_slice_uninit.ensures.leaves.stays c.in-Ok-loan_slice_uninit.ensures.loan.lent.is_new (ap (λ (p : ℕ). Both (unwritten_loan c.in-Ok-loan_slice_uninit.loan.sample) (A_blocked_send p)) (rw c.new-publisher.ensures at c.in-Ok-loan_slice_uninit.ensures.loan.lent.publisher)) tt))
+    c.loan_slice_uninit.ensures.leaves.stays c.in-Ok-loan_slice_uninit.ensures.loan.lent.is_new (ap (λ (p : ℕ). Both (unwritten_loan c.in-Ok-loan_slice_uninit.loan.sample) (A_blocked_send p)) (rw c.new-publisher.ensures at c.in-Ok-loan_slice_uninit.ensures.loan.lent.publisher)) c.in-Ok-loan_slice_uninit.ensures.loan.out.placed))
 
 pub returns-in-Err-loan_slice_uninit : goal.returns-in-Err-loan_slice_uninit
 returns-in-Err-loan_slice_uninit g c =

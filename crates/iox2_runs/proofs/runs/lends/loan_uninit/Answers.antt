@@ -24,7 +24,7 @@ returns-in-Ok-loan_uninit g c =
     loan_carried {T = g.row.T.Denot} {U = g.row.U.Denot} fixed_handlers _ c.args.domain.now c.loan_uninit.new.domain table table of c.in-Ok.publisher c.in-Ok-loan_uninit.loan at (shown_free {T = g.row.T.Denot} {U = g.row.U.Denot} c.args.domain.now (publisher_key c.in-Ok.publisher) (c.in-Ok.ensures.1).unblocked) (sym c.is_single_valued.ensures ∙ c.if-not-is_single_valued.false)
     c.in-Ok-loan_uninit.ensures.lends (unwritten-parts {T = g.row.T.Denot} {U = g.row.U.Denot} c.loan_uninit.new.domain c.in-Ok-loan_uninit.loan c.in-Ok-loan_uninit.ensures.loan.out).0 c.in-Ok-loan_uninit.ensures.loan.lent.publisher c.in-Ok-loan_uninit.ensures.loan.lent.number)
     (λ table of at. leaves-lending {T = g.row.T.Denot} {U = g.row.U.Denot} c.args.domain.now c.loan_uninit.new.domain table table refl of c.in-Ok.publisher (Unwritten c.in-Ok-loan_uninit.loan) (A_loan c.in-Ok-loan_uninit.loan.loan.number) at
-    c.loan_uninit.ensures.leaves.stays c.in-Ok-loan_uninit.ensures.loan.lent.is_new (ap (λ (p : ℕ). Both (A_loan c.in-Ok-loan_uninit.loan.loan.number) (A_blocked_send p)) c.in-Ok-loan_uninit.ensures.loan.lent.publisher) tt))
+    c.loan_uninit.ensures.leaves.stays c.in-Ok-loan_uninit.ensures.loan.lent.is_new (ap (λ (p : ℕ). Both (A_loan c.in-Ok-loan_uninit.loan.loan.number) (A_blocked_send p)) c.in-Ok-loan_uninit.ensures.loan.lent.publisher) c.in-Ok-loan_uninit.ensures.loan.out.placed))
 
 pub returns-in-Err-loan_uninit : goal.returns-in-Err-loan_uninit
 returns-in-Err-loan_uninit g c =

@@ -39,7 +39,7 @@ returns-in-Ok-Some g c =
     (ap (λ (k : ServiceConfig). k.units_per_element) (sym c.config.ensures.value) ∙ c.if-config-ne1.false)
     (received {T = g.row.T.Denot} {U = g.row.U.Denot} (answers_of g.F.BackpressureFn.allows g.G.DegradationFn.allows c.args.domain.now.boxes.subscribers) c.args.domain.now c.receive.new.domain c.in-Subscriber.subscriber.id (unboxed_subscriber {T = g.row.T.Denot} {U = g.row.U.Denot} c.args.domain.now c.args.held c.requires c.in-Subscriber.subscriber c.in-Subscriber.is) (received_result (Ok (Some c.in-Ok-Some.sample)))
     (λ m s shown. let got = c.receive.ensures.receives m s shown in (got.0, got.1, subst (λ r. Receive (answers_of g.F.BackpressureFn.allows g.G.DegradationFn.allows c.args.domain.now.boxes.subscribers) s c.in-Subscriber.subscriber.id got.0 (received_result r)) result got.2)))
-    (sample-parts {T = g.row.T.Denot} {U = g.row.U.Denot} c.receive.new.domain _ got.live).0 got.subscriber c.origin.ensures) c.receive.ensures.leaves.stays got.is_new tt)
+    (sample-parts {T = g.row.T.Denot} {U = g.row.U.Denot} c.receive.new.domain _ got.live.there).0 got.subscriber c.origin.ensures) c.receive.ensures.leaves.stays got.is_new got.live.placed)
 
 pub returns-in-Ok-None : goal.returns-in-Ok-None
 returns-in-Ok-None g c =

@@ -1,8 +1,11 @@
-use Rattle.std.proofs.Common.{◌≡◌, ap, max, arith, ◌∙◌}
+use Rattle.std.proofs.Common.{subst, sym, ◌≡◌, ap, max, arith, ◌∙◌}
 use Rattle.std.proofs.lemmas.Result.{err_from_is_err_and}
 use Rattle.std.specs.declared.option.Option.TheVariants.{None, Some}
 use Rattle.iox2_domain.specs.Boxes.{answers_of}
 use Rattle.iox2_domain.specs.SubscriberEntry.{asked_for}
+use Rattle.iox2_domain.specs.Fields.{Fields}
+use Rattle.iox2_domain.specs.KeptPlaces.{KeepsPlaces}
+use Rattle.iox2_domain.proofs.lemmas.fields.PlacesKept.{places-still}
 use Rattle.iox2_machine.specs.declared.service_config.ServiceConfig.{ServiceConfig}
 use Rattle.iox2_pubsub.proofs.DepartedShown.{subscriber-made-room}
 use Rattle.iox2_pubsub.proofs.SubscribersShown.{made-buffer, made-shown, made-live, refused-shown}
@@ -55,7 +58,7 @@ returns-in_err-port-clause-leaves g c =
     let step = refused-shown {T = g.row.T.Denot} {U = g.row.U.Denot} (answers_of g.F.BackpressureFn.allows g.G.DegradationFn.allows (c.create_subscriber.new.boxes).boxes) c.domain.inside.state c.create_subscriber.new.state c.args.domain.now c.domain.view_is
     (asked_for c.self.inside.options) c.args.self.settings (ap (λ (f : SubscriberFactory g.row.G.Denot). f.settings) c.self.view_is) c.in_err-port.field-0.0 c.in_err-port.ensures.step it.0 it.1 it.2 in
     record {
-      stays = subscriber-creation-stays {T = g.row.T.Denot} {U = g.row.U.Denot} c.args.domain.now _ it.0 it.1 it.2 (answers_of g.F.BackpressureFn.allows g.G.DegradationFn.allows (c.create_subscriber.new.boxes).boxes) c.args.self.settings (Some c.in_err-port.field-0.0) step.0 step.1 step.2 (live-subscriber-boxes c.domain.inside.state c.create_subscriber.new.state c.args.domain.now c.domain.view_is
+      stays = subscriber-creation-stays {T = g.row.T.Denot} {U = g.row.U.Denot} c.args.domain.now _ it.0 it.1 it.2 (answers_of g.F.BackpressureFn.allows g.G.DegradationFn.allows (c.create_subscriber.new.boxes).boxes) c.args.self.settings (Some c.in_err-port.field-0.0) step.0 step.1 step.2 (live-subscriber-boxes c.domain.inside.state c.create_subscriber.new.state c.args.domain.now c.domain.view_is c.domain.invariant (subst (λ (h : Fields g.row.T.Denot g.row.U.Denot). KeepsPlaces c.domain.inside.state h) (sym c.in_err-port.ensures.step.1) places-still)
           (λ key live other. c.create_subscriber.ensures.others key.port (subscriber-apart-from-next c.domain.inside.state c.args.domain.now c.domain.invariant c.domain.view_is key live)));
       waits = creation-waits {T = g.row.T.Denot} {U = g.row.U.Denot} c.args.domain.now _ it.0 it.0 it.1 step.0 it.2 step.1 (λ n entry at. at) (answers_of g.F.BackpressureFn.allows g.G.DegradationFn.allows (c.create_subscriber.new.boxes).boxes) c.args.self.settings (Some c.in_err-port.field-0.0) step.2;
       up_to_date = creation-leaves {T = g.row.T.Denot} {U = g.row.U.Denot} c.args.domain.now _ it.0 it.0 it.1 step.0 it.2 step.1 (answers_of g.F.BackpressureFn.allows g.G.DegradationFn.allows (c.create_subscriber.new.boxes).boxes) c.args.self.settings (Some c.in_err-port.field-0.0) step.2;
@@ -68,7 +71,7 @@ returns-clause-leaves g c =
     let it = always-shown {T = g.row.T.Denot} {U = g.row.U.Denot} c.domain.inside.state c.args.domain.now c.domain.invariant c.domain.view_is in
     let step = returns-clause-creates g c it.0 it.1 it.2 in
     record {
-      stays = subscriber-creation-stays {T = g.row.T.Denot} {U = g.row.U.Denot} c.args.domain.now _ it.0 it.1 it.2 (answers_of g.F.BackpressureFn.allows g.G.DegradationFn.allows (c.create_subscriber.new.boxes).boxes) c.args.self.settings None step.0 step.1 (step.2).0 (live-subscriber-boxes c.domain.inside.state c.create_subscriber.new.state c.args.domain.now c.domain.view_is
+      stays = subscriber-creation-stays {T = g.row.T.Denot} {U = g.row.U.Denot} c.args.domain.now _ it.0 it.1 it.2 (answers_of g.F.BackpressureFn.allows g.G.DegradationFn.allows (c.create_subscriber.new.boxes).boxes) c.args.self.settings None step.0 step.1 (step.2).0 (live-subscriber-boxes c.domain.inside.state c.create_subscriber.new.state c.args.domain.now c.domain.view_is c.domain.invariant c.in_ok-port.ensures.step.2.places
           (λ key live other. c.create_subscriber.ensures.others key.port (subscriber-apart-from-next c.domain.inside.state c.args.domain.now c.domain.invariant c.domain.view_is key live)));
       waits = creation-waits {T = g.row.T.Denot} {U = g.row.U.Denot} c.args.domain.now _ it.0 it.0 it.1 step.0 it.2 step.1 (λ n entry at. at) (answers_of g.F.BackpressureFn.allows g.G.DegradationFn.allows (c.create_subscriber.new.boxes).boxes) c.args.self.settings None (step.2).0;
       up_to_date = creation-leaves {T = g.row.T.Denot} {U = g.row.U.Denot} c.args.domain.now _ it.0 it.0 it.1 step.0 it.2 step.1 (answers_of g.F.BackpressureFn.allows g.G.DegradationFn.allows (c.create_subscriber.new.boxes).boxes) c.args.self.settings None (step.2).0;

@@ -27,7 +27,7 @@ returns-clause-updates g c =
 pub returns-clause-rest : goal.returns-clause-rest
 returns-clause-rest g c =
     subscriber-update-left {T = g.row.T.Denot} {U = g.row.U.Denot} c.domain.inside.state c.args.domain.now (keeping _ c.update_subscriber.new.state) c.domain.invariant c.domain.view_is
-    (same-boxes c.domain.inside.state c.update_subscriber.new.state c.args.domain.now c.domain.view_is) (answers_of g.F.BackpressureFn.allows g.G.DegradationFn.allows c.args.domain.now.boxes.subscribers) c.args.self.now (returned_failure c.outcome_of.result) (returns-clause-updates g c)
+    (same-boxes c.domain.inside.state c.update_subscriber.new.state c.args.domain.now c.domain.view_is c.domain.invariant (let at = (subscriber-at-place {T = g.row.T.Denot} {U = g.row.U.Denot} c.domain.inside.state c.domain.invariant c.args.domain.now c.domain.view_is c.args.self.now c.requires.live) in (c.update_subscriber.ensures at.0 at.1).changes.places)) (answers_of g.F.BackpressureFn.allows g.G.DegradationFn.allows c.args.domain.now.boxes.subscribers) c.args.self.now (returned_failure c.outcome_of.result) (returns-clause-updates g c)
 
 pub returns-clause-live : goal.returns-clause-live
 returns-clause-live g c = subscriber_stays c.args.domain.now _ c.args.self.now (returns-clause-rest g c).stays c.requires.live
