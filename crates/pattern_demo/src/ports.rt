@@ -1,5 +1,5 @@
 //! What each part of the program starts from.
-ghost use Rattle.std.specs.Prelude.{◌≡◌, IfOk};
+ghost use Rattle.std.specs.Prelude.{◌≡◌, IfOk, OnOk};
 ghost use Rattle.iox2_machine.specs.declared.service_config.TypeVariant.TheVariants.{FixedSize};
 ghost use Rattle.iox2_pubsub.specs.Handles.{publisher_id};
 ghost use Rattle.iox2_pubsub.specs.Live.{ConnectionsStay, IsConnected, IsLivePublisher, IsLiveSubscriber, IsNewIn, RoomStays, Stays, publisher_port};
@@ -34,8 +34,8 @@ pub fn connected_publisher(
     ensures is_new { IfOk result (λ it. IsNewIn domain.old (publisher_port it)) }
     ensures connected { IfOk result (λ it. IsConnected domain.new (publisher_id it) subscriber.now) }
     ensures loans { IfOk result (λ it. HasLoansLeft domain.new it 1) }
-    ensures connections { ConnectionsStay domain.old domain.new }
-    ensures room { RoomStays domain.old domain.new }
+    ensures connections { OnOk result (ConnectionsStay domain.old domain.new) }
+    ensures room { OnOk result (RoomStays domain.old domain.new) }
     ensures stays { Stays domain.old domain.new }
 {
     let refused = domain.refused_connections();
