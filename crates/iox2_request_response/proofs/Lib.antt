@@ -1,5 +1,6 @@
 pub mod Calling
 pub mod ClientSteps
 pub mod Closing
+pub mod Ending
 pub mod Frames
 pub mod SlotSteps

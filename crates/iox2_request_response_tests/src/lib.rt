@@ -2,4 +2,18 @@
 #![tactic(auto, using(iox2_request_response::proofs::Calling::calling))]
 
 #[cfg(test)]
-mod tests;
+mod fixtures;
+#[cfg(test)]
+mod leftovers;
+#[cfg(test)]
+mod letting_go;
+#[cfg(test)]
+mod limits;
+#[cfg(test)]
+mod overflow;
+#[cfg(test)]
+mod places;
+#[cfg(test)]
+mod servers;
+#[cfg(test)]
+mod streams;

@@ -1,0 +1,36 @@
+use Rattle.std.proofs.Common.{refl, sym, ◌+◌, ◌++◌, ◌∷◌, []}
+use Rattle.std.proofs.lemmas.Bool.{true≢false}
+use Rattle.iox2_pubsub.specs.Handles.{publisher_id, unwritten_lender}
+use Rattle.message_patterns.proofs.Waits.{takes-renamed, takes-stay}
+use Rattle.message_patterns.proofs.relaying.relay_one.Goals as goal
+
+pub returns-in-Err-clause-granted : goal.returns-in-Err-clause-granted
+returns-in-Err-clause-granted g c = λ updated none some left can. absurd (true≢false (sym (c.in-Err.ensures.granted 0 left can.loans can.numbers)))
+
+pub returns-in-Ok-Some-clause-sent : goal.returns-in-Ok-Some-clause-sent
+returns-in-Ok-Some-clause-sent g c = λ reader earlier more takes.
+    let lent = c.in-Ok.ensures.loan.lent.publisher in
+    let leaves = c.in-Ok.ensures.leaves in
+    let publisher = publisher_id c.args.publisher.now in
+    let lender = unwritten_lender c.in-Ok.loan in
+    let before = takes-stay c.args.to.now c.loan_uninit.new.domain leaves.waits leaves.up_to_date leaves.stays.buffers publisher reader earlier (more + 1) takes in
+    takes-renamed c.send_loan.new.domain lender publisher lent reader (earlier ++ c.in-Ok-Some.value ∷ []) more
+    (c.send_loan.ensures.sent reader earlier more (takes-renamed c.loan_uninit.new.domain publisher lender (sym lent) reader earlier (more + 1) before))
+
+pub returns-in-Ok-Some-clause-granted : goal.returns-in-Ok-Some-clause-granted
+returns-in-Ok-Some-clause-granted g c = λ updated none some left can. (
+  refl,
+  record {
+    loans = c.send_loan.ensures.given_back c.args.publisher.now 0 (sym c.in-Ok.ensures.loan.lent.publisher) (c.in-Ok.ensures.leaves.loans_left.loans 0 can.loans);
+    numbers = c.send_loan.ensures.loans.numbers left (c.in-Ok.ensures.leaves.loans_left.numbers left can.numbers);
+  },
+)
+
+pub returns-in-Ok-None-clause-granted : goal.returns-in-Ok-None-clause-granted
+returns-in-Ok-None-clause-granted g c = λ updated none some left can. (
+  refl,
+  record {
+    loans = c.discard.ensures.given_back c.args.publisher.now 0 (sym c.in-Ok.ensures.loan.lent.publisher) (c.in-Ok.ensures.leaves.loans_left.loans 0 can.loans);
+    numbers = c.discard.ensures.leaves.loans_left.numbers left (c.in-Ok.ensures.leaves.loans_left.numbers left can.numbers);
+  },
+)

@@ -1,9 +1,0 @@
-use Rattle.std.proofs.Common.{sym, ap, ◌∙◌, length}
-use Rattle.three_programs.specs.Queues.{QueueView}
-use Rattle.three_programs.proofs.QueueItems.{queue-count}
-use Rattle.three_programs.proofs.queues.Queue.len.Goals as goal
-
-pub returns-clause-count : goal.returns-clause-count
-returns-clause-count g c =
-    let is = c.self.invariant in
-    sym (queue-count c.self.inside.domain c.self.inside.publisher c.self.inside.subscriber c.self.inside.count is) ∙ ap (λ (v : QueueView). length v.items) c.self.view_is
