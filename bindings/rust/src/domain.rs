@@ -224,7 +224,7 @@ pub struct DomainBuilder<P: Payload + ?Sized> {
 
 impl<P: Payload + ?Sized> DomainBuilder<P> {
     fn new(service_id: u128) -> Self {
-        let () = P::FITS;
+        let ((), ()) = (P::FITS, P::COUNTS);
         let mut config = sys::Config::default();
         // SAFETY: the pointer is of a local.
         unsafe { sys::iox2ps_config_defaults(&mut config, 0, P::SIZE, P::ALIGNMENT) };
