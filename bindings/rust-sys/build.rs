@@ -4,6 +4,7 @@
 
 use std::env;
 use std::path::PathBuf;
+use std::slice;
 
 const ARCHIVE: &str = "libiox2_pubsub.a";
 
@@ -18,10 +19,12 @@ fn folders() -> Vec<PathBuf> {
 fn main() {
     println!("cargo:rerun-if-env-changed=IOX2_PUBSUB_LIB_DIR");
     let folders = folders();
-    for folder in &folders {
+    let found = folders.iter().find(|folder| folder.join(ARCHIVE).exists());
+    // Cargo builds anew each time where a file isn't there: right while there is none, and of no use afterwards.
+    for folder in found.map_or(&folders[..], slice::from_ref) {
         println!("cargo:rerun-if-changed={}", folder.join(ARCHIVE).display());
     }
-    match folders.iter().find(|folder| folder.join(ARCHIVE).exists()) {
+    match found {
         Some(folder) => {
             println!("cargo:rustc-link-search=native={}", folder.display());
             println!("cargo:libdir={}", folder.display());

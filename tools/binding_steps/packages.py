@@ -163,6 +163,20 @@ def without_archive(work, *words, crate="rust"):
     return "without a warning"
 
 
+def builds_once(work):
+    """A second build of the folder, as others have it, compiles nothing."""
+    folder = shutil.copytree(OUT, work / "folder of crates", dirs_exist_ok=True)
+    places = {**os.environ, "CARGO_TARGET_DIR": str(work / "target_once")}
+    places.pop("IOX2_PUBSUB_LIB_DIR", None)
+    words = ("cargo", "build", "--offline", "--verbose")
+    said(*words, cwd=folder / "rust", env=places)
+    again = said(*words, cwd=folder / "rust", env=places)
+    fresh = re.findall(r"^ *Fresh (\S+)", again, re.M)
+    if sorted(fresh) != ["iox2_pubsub", "iox2_pubsub-sys"]:
+        raise Failed(again[-3000:])
+    return "nothing is compiled"
+
+
 def cargo_example(work):
     """The example, which has to print what those of C and C++ print."""
     cargo(work, "build", "--offline", "--quiet", "--example", "thermometer")
@@ -184,6 +198,7 @@ def run_cargo(steps, work):
         steps.skip("the crates of Rust", "cargo")
         return
     steps.run("rust, cargo test", cargo_test, work)
+    steps.run("rust, a second cargo build", builds_once, work)
     steps.run("rust, an archive of another version", other_version, work)
     steps.run("rust, cargo run --example thermometer", cargo_example, work)
     steps.run("rust, cargo check without the archive", without_archive, work, "check", "--all-targets")

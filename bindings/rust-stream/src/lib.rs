@@ -48,6 +48,7 @@
 
 use futures_core::{FusedStream, Stream};
 use iox2_pubsub::{ManyThreads, MayWait, Payload, ReceiveError, Sample, Subscriber};
+use std::fmt;
 use std::pin::Pin;
 use std::task::{Context, Poll, Waker};
 
@@ -57,7 +58,6 @@ use std::task::{Context, Poll, Waker};
 ///
 /// Each message is read where it lies, and given back when its [`Sample`] is dropped. A task that keeps samples
 /// beyond what its subscriber may borrow gets [`ReceiveError::ExceedsMaxBorrows`].
-#[derive(Debug)]
 #[must_use = "a stream does nothing until it is polled"]
 pub struct SubscriberStream<P: Payload + ?Sized, M: MayWait = ManyThreads> {
     subscriber: Subscriber<P, M>,
@@ -102,6 +102,16 @@ impl<P: Payload + ?Sized, M: MayWait> SubscriberStream<P, M> {
             self.forget_waker();
             self.waker = Some(waker.clone());
         }
+    }
+}
+
+// Written out, since a derived one would ask the same of `P`.
+impl<P: Payload + ?Sized, M: MayWait> fmt::Debug for SubscriberStream<P, M> {
+    fn fmt(&self, f: &mut fmt::Formatter<'_>) -> fmt::Result {
+        f.debug_struct("SubscriberStream")
+            .field("subscriber", &self.subscriber)
+            .field("is_over", &self.is_over)
+            .finish_non_exhaustive()
     }
 }
 

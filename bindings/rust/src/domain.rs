@@ -214,7 +214,6 @@ pub(crate) fn expect(code: u32) {
 
 /// The settings of a domain. Unless they are set: 2 publishers with 2 loans each, 8 subscribers with a
 /// buffer of 2 and 2 borrowed samples, no history, overflow.
-#[derive(Clone, Debug)]
 #[must_use = "settings make nothing until `create`"]
 pub struct DomainBuilder<P: Payload + ?Sized> {
     config: sys::Config,
@@ -222,9 +221,25 @@ pub struct DomainBuilder<P: Payload + ?Sized> {
     messages: PhantomData<P>,
 }
 
+// Written out, since derived ones would ask the same of `P`.
+impl<P: Payload + ?Sized> Clone for DomainBuilder<P> {
+    fn clone(&self) -> Self {
+        DomainBuilder { ..*self }
+    }
+}
+
+impl<P: Payload + ?Sized> fmt::Debug for DomainBuilder<P> {
+    fn fmt(&self, f: &mut fmt::Formatter<'_>) -> fmt::Result {
+        f.debug_struct("DomainBuilder")
+            .field("config", &self.config)
+            .field("recorded", &self.recorded)
+            .finish()
+    }
+}
+
 impl<P: Payload + ?Sized> DomainBuilder<P> {
     fn new(service_id: u128) -> Self {
-        let () = P::FITS;
+        let ((), ()) = (P::FITS, P::COUNTS);
         let mut config = sys::Config::default();
         // SAFETY: the pointer is of a local.
         unsafe { sys::iox2ps_config_defaults(&mut config, 0, P::SIZE, P::ALIGNMENT) };

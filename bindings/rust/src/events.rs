@@ -4,7 +4,8 @@ use crate::errors::ReceiveError;
 use crate::payload::Payload;
 use crate::sample::Sample;
 use crate::subscriber::{receive_next, Subscriber};
-use crate::threads::{Brings, MayWait, WaitingPlace};
+use crate::threads::{Brings, MayWait, Polls, WaitingPlace};
+use crate::waiting::FutureNumber;
 use std::fmt;
 use std::future::Future;
 use std::mem::MaybeUninit;
@@ -23,19 +24,33 @@ impl<P: Payload + ?Sized, M: MayWait> Subscriber<P, M> {
         &self,
         context: &mut Context<'_>,
     ) -> Poll<Result<Option<Sample<P, M>>, ReceiveError>> {
+        self.poll_for(None, context)
+    }
+
+    fn poll_for(
+        &self,
+        future: Option<&mut Option<FutureNumber>>,
+        context: &mut Context<'_>,
+    ) -> Poll<Result<Option<Sample<P, M>>, ReceiveError>> {
         let mut got = MaybeUninit::uninit();
-        let (port, waker) = (self.port.id, context.waker());
-        let code = self.hold.poll(port, Brings::ROOM, waker, |shared| {
-            receive_next(shared, &self.port, &mut got)
-        });
+        let polls = Polls {
+            port: self.port.id,
+            waker: context.waker(),
+            future,
+            brings: Brings::ROOM,
+        };
+        let code = self
+            .hold
+            .poll(polls, |shared| receive_next(shared, &self.port, &mut got));
         match code {
             Some(code) => Poll::Ready(self.sample(code, &got)),
             None => Poll::Pending,
         }
     }
 
-    /// Lets a task that has polled this subscriber be woken no longer, for one that won't poll it again. Others
-    /// that have polled it are woken as before.
+    /// Lets a task that has polled this subscriber by [`poll_receive`](Subscriber::poll_receive) be woken no longer,
+    /// for one that won't poll it again. Others that have polled it are woken as before, and so are futures, which do
+    /// this themselves.
     ///
     /// ```
     /// # use std::{sync::Arc, task::{Context, Wake, Waker}};
@@ -60,9 +75,12 @@ impl<P: Payload + ?Sized, M: MayWait> Subscriber<P, M> {
     }
 
     /// The next message as a future, for any runtime: `subscriber.receive_async().await`. Where it is dropped
-    /// before it is ready, no message is lost.
+    /// before it is ready, no message is lost, and its task is woken for it no longer.
     pub fn receive_async(&self) -> Receive<'_, P, M> {
-        Receive { subscriber: self }
+        Receive {
+            subscriber: self,
+            waits: None,
+        }
     }
 
     /// Calls this when a message may have come, from now on, in place of what was set before; but not for what
@@ -88,13 +106,24 @@ impl<P: Payload + ?Sized, M: MayWait> Subscriber<P, M> {
 #[must_use = "a future does nothing until it is awaited"]
 pub struct Receive<'s, P: Payload + ?Sized, M: MayWait> {
     subscriber: &'s Subscriber<P, M>,
+    // Its number, from a poll that found nothing until one that is ready.
+    waits: Option<FutureNumber>,
+}
+
+impl<P: Payload + ?Sized, M: MayWait> Drop for Receive<'_, P, M> {
+    fn drop(&mut self) {
+        if let Some(number) = self.waits {
+            self.subscriber.hold.forget_future(number);
+        }
+    }
 }
 
 impl<P: Payload + ?Sized, M: MayWait> Future for Receive<'_, P, M> {
     type Output = Result<Option<Sample<P, M>>, ReceiveError>;
 
     fn poll(self: Pin<&mut Self>, context: &mut Context<'_>) -> Poll<Self::Output> {
-        self.subscriber.poll_receive(context)
+        let this = self.get_mut();
+        this.subscriber.poll_for(Some(&mut this.waits), context)
     }
 }
 

@@ -5,8 +5,8 @@ use crate::listeners::{is_listening, Listener, Listeners};
 use crate::lock::DomainLock;
 use crate::shared::Shared;
 use crate::sys::{self, Wide};
-use crate::threads::{Brings, Place, Wait, WaitingPlace, Waits};
-use crate::waiting::{Sleeper, WaitingList, Wake};
+use crate::threads::{Brings, Place, Polls, Wait, WaitingPlace, Waits};
+use crate::waiting::{FutureNumber, Sleeper, WaitingList, Wake};
 use std::cell::UnsafeCell;
 use std::hint::spin_loop;
 use std::mem::take;
@@ -210,25 +210,25 @@ impl<L: DomainLock> Place for Guarded<L> {
 }
 
 impl<L: DomainLock> WaitingPlace for Guarded<L> {
-    fn poll(
-        &self,
-        port: Wide,
-        brings: Brings,
-        waker: &Waker,
-        calls: impl FnOnce(&mut Shared) -> u32,
-    ) -> Option<u32> {
-        let mut waker = Some(waker.clone());
-        let (code, waits, wake) = self.with(|state| {
+    fn poll(&self, polls: Polls<'_>, calls: impl FnOnce(&mut Shared) -> u32) -> Option<u32> {
+        let (port, waker) = (polls.port, polls.waker.clone());
+        let (code, waits, wake, gone) = self.with(|state| {
             let code = calls(&mut state.shared);
-            let wake = self.brought(state, brings, code);
+            let wake = self.brought(state, polls.brings, code);
             let waits = code == sys::NO_SAMPLE && !state.is_stopped;
-            if waits {
-                waker = waker
-                    .take()
-                    .and_then(|waker| state.waiting.add_task(port, waker));
-            }
-            (code, waits, wake)
+            let list = &mut state.waiting;
+            let gone = match (waits, polls.future) {
+                (true, None) => (list.add_task(port, waker), None),
+                (true, Some(future)) => (list.add_future(port, waker, future), None),
+                (false, future) => {
+                    let waited = future.and_then(|future| future.take());
+                    let last = waited.and_then(|number| list.remove_future(number));
+                    (Some(waker), last)
+                }
+            };
+            (code, waits, wake, gone)
         });
+        drop(gone);
         if let Some(wake) = wake {
             wake.wake();
         }
@@ -237,6 +237,11 @@ impl<L: DomainLock> WaitingPlace for Guarded<L> {
 
     fn forget_waker(&self, port: Wide, waker: &Waker) {
         let gone = self.with(|state| state.waiting.remove_task(port, waker));
+        drop(gone);
+    }
+
+    fn forget_future(&self, future: FutureNumber) {
+        let gone = self.with(|state| state.waiting.remove_future(future));
         drop(gone);
     }
 

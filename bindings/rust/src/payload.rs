@@ -36,6 +36,24 @@ mod sealed {
 /// struct Wide([u8; 32]);
 /// let domain = iox2_pubsub::Domain::<Wide>::builder(1).create();
 /// ```
+///
+/// Nor are slices of a type without size, whose length can't be told from their bytes:
+///
+/// ```compile_fail
+/// let domain = iox2_pubsub::Domain::<[()]>::slice_builder(1).create();
+/// ```
+///
+/// One such value alone may be a message, which says that something happened:
+///
+/// ```
+/// # fn main() -> Result<(), Box<dyn std::error::Error>> {
+/// let domain = iox2_pubsub::Domain::<()>::builder(1).create()?;
+/// let (publisher, subscriber) = (domain.publisher()?, domain.subscriber()?);
+/// publisher.send_copy(())?.delivered();
+/// assert_eq!(subscriber.receive_copy()?, Some(()));
+/// # Ok(())
+/// # }
+/// ```
 pub trait Payload: sealed::Sealed + 'static {
     /// The payload where nothing is written yet.
     type Uninit: ?Sized;
@@ -63,6 +81,10 @@ pub trait Payload: sealed::Sealed + 'static {
         Self::ALIGNMENT <= PAYLOAD_ALIGNMENT,
         "the alignment of a message is at most 16"
     );
+
+    /// Refused by the compiler where a message's bytes don't say how many elements it has.
+    #[doc(hidden)]
+    const COUNTS: () = ();
 
     /// How many bytes this number of elements has, or the greatest number that there can be.
     #[doc(hidden)]
@@ -92,6 +114,10 @@ impl<T: Copy + 'static> Payload for T {
 impl<T: Copy + 'static> Payload for [T] {
     type Uninit = [MaybeUninit<T>];
     type Element = T;
+    const COUNTS: () = assert!(
+        size_of::<T>() > 0,
+        "the values of a slice have a size: one of none may be a message alone"
+    );
 
     fn at(start: *mut u8, bytes: usize) -> Option<*mut [T]> {
         let len = bytes.checked_div(size_of::<T>())?;

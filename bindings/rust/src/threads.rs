@@ -6,6 +6,7 @@ use crate::listeners::Listener;
 use crate::lock::{DomainLock, StdLock};
 use crate::shared::Shared;
 use crate::sys;
+use crate::waiting::FutureNumber;
 use std::cell::UnsafeCell;
 use std::fmt;
 use std::marker::PhantomData;
@@ -178,6 +179,17 @@ pub struct Wait {
     pub(crate) brings: Brings,
 }
 
+/// A poll: for which subscriber, by which task, and what its calls bring to others.
+#[doc(hidden)]
+#[derive(Debug)]
+pub struct Polls<'p> {
+    pub(crate) port: sys::Wide,
+    pub(crate) waker: &'p Waker,
+    /// The number of the future that is polled; `None` where the subscriber itself is.
+    pub(crate) future: Option<&'p mut Option<FutureNumber>>,
+    pub(crate) brings: Brings,
+}
+
 /// A part in a domain.
 #[doc(hidden)]
 pub trait Hold: Clone + Deref {
@@ -255,18 +267,15 @@ pub trait Place {
 /// Where a domain is that several threads use.
 #[doc(hidden)]
 pub trait WaitingPlace: Place {
-    /// Makes calls, and lets this task be woken when a message may have come for the subscriber, where none is
-    /// there. `None` then.
-    fn poll(
-        &self,
-        port: sys::Wide,
-        brings: Brings,
-        waker: &Waker,
-        calls: impl FnOnce(&mut Shared) -> u32,
-    ) -> Option<u32>;
+    /// Makes calls, and lets the task of this poll be woken when a message may have come for the subscriber, where none
+    /// is there. `None` then.
+    fn poll(&self, polls: Polls<'_>, calls: impl FnOnce(&mut Shared) -> u32) -> Option<u32>;
 
-    /// This task isn't woken any longer for the subscriber.
+    /// This task, which polled the subscriber itself, isn't woken any longer for it.
     fn forget_waker(&self, port: sys::Wide, waker: &Waker);
+
+    /// This future goes: no task is woken for it any longer.
+    fn forget_future(&self, future: FutureNumber);
 
     /// This is called from now on when a message may have come for the subscriber, in place of what was before.
     fn listen(&self, port: sys::Wide, listener: Option<Listener>);

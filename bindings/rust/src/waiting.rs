@@ -53,6 +53,16 @@ impl Sleeper {
     }
 }
 
+/// A future's number among the tasks, from its first wait on.
+pub type FutureNumber = u64;
+
+struct Task {
+    port: Wide,
+    waker: Waker,
+    // `None` where it polls the subscriber itself.
+    future: Option<FutureNumber>,
+}
+
 struct Waiting {
     what: Waits,
     port: Wide,
@@ -63,12 +73,21 @@ struct Waiting {
     is_awake: bool,
 }
 
+impl Task {
+    // Whether it polls this subscriber itself.
+    fn polls(&self, port: Wide, waker: &Waker) -> bool {
+        self.future.is_none() && self.port == port && self.waker.will_wake(waker)
+    }
+}
+
 /// All of it is used under the lock, except what is to be done afterwards.
 #[derive(Default)]
 pub(crate) struct WaitingList {
     threads: Vec<Waiting>,
     awake: usize,
-    tasks: Vec<(Wide, Waker)>,
+    tasks: Vec<Task>,
+    // How many futures have waited.
+    futures: FutureNumber,
     pub(crate) listeners: Option<Arc<Listeners>>,
     messages_came: bool,
     // Whether any of these is there. It is looked at in each call.
@@ -132,32 +151,67 @@ impl WaitingList {
 
     /// A task is to be woken when a message may have come. Returns one that waits no longer.
     pub(crate) fn add_task(&mut self, port: Wide, waker: Waker) -> Option<Waker> {
-        let is_it = |task: &(Wide, Waker)| task.0 == port && task.1.will_wake(&waker);
-        if self.tasks.iter().any(is_it) {
+        let waits = |task: &Task| task.polls(port, &waker);
+        if self.tasks.iter().any(waits) {
             return Some(waker);
         }
-        self.tasks.push((port, waker));
-        self.is_used = true;
+        self.push(port, waker, None);
         None
     }
 
-    /// It isn't to be woken any longer for this subscriber. Returns what is to be dropped without the lock.
+    /// The same for a future, which wakes the task alone that polled it last. One that hasn't waited gets its number.
+    pub(crate) fn add_future(
+        &mut self,
+        port: Wide,
+        waker: Waker,
+        future: &mut Option<FutureNumber>,
+    ) -> Option<Waker> {
+        let number = *future.get_or_insert_with(|| {
+            self.futures += 1;
+            self.futures
+        });
+        let is_it = |task: &&mut Task| task.future == Some(number);
+        if let Some(task) = self.tasks.iter_mut().find(is_it) {
+            return Some(replace(&mut task.waker, waker));
+        }
+        self.push(port, waker, Some(number));
+        None
+    }
+
+    fn push(&mut self, port: Wide, waker: Waker, future: Option<FutureNumber>) {
+        self.tasks.push(Task {
+            port,
+            waker,
+            future,
+        });
+        self.is_used = true;
+    }
+
+    /// A task that polls this subscriber isn't to be woken any longer. Returns what is to be dropped without the lock.
     pub(crate) fn remove_task(&mut self, port: Wide, waker: &Waker) -> Option<Waker> {
-        let is_it = |task: &(Wide, Waker)| task.0 == port && task.1.will_wake(waker);
+        self.remove_where(|task| task.polls(port, waker))
+    }
+
+    /// A future waits no longer. Returns what is to be dropped without the lock.
+    pub(crate) fn remove_future(&mut self, number: FutureNumber) -> Option<Waker> {
+        self.remove_where(|task| task.future == Some(number))
+    }
+
+    fn remove_where(&mut self, is_it: impl Fn(&Task) -> bool) -> Option<Waker> {
         let at = self.tasks.iter().position(is_it)?;
-        let (_, gone) = self.tasks.swap_remove(at);
+        let gone = self.tasks.swap_remove(at);
         self.look();
-        Some(gone)
+        Some(gone.waker)
     }
 
     /// Its subscriber goes. Returns what is to be dropped without the lock.
     pub(crate) fn remove_tasks(&mut self, port: Wide) -> Vec<Waker> {
         let (gone, stay) = take(&mut self.tasks)
             .into_iter()
-            .partition::<Vec<_>, _>(|task| task.0 == port);
+            .partition::<Vec<_>, _>(|task| task.port == port);
         self.tasks = stay;
         self.look();
-        gone.into_iter().map(|(_, waker)| waker).collect()
+        gone.into_iter().map(|task| task.waker).collect()
     }
 
     /// Whom to wake once the lock was given back: of the threads the first whom something may help. None of them,
@@ -195,7 +249,7 @@ impl WaitingList {
 #[derive(Default)]
 pub(crate) struct Wake {
     sleeper: Option<Arc<Sleeper>>,
-    tasks: Vec<(Wide, Waker)>,
+    tasks: Vec<Task>,
     listeners: Option<Arc<Listeners>>,
 }
 
@@ -205,8 +259,8 @@ impl Wake {
         if let Some(sleeper) = self.sleeper {
             sleeper.wake();
         }
-        for (_, waker) in self.tasks {
-            waker.wake();
+        for task in self.tasks {
+            task.waker.wake();
         }
         if let Some(listeners) = self.listeners {
             listeners.call();

@@ -2,7 +2,6 @@
 
 use iox2_pubsub::{Domain, LoanError, ManyThreads, SharedDomain, Subscriber};
 use std::future::Future;
-use std::pin::Pin;
 use std::sync::atomic::{AtomicUsize, Ordering};
 use std::sync::{mpsc, Arc, Mutex};
 use std::task::{Context, Poll, Wake, Waker};
@@ -45,8 +44,10 @@ fn run<F: Future>(future: F) -> F::Output {
     }
 }
 
-fn poll_once<F: Future>(future: Pin<&mut F>, waker: &Waker) -> bool {
-    future.poll(&mut Context::from_waker(waker)).is_ready()
+// Whether it is ready.
+fn polls(subscriber: &Subscriber<u64, ManyThreads>, waker: &Waker) -> bool {
+    let context = &mut Context::from_waker(waker);
+    subscriber.poll_receive(context).is_ready()
 }
 
 #[test]
@@ -76,18 +77,14 @@ fn a_task_waits_for_messages() {
 }
 
 #[test]
-fn a_task_is_woken_once_and_a_future_that_is_dropped_loses_nothing() {
+fn a_task_is_woken_once() {
     let domain = domain();
     let publisher = domain.publisher().unwrap();
     let subscriber = domain.subscriber().unwrap();
     let (unpark, waker) = waker();
     let wakes = || unpark.1.load(Ordering::SeqCst);
-    {
-        let mut receive = subscriber.receive_async();
-        let mut receive = Pin::new(&mut receive);
-        for _ in 0..5 {
-            assert!(!poll_once(receive.as_mut(), &waker));
-        }
+    for _ in 0..5 {
+        assert!(!polls(&subscriber, &waker));
     }
     publisher.send_copy(1).unwrap().delivered();
     assert_eq!(wakes(), 1);
@@ -96,10 +93,7 @@ fn a_task_is_woken_once_and_a_future_that_is_dropped_loses_nothing() {
     assert_eq!(*run(subscriber.receive_async()).unwrap().unwrap(), 1);
     assert_eq!(*run(subscriber.receive_async()).unwrap().unwrap(), 2);
     // Whose subscriber goes isn't woken any more.
-    assert!(!poll_once(
-        Pin::new(&mut subscriber.receive_async()),
-        &waker
-    ));
+    assert!(!polls(&subscriber, &waker));
     drop(subscriber);
     publisher.send_copy(3).unwrap().delivered();
     assert_eq!(wakes(), 1);
@@ -113,7 +107,7 @@ fn a_waker_that_is_forgotten_is_dropped_and_no_other_is() {
     let tasks = [waker(), waker()];
     for (_, waker) in &tasks {
         for subscriber in &subscribers {
-            assert!(!poll_once(Pin::new(&mut subscriber.receive_async()), waker));
+            assert!(!polls(subscriber, waker));
         }
     }
     let [(first, first_waker), (second, second_waker)] = tasks;
@@ -124,10 +118,7 @@ fn a_waker_that_is_forgotten_is_dropped_and_no_other_is() {
     assert_eq!((wakes(&first), wakes(&second)), (1, 2));
     for subscriber in &subscribers {
         assert_eq!(subscriber.receive_copy().unwrap(), Some(1));
-        assert!(!poll_once(
-            Pin::new(&mut subscriber.receive_async()),
-            &second_waker
-        ));
+        assert!(!polls(subscriber, &second_waker));
         subscriber.forget_waker(&second_waker);
     }
     drop((first_waker, second_waker));
