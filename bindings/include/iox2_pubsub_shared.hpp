@@ -151,10 +151,20 @@ inline bool waits_on(Waits what, iox2ps_status_t code) {
       || code == IOX2PS_LOAN_ERROR_OUT_OF_MEMORY;
 }
 
-/* Whether a call that returned this may have changed something. */
-inline bool may_change(iox2ps_status_t code) {
-  return code != IOX2PS_NOT_LIVE && code != IOX2PS_NO_SAMPLE && code != IOX2PS_PUBLISHER_IS_BLOCKED
-      && code != IOX2PS_NO_SUCH_CHANNEL;
+/* What a call has brought that was refused, or that waits on. It brings nothing to those who wait for the same, or they would wake
+ * each other without end. */
+inline Brings brought_by(Brings brings, iox2ps_status_t code) {
+  switch (code) {
+  case IOX2PS_BLOCKED:                  /* those before the full buffer have the message, and nothing has ended */
+  case IOX2PS_LOAN_ERROR_OUT_OF_MEMORY: /* the connections may have been updated for it */
+    return brings & only(Waits::Message);
+  case IOX2PS_LOAN_ERROR_EXCEEDS_MAX_LOANS:
+  case IOX2PS_NOT_LIVE:
+  case IOX2PS_NO_SAMPLE:
+  case IOX2PS_PUBLISHER_IS_BLOCKED:
+  case IOX2PS_NO_SUCH_CHANNEL: return 0;
+  default: return brings;
+  }
 }
 
 template <typename Lock, typename = void> constexpr bool wakes_all = false;
@@ -279,8 +289,7 @@ private:
   /* Under the lock: what a call that returned this code has brought. */
   Wake brought(Brings brings, iox2ps_status_t code) {
     Wake wake;
-    if (code == IOX2PS_BLOCKED) brings &= only(Waits::Message); /* it has ended nothing */
-    if (!detail::may_change(code)) brings = 0;
+    if (code != IOX2PS_OK) brings = detail::brought_by(brings, code);
     brings |= std::exchange(too_, 0u);
     if ((brings & only(Waits::Message)) != 0) {
       count(messages_);
