@@ -61,10 +61,17 @@ private:
   bool woken_ = false;
 };
 
-/* This thread's. It is shared with whoever wakes it, since a thread whose time is up doesn't wait for that. */
-inline const std::shared_ptr<Sleeper> &own_sleeper() {
-  static thread_local const std::shared_ptr<Sleeper> own = std::make_shared<Sleeper>();
-  return own;
+/* This thread's. It is shared with whoever wakes it, since a thread whose time is up doesn't wait for that. A destructor at the end
+ * of a thread or the program may wait after the thread's own is gone: such a wait has one for itself. */
+inline std::shared_ptr<Sleeper> own_sleeper() {
+  static thread_local bool is_gone = false; /* without a destructor, and so it stays */
+  struct Own {
+    std::shared_ptr<Sleeper> sleeper = std::make_shared<Sleeper>();
+    ~Own() { is_gone = true; }
+  };
+  if (is_gone) return std::make_shared<Sleeper>();
+  static thread_local const Own own;
+  return own.sleeper;
 }
 
 /* Those who wait in a domain. All of it is used under the lock. */
@@ -73,12 +80,12 @@ public:
   bool is_empty() const { return all_.empty(); }
 
   /* This thread begins to wait. */
-  void add(Waits what, Id port) { all_.push_back({what, port, own_sleeper(), false, false}); }
+  void add(Waits what, Id port, std::shared_ptr<Sleeper> sleeper) { all_.push_back({what, port, std::move(sleeper), false, false}); }
 
   /* It is back: by a wake-up, because its time is up, or for no reason. */
-  void remove() {
+  void remove(const std::shared_ptr<Sleeper> &sleeper) {
     for (auto one = all_.begin(); one != all_.end(); ++one) {
-      if (one->sleeper != own_sleeper()) continue;
+      if (one->sleeper != sleeper) continue;
       if (one->is_awake) awake_--;
       all_.erase(one);
       return;
@@ -208,6 +215,7 @@ public:
 
   /** Makes calls as long as their code says that the port still waits, each time when something came that may help. */
   template <typename Call> iox2ps_status_t wait(Waits what, Id port, Brings brings, Until until, Call &&make) {
+    std::shared_ptr<detail::Sleeper> sleeper;
     bool is_listed = false;
     while (true) {
       Wake wake;
@@ -216,7 +224,7 @@ public:
       bool is_over;
       {
         std::lock_guard<Lock> lock(lock_);
-        if (std::exchange(is_listed, false)) list_.remove();
+        if (std::exchange(is_listed, false)) list_.remove(sleeper);
         code = make();
         if (code == IOX2PS_NO_SAMPLE) list_.nothing_for(port);
         wake = brought(brings, code);
@@ -226,12 +234,13 @@ public:
       wake.wake();
       if (is_over || detail::calling().is_on) return code;
       if (looks_out(what, seen)) continue;
+      if (!sleeper) sleeper = detail::own_sleeper();
       {
         std::lock_guard<Lock> lock(lock_);
         is_listed = seen == changes(what).load(std::memory_order_relaxed);
-        if (is_listed) list_.add(what, port);
+        if (is_listed) list_.add(what, port, sleeper);
       }
-      if (is_listed) detail::own_sleeper()->sleep(until);
+      if (is_listed) sleeper->sleep(until);
     }
   }
 

@@ -64,6 +64,7 @@ ROWS = (
     ("cpp/tests.cpp", "c++20", False),
     ("c/threads.c", "c11", True),
     ("cpp/threads.cpp", "c++17", True),
+    ("cpp/at_exit.cpp", "c++17", True),
     ("cpp/one_may_lose.cpp", "c++17", True),
     ("cpp/threads.cpp", "c++20", False),
 )
