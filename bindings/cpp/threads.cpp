@@ -213,6 +213,30 @@ void loans_wait_for_slots() {
   lends_after(publisher, [&] { subscriber.close(); });
 }
 
+/* How often a listener is called while two threads wait for a loan that never comes. */
+template <typename D> unsigned heard_while_two_wait(D &domain, iox2ps::Publisher<Message, M> &publisher, iox2ps::Error refused) {
+  std::atomic<unsigned> heard{0};
+  auto subscriber = domain.subscriber().expect("a subscriber");
+  CHECK(subscriber.set_listener([&] { heard++; }).has_value());
+  auto wait = [&] { CHECK(publisher.timed_send_copy(message(1), 300ms).error() == refused); };
+  std::thread one(wait), other(wait);
+  one.join();
+  other.join();
+  return heard;
+}
+
+void threads_that_wait_for_a_loan_dont_wake_each_other() {
+  auto domain = keeping(1);
+  auto publisher = domain.publisher().expect("a publisher");
+  auto first = publisher.loan().expect("a loan");
+  auto second = publisher.loan().expect("a loan");
+  CHECK(heard_while_two_wait(domain, publisher, iox2ps::Error::LoanExceedsMaxLoans) == 0);
+  auto small = domain.publisher(iox2ps::PublisherOptions<Message>().preallocated_samples(1)).expect("a publisher");
+  auto third = small.loan().expect("a loan");
+  /* Each of the two tries when it comes and when its time is up, and updates the connections then. */
+  CHECK(heard_while_two_wait(domain, small, iox2ps::Error::LoanOutOfMemory) <= 4);
+}
+
 void copies_and_all_take_the_lock_once() {
   constexpr std::uint64_t messages = 1000;
   auto domain = keeping(2);
@@ -615,6 +639,7 @@ int main() {
       each_gets_all_in_order,
       loans_wait,
       loans_wait_for_slots,
+      threads_that_wait_for_a_loan_dont_wake_each_other,
       copies_and_all_take_the_lock_once,
       waits_are_stopped_twice_and_taken_back,
 #ifdef __cpp_exceptions

@@ -528,9 +528,9 @@ public:
   /** How many values a message may have. */
   std::size_t initial_max_slice_len() const { return port_.initial_max_slice_len / sizeof(Element); }
 
-  /** Lends a message with its default value. */
+  /** Lends a message with its default value, which is made where the message lies. */
   template <typename Q = P, std::enable_if_t<!detail::is_slice<Q>, int> = 0> Result<Loan<P, M>> loan() {
-    return loan(Element());
+    return lend(1, begin_values(1), at_once());
   }
 
   /** Lends a message with this value. */
@@ -569,7 +569,7 @@ public:
    * until waits are stopped. The error then is that of the last try. What is too long is refused at once, and
    * so is a message for which memory is to grow and can't. */
   template <typename Q = P, std::enable_if_t<!detail::is_slice<Q>, int> = 0> Result<Loan<P, M>> blocking_loan(Until until = {}) {
-    return lend(1, begin_value(Element()), waiting(until));
+    return lend(1, begin_values(1), waiting(until));
   }
   /** The same, with an unspecified value. */
   template <typename Q = P, std::enable_if_t<!detail::is_slice<Q>, int> = 0> Result<Loan<P, M>> blocking_loan_uninit(Until until = {}) {
@@ -686,7 +686,7 @@ private:
 
   /* How a loan's bytes become its values. */
   static auto begin_value(const Element &value) {
-    return [value](std::uint8_t *bytes) { return new (bytes) Element(value); };
+    return [&value](std::uint8_t *bytes) { return new (bytes) Element(value); };
   }
   static auto begin_values(std::size_t len) {
     return [len](std::uint8_t *bytes) {

@@ -61,10 +61,17 @@ private:
   bool woken_ = false;
 };
 
-/* This thread's. It is shared with whoever wakes it, since a thread whose time is up doesn't wait for that. */
-inline const std::shared_ptr<Sleeper> &own_sleeper() {
-  static thread_local const std::shared_ptr<Sleeper> own = std::make_shared<Sleeper>();
-  return own;
+/* This thread's. It is shared with whoever wakes it, since a thread whose time is up doesn't wait for that. A destructor at the end
+ * of a thread or the program may wait after the thread's own is gone: such a wait has one for itself. */
+inline std::shared_ptr<Sleeper> own_sleeper() {
+  static thread_local bool is_gone = false; /* without a destructor, and so it stays */
+  struct Own {
+    std::shared_ptr<Sleeper> sleeper = std::make_shared<Sleeper>();
+    ~Own() { is_gone = true; }
+  };
+  if (is_gone) return std::make_shared<Sleeper>();
+  static thread_local const Own own;
+  return own.sleeper;
 }
 
 /* Those who wait in a domain. All of it is used under the lock. */
@@ -73,12 +80,12 @@ public:
   bool is_empty() const { return all_.empty(); }
 
   /* This thread begins to wait. */
-  void add(Waits what, Id port) { all_.push_back({what, port, own_sleeper(), false, false}); }
+  void add(Waits what, Id port, std::shared_ptr<Sleeper> sleeper) { all_.push_back({what, port, std::move(sleeper), false, false}); }
 
   /* It is back: by a wake-up, because its time is up, or for no reason. */
-  void remove() {
+  void remove(const std::shared_ptr<Sleeper> &sleeper) {
     for (auto one = all_.begin(); one != all_.end(); ++one) {
-      if (one->sleeper != own_sleeper()) continue;
+      if (one->sleeper != sleeper) continue;
       if (one->is_awake) awake_--;
       all_.erase(one);
       return;
@@ -151,10 +158,20 @@ inline bool waits_on(Waits what, iox2ps_status_t code) {
       || code == IOX2PS_LOAN_ERROR_OUT_OF_MEMORY;
 }
 
-/* Whether a call that returned this may have changed something. */
-inline bool may_change(iox2ps_status_t code) {
-  return code != IOX2PS_NOT_LIVE && code != IOX2PS_NO_SAMPLE && code != IOX2PS_PUBLISHER_IS_BLOCKED
-      && code != IOX2PS_NO_SUCH_CHANNEL;
+/* What a call has brought that was refused, or that waits on. It brings nothing to those who wait for the same, or they would wake
+ * each other without end. */
+inline Brings brought_by(Brings brings, iox2ps_status_t code) {
+  switch (code) {
+  case IOX2PS_BLOCKED:                  /* those before the full buffer have the message, and nothing has ended */
+  case IOX2PS_LOAN_ERROR_OUT_OF_MEMORY: /* the connections may have been updated for it */
+    return brings & only(Waits::Message);
+  case IOX2PS_LOAN_ERROR_EXCEEDS_MAX_LOANS:
+  case IOX2PS_NOT_LIVE:
+  case IOX2PS_NO_SAMPLE:
+  case IOX2PS_PUBLISHER_IS_BLOCKED:
+  case IOX2PS_NO_SUCH_CHANNEL: return 0;
+  default: return brings;
+  }
 }
 
 template <typename Lock, typename = void> constexpr bool wakes_all = false;
@@ -198,6 +215,7 @@ public:
 
   /** Makes calls as long as their code says that the port still waits, each time when something came that may help. */
   template <typename Call> iox2ps_status_t wait(Waits what, Id port, Brings brings, Until until, Call &&make) {
+    std::shared_ptr<detail::Sleeper> sleeper;
     bool is_listed = false;
     while (true) {
       Wake wake;
@@ -206,7 +224,7 @@ public:
       bool is_over;
       {
         std::lock_guard<Lock> lock(lock_);
-        if (std::exchange(is_listed, false)) list_.remove();
+        if (std::exchange(is_listed, false)) list_.remove(sleeper);
         code = make();
         if (code == IOX2PS_NO_SAMPLE) list_.nothing_for(port);
         wake = brought(brings, code);
@@ -216,12 +234,13 @@ public:
       wake.wake();
       if (is_over || detail::calling().is_on) return code;
       if (looks_out(what, seen)) continue;
+      if (!sleeper) sleeper = detail::own_sleeper();
       {
         std::lock_guard<Lock> lock(lock_);
         is_listed = seen == changes(what).load(std::memory_order_relaxed);
-        if (is_listed) list_.add(what, port);
+        if (is_listed) list_.add(what, port, sleeper);
       }
-      if (is_listed) detail::own_sleeper()->sleep(until);
+      if (is_listed) sleeper->sleep(until);
     }
   }
 
@@ -279,8 +298,7 @@ private:
   /* Under the lock: what a call that returned this code has brought. */
   Wake brought(Brings brings, iox2ps_status_t code) {
     Wake wake;
-    if (code == IOX2PS_BLOCKED) brings &= only(Waits::Message); /* it has ended nothing */
-    if (!detail::may_change(code)) brings = 0;
+    if (code != IOX2PS_OK) brings = detail::brought_by(brings, code);
     brings |= std::exchange(too_, 0u);
     if ((brings & only(Waits::Message)) != 0) {
       count(messages_);

@@ -8,7 +8,7 @@ from .places import OUT
 from .programs import compile_program
 from .steps import Failed, said
 
-PROGRAMS = ("cpp/tests.cpp", "cpp/threads.cpp", "cpp/thermometer.cpp", "cpp/one_may_lose.cpp")
+PROGRAMS = ("cpp/tests.cpp", "cpp/threads.cpp", "cpp/at_exit.cpp", "cpp/thermometer.cpp", "cpp/one_may_lose.cpp")
 # Without exceptions no call has a branch for one.
 FLAGS = ("-O0", "--coverage", "-fno-exceptions", "-pthread")
 

@@ -95,6 +95,7 @@ IN_CPP = [
     ("room that comes isn't counted", "shared", "if ((brings & ~only(Waits::Message)) != 0) count(others_);", ""),
     ("who is woken doesn't wake the next", "shared", "        wake = brought(brings, code);\n        is_over", "        brought(brings, code);\n        is_over"),
     ("what is given back for the next message frees no loan", "shared", "brings |= std::exchange(too_, 0u);", ""),
+    ("a refused loan wakes others", "shared", "if (code != IOX2PS_OK) brings = detail::brought_by(brings, code);", ""),
     ("a listener is called under the lock", "shared", "      wake = brought(brings, code);\n    }\n    wake.wake();",
      "      wake = brought(brings, code);\n      wake.wake();\n    }"),
     ("no listener is called", "shared", "      wake.listeners = listeners_;\n    }\n    if ((brings & ~", "    }\n    if ((brings & ~"),
