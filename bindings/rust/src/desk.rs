@@ -80,16 +80,19 @@ unsafe impl Send for Desk {}
 unsafe impl Sync for Desk {}
 
 impl Desk {
-    pub(crate) fn new(port: sys::Subscriber, capacity: usize) -> Self {
-        Desk {
+    /// `None` where there is no memory for so many messages.
+    pub(crate) fn new(port: sys::Subscriber, capacity: usize) -> Option<Self> {
+        let mut taken = Vec::new();
+        taken.try_reserve_exact(capacity).ok()?;
+        Some(Desk {
             state: AtomicU8::new(OWN),
             port,
             batch: UnsafeCell::new(Batch {
-                taken: Vec::with_capacity(capacity),
+                taken,
                 read: 0,
                 capacity,
             }),
-        }
+        })
     }
 
     /// The batch. It is the reader's, but while it asks that of whoever has the lock.

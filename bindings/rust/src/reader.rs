@@ -150,14 +150,30 @@ impl<P: Payload + ?Sized, M: Threads> Subscriber<P, M> {
         self.reader_with_capacity(most.min(CAPACITY))
     }
 
-    /// The same, and takes at most this number at a time; 0 counts as 1.
+    /// The same, and takes at most this number at a time; 0 counts as 1. A number above what the subscriber may borrow
+    /// of all publishers counts as that, and as 64 where there is no memory for so many.
     pub fn reader_with_capacity(&self, capacity: usize) -> Reader<'_, P, M> {
-        let capacity = capacity.max(1);
+        let capacity = match capacity {
+            0..=CAPACITY => capacity.max(1),
+            _ => capacity.min(self.most_borrowed().max(CAPACITY)),
+        };
+        let desk = Desk::new(self.port, capacity)
+            .or_else(|| Desk::new(self.port, CAPACITY))
+            .expect("there is memory for a few messages");
         Reader {
             subscriber: self,
-            desk: Arc::new(Desk::new(self.port, capacity)),
+            desk: Arc::new(desk),
             is_open: false,
         }
+    }
+
+    // As many as it may borrow of each publisher that is open or kept.
+    fn most_borrowed(&self) -> usize {
+        let config = config(&*self.hold);
+        let of_one = config.subscriber_max_borrowed_samples;
+        let kept = config.subscriber_expired_connection_buffer.max(of_one);
+        let publishers = config.max_publishers.saturating_add(kept);
+        of_one.saturating_mul(publishers)
     }
 }
 
