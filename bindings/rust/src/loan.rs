@@ -2,6 +2,7 @@
 
 use crate::domain::expect;
 use crate::errors::SendError;
+use crate::in_place::{Unwritten, Written};
 use crate::numbers::number;
 use crate::payload::Payload;
 use crate::send_outcome::{outcome, SendOutcome};
@@ -9,9 +10,10 @@ use crate::shared::Shared;
 use crate::sys;
 use crate::threads::{Brings, MayWait, OneThread, Place, Threads, Wait, Waits};
 use crate::timeout::after;
+use crate::zeroable::Zeroable;
 use std::error::Error;
 use std::fmt;
-use std::mem::{ManuallyDrop, MaybeUninit};
+use std::mem::{size_of_val, ManuallyDrop, MaybeUninit};
 use std::ops::{Deref, DerefMut};
 use std::ptr;
 use std::time::{Duration, Instant};
@@ -91,6 +93,33 @@ impl<T: Copy + 'static, M: Threads> LoanUninit<T, M> {
         self.payload_mut().write(value);
         // SAFETY: it is written.
         unsafe { self.assume_init() }
+    }
+
+    /// Lets the function write the message where it lies, as a whole or part by part, so that nothing of it is on the
+    /// stack. [`write_fields!`](crate::write_fields!) has an example.
+    #[inline]
+    pub fn write_in_place(
+        mut self,
+        write: impl for<'p> FnOnce(Unwritten<'p, T>) -> Written<'p, T>,
+    ) -> Loan<T, M> {
+        // SAFETY: the place is this loan's alone, and was looked at when it was lent.
+        unsafe { Unwritten::fill(self.payload_mut().as_mut_ptr(), write) };
+        // SAFETY: it is written.
+        unsafe { self.assume_init() }
+    }
+}
+
+impl<P: Payload + Zeroable + ?Sized, M: Threads> LoanUninit<P, M> {
+    /// Writes zeros.
+    #[inline]
+    pub fn write_zeroed(mut self) -> Loan<P, M> {
+        let place = self.payload_mut();
+        let bytes = size_of_val(place);
+        // SAFETY: these are the bytes of the message, which are this loan's alone, and zeros are a value.
+        unsafe {
+            (place as *mut P::Uninit).cast::<u8>().write_bytes(0, bytes);
+            self.assume_init()
+        }
     }
 }
 
