@@ -213,8 +213,9 @@ impl<T: Copy + 'static, M: Threads> Publisher<T, M> {
     }
 }
 
-// SAFETY: what is ready is a loan: see there.
+// SAFETY: what is ready is a loan, which may go to other threads: see there.
 unsafe impl<T: Copy + Send + Sync + 'static, M: MayWait> Send for Writer<'_, T, M> {}
+// SAFETY: shared, it gives away whether a loan is ready, and no more.
 unsafe impl<T: Copy + Send + Sync + 'static, M: MayWait> Sync for Writer<'_, T, M> {}
 
 impl<T: Copy + 'static, M: Threads> Drop for Writer<'_, T, M> {
