@@ -283,6 +283,10 @@ impl<L: DomainLock> WaitingPlace for Guarded<L> {
         });
         wake.wake();
     }
+
+    fn waits_are_stopped(&self) -> bool {
+        self.with(|state| state.is_stopped)
+    }
 }
 
 // Of a call that didn't return OK. One that only waits on may not bring anything to others that wait for the same, or

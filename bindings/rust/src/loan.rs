@@ -312,7 +312,8 @@ pub(crate) fn send(
 
 impl<P: Payload + ?Sized, M: MayWait> Loan<P, M> {
     /// Sends the message as soon as no earlier send of its publisher waits, and tries until it has reached
-    /// everybody. It may still wait where waits are stopped (`SharedDomain::stop_waits`).
+    /// everybody. Where waits are stopped (`SharedDomain::stop_waits`) it is tried once, and what is still blocked is in
+    /// what this returns.
     ///
     /// # Errors
     ///

@@ -111,7 +111,8 @@ impl<T: Copy + 'static, M: Threads> Writer<'_, T, M> {
 
 impl<T: Copy + 'static, M: MayWait> Writer<'_, T, M> {
     /// Sends a message. Waits for its loan as [`Publisher::blocking_loan_uninit`] does, and then until it has reached
-    /// everybody. It may still wait where waits are stopped (`SharedDomain::stop_waits`).
+    /// everybody. Where waits are stopped (`SharedDomain::stop_waits`) it is tried once, and what is still blocked is in
+    /// what this returns.
     ///
     /// # Errors
     ///
