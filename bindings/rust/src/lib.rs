@@ -76,6 +76,7 @@
 //! - A handle is live in the domain while it exists, and the library tests that too: a wrong one would
 //!   be a panic of this crate.
 #![deny(missing_docs, missing_debug_implementations)]
+#![warn(clippy::undocumented_unsafe_blocks)]
 
 mod channels;
 #[cfg(feature = "dds")]

@@ -50,11 +50,14 @@ pub struct LoanUninit<P: Payload + ?Sized, M: Threads = OneThread> {
     lent: Lent<M>,
 }
 
-// SAFETY: what these have is a part in the domain, which may be given to other threads, and the place of
-// a message that is theirs alone until a call under the lock sends it or gives it back.
+// SAFETY: what it has is a part in the domain, which may be given to other threads, and the place of a message that is
+// its own alone until a call under the lock sends it or gives it back.
 unsafe impl<P: Payload + ?Sized + Send + Sync, M: MayWait> Send for LoanUninit<P, M> {}
+// SAFETY: shared, it gives away its number alone.
 unsafe impl<P: Payload + ?Sized + Send + Sync, M: MayWait> Sync for LoanUninit<P, M> {}
+// SAFETY: as of one that isn't written.
 unsafe impl<P: Payload + ?Sized + Send + Sync, M: MayWait> Send for Loan<P, M> {}
+// SAFETY: shared, it is read alone, as a `P` that is `Sync`.
 unsafe impl<P: Payload + ?Sized + Send + Sync, M: MayWait> Sync for Loan<P, M> {}
 
 impl<P: Payload + ?Sized, M: Threads> LoanUninit<P, M> {
@@ -138,6 +141,7 @@ impl<T: Copy + 'static, M: Threads> LoanUninit<[T], M> {
     /// # Panics
     ///
     /// Where there are more or fewer values than the loan has places.
+    #[track_caller]
     pub fn write_from_slice(mut self, values: &[T]) -> Loan<[T], M> {
         // SAFETY: a value is also one that may be unwritten.
         let values = unsafe { &*(values as *const [T] as *const [MaybeUninit<T>]) };
@@ -308,7 +312,8 @@ pub(crate) fn send(
 
 impl<P: Payload + ?Sized, M: MayWait> Loan<P, M> {
     /// Sends the message as soon as no earlier send of its publisher waits, and tries until it has reached
-    /// everybody. It may still wait where waits are stopped (`SharedDomain::stop_waits`).
+    /// everybody. Where waits are stopped (`SharedDomain::stop_waits`) it is tried once, and what is still blocked is in
+    /// what this returns.
     ///
     /// # Errors
     ///

@@ -281,7 +281,8 @@ impl<T: Copy + 'static, M: MayWait> Publisher<T, M> {
     }
 
     /// Sends a copy of the value. Waits for its loan as [`blocking_loan_uninit`](Publisher::blocking_loan_uninit)
-    /// does, and then until it has reached everybody. It may still wait where waits are stopped.
+    /// does, and then until it has reached everybody. Where waits are stopped it is tried once, and what is still blocked
+    /// is in what this returns.
     ///
     /// # Errors
     ///
