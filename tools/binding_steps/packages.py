@@ -1,4 +1,5 @@
 """The folder as others take it: CMake, pkg-config, installed, the page's programs, the crates of Rust, the gateway to DDS."""
+import json
 import os
 import re
 import shutil
@@ -163,6 +164,15 @@ def without_archive(work, *words, crate="rust"):
     return "without a warning"
 
 
+def as_on_docs_rs(work, crate="rust", words=()):
+    """The pages as docs.rs makes them, which has no archive: by what the crate says for it."""
+    known = json.loads(said("cargo", "metadata", "--no-deps", "--offline", "--format-version", "1", both=False, cwd=OUT / crate))
+    for_docs = known["packages"][0]["metadata"]["docs"]["rs"]
+    features = ",".join(for_docs.get("features", ()))
+    places = [word for target in for_docs["targets"] for word in ("--target", target)]
+    return without_archive(work, "doc", "--no-deps", "--features", features, *places, *words, crate=crate)
+
+
 def builds_once(work):
     """A second build of the folder, as others have it, compiles nothing."""
     folder = shutil.copytree(OUT, work / "folder of crates", dirs_exist_ok=True)
@@ -204,7 +214,8 @@ def run_cargo(steps, work):
     steps.run("rust, cargo check without the archive", without_archive, work, "check", "--all-targets")
     if is_here("cargo-clippy"):
         steps.run("rust, cargo clippy without the archive", without_archive, work, "clippy", "--all-targets")
-    steps.run("rust, cargo doc without the archive", without_archive, work, "doc", "--no-deps")
+    for crate in ("rust", "rust-sys"):
+        steps.run(f"{crate}, cargo doc as on docs.rs", as_on_docs_rs, work, crate)
     if is_here("valgrind"):
         for name in ("calls", "numbers"):
             steps.run(f"rust/tests/{name}.rs, valgrind", rust_under_valgrind, work, name)
@@ -217,7 +228,8 @@ def run_stream(steps, work):
         steps.skip("rust-stream, the crate of streams", lacking)
         return
     steps.run("rust-stream, cargo test", stream_test, work)
-    for words in (("check", "--all-targets"), ("clippy", "--all-targets"), ("doc", "--no-deps")):
+    steps.run("rust-stream, cargo doc as on docs.rs", as_on_docs_rs, work, "rust-stream", registry.words())
+    for words in (("check", "--all-targets"), ("clippy", "--all-targets")):
         if words[0] != "clippy" or is_here("cargo-clippy"):
             steps.run(f"rust-stream, cargo {words[0]} without the archive", stream_without_archive, work, *words)
 

@@ -3,7 +3,7 @@ import re
 import tempfile
 from pathlib import Path
 
-from . import requirements, table
+from . import requirements, settings, table
 from .model import Model
 from .pages import Pages
 from .repository import TOP, Repository
@@ -52,7 +52,7 @@ def faults(model):
     for entry in model.all():
         if entry.crate == LIBRARY and entry.is_call and not entry.tests and not entry.callers:
             found.append(f"{entry.item.file}:{entry.item.line}: no test calls {entry.name}, nor a call that has tests")
-    return found
+    return found + settings.faults(model.repository)
 
 
 # What the check has to find: the file, the text that is replaced and the one in its place, and a part of the fault.
@@ -67,6 +67,10 @@ FAULTS = (
         ".receive(",
         "no test calls slice::Subscriber::receive_custom_payload",
     ),
+    ("bindings/include/iox2_pubsub.h", "  size_t history_size; ", "  size_t history_sizes; ", "has no row for history_sizes"),
+    ("bindings/rust/src/port_factory.rs", "    Warn = 1,", "    Warns = 1,", "has a row for Warn, which isn't there"),
+    ("bindings/cpp/settings.cpp", "AllocationStrategy::BestFit", "AllocationStrategy(1)", "doesn't use BestFit"),
+    ("bindings/c/settings.c", "  memory_grows_as_the_options_say();\n", "", "memory_grows_as_the_options_say of bindings/c/settings.c isn't run"),
 )
 
 

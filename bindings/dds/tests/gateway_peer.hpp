@@ -34,6 +34,7 @@ inline iox2ps::dds::Settings settings_of(const Options &options) {
   settings.reader_limit = options.number("limit", 64);
   settings.volatile_reader = options.number("volatile", 0) != 0;
   settings.only_known = options.number("only_known", 0) != 0;
+  settings.dds_domain = static_cast<std::uint32_t>(options.number("dds_domain", 0));
   if (options.word("reliability", "") == "best") settings.reliability = iox2ps::dds::Reliability::BestEffort;
   return settings;
 }

@@ -86,6 +86,28 @@ def without_history():
     assert got["good"] == 1 and got["first"] == [51] and got["gaps"] == 0, got
     return "of 50 messages none came, and the next did"
 
+def volatile_reader():
+    """One that comes later and asks for no history gets none, though others keep one."""
+    name, all_sent, over = topic(), flag(), flag()
+    of = start("peer", "send", topic=name, count=50, history=10, buffer=16, peers=0, sent=all_sent, late=1, until=over)
+    wait_for(all_sent, of)
+    got = end(start("peer", "receive", topic=name, history=10, volatile=1, buffer=16, expect=1)); put_up(over); end(of)
+    sound(got)
+    assert got["good"] == 1 and got["first"] == [51] and got["gaps"] == 0, got
+    return "of a history of 10 messages none came, and the next did"
+
+def other_dds_domain():
+    """Gateways of one topic meet in one DDS domain, and not where each is in another one."""
+    def readers(numbers):
+        name, over = topic(), flag()
+        first = start("cases", "look", topic=name, dds_domain=numbers[0], until=over)
+        got = end(start("cases", "look", topic=name, dds_domain=numbers[1], writers=int(len(set(numbers)) == 1), hold=2))
+        put_up(over); end(first)
+        return got["readers"]
+    met, unmet = readers((2, 2)), readers((2, 3))
+    assert (met, unmet) == (1, 0), (met, unmet)
+    return "met in domain 2, and not in 2 and 3"
+
 def receiver_killed():
     """The receiver is killed among messages, and another one starts: the sender goes on."""
     name, seen, over, count = topic(), flag(), flag(), 400 if few else 10000
@@ -326,10 +348,11 @@ def stalled_reader():
     assert got["good"] == count and got["gaps"] == 0, (sent, got)
     return "%d of %d, sending took %.1f s" % (got["good"], count, sent["all_s"])
 
-tests = [small, several, large, empty_buffers, slow_reader, overflow, both_ways, late_joiner, without_history, receiver_killed,
-         sender_killed, typed_values, bad_frames, bad_frames_for_values, hostile_lengths, full_disk, other_payload_size, other_struct,
-         only_known, other_type, same_name_other_structure, other_qos, settings_hold, second_gateway, many_domains, gateways_come_and_go,
-         with_security, woken, best_effort, c_calls, threads, leaves_full, stalled_reader]
+tests = [small, several, large, empty_buffers, slow_reader, overflow, both_ways, late_joiner, without_history,
+         volatile_reader, other_dds_domain, receiver_killed, sender_killed, typed_values, bad_frames, bad_frames_for_values,
+         hostile_lengths, full_disk, other_payload_size, other_struct, only_known, other_type, same_name_other_structure, other_qos,
+         settings_hold, second_gateway, many_domains, gateways_come_and_go, with_security, woken, best_effort, c_calls, threads,
+         leaves_full, stalled_reader]
 
 if __name__ == "__main__":
     chosen = [test for test in tests if test.__name__ in sys.argv[2:]] if len(sys.argv) > 2 else tests

@@ -154,6 +154,7 @@ impl Settings {
 }
 
 /// Who else has the topic.
+#[non_exhaustive]
 #[derive(Clone, Debug, Default, PartialEq, Eq)]
 pub struct Peers {
     /// Readers that match.
@@ -173,6 +174,7 @@ pub struct Peers {
 }
 
 /// Where a message came from.
+#[non_exhaustive]
 #[derive(Clone, Copy, Debug, PartialEq, Eq)]
 pub struct Origin {
     /// The node's id, or the participant's where the node has none.
@@ -184,9 +186,11 @@ pub struct Origin {
 // What gateways have together that were opened together.
 struct Group(*mut c::Gateways);
 
-// SAFETY: of its calls wakers make one alone, which may be made on any thread; all others are made by what stays on one
-// thread. The last of either may close it: that gives back what Cyclone DDS lets any thread give back.
+// SAFETY: the last that has it may close it, a waker on any thread, too: that gives back what Cyclone DDS lets any thread
+// give back.
 unsafe impl Send for Group {}
+// SAFETY: of its calls wakers make one alone, which may be made on any thread; all others are made by what stays on one
+// thread.
 unsafe impl Sync for Group {}
 
 impl Group {

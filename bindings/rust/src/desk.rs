@@ -74,9 +74,10 @@ pub struct Desk {
     batch: UnsafeCell<Batch>,
 }
 
+// SAFETY: what is in the batch are numbers and places of messages, which any thread may give back under the lock.
+unsafe impl Send for Desk {}
 // SAFETY: one thread at a time reaches the batch: its reader, or one that has the lock while the reader asks. Each sees what the
 // one before has written, since the state is stored with `Release` and loaded with `Acquire`.
-unsafe impl Send for Desk {}
 unsafe impl Sync for Desk {}
 
 impl Desk {

@@ -190,8 +190,37 @@ impl<P: Payload + ?Sized, M: Threads> fmt::Debug for Domain<P, M> {
 impl<P: Payload + ?Sized, M: MayWait> Domain<P, M> {
     /// Lets no call wait any longer, here and on other threads: each tries once, and returns what it
     /// found. So a program ends its threads. With `false` calls wait again.
+    ///
+    /// A loop of `timed_` calls asks [`waits_are_stopped`](Domain::waits_are_stopped) where one found nothing.
     pub fn stop_waits(&self, stopped: bool) {
         self.hold.stop_waits(stopped);
+    }
+
+    /// Whether calls no longer wait: [`stop_waits`](Domain::stop_waits).
+    ///
+    /// ```
+    /// use std::{thread, time::Duration};
+    ///
+    /// # fn main() -> Result<(), Box<dyn std::error::Error>> {
+    /// let domain = iox2_pubsub::Domain::<u64>::builder(7).create_shared()?;
+    /// let (subscriber, of_thread) = (domain.subscriber()?, domain.clone());
+    /// let thread = thread::spawn(move || {
+    ///     while !of_thread.waits_are_stopped() {
+    ///         match subscriber.timed_receive_copy(Duration::from_secs(1)) {
+    ///             Ok(Some(number)) => println!("{number}"),
+    ///             Ok(None) => println!("nothing came"),
+    ///             Err(error) => println!("{error}"),
+    ///         }
+    ///     }
+    /// });
+    /// domain.stop_waits(true);
+    /// thread.join().unwrap();
+    /// # Ok(())
+    /// # }
+    /// ```
+    #[must_use]
+    pub fn waits_are_stopped(&self) -> bool {
+        self.hold.waits_are_stopped()
     }
 }
 

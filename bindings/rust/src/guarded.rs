@@ -41,8 +41,9 @@ struct State {
 }
 
 // SAFETY: the state is reached by `with` alone, where the lock lets one thread in at a time, and what it has may
-// go from thread to thread.
+// go from thread to thread, as the lock itself may be used by all.
 unsafe impl<L: DomainLock> Sync for Guarded<L> {}
+// SAFETY: the domain, those who wait and the lock may each go to another thread.
 unsafe impl<L: DomainLock> Send for Guarded<L> {}
 
 impl<L: DomainLock> Guarded<L> {
@@ -281,6 +282,10 @@ impl<L: DomainLock> WaitingPlace for Guarded<L> {
             state.waiting.next(true)
         });
         wake.wake();
+    }
+
+    fn waits_are_stopped(&self) -> bool {
+        self.with(|state| state.is_stopped)
     }
 }
 

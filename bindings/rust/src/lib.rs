@@ -76,6 +76,7 @@
 //! - A handle is live in the domain while it exists, and the library tests that too: a wrong one would
 //!   be a panic of this crate.
 #![deny(missing_docs, missing_debug_implementations)]
+#![warn(clippy::undocumented_unsafe_blocks)]
 
 mod channels;
 #[cfg(feature = "dds")]
@@ -86,6 +87,7 @@ mod errors;
 mod events;
 mod guarded;
 mod header;
+mod in_place;
 mod listeners;
 mod loan;
 mod lock;
@@ -106,6 +108,7 @@ mod timeout;
 mod waiting;
 mod warning;
 mod writer;
+mod zeroable;
 
 pub(crate) use iox2_pubsub_sys as sys;
 
@@ -117,6 +120,9 @@ pub use errors::{
 };
 pub use events::Receive;
 pub use header::Header;
+#[doc(hidden)]
+pub use in_place::Field;
+pub use in_place::{Unwritten, Written};
 pub use loan::{Loan, LoanUninit, Unsent};
 pub use lock::{DomainLock, StdLock};
 #[cfg(target_os = "linux")]
@@ -134,3 +140,4 @@ pub use subscriber::{Incoming, Received, Subscriber};
 pub use threads::{Borrowed, ManyThreads, MayWait, OneThread, Threads};
 pub use warning::{Warning, WarningKind};
 pub use writer::Writer;
+pub use zeroable::Zeroable;

@@ -2,6 +2,7 @@
 
 use crate::domain::expect;
 use crate::errors::SendError;
+use crate::in_place::{Unwritten, Written};
 use crate::numbers::number;
 use crate::payload::Payload;
 use crate::send_outcome::{outcome, SendOutcome};
@@ -9,9 +10,10 @@ use crate::shared::Shared;
 use crate::sys;
 use crate::threads::{Brings, MayWait, OneThread, Place, Threads, Wait, Waits};
 use crate::timeout::after;
+use crate::zeroable::Zeroable;
 use std::error::Error;
 use std::fmt;
-use std::mem::{ManuallyDrop, MaybeUninit};
+use std::mem::{size_of_val, ManuallyDrop, MaybeUninit};
 use std::ops::{Deref, DerefMut};
 use std::ptr;
 use std::time::{Duration, Instant};
@@ -48,11 +50,14 @@ pub struct LoanUninit<P: Payload + ?Sized, M: Threads = OneThread> {
     lent: Lent<M>,
 }
 
-// SAFETY: what these have is a part in the domain, which may be given to other threads, and the place of
-// a message that is theirs alone until a call under the lock sends it or gives it back.
+// SAFETY: what it has is a part in the domain, which may be given to other threads, and the place of a message that is
+// its own alone until a call under the lock sends it or gives it back.
 unsafe impl<P: Payload + ?Sized + Send + Sync, M: MayWait> Send for LoanUninit<P, M> {}
+// SAFETY: shared, it gives away its number alone.
 unsafe impl<P: Payload + ?Sized + Send + Sync, M: MayWait> Sync for LoanUninit<P, M> {}
+// SAFETY: as of one that isn't written.
 unsafe impl<P: Payload + ?Sized + Send + Sync, M: MayWait> Send for Loan<P, M> {}
+// SAFETY: shared, it is read alone, as a `P` that is `Sync`.
 unsafe impl<P: Payload + ?Sized + Send + Sync, M: MayWait> Sync for Loan<P, M> {}
 
 impl<P: Payload + ?Sized, M: Threads> LoanUninit<P, M> {
@@ -92,6 +97,33 @@ impl<T: Copy + 'static, M: Threads> LoanUninit<T, M> {
         // SAFETY: it is written.
         unsafe { self.assume_init() }
     }
+
+    /// Lets the function write the message where it lies, as a whole or part by part, so that nothing of it is on the
+    /// stack. [`write_fields!`](crate::write_fields!) has an example.
+    #[inline]
+    pub fn write_in_place(
+        mut self,
+        write: impl for<'p> FnOnce(Unwritten<'p, T>) -> Written<'p, T>,
+    ) -> Loan<T, M> {
+        // SAFETY: the place is this loan's alone, and was looked at when it was lent.
+        unsafe { Unwritten::fill(self.payload_mut().as_mut_ptr(), write) };
+        // SAFETY: it is written.
+        unsafe { self.assume_init() }
+    }
+}
+
+impl<P: Payload + Zeroable + ?Sized, M: Threads> LoanUninit<P, M> {
+    /// Writes zeros.
+    #[inline]
+    pub fn write_zeroed(mut self) -> Loan<P, M> {
+        let place = self.payload_mut();
+        let bytes = size_of_val(place);
+        // SAFETY: these are the bytes of the message, which are this loan's alone, and zeros are a value.
+        unsafe {
+            (place as *mut P::Uninit).cast::<u8>().write_bytes(0, bytes);
+            self.assume_init()
+        }
+    }
 }
 
 impl<T: Copy + 'static, M: Threads> LoanUninit<[T], M> {
@@ -109,6 +141,7 @@ impl<T: Copy + 'static, M: Threads> LoanUninit<[T], M> {
     /// # Panics
     ///
     /// Where there are more or fewer values than the loan has places.
+    #[track_caller]
     pub fn write_from_slice(mut self, values: &[T]) -> Loan<[T], M> {
         // SAFETY: a value is also one that may be unwritten.
         let values = unsafe { &*(values as *const [T] as *const [MaybeUninit<T>]) };
@@ -279,7 +312,8 @@ pub(crate) fn send(
 
 impl<P: Payload + ?Sized, M: MayWait> Loan<P, M> {
     /// Sends the message as soon as no earlier send of its publisher waits, and tries until it has reached
-    /// everybody. It may still wait where waits are stopped (`SharedDomain::stop_waits`).
+    /// everybody. Where waits are stopped (`SharedDomain::stop_waits`) it is tried once, and what is still blocked is in
+    /// what this returns.
     ///
     /// # Errors
     ///

@@ -10,6 +10,7 @@ use crate::shared::Shared;
 use crate::sys;
 use crate::threads::{Brings, MayWait, OneThread, Place, Threads, Wait, Waits};
 use crate::timeout::after;
+use crate::zeroable::Zeroable;
 use std::fmt;
 use std::marker::PhantomData;
 use std::mem::{size_of, MaybeUninit};
@@ -192,7 +193,8 @@ impl<T: Copy + 'static, M: Threads> Publisher<T, M> {
         self.lend(size_of::<T>())
     }
 
-    /// Lends a message with its default value.
+    /// Lends a message with its default value. A large one may be on the stack first, where it isn't with
+    /// [`loan_zeroed`](Publisher::loan_zeroed) and [`write_in_place`](LoanUninit::write_in_place).
     ///
     /// # Errors
     ///
@@ -203,6 +205,19 @@ impl<T: Copy + 'static, M: Threads> Publisher<T, M> {
         T: Default,
     {
         Ok(self.loan_uninit()?.write_payload(T::default()))
+    }
+
+    /// Lends a message of zeros, nothing of which was on the stack. [`zeroable!`](crate::zeroable!) has an example.
+    ///
+    /// # Errors
+    ///
+    /// See [`LoanError`].
+    #[inline]
+    pub fn loan_zeroed(&self) -> Result<Loan<T, M>, LoanError>
+    where
+        T: Zeroable,
+    {
+        Ok(self.loan_uninit()?.write_zeroed())
     }
 
     /// Sends a copy of the value. The loan, the copy and the send are made with no other call between.
@@ -266,7 +281,8 @@ impl<T: Copy + 'static, M: MayWait> Publisher<T, M> {
     }
 
     /// Sends a copy of the value. Waits for its loan as [`blocking_loan_uninit`](Publisher::blocking_loan_uninit)
-    /// does, and then until it has reached everybody. It may still wait where waits are stopped.
+    /// does, and then until it has reached everybody. Where waits are stopped it is tried once, and what is still blocked
+    /// is in what this returns.
     ///
     /// # Errors
     ///
@@ -335,6 +351,18 @@ impl<T: Copy + 'static, M: Threads> Publisher<[T], M> {
         T: Default,
     {
         Ok(self.loan_slice_uninit(len)?.write_from_fn(|_| T::default()))
+    }
+
+    /// Lends a message of this number of values of zeros.
+    ///
+    /// # Errors
+    ///
+    /// See [`LoanError`].
+    pub fn loan_slice_zeroed(&self, len: usize) -> Result<Loan<[T], M>, LoanError>
+    where
+        T: Zeroable,
+    {
+        Ok(self.loan_slice_uninit(len)?.write_zeroed())
     }
 
     /// Sends a copy of the values.

@@ -177,8 +177,9 @@ impl<P: Payload + ?Sized, M: Threads> Subscriber<P, M> {
     }
 }
 
-// SAFETY: what it has taken are samples: see there.
+// SAFETY: what it has taken are samples, which may go to other threads: see there.
 unsafe impl<P: Payload + ?Sized + Send + Sync, M: MayWait> Send for Reader<'_, P, M> {}
+// SAFETY: shared, it gives away numbers alone.
 unsafe impl<P: Payload + ?Sized + Send + Sync, M: MayWait> Sync for Reader<'_, P, M> {}
 
 impl<P: Payload + ?Sized, M: Threads> Drop for Reader<'_, P, M> {

@@ -11,6 +11,16 @@ pub(crate) struct Room {
 }
 
 /// What was recorded of a domain: its first calls.
+///
+/// Fields may come, so that a pattern says `..`:
+///
+/// ```compile_fail
+/// fn is_whole(recording: iox2_pubsub::Recording) -> bool {
+///     let iox2_pubsub::Recording { text: _, missed } = recording;
+///     missed == 0
+/// }
+/// ```
+#[non_exhaustive]
 #[derive(Clone, Debug, PartialEq, Eq, Hash)]
 pub struct Recording {
     /// The recording, which `tools/replay` runs again and `tools/draw` draws. It is empty where nothing is

@@ -22,9 +22,9 @@ pub struct Sample<P: Payload + ?Sized, M: Threads = OneThread> {
 }
 
 // SAFETY: what it has is a part in the domain, which may be given to other threads, and the place of a
-// message that nobody writes until it is released, by a call under the lock. Many threads may read it
-// at a time, by this or by the samples of other subscribers, and `P` is `Sync`.
+// message that nobody writes until it is released, by a call under the lock.
 unsafe impl<P: Payload + ?Sized + Send + Sync, M: MayWait> Send for Sample<P, M> {}
+// SAFETY: many threads may read it at a time, by this or by the samples of other subscribers, and `P` is `Sync`.
 unsafe impl<P: Payload + ?Sized + Send + Sync, M: MayWait> Sync for Sample<P, M> {}
 
 impl<P: Payload + ?Sized, M: Threads> Sample<P, M> {

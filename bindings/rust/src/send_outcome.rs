@@ -62,8 +62,8 @@ impl<P: Payload + ?Sized, M: Threads> SendOutcome<P, M> {
 }
 
 impl<P: Payload + ?Sized, M: MayWait> SendOutcome<P, M> {
-    /// Waits until the message has reached everybody, or was refused. It waits on where waits are
-    /// stopped (`SharedDomain::stop_waits`).
+    /// Waits until the message has reached everybody, or was refused. Where waits are stopped
+    /// (`SharedDomain::stop_waits`) it is tried once, and what is still blocked is in what this returns.
     ///
     /// # Errors
     ///
@@ -157,8 +157,8 @@ impl<P: Payload + ?Sized, M: Threads> BlockedSend<P, M> {
 }
 
 impl<P: Payload + ?Sized, M: MayWait> BlockedSend<P, M> {
-    /// Tries the send again whenever there may be room, until it has ended. It waits on where waits are
-    /// stopped.
+    /// Tries the send again whenever there may be room, until it has ended. Where waits are stopped it is tried
+    /// once, and what is still blocked is in what this returns.
     ///
     /// # Errors
     ///

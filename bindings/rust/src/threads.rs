@@ -288,6 +288,9 @@ pub trait WaitingPlace: Place {
 
     /// No call waits any longer, or calls wait again.
     fn stop_waits(&self, is_stopped: bool);
+
+    /// Which of these was said last.
+    fn waits_are_stopped(&self) -> bool;
 }
 
 /// A domain that stays on its thread.

@@ -25,6 +25,16 @@ pub enum WarningKind {
 }
 
 /// Something that a domain did or left undone without failing the call.
+///
+/// Fields may come, so that a pattern says `..`:
+///
+/// ```compile_fail
+/// fn failed(warning: iox2_pubsub::Warning) -> bool {
+///     let iox2_pubsub::Warning { kind: _, publisher: _, subscriber: _, failure } = warning;
+///     failure.is_some()
+/// }
+/// ```
+#[non_exhaustive]
 #[derive(Clone, Copy, Debug, PartialEq, Eq, Hash)]
 pub struct Warning {
     /// What it is of.

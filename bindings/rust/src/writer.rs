@@ -111,7 +111,8 @@ impl<T: Copy + 'static, M: Threads> Writer<'_, T, M> {
 
 impl<T: Copy + 'static, M: MayWait> Writer<'_, T, M> {
     /// Sends a message. Waits for its loan as [`Publisher::blocking_loan_uninit`] does, and then until it has reached
-    /// everybody. It may still wait where waits are stopped (`SharedDomain::stop_waits`).
+    /// everybody. Where waits are stopped (`SharedDomain::stop_waits`) it is tried once, and what is still blocked is in
+    /// what this returns.
     ///
     /// # Errors
     ///
@@ -213,8 +214,9 @@ impl<T: Copy + 'static, M: Threads> Publisher<T, M> {
     }
 }
 
-// SAFETY: what is ready is a loan: see there.
+// SAFETY: what is ready is a loan, which may go to other threads: see there.
 unsafe impl<T: Copy + Send + Sync + 'static, M: MayWait> Send for Writer<'_, T, M> {}
+// SAFETY: shared, it gives away whether a loan is ready, and no more.
 unsafe impl<T: Copy + Send + Sync + 'static, M: MayWait> Sync for Writer<'_, T, M> {}
 
 impl<T: Copy + 'static, M: Threads> Drop for Writer<'_, T, M> {
