@@ -95,7 +95,7 @@ typedef enum iox2ps_status_e {
   IOX2PS_HAS_DOMAIN = 5, /**< there is one already */
   IOX2PS_BLOCKED = 6, /**< the send waits for a subscriber whose buffer is full */
   IOX2PS_PUBLISHER_IS_BLOCKED = 7, /**< an earlier send of the publisher waits, and nothing was done */
-  IOX2PS_INVALID_SETTINGS = 8, /**< a field has none of its values */
+  IOX2PS_INVALID_SETTINGS = 8, /**< invalid value in the settings */
   IOX2PS_TOO_SMALL = 9, /**< the message is longer than the room for it */
   IOX2PS_LOAN_ERROR_OUT_OF_MEMORY = 10, /**< each slot is in use, or memory may not grow further */
   IOX2PS_LOAN_ERROR_EXCEEDS_MAX_LOANS = 11, /**< as many loans are out as the publisher may have */
@@ -441,7 +441,7 @@ IOX2PS_NODISCARD iox2ps_status_t iox2ps_publisher_send_copy(iox2ps_domain_t *dom
  * @{ */
 
 /** Sends a message, and says how many subscribers took it. With IOX2PS_BLOCKED it waits for one whose buffer
- * is full, and blocked names the send. The loan is spent with IOX2PS_OK, IOX2PS_BLOCKED and each
+ * is full, and blocked names the send. The loan is consumed with IOX2PS_OK, IOX2PS_BLOCKED and each
  * IOX2PS_SEND_ERROR_..., and stays with IOX2PS_NOT_LIVE and IOX2PS_PUBLISHER_IS_BLOCKED. Where
  * a connection can't be made, the publisher's others are made all the same. */
 IOX2PS_NODISCARD iox2ps_status_t iox2ps_loan_send(iox2ps_domain_t *domain, const iox2ps_loan_t *loan, size_t *receivers,
@@ -611,7 +611,7 @@ IOX2PS_NODISCARD iox2ps_status_t iox2ps_publisher_close_channel(iox2ps_domain_t 
 /** Sends a message into one channel of one connection of its publisher, and to nobody else, and says how many
  * subscribers took it: 1 or 0. It is 0 where there is no such connection, and where its subscriber or the channel is
  * closed. Connections aren't updated, and the message enters no history. With IOX2PS_BLOCKED it waits for room in that
- * channel, and blocked names the send. A message in another channel than 0 can't be received. The loan is spent with
+ * channel, and blocked names the send. A message in another channel than 0 can't be received. The loan is consumed with
  * IOX2PS_OK, IOX2PS_BLOCKED and each IOX2PS_SEND_ERROR_..., and stays with IOX2PS_NOT_LIVE, IOX2PS_PUBLISHER_IS_BLOCKED
  * and IOX2PS_NO_SUCH_CHANNEL. */
 IOX2PS_NODISCARD iox2ps_status_t iox2ps_loan_deliver_offset_to_connection(iox2ps_domain_t *domain,

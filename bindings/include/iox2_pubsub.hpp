@@ -621,7 +621,7 @@ public:
     return answer != 0;
   }
 
-  /** Makes the connections with subscribers that came, as each send does first. */
+  /** Makes the connections with new subscribers and drops those with closed ones, as each send does first. */
   Done update_connections() {
     if (!hold_) return Error::NotLive;
     return detail::done(hold_.call(Waits::Message | Waits::Loan, [&](iox2ps_domain_t *domain) {
@@ -643,7 +643,7 @@ public:
     return std::optional<std::size_t>(connection);
   }
 
-  /** Whether a channel is in this state at one of its connections; it isn't where there is no such connection.
+  /** Whether a channel is in this state at one of its connections; false if there is no connection.
    * Error::NoSuchChannel from the domain's number_of_channels on. */
   Result<bool> has_channel_state(std::size_t channel, std::size_t connection, std::uint64_t state) const {
     return hold_.told([&](iox2ps_domain_t *domain, std::uint32_t *answer) {
@@ -855,7 +855,7 @@ public:
     }));
   }
 
-  /** Whether a channel is in this state at some connection of it; it isn't where it has none.
+  /** Whether a channel is in this state at some connection of it; false if there is no connection.
    * Error::NoSuchChannel from the domain's number_of_channels on. */
   Result<bool> at_least_one_channel_has_state(std::size_t channel, std::uint64_t state) const {
     return hold_.told([&](iox2ps_domain_t *domain, std::uint32_t *answer) {

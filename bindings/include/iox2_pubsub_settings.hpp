@@ -238,7 +238,7 @@ public:
   PublisherOptions &initial_max_slice_len(std::size_t values) {
     return set(initial_max_slice_len_, detail::bytes_of<detail::Element<P>>(values));
   }
-  /** How many slots it asks for, and gets, but no more than Config::worst_case_slots(); 0 asks for nothing. */
+  /** Slots to allocate, capped at Config::worst_case_slots(); 0 means the cap. */
   PublisherOptions &preallocated_samples(std::size_t value) { return set(preallocated_samples_, value); }
   /** What it does at a full buffer where the domain doesn't overflow. */
   PublisherOptions &backpressure_strategy(BackpressureStrategy value) { return set(backpressure_strategy_, value); }

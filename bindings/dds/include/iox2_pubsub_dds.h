@@ -10,7 +10,7 @@
  * and for each domain of its own: a second one is refused. A gateway is to live as long as its domain: another one later
  * would send the history again.
  *
- * What a caller has to do: pointers as iox2_pubsub.h says; a domain lives, at its place, until its gateway was closed; gateways
+ * The caller's obligations: pointers as iox2_pubsub.h says; a domain lives, at its place, until its gateway was closed; gateways
  * that were opened together (one iox2ps_dds_gateways_t) are used by one thread at a time, which is that of their domains,
  * except iox2ps_dds_wake; and nothing is closed twice. Cyclone DDS has threads of its own, which never call a domain.
  *

@@ -77,7 +77,7 @@ impl<P: Payload + ?Sized, M: Threads> Publisher<P, M> {
         }
     }
 
-    /// Whether a channel is in this state at one of the connections. It isn't where there is no such
+    /// Whether a channel is in this state at one of the connections: `false` if there is no such
     /// connection.
     ///
     /// # Errors
@@ -150,7 +150,7 @@ impl<P: Payload + ?Sized, M: Threads> Publisher<P, M> {
 }
 
 impl<P: Payload + ?Sized, M: Threads> Subscriber<P, M> {
-    /// Whether a channel is in this state at some connection. It isn't where the subscriber has none.
+    /// Whether a channel is in this state at some connection: `false` if the subscriber has none.
     ///
     /// ```
     /// use iox2_pubsub::{Domain, CHANNEL_STATE_OPEN};

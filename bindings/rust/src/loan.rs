@@ -71,7 +71,7 @@ impl<P: Payload + ?Sized, M: Threads> LoanUninit<P, M> {
     /// Where the message is to be written.
     #[inline(always)]
     pub fn payload_mut(&mut self) -> &mut P::Uninit {
-        // SAFETY: the bytes stay where they are, and are this loan's alone until it is spent.
+        // SAFETY: the bytes stay where they are, and are this loan's alone until it is consumed.
         unsafe { &mut *P::uninit(self.payload) }
     }
 
@@ -197,7 +197,7 @@ impl<P: Payload + ?Sized, M: Threads> Loan<P, M> {
     ///
     /// # Errors
     ///
-    /// See [`SendError`]. The loan is spent: with `PublisherIsBlocked` it was given back unsent, which
+    /// See [`SendError`]. The loan is consumed: with `PublisherIsBlocked` it was given back unsent, which
     /// [`send_or_keep`](Loan::send_or_keep) doesn't.
     #[inline(always)]
     pub fn send(self) -> Result<SendOutcome<P, M>, SendError> {
@@ -238,7 +238,7 @@ impl<P: Payload + ?Sized, M: Threads> Loan<P, M> {
     ///
     /// # Errors
     ///
-    /// See [`SendError`]; `ConnectionError` isn't one of them. The loan is spent: with `PublisherIsBlocked` and
+    /// See [`SendError`]; `ConnectionError` isn't one of them. The loan is consumed: with `PublisherIsBlocked` and
     /// `NoSuchChannel` it was given back unsent.
     pub fn deliver_offset_to_connection(
         self,
@@ -354,7 +354,7 @@ impl<P: Payload + ?Sized, M: Threads> Deref for Loan<P, M> {
 
     #[inline]
     fn deref(&self) -> &P {
-        // SAFETY: the bytes stay where they are and are this loan's alone until it is spent, its domain
+        // SAFETY: the bytes stay where they are and are this loan's alone until it is consumed, its domain
         // is there, and they are written.
         unsafe { &*self.payload }
     }
@@ -377,7 +377,7 @@ impl<P: Payload + ?Sized + fmt::Debug, M: Threads> fmt::Debug for Loan<P, M> {
     }
 }
 
-/// A send that was refused: why, and the loan, where it isn't spent.
+/// A send that was refused: why, and the loan, where it isn't consumed.
 pub struct Unsent<P: Payload + ?Sized, M: Threads = OneThread> {
     error: SendError,
     loan: Option<Loan<P, M>>,
@@ -390,7 +390,7 @@ impl<P: Payload + ?Sized, M: Threads> Unsent<P, M> {
         self.error
     }
 
-    /// The loan as it was, where an earlier send of its publisher waits; else it is spent.
+    /// The loan as it was, where an earlier send of its publisher waits; else it is consumed.
     #[must_use]
     pub fn into_loan(self) -> Option<Loan<P, M>> {
         self.loan

@@ -84,7 +84,7 @@ impl<P: Payload + ?Sized, M: Threads> Publisher<P, M> {
         is_blocked != 0
     }
 
-    /// Makes the connections with subscribers that came, as each send does first.
+    /// Makes the connections with new subscribers and drops those with closed ones, as each send does first.
     ///
     /// # Errors
     ///
