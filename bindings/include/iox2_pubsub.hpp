@@ -4,8 +4,9 @@
  *
  * A Domain<P> has messages of the type P alone: a trivially copyable T, or T[] for slices of such values.
  * So what is received was written as a P. Its ports, loans and samples keep it alive. Handles are moved and
- * not copied, except a Domain; one that was moved from, or whose loan was sent, is empty: its calls return
- * Error::NotLive, and it isn't read.
+ * not copied, except a Domain. One that was moved from, sent, given back or closed is empty, and its bool is false. Its calls
+ * return Error::NotLive; a port's id and counts are 0 then. An empty Loan or Sample points nowhere: as a slice it has no values, and
+ * where a value of it is read or written an assert ends the program, unless NDEBUG is defined. What names its message stays.
  *
  * Nothing is thrown but std::bad_alloc by Domain::warnings() and Domain::recording(), which fill a vector and a string, and
  * what the default constructor of a message's own type throws; then the loan is given back. No destructor throws. It compiles
@@ -23,6 +24,7 @@
 #include "iox2_pubsub_settings.hpp"
 
 #include <algorithm>
+#include <cassert>
 #include <chrono>
 #include <cstddef>
 #include <cstdint>
@@ -196,23 +198,40 @@ template <typename T> const T *at(const void *bytes) { return std::launder(stati
 /** How a message is read where it lies: as a value, or as a slice of values. */
 template <typename P, typename T> class View {
 public:
-  T &operator*() const { return *data_; }  /**< the value */
-  T *operator->() const { return data_; }  /**< the value's members */
+  T &operator*() const { return *there(); }  /**< the value */
+  T *operator->() const { return there(); }  /**< the value's members */
 
 protected:
   View() = default; /**< of nothing */
+  View(View &&other) noexcept : data_(std::exchange(other.data_, nullptr)) {} /**< leaves the other without a value */
+  /** The same. */
+  View &operator=(View &&other) noexcept {
+    data_ = std::exchange(other.data_, nullptr);
+    return *this;
+  }
 
   /** What it is of. */
   void see(T *data, std::size_t) { data_ = data; }
+  /** It is of nothing any longer. */
+  void see_nothing() { data_ = nullptr; }
 
 private:
+  T *there() const {
+    assert(data_ && "this loan was sent or discarded, or this sample released, or it was moved from");
+    return data_;
+  }
+
   T *data_ = nullptr;
 };
 
 /** A slice of values, which is read and gone over as a container is. */
 template <typename E, typename T> class View<E[], T> {
 public:
-  T &operator[](std::size_t index) const { return data_[index]; } /**< one of the values */
+  /** One of the values. */
+  T &operator[](std::size_t index) const {
+    assert(data_ && "this slice is empty: its loan was sent or discarded, or its sample released, or it was moved from");
+    return data_[index];
+  }
   T *data() const { return data_; }                               /**< the first of them */
   std::size_t size() const { return size_; }                      /**< how many there are */
   bool empty() const { return size_ == 0; }                       /**< whether there is none */
@@ -221,12 +240,22 @@ public:
 
 protected:
   View() = default; /**< of nothing */
+  /** Leaves the other without values. */
+  View(View &&other) noexcept : data_(std::exchange(other.data_, nullptr)), size_(std::exchange(other.size_, 0)) {}
+  /** The same. */
+  View &operator=(View &&other) noexcept {
+    data_ = std::exchange(other.data_, nullptr);
+    size_ = std::exchange(other.size_, 0);
+    return *this;
+  }
 
   /** What it is of. */
   void see(T *data, std::size_t size) {
     data_ = data;
     size_ = size;
   }
+  /** It is of nothing any longer. */
+  void see_nothing() { see(nullptr, 0); }
 
 private:
   T *data_ = nullptr;
@@ -366,7 +395,7 @@ public:
   Loan &operator=(Loan &&other) noexcept {
     if (this != &other) {
       discard();
-      View<P, Element>::operator=(other);
+      View<P, Element>::operator=(std::move(other));
       hold_ = std::move(other.hold_);
       loan_ = other.loan_;
     }
@@ -378,7 +407,7 @@ public:
   Id publisher() const { return detail::id_of(loan_.publisher); }     /**< whose message it is */
   Id number() const { return detail::id_of(loan_.number); }           /**< that no other message has */
 
-  /** Sends the message, and leaves this empty; with Error::PublisherIsBlocked it stays. */
+  /** Sends the message, and leaves this empty, so that nobody writes into what was sent; with Error::PublisherIsBlocked it stays. */
   Result<Sent<P, M>> send() {
     if (!hold_) return Error::NotLive;
     std::size_t count = 0;
@@ -419,11 +448,12 @@ public:
     return sent(code, count, blocked);
   }
 
-  /** Gives the loan back unsent. */
+  /** Gives the loan back unsent, and leaves this empty. */
   void discard() {
     if (!hold_) return;
     hold_.call(only(Waits::Loan), [&](iox2ps_domain_t *domain) { return iox2ps_loan_discard(domain, &loan_); });
     hold_ = detail::Hold<M>();
+    this->see_nothing();
   }
 
 private:
@@ -433,6 +463,7 @@ private:
 
   Result<Sent<P, M>> sent(iox2ps_status_t code, std::size_t count, const iox2ps_blocked_t &blocked) {
     if (code == IOX2PS_PUBLISHER_IS_BLOCKED) return Error::PublisherIsBlocked;
+    this->see_nothing();
     detail::Hold<M> hold = std::move(hold_);
     if (code == IOX2PS_OK) return Sent<P, M>(count);
     if (code == IOX2PS_BLOCKED) return Sent<P, M>(BlockedSend<P, M>(std::move(hold), blocked));
@@ -454,7 +485,7 @@ public:
   Sample &operator=(Sample &&other) noexcept {
     if (this != &other) {
       release();
-      View<P, const Element>::operator=(other);
+      View<P, const Element>::operator=(std::move(other));
       hold_ = std::move(other.hold_);
       sample_ = other.sample_;
     }
@@ -479,11 +510,12 @@ public:
                   static_cast<std::size_t>(header.number_of_elements) / sizeof(Element)};
   }
 
-  /** Gives the message back. */
+  /** Gives the message back, and leaves this empty. */
   void release() {
     if (!hold_) return;
     hold_.call(only(Waits::Loan), [&](iox2ps_domain_t *domain) { return iox2ps_sample_release(domain, &sample_); });
     hold_ = detail::Hold<M>();
+    this->see_nothing();
   }
 
 private:
@@ -518,7 +550,8 @@ public:
   ~Publisher() { close(); }
 
   explicit operator bool() const { return static_cast<bool>(hold_); } /**< whether it is open */
-  Id id() const { return detail::id_of(port_.id); }                   /**< that no other port of its domain has */
+  /** That no other port of its domain has. */
+  Id id() const { return *this ? detail::id_of(port_.id) : Id{0, 0}; }
 
   /** What it does at a full buffer. */
   BackpressureStrategy backpressure_strategy() const {
@@ -526,7 +559,7 @@ public:
   }
 
   /** How many values a message may have. */
-  std::size_t initial_max_slice_len() const { return port_.initial_max_slice_len / sizeof(Element); }
+  std::size_t initial_max_slice_len() const { return *this ? port_.initial_max_slice_len / sizeof(Element) : 0; }
 
   /** Lends a message with its default value, which is made where the message lies. */
   template <typename Q = P, std::enable_if_t<!detail::is_slice<Q>, int> = 0> Result<Loan<P, M>> loan() {
@@ -767,8 +800,10 @@ public:
   ~Subscriber() { close(); }
 
   explicit operator bool() const { return static_cast<bool>(hold_); } /**< whether it is open */
-  Id id() const { return detail::id_of(port_.id); }                   /**< that no other port of its domain has */
-  std::size_t buffer_size() const { return port_.buffer_size; }       /**< how many messages of one publisher may wait */
+  /** That no other port of its domain has. */
+  Id id() const { return *this ? detail::id_of(port_.id) : Id{0, 0}; }
+  /** How many messages of one publisher may wait. */
+  std::size_t buffer_size() const { return *this ? port_.buffer_size : 0; }
 
   /** The next message of some publisher, or none where none waits. Those of one publisher come in the order in
    * which they were sent. */

@@ -66,6 +66,7 @@ ROWS = (
     ("cpp/threads.cpp", "c++17", True),
     ("cpp/at_exit.cpp", "c++17", True),
     ("cpp/large.cpp", "c++17", True),
+    ("cpp/gone.cpp", "c++17", True),
     ("cpp/one_may_lose.cpp", "c++17", True),
     ("cpp/threads.cpp", "c++20", False),
 )
