@@ -80,11 +80,22 @@ struct OneThread {
     std::size_t count_ = 1;
   };
 
+  /** Whether a port is open. */
+  class Open {
+  public:
+    explicit operator bool() const { return is_so_; }     /**< whether it is */
+    bool close() { return std::exchange(is_so_, false); } /**< it isn't any longer, and whether it was */
+
+  private:
+    bool is_so_ = true;
+  };
+
   /** Makes a call. */
   template <typename Call> iox2ps_status_t call(Brings, Call &&make) { return make(); }
 
-  /** Nothing is called for a subscriber. */
-  void forget(Id) {}
+  /** Nothing waits at a port, and nothing is called for a subscriber. */
+  void end_waits(Id) {}
+  void forget(Id) {} /**< the same */
 };
 
 namespace detail {
@@ -165,6 +176,19 @@ public:
     iox2ps_status_t code = ask([&](iox2ps_domain_t *domain) { return question(domain, &answer); });
     if (code != IOX2PS_OK) return error_of(code);
     return answer != 0;
+  }
+
+  /* Closes a port by these calls, and ends what waits there. Another thread may be in a call of its handle, which finds the port
+   * closed: so where there are several the handle keeps the domain until it goes. */
+  template <typename Close> void close(typename M::Open &open, Brings brings, Id port, Close &&make) {
+    if (!shared_ || !open.close()) return;
+    call(brings, [&](iox2ps_domain_t *domain) {
+      iox2ps_status_t code = make(domain);
+      shared_->threads.end_waits(port);
+      return code;
+    });
+    shared_->threads.forget(port);
+    if constexpr (std::is_same_v<M, OneThread>) *this = Hold();
   }
 
   /* Makes them again as long as their code says that the port still waits, each time when something came that may help. */
@@ -542,6 +566,7 @@ public:
     if (this != &other) {
       close();
       hold_ = std::move(other.hold_);
+      open_ = other.open_;
       port_ = other.port_;
       orphan_ = std::move(other.orphan_);
     }
@@ -549,7 +574,7 @@ public:
   }
   ~Publisher() { close(); }
 
-  explicit operator bool() const { return static_cast<bool>(hold_); } /**< whether it is open */
+  explicit operator bool() const { return hold_ && open_; } /**< whether it is open */
   /** That no other port of its domain has. */
   Id id() const { return *this ? detail::id_of(port_.id) : Id{0, 0}; }
 
@@ -702,11 +727,11 @@ public:
     }));
   }
 
-  /** Closes it, or lets it close when a send of it that waits has ended. */
+  /** Closes it, or lets it close when a send of it that waits has ended. Other threads that wait for a loan of it then
+   * return Error::NotLive. */
   void close() {
-    if (!hold_) return;
-    hold_.call(only(Waits::Message), [&](iox2ps_domain_t *) { return hold_->close_publisher(std::move(orphan_)); });
-    hold_ = detail::Hold<M>();
+    auto make = [&](iox2ps_domain_t *) { return hold_->close_publisher(std::move(orphan_)); };
+    hold_.close(open_, only(Waits::Message), detail::id_of(port_.id), make);
   }
 
 private:
@@ -737,8 +762,10 @@ private:
   }
   auto waiting(Until until, Brings brings = only(Waits::Message)) const {
     return [this, until, brings](auto &&make) {
-      return hold_.wait(Waits::Loan, port_.id, brings, until, [&](iox2ps_domain_t *domain) {
+      return hold_.wait(Waits::Loan, port_.id, brings, until, [&](iox2ps_domain_t *domain) -> iox2ps_status_t {
         iox2ps_status_t code = make(domain);
+        if (code == IOX2PS_OK) return code;
+        if (!orphan_) return IOX2PS_NOT_LIVE; /* closed meanwhile, also where the send that it waits for goes on */
         /* A closed subscriber's slots come back by an update of the connections alone, which a loan doesn't make. */
         if (code != IOX2PS_LOAN_ERROR_OUT_OF_MEMORY) return code;
         if (iox2ps_publisher_update_connections(domain, &port_) != IOX2PS_OK) return code;
@@ -778,6 +805,7 @@ private:
   }
 
   detail::Hold<M> hold_;
+  typename M::Open open_;
   iox2ps_publisher_t port_;
   std::unique_ptr<detail::Orphan> orphan_; // what it becomes where it goes while a send of it waits
 };
@@ -793,13 +821,14 @@ public:
     if (this != &other) {
       close();
       hold_ = std::move(other.hold_);
+      open_ = other.open_;
       port_ = other.port_;
     }
     return *this;
   }
   ~Subscriber() { close(); }
 
-  explicit operator bool() const { return static_cast<bool>(hold_); } /**< whether it is open */
+  explicit operator bool() const { return hold_ && open_; } /**< whether it is open */
   /** That no other port of its domain has. */
   Id id() const { return *this ? detail::id_of(port_.id) : Id{0, 0}; }
   /** How many messages of one publisher may wait. */
@@ -935,7 +964,7 @@ public:
    * listener was set or the subscriber was closed: so let it own what it uses, for example by a std::shared_ptr, but the subscriber
    * itself by a std::weak_ptr alone, or neither would ever go. */
   template <typename F> Done set_listener(F &&listener) {
-    if (!hold_) return Error::NotLive;
+    if (!*this) return Error::NotLive;
     hold_->threads.listen(id(), std::make_shared<const std::function<void()>>(std::forward<F>(listener)));
     return std::monostate{};
   }
@@ -956,12 +985,10 @@ public:
     return made;
   }
 
-  /** Closes it. Its samples stay. */
+  /** Closes it. Its samples stay. Other threads that wait for a message of it then return Error::NotLive. */
   void close() {
-    if (!hold_) return;
-    hold_.call(Waits::Room | Waits::Loan, [&](iox2ps_domain_t *domain) { return iox2ps_subscriber_close(domain, &port_); });
-    hold_->threads.forget(id());
-    hold_ = detail::Hold<M>();
+    auto make = [&](iox2ps_domain_t *domain) { return iox2ps_subscriber_close(domain, &port_); };
+    hold_.close(open_, Waits::Room | Waits::Loan, detail::id_of(port_.id), make);
   }
 
 private:
@@ -1010,6 +1037,7 @@ private:
   };
 
   detail::Hold<M> hold_;
+  typename M::Open open_;
   iox2ps_subscriber_t port_;
 };
 
