@@ -258,6 +258,45 @@ static void a_domain_that_was_moved_from_is_empty() {
   CHECK(domain.subscriber().has_value());
 }
 
+static void ports_that_were_moved_from_are_empty() {
+  auto domain = made(Config<int>(1));
+  auto publisher = domain.publisher().expect("a publisher");
+  auto subscriber = domain.subscriber().expect("a subscriber");
+  Id of_publisher = publisher.id(), of_subscriber = subscriber.id();
+  auto sends = std::move(publisher);
+  auto receives = std::move(subscriber);
+  CHECK(!publisher && publisher.id() == Id{0, 0} && publisher.initial_max_slice_len() == 0 && !publisher.is_blocked());
+  CHECK(publisher.loan().error() == Error::NotLive && publisher.update_connections().error() == Error::NotLive);
+  CHECK(publisher.send_copy(1).error() == Error::NotLive && publisher.close_channel(0, 0, 0).error() == Error::NotLive);
+  CHECK(publisher.get_connection_id_of(of_subscriber).error() == Error::NotLive);
+  CHECK(!subscriber && subscriber.id() == Id{0, 0} && subscriber.buffer_size() == 0);
+  CHECK(subscriber.receive().error() == Error::NotLive && subscriber.receive_copy().error() == Error::NotLive);
+  CHECK(subscriber.has_samples().error() == Error::NotLive && subscriber.update_connections().error() == Error::NotLive);
+  CHECK(sends && sends.id() == of_publisher && receives && receives.id() == of_subscriber && receives.buffer_size() > 0);
+}
+
+static void slices_that_are_gone_have_no_values() {
+  auto domain = made(Config<int[]>(1, 5));
+  auto publisher = domain.publisher().expect("a publisher");
+  auto subscriber = domain.subscriber().expect("a subscriber");
+  auto loan = publisher.loan_slice(3).expect("a loan");
+  auto moved = std::move(loan);
+  CHECK(!loan && loan.empty() && loan.data() == nullptr && loan.begin() == loan.end() && moved.size() == 3);
+  loan = std::move(moved);
+  CHECK(!moved && moved.empty() && moved.data() == nullptr && loan.size() == 3);
+  Id number = loan.number();
+  CHECK(loan.send()->delivered() == std::size_t(1));
+  CHECK(!loan && loan.empty() && loan.data() == nullptr && loan.number() == number);
+  loan = publisher.loan_slice(2).expect("a loan");
+  loan.discard();
+  CHECK(!loan && loan.empty() && loan.data() == nullptr);
+  auto sample = *std::move(subscriber.receive().expect("a receive"));
+  auto kept = std::move(sample);
+  CHECK(!sample && sample.empty() && sample.data() == nullptr && kept.size() == 3);
+  kept.release();
+  CHECK(!kept && kept.empty() && kept.data() == nullptr && kept.number() == number);
+}
+
 static void settings_are_read_back() {
   Config<std::uint16_t[]> config(17, 5);
   config.service_id(Id{17, 3}).node_id(Id{1, 2}).max_publishers(3).max_subscribers(4).subscriber_max_buffer_size(5);
@@ -611,6 +650,8 @@ static void errors_have_texts() {
 
 int main() {
   a_domain_that_was_moved_from_is_empty();
+  ports_that_were_moved_from_are_empty();
+  slices_that_are_gone_have_no_values();
   settings_are_read_back();
   options_are_as_the_domain_says_but_for_what_is_set();
   warnings_name_what_they_are_of();

@@ -290,6 +290,82 @@ void waits_are_stopped_twice_and_taken_back() {
   CHECK(first_of(subscriber.timed_receive(std::chrono::nanoseconds::max())) == 2);
 }
 
+constexpr auto is_closed = [](const auto &result) { return !result.has_value() && result.error() == iox2ps::Error::NotLive; };
+
+void a_close_ends_the_waits_for_messages() {
+  auto domain = keeping<Watched>(1);
+  auto subscriber = domain.subscriber().expect("a subscriber");
+  auto other = domain.subscriber().expect("a subscriber");
+  auto stays = asleep_after(to_sleep, [&] { CHECK(!other.blocking_receive().expect("a receive")); });
+  auto receives = asleep_after(to_sleep, [&] { CHECK(is_closed(subscriber.blocking_receive())); });
+  auto copies = asleep_after(to_sleep, [&] { CHECK(is_closed(subscriber.timed_receive_copy(1h))); });
+  auto read = [](const iox2ps::Sample<Message, WatchedThreads> &) { return true; };
+  auto all = asleep_after(to_sleep, [&] { CHECK(is_closed(subscriber.blocking_for_each(read))); });
+  /* It has tried, and isn't in the list of those who wait. */
+  auto late = stopped_after(1, [&] { CHECK(is_closed(subscriber.blocking_receive())); });
+  subscriber.close();
+  late.go_on();
+  for (Watch *one : {&receives, &copies, &all, &late}) one->join();
+  CHECK(!subscriber && is_closed(subscriber.receive()) && is_closed(subscriber.has_samples()));
+  CHECK(is_closed(subscriber.set_listener([] {})));
+  subscriber.close();
+  domain.stop_waits();
+  stays.join();
+}
+
+void a_close_ends_the_waits_for_loans() {
+  auto domain = keeping<Watched>(1);
+  auto publisher = domain.publisher().expect("a publisher");
+  auto first = publisher.loan().expect("a loan");
+  auto second = publisher.loan().expect("a loan");
+  auto lends = asleep_after(to_sleep, [&] { CHECK(is_closed(publisher.blocking_loan())); });
+  auto sends = asleep_after(to_sleep, [&] { CHECK(is_closed(publisher.blocking_send_copy(message(1)))); });
+  publisher.close();
+  lends.join();
+  sends.join();
+  CHECK(!publisher && is_closed(publisher.loan()) && is_closed(publisher.send_copy(message(1))));
+}
+
+/* The publisher is there for the send, and none of its handle's calls waits for that. */
+void a_close_ends_the_waits_beside_a_blocked_send() {
+  auto domain = keeping<Watched>(1);
+  auto publisher = domain.publisher().expect("a publisher");
+  auto subscriber = domain.subscriber().expect("a subscriber");
+  CHECK(publisher.send_copy(message(1)).expect("a send").delivered() == 1u);
+  auto waits = blocked(publisher.send_copy(message(2)));
+  auto sends = asleep_after(to_sleep, [&] { CHECK(waits.blocking_retry().expect("a retry") == 1u); });
+  auto lends = asleep_after(to_sleep, [&] { CHECK(is_closed(publisher.blocking_loan())); });
+  publisher.close();
+  lends.join();
+  CHECK(first_of(subscriber.receive()) == 1);
+  sends.join();
+  CHECK(first_of(subscriber.receive()) == 2);
+  CHECK(domain.book_count() == 0);
+}
+
+void ports_are_closed_while_messages_cross() {
+  for (std::uint64_t round = 0; round < 100; round++) {
+    auto domain = keeping(1);
+    auto publisher = domain.publisher().expect("a publisher");
+    auto subscriber = domain.subscriber().expect("a subscriber");
+    std::atomic<std::uint64_t> got{0};
+    std::thread receives([&] {
+      while (auto received = subscriber.blocking_receive()) got += (**received)->size() == 8;
+      CHECK(!subscriber);
+    });
+    std::thread sends([&] {
+      while (publisher.blocking_send_copy(message(round))) {}
+      CHECK(!publisher);
+    });
+    while (got < round % 8) std::this_thread::yield();
+    subscriber.close();
+    publisher.close();
+    receives.join();
+    sends.join();
+    CHECK(domain.book_count() == 0);
+  }
+}
+
 #ifdef __cpp_exceptions
 void a_thread_that_throws_gives_back_what_it_has() {
   auto domain = keeping(1);
@@ -642,6 +718,10 @@ int main() {
       threads_that_wait_for_a_loan_dont_wake_each_other,
       copies_and_all_take_the_lock_once,
       waits_are_stopped_twice_and_taken_back,
+      a_close_ends_the_waits_for_messages,
+      a_close_ends_the_waits_for_loans,
+      a_close_ends_the_waits_beside_a_blocked_send,
+      ports_are_closed_while_messages_cross,
 #ifdef __cpp_exceptions
       a_thread_that_throws_gives_back_what_it_has,
 #endif

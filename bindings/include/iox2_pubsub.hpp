@@ -4,8 +4,9 @@
  *
  * A Domain<P> has messages of the type P alone: a trivially copyable T, or T[] for slices of such values.
  * So what is received was written as a P. Its ports, loans and samples keep it alive. Handles are moved and
- * not copied, except a Domain; one that was moved from, or whose loan was sent, is empty: its calls return
- * Error::NotLive, and it isn't read.
+ * not copied, except a Domain. One that was moved from, sent, given back or closed is empty, and its bool is false. Its calls
+ * return Error::NotLive; a port's id and counts are 0 then. An empty Loan or Sample points nowhere: as a slice it has no values, and
+ * where a value of it is read or written an assert ends the program, unless NDEBUG is defined. What names its message stays.
  *
  * Nothing is thrown but std::bad_alloc by Domain::warnings() and Domain::recording(), which fill a vector and a string, and
  * what the default constructor of a message's own type throws; then the loan is given back. No destructor throws. It compiles
@@ -23,6 +24,7 @@
 #include "iox2_pubsub_settings.hpp"
 
 #include <algorithm>
+#include <cassert>
 #include <chrono>
 #include <cstddef>
 #include <cstdint>
@@ -78,11 +80,22 @@ struct OneThread {
     std::size_t count_ = 1;
   };
 
+  /** Whether a port is open. */
+  class Open {
+  public:
+    explicit operator bool() const { return is_so_; }     /**< whether it is */
+    bool close() { return std::exchange(is_so_, false); } /**< it isn't any longer, and whether it was */
+
+  private:
+    bool is_so_ = true;
+  };
+
   /** Makes a call. */
   template <typename Call> iox2ps_status_t call(Brings, Call &&make) { return make(); }
 
-  /** Nothing is called for a subscriber. */
-  void forget(Id) {}
+  /** Nothing waits at a port, and nothing is called for a subscriber. */
+  void end_waits(Id) {}
+  void forget(Id) {} /**< the same */
 };
 
 namespace detail {
@@ -165,6 +178,19 @@ public:
     return answer != 0;
   }
 
+  /* Closes a port by these calls, and ends what waits there. Another thread may be in a call of its handle, which finds the port
+   * closed: so where there are several the handle keeps the domain until it goes. */
+  template <typename Close> void close(typename M::Open &open, Brings brings, Id port, Close &&make) {
+    if (!shared_ || !open.close()) return;
+    call(brings, [&](iox2ps_domain_t *domain) {
+      iox2ps_status_t code = make(domain);
+      shared_->threads.end_waits(port);
+      return code;
+    });
+    shared_->threads.forget(port);
+    if constexpr (std::is_same_v<M, OneThread>) *this = Hold();
+  }
+
   /* Makes them again as long as their code says that the port still waits, each time when something came that may help. */
   template <typename Call>
   iox2ps_status_t wait(Waits what, const iox2ps_wide_t &port, Brings brings, Until until, Call &&make) const {
@@ -196,23 +222,40 @@ template <typename T> const T *at(const void *bytes) { return std::launder(stati
 /** How a message is read where it lies: as a value, or as a slice of values. */
 template <typename P, typename T> class View {
 public:
-  T &operator*() const { return *data_; }  /**< the value */
-  T *operator->() const { return data_; }  /**< the value's members */
+  T &operator*() const { return *there(); }  /**< the value */
+  T *operator->() const { return there(); }  /**< the value's members */
 
 protected:
   View() = default; /**< of nothing */
+  View(View &&other) noexcept : data_(std::exchange(other.data_, nullptr)) {} /**< leaves the other without a value */
+  /** The same. */
+  View &operator=(View &&other) noexcept {
+    data_ = std::exchange(other.data_, nullptr);
+    return *this;
+  }
 
   /** What it is of. */
   void see(T *data, std::size_t) { data_ = data; }
+  /** It is of nothing any longer. */
+  void see_nothing() { data_ = nullptr; }
 
 private:
+  T *there() const {
+    assert(data_ && "this loan was sent or discarded, or this sample released, or it was moved from");
+    return data_;
+  }
+
   T *data_ = nullptr;
 };
 
 /** A slice of values, which is read and gone over as a container is. */
 template <typename E, typename T> class View<E[], T> {
 public:
-  T &operator[](std::size_t index) const { return data_[index]; } /**< one of the values */
+  /** One of the values. */
+  T &operator[](std::size_t index) const {
+    assert(data_ && "this slice is empty: its loan was sent or discarded, or its sample released, or it was moved from");
+    return data_[index];
+  }
   T *data() const { return data_; }                               /**< the first of them */
   std::size_t size() const { return size_; }                      /**< how many there are */
   bool empty() const { return size_ == 0; }                       /**< whether there is none */
@@ -221,12 +264,22 @@ public:
 
 protected:
   View() = default; /**< of nothing */
+  /** Leaves the other without values. */
+  View(View &&other) noexcept : data_(std::exchange(other.data_, nullptr)), size_(std::exchange(other.size_, 0)) {}
+  /** The same. */
+  View &operator=(View &&other) noexcept {
+    data_ = std::exchange(other.data_, nullptr);
+    size_ = std::exchange(other.size_, 0);
+    return *this;
+  }
 
   /** What it is of. */
   void see(T *data, std::size_t size) {
     data_ = data;
     size_ = size;
   }
+  /** It is of nothing any longer. */
+  void see_nothing() { see(nullptr, 0); }
 
 private:
   T *data_ = nullptr;
@@ -366,7 +419,7 @@ public:
   Loan &operator=(Loan &&other) noexcept {
     if (this != &other) {
       discard();
-      View<P, Element>::operator=(other);
+      View<P, Element>::operator=(std::move(other));
       hold_ = std::move(other.hold_);
       loan_ = other.loan_;
     }
@@ -378,7 +431,7 @@ public:
   Id publisher() const { return detail::id_of(loan_.publisher); }     /**< whose message it is */
   Id number() const { return detail::id_of(loan_.number); }           /**< that no other message has */
 
-  /** Sends the message, and leaves this empty; with Error::PublisherIsBlocked it stays. */
+  /** Sends the message, and leaves this empty, so that nobody writes into what was sent; with Error::PublisherIsBlocked it stays. */
   Result<Sent<P, M>> send() {
     if (!hold_) return Error::NotLive;
     std::size_t count = 0;
@@ -419,11 +472,12 @@ public:
     return sent(code, count, blocked);
   }
 
-  /** Gives the loan back unsent. */
+  /** Gives the loan back unsent, and leaves this empty. */
   void discard() {
     if (!hold_) return;
     hold_.call(only(Waits::Loan), [&](iox2ps_domain_t *domain) { return iox2ps_loan_discard(domain, &loan_); });
     hold_ = detail::Hold<M>();
+    this->see_nothing();
   }
 
 private:
@@ -433,6 +487,7 @@ private:
 
   Result<Sent<P, M>> sent(iox2ps_status_t code, std::size_t count, const iox2ps_blocked_t &blocked) {
     if (code == IOX2PS_PUBLISHER_IS_BLOCKED) return Error::PublisherIsBlocked;
+    this->see_nothing();
     detail::Hold<M> hold = std::move(hold_);
     if (code == IOX2PS_OK) return Sent<P, M>(count);
     if (code == IOX2PS_BLOCKED) return Sent<P, M>(BlockedSend<P, M>(std::move(hold), blocked));
@@ -454,7 +509,7 @@ public:
   Sample &operator=(Sample &&other) noexcept {
     if (this != &other) {
       release();
-      View<P, const Element>::operator=(other);
+      View<P, const Element>::operator=(std::move(other));
       hold_ = std::move(other.hold_);
       sample_ = other.sample_;
     }
@@ -479,11 +534,12 @@ public:
                   static_cast<std::size_t>(header.number_of_elements) / sizeof(Element)};
   }
 
-  /** Gives the message back. */
+  /** Gives the message back, and leaves this empty. */
   void release() {
     if (!hold_) return;
     hold_.call(only(Waits::Loan), [&](iox2ps_domain_t *domain) { return iox2ps_sample_release(domain, &sample_); });
     hold_ = detail::Hold<M>();
+    this->see_nothing();
   }
 
 private:
@@ -510,6 +566,7 @@ public:
     if (this != &other) {
       close();
       hold_ = std::move(other.hold_);
+      open_ = other.open_;
       port_ = other.port_;
       orphan_ = std::move(other.orphan_);
     }
@@ -517,8 +574,9 @@ public:
   }
   ~Publisher() { close(); }
 
-  explicit operator bool() const { return static_cast<bool>(hold_); } /**< whether it is open */
-  Id id() const { return detail::id_of(port_.id); }                   /**< that no other port of its domain has */
+  explicit operator bool() const { return hold_ && open_; } /**< whether it is open */
+  /** That no other port of its domain has. */
+  Id id() const { return *this ? detail::id_of(port_.id) : Id{0, 0}; }
 
   /** What it does at a full buffer. */
   BackpressureStrategy backpressure_strategy() const {
@@ -526,7 +584,7 @@ public:
   }
 
   /** How many values a message may have. */
-  std::size_t initial_max_slice_len() const { return port_.initial_max_slice_len / sizeof(Element); }
+  std::size_t initial_max_slice_len() const { return *this ? port_.initial_max_slice_len / sizeof(Element) : 0; }
 
   /** Lends a message with its default value, which is made where the message lies. */
   template <typename Q = P, std::enable_if_t<!detail::is_slice<Q>, int> = 0> Result<Loan<P, M>> loan() {
@@ -669,11 +727,11 @@ public:
     }));
   }
 
-  /** Closes it, or lets it close when a send of it that waits has ended. */
+  /** Closes it, or lets it close when a send of it that waits has ended. Other threads that wait for a loan of it then
+   * return Error::NotLive. */
   void close() {
-    if (!hold_) return;
-    hold_.call(only(Waits::Message), [&](iox2ps_domain_t *) { return hold_->close_publisher(std::move(orphan_)); });
-    hold_ = detail::Hold<M>();
+    auto make = [&](iox2ps_domain_t *) { return hold_->close_publisher(std::move(orphan_)); };
+    hold_.close(open_, only(Waits::Message), detail::id_of(port_.id), make);
   }
 
 private:
@@ -704,8 +762,10 @@ private:
   }
   auto waiting(Until until, Brings brings = only(Waits::Message)) const {
     return [this, until, brings](auto &&make) {
-      return hold_.wait(Waits::Loan, port_.id, brings, until, [&](iox2ps_domain_t *domain) {
+      return hold_.wait(Waits::Loan, port_.id, brings, until, [&](iox2ps_domain_t *domain) -> iox2ps_status_t {
         iox2ps_status_t code = make(domain);
+        if (code == IOX2PS_OK) return code;
+        if (!orphan_) return IOX2PS_NOT_LIVE; /* closed meanwhile, also where the send that it waits for goes on */
         /* A closed subscriber's slots come back by an update of the connections alone, which a loan doesn't make. */
         if (code != IOX2PS_LOAN_ERROR_OUT_OF_MEMORY) return code;
         if (iox2ps_publisher_update_connections(domain, &port_) != IOX2PS_OK) return code;
@@ -745,6 +805,7 @@ private:
   }
 
   detail::Hold<M> hold_;
+  typename M::Open open_;
   iox2ps_publisher_t port_;
   std::unique_ptr<detail::Orphan> orphan_; // what it becomes where it goes while a send of it waits
 };
@@ -760,15 +821,18 @@ public:
     if (this != &other) {
       close();
       hold_ = std::move(other.hold_);
+      open_ = other.open_;
       port_ = other.port_;
     }
     return *this;
   }
   ~Subscriber() { close(); }
 
-  explicit operator bool() const { return static_cast<bool>(hold_); } /**< whether it is open */
-  Id id() const { return detail::id_of(port_.id); }                   /**< that no other port of its domain has */
-  std::size_t buffer_size() const { return port_.buffer_size; }       /**< how many messages of one publisher may wait */
+  explicit operator bool() const { return hold_ && open_; } /**< whether it is open */
+  /** That no other port of its domain has. */
+  Id id() const { return *this ? detail::id_of(port_.id) : Id{0, 0}; }
+  /** How many messages of one publisher may wait. */
+  std::size_t buffer_size() const { return *this ? port_.buffer_size : 0; }
 
   /** The next message of some publisher, or none where none waits. Those of one publisher come in the order in
    * which they were sent. */
@@ -900,7 +964,7 @@ public:
    * listener was set or the subscriber was closed: so let it own what it uses, for example by a std::shared_ptr, but the subscriber
    * itself by a std::weak_ptr alone, or neither would ever go. */
   template <typename F> Done set_listener(F &&listener) {
-    if (!hold_) return Error::NotLive;
+    if (!*this) return Error::NotLive;
     hold_->threads.listen(id(), std::make_shared<const std::function<void()>>(std::forward<F>(listener)));
     return std::monostate{};
   }
@@ -921,12 +985,10 @@ public:
     return made;
   }
 
-  /** Closes it. Its samples stay. */
+  /** Closes it. Its samples stay. Other threads that wait for a message of it then return Error::NotLive. */
   void close() {
-    if (!hold_) return;
-    hold_.call(Waits::Room | Waits::Loan, [&](iox2ps_domain_t *domain) { return iox2ps_subscriber_close(domain, &port_); });
-    hold_->threads.forget(id());
-    hold_ = detail::Hold<M>();
+    auto make = [&](iox2ps_domain_t *domain) { return iox2ps_subscriber_close(domain, &port_); };
+    hold_.close(open_, Waits::Room | Waits::Loan, detail::id_of(port_.id), make);
   }
 
 private:
@@ -975,6 +1037,7 @@ private:
   };
 
   detail::Hold<M> hold_;
+  typename M::Open open_;
   iox2ps_subscriber_t port_;
 };
 

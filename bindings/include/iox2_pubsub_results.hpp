@@ -97,7 +97,13 @@ public:
   Result(Error error) : held_(std::in_place_index<1>, error) {}        /**< none */
 
   bool has_value() const noexcept { return held_.index() == 0; }       /**< whether there is a value */
-  explicit operator bool() const noexcept { return has_value(); }      /**< the same */
+  /** The same, but not of a Result<bool>: `if (subscriber.has_samples())` would ask whether there is an answer, and not what it is.
+   * So that is refused when it is compiled: read the answer by *, or by value_or(). */
+  template <typename U = V, std::enable_if_t<!std::is_same_v<U, bool>, int> = 0> explicit operator bool() const noexcept {
+    return has_value();
+  }
+  template <typename U = V, std::enable_if_t<std::is_same_v<U, bool>, int> = 0>
+  explicit operator bool() const = delete; /**< as said there */
 
   V &value() & { return there("no value"); }                           /**< the value */
   const V &value() const & { return there("no value"); }               /**< the value */

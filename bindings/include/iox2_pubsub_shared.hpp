@@ -9,7 +9,9 @@
  *
  * blocking_.. and timed_.. calls wait for a message, for room, for a publisher's earlier send, or for a loan. Whoever waits
  * is in the domain's list, and is woken by the call that may have brought something: one after the other, so
- * that those who are woken don't all want the lock at once. stop_waits of the domain ends all waits.
+ * that those who are woken don't all want the lock at once. stop_waits of the domain ends all waits. close() of a publisher or a
+ * subscriber, which may be called while other threads wait in it, ends these alone: they return Error::NotLive. So the handle
+ * keeps the domain until it goes. Nobody moves or destroys a handle that another thread uses.
  *
  * The lock is a std::mutex. Another may be brought: a class with lock() and unlock() that no other thread passes between the
  * two, as SharedDomain<P, MyLock>. One that knows priorities says `static constexpr bool wakes_all = true;`, so that nobody
@@ -103,6 +105,13 @@ public:
   void nothing_for(Id port) {
     for (auto &one : all_) {
       if (one.what == Waits::Message && one.port == port) one.is_due = false;
+    }
+  }
+
+  /* This port was closed, and each that waits for it finds that. */
+  void end(Id port) {
+    for (auto &one : all_) {
+      if (!one.is_awake && one.port == port) one.is_due = true;
     }
   }
 
@@ -200,6 +209,24 @@ public:
     std::atomic<std::size_t> count_{1};
   };
 
+  /** Whether a port is open, which other threads may ask. */
+  class Open {
+  public:
+    Open() = default;
+    Open(const Open &other) noexcept : is_so_(static_cast<bool>(other)) {} /**< the same */
+    /** The same. */
+    Open &operator=(const Open &other) noexcept {
+      is_so_.store(static_cast<bool>(other), std::memory_order_relaxed);
+      return *this;
+    }
+
+    explicit operator bool() const { return is_so_.load(std::memory_order_relaxed); } /**< whether it is */
+    bool close() { return is_so_.exchange(false, std::memory_order_relaxed); }        /**< it isn't any longer, and whether it was */
+
+  private:
+    std::atomic<bool> is_so_{true};
+  };
+
   /** Makes a call, and wakes those whom it may help. */
   template <typename Call> iox2ps_status_t call(Brings brings, Call &&make) {
     Wake wake;
@@ -246,6 +273,13 @@ public:
 
   /** Of a call under way: it has brought this, whatever its code says. */
   void bring_too(Brings brings) { too_ = brings; }
+
+  /** Of a call under way: it has closed this port, and nothing waits for it any longer. */
+  void end_waits(Id port) {
+    count(messages_);
+    count(others_);
+    list_.end(port);
+  }
 
   /** No call waits any longer, or calls wait again. */
   void stop(bool is_stopped) {

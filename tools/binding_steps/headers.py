@@ -76,6 +76,8 @@ REFUSED = (
     ("c++17", CPP, "Config<int>(1).backpressure_strategy(IOX2PS_DISCARD_DATA);", ""),
     ("c++17", CPP, "PublisherOptions<int>().initial_max_slice_len(1);", ""),
     ("c++17", CPP, "PublisherOptions<int>().degradation_handler(1);", ""),
+    ("c++17", CPP, "if (domain.subscriber()->has_samples()) return 1;", "deleted"),
+    ("c++17", CPP, "while (!domain.subscriber()->has_samples()) {}", "deleted"),
     ("c++17", CPP, "Publisher<int> publisher;", ""),
     ("c++17", CPP, "Sent<int> sent(1);", "private"),
     ("c++17", CPP, "domain.call(0u, [](iox2ps_domain_t *) { return IOX2PS_OK; });", "private"),

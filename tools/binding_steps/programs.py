@@ -69,6 +69,7 @@ ROWS = (
     ("cpp/threads.cpp", "c++17", True),
     ("cpp/at_exit.cpp", "c++17", True),
     ("cpp/large.cpp", "c++17", True),
+    ("cpp/gone.cpp", "c++17", True),
     ("cpp/one_may_lose.cpp", "c++17", True),
     ("cpp/threads.cpp", "c++20", False),
 )
@@ -89,6 +90,8 @@ def run_pair(steps, work, c, cpp):
         for standard in ("c++17", "c++20"):
             steps.run(f"{source}, {cpp} {standard}, no exceptions", compile_and_run, work, cpp, source, standard, *NO_EXCEPTIONS)
     steps.run(f"cpp/large.cpp, {cpp} c++17, not optimized", compile_and_run, work, cpp, "cpp/large.cpp", "c++17", "-O0")
+    of_dds = ("-I", BINDINGS / "dds/include", *SANITIZERS)
+    steps.run(f"dds/tests/moved.cpp, {cpp} c++17, sanitizers", compile_and_run, work, cpp, "dds/tests/moved.cpp", "c++17", "-O1", *of_dds)
     steps.run(f"cpp/version.cpp, {cpp} c++17", compile_and_run, work, cpp, "cpp/version.cpp", "c++17", *OTHER_VERSION)
     steps.run(f"c/threads.c, {c} c11, thread sanitizer", compile_and_run, work, c, "c/threads.c", "c11", *RACES)
     steps.run(f"cpp/threads.cpp, {cpp} c++17, thread sanitizer", compile_and_run, work, cpp, "cpp/threads.cpp", "c++17", *RACES)

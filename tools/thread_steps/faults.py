@@ -104,7 +104,9 @@ IN_CPP = [
     ("a listener is called inside of itself", "events", "if (mine.is_on) return put_off(mine, std::move(due));", ""),
     ("what is put off isn't called", "events", "due = take(mine);", "due = nullptr;"),
     ("what is put off once isn't put off again", "events", "it->is_put_off_.exchange(false, std::memory_order_acq_rel);", ""),
-    ("a listener stays when its subscriber goes", "", "    hold_->threads.forget(id());\n    hold_ =", "    hold_ ="),
+    ("a listener stays when its subscriber goes", "", "    shared_->threads.forget(port);\n", ""),
+    ("a close ends no wait", "", "      shared_->threads.end_waits(port);\n", ""),
+    ("a wait for a loan goes on beside a blocked send", "", "        if (!orphan_) return IOX2PS_NOT_LIVE;", "       "),
     ("a descriptor is raised once", "events", "raised_->is_raised.exchange(false, std::memory_order_acq_rel);", ""),
     ("a descriptor isn't reset", "events", "static_cast<void>(!::read(raised_->fd, &count, sizeof count));", "static_cast<void>(count);"),
 ]

@@ -1,7 +1,9 @@
 /* Gateways between domains of iox2_pubsub and topics of DDS, for C++17: the calls of iox2_pubsub_dds.h with types.
  *
  * A gateway is used on its domain's thread, which polls it: forward() never waits, wait() waits for the topic alone. With
- * iox2_pubsub_shared.hpp, start() gives it threads of its own. Waker::wake alone may be called on any thread. */
+ * iox2_pubsub_shared.hpp, start() gives it threads of its own. Waker::wake alone may be called on any thread.
+ *
+ * What was moved from is empty: it moves, counts and knows nothing, and waits for nothing. */
 #ifndef IOX2_PUBSUB_DDS_HPP
 #define IOX2_PUBSUB_DDS_HPP
 
@@ -101,7 +103,9 @@ template <typename P, typename M> struct Lock {
 class Waker {
 public:
   explicit Waker(detail::GroupHandle group) : group_(std::move(group)) {}
-  void wake() const { iox2ps_dds_wake(group_.get()); }
+  void wake() const {
+    if (group_) iox2ps_dds_wake(group_.get());
+  }
 
 private:
   detail::GroupHandle group_;
@@ -112,22 +116,22 @@ class Polled {
 public:
   /* Moves what is there, for each gateway at most this number of messages each way, and never waits. */
   Forwarded forward(std::size_t most = 1024) {
-    Forwarded now;
-    iox2ps_dds_forward(group_.get(), most, &now);
+    Forwarded now = {};
+    if (group_) iox2ps_dds_forward(group_.get(), most, &now);
     return now;
   }
 
   /* The same, and where nothing is there waits for the topics so long at most. It doesn't wait while a message of a topic
    * waits for a subscriber, which this thread alone can let receive. */
   Forwarded wait(std::chrono::nanoseconds timeout, std::size_t most = 1024) {
-    Forwarded now;
-    iox2ps_dds_wait(group_.get(), detail::nanoseconds(timeout), most, &now);
+    Forwarded now = {};
+    if (group_) iox2ps_dds_wait(group_.get(), detail::nanoseconds(timeout), most, &now);
     return now;
   }
 
   /* Waits until the topics' readers have what was sent, as a program does before it ends. */
   bool flush(std::chrono::nanoseconds timeout) {
-    return iox2ps_dds_flush(group_.get(), detail::nanoseconds(timeout)) == IOX2PS_OK;
+    return group_ && iox2ps_dds_flush(group_.get(), detail::nanoseconds(timeout)) == IOX2PS_OK;
   }
 
   Waker waker() const { return Waker(group_); }
@@ -164,21 +168,22 @@ public:
   }
 
   Counts counts() const {
-    Counts counts;
-    iox2ps_dds_counts(gateway_.get(), &counts);
+    Counts counts = {};
+    if (gateway_) iox2ps_dds_counts(gateway_.get(), &counts);
     return counts;
   }
   Peers peers() const {
-    Peers peers;
-    iox2ps_dds_peers(gateway_.get(), &peers);
+    Peers peers = {};
+    if (gateway_) iox2ps_dds_peers(gateway_.get(), &peers);
     return peers;
   }
 
   /* The origin of all that came from elsewhere, in this domain. */
-  Id publisher() const { return iox2ps::detail::id_of(iox2ps_dds_publisher(gateway_.get())); }
+  Id publisher() const { return gateway_ ? iox2ps::detail::id_of(iox2ps_dds_publisher(gateway_.get())) : Id{0, 0}; }
 
   /* Who sent a message elsewhere, or nothing where it came from this process. */
   std::optional<Origin> origin(const Sample<P, M> &sample) const {
+    if (!gateway_) return std::nullopt;
     iox2ps_dds_origin_t origin;
     iox2ps_wide_t number{sample.number().low, sample.number().high};
     if (iox2ps_dds_origin(gateway_.get(), number, &origin) != IOX2PS_OK) return std::nullopt;
@@ -186,8 +191,10 @@ public:
   }
 
   /* For several threads alone: gives the gateway two threads, one for each way, until it is stopped or goes. */
-  bool start() { return iox2ps_dds_start(gateway_.get()) == IOX2PS_OK; }
-  void stop() { iox2ps_dds_stop(gateway_.get()); }
+  bool start() { return gateway_ && iox2ps_dds_start(gateway_.get()) == IOX2PS_OK; }
+  void stop() {
+    if (gateway_) iox2ps_dds_stop(gateway_.get());
+  }
 
 private:
   friend class Gateways;
@@ -244,6 +251,7 @@ public:
   /* A gateway that is polled with these. */
   template <typename P, typename M>
   std::optional<Gateway<P, M>> add(Domain<P, M> domain, const Settings &settings, std::string &why) {
+    if (!group_) return why = text(Error::NotLive), std::nullopt;
     return Gateway<P, M>::open_in(group_, std::move(domain), settings, why);
   }
 
