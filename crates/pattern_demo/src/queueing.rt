@@ -47,8 +47,10 @@ fn fill_and_empty(rt: &HostRuntime, queue: &mut Queue) -> Result<(), Failure> {
             Some(number) => println!(rt; "no room for {number}")?,
         }
     }
-    while let Some(number) = queue.pop()? {
-        println!(rt; "popped {number}")?;
+    for _ in 0..4 {
+        if let Some(number) = queue.pop()? {
+            println!(rt; "popped {number}")?;
+        }
     }
     Ok(())
 }
