@@ -274,22 +274,26 @@ impl<P: Payload + ?Sized, M: Threads> Loan<P, M> {
         let code = self.lent.hold.call(Brings::SEND, |shared| {
             send(shared, &self.lent.loan, &mut receivers, &mut blocked)
         });
-        self.sent_or_kept(code, receivers, blocked)
+        self.sent_or_kept(code, receivers, &blocked)
     }
 
     fn sent_or_kept(
         self,
         code: u32,
         receivers: usize,
-        blocked: MaybeUninit<sys::Blocked>,
+        blocked: &MaybeUninit<sys::Blocked>,
     ) -> Result<SendOutcome<P, M>, Unsent<P, M>> {
+        if code == sys::OK {
+            drop(self.lent.into_hold());
+            return Ok(SendOutcome::Delivered(receivers));
+        }
         if code == sys::PUBLISHER_IS_BLOCKED {
             return Err(Unsent {
                 error: SendError::PublisherIsBlocked,
                 loan: Some(self),
             });
         }
-        let sent = outcome(&self.lent.into_hold(), code, receivers, &blocked);
+        let sent = outcome(&self.lent.into_hold(), code, receivers, blocked);
         sent.map_err(|error| Unsent { error, loan: None })
     }
 }
@@ -342,8 +346,22 @@ impl<P: Payload + ?Sized, M: MayWait> Loan<P, M> {
         let code = self.lent.hold.wait(wait, |shared| {
             send(shared, &self.lent.loan, &mut receivers, &mut blocked)
         });
-        let outcome = self.sent_or_kept(code, receivers, blocked)?;
-        outcome
+        if code == sys::OK {
+            drop(self.lent.into_hold());
+            return Ok(SendOutcome::Delivered(receivers));
+        }
+        self.not_sent_yet(code, &blocked, until)
+    }
+
+    // Apart, since a blocked send is large.
+    #[cold]
+    fn not_sent_yet(
+        self,
+        code: u32,
+        blocked: &MaybeUninit<sys::Blocked>,
+        until: Option<Instant>,
+    ) -> Result<SendOutcome<P, M>, Unsent<P, M>> {
+        self.sent_or_kept(code, 0, blocked)?
             .wait_until(until)
             .map_err(|error| Unsent { error, loan: None })
     }

@@ -318,7 +318,21 @@ impl<T: Copy + 'static, M: MayWait> Publisher<T, M> {
             }
             send_copy(shared, &self.port, value, &mut receivers, &mut blocked)
         });
-        outcome(&self.hold, code, receivers, &blocked)?.wait_until(until)
+        match code {
+            sys::OK => Ok(SendOutcome::Delivered(receivers)),
+            _ => self.not_sent_yet(code, &blocked, until),
+        }
+    }
+
+    // Apart, since a blocked send is large.
+    #[cold]
+    fn not_sent_yet(
+        &self,
+        code: u32,
+        blocked: &MaybeUninit<sys::Blocked>,
+        until: Option<Instant>,
+    ) -> Result<SendOutcome<T, M>, SendError> {
+        outcome(&self.hold, code, 0, blocked)?.wait_until(until)
     }
 }
 

@@ -103,8 +103,7 @@ impl<P: Payload + ?Sized, M: Threads> fmt::Debug for SendOutcome<P, M> {
 #[must_use = "a send that is blocked is given up where it is dropped"]
 pub struct BlockedSend<P: Payload + ?Sized, M: Threads = OneThread> {
     hold: M::Hold,
-    // In a box, since a send is seldom blocked, and its outcome is passed on by value.
-    blocked: Box<sys::Blocked>,
+    blocked: sys::Blocked,
     message: PhantomData<P>,
 }
 
@@ -226,10 +225,22 @@ pub(crate) fn outcome<P: Payload + ?Sized, M: Threads>(
 ) -> Result<SendOutcome<P, M>, SendError> {
     match code {
         sys::OK => Ok(SendOutcome::Delivered(receivers)),
+        _ => not_delivered(hold, code, blocked),
+    }
+}
+
+// Apart, since a blocked send is large.
+#[cold]
+fn not_delivered<P: Payload + ?Sized, M: Threads>(
+    hold: &M::Hold,
+    code: u32,
+    blocked: &MaybeUninit<sys::Blocked>,
+) -> Result<SendOutcome<P, M>, SendError> {
+    match code {
         sys::BLOCKED => Ok(SendOutcome::Blocked(BlockedSend {
             hold: hold.clone(),
             // SAFETY: with this code it is written.
-            blocked: Box::new(unsafe { *blocked.as_ptr() }),
+            blocked: unsafe { *blocked.as_ptr() },
             message: PhantomData,
         })),
         _ => Err(SendError::of(code)),
