@@ -7,7 +7,7 @@ use crate::tests::fixtures::{
     Bytes, byte_domain, lend_defaults, lend_slice, receive_slice, send_slice, slice_factory,
     slice_subscriber,
 };
-use iox2_fixtures::{Numbers, is_slice_publisher_ready, is_sliced, smallest};
+use iox2_fixtures::{Numbers, holds_slices, is_slice_publisher_ready, is_sliced, smallest};
 use iox2_machine::{AllocationStrategy, LoanError, ServiceConfig, TypeVariant};
 use iox2_pubsub::Domain;
 use iox2_pubsub::slice::Publisher;
@@ -93,6 +93,7 @@ fn a_sample_reads_on_when_its_publisher_has_grown(rt: HostRuntime) {
         let sample = receive_slice(&rt, &mut domain, &subscriber);
         let message = lend_defaults(&rt, &mut domain, &publisher, longer);
         let second = send_slice(&rt, &mut domain, message);
+        assert!(rt; holds_slices(&domain));
         assert!(rt; domain.holds_sample(sample.key()));
         let is_read = sample.payload(&domain) == [5].as_slice();
         let too_long = lends(&rt, &mut domain, &publisher, usize::MAX);

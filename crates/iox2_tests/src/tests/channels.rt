@@ -71,6 +71,7 @@ fn a_closed_channel_takes_no_message(rt: HostRuntime) {
     ];
     assert!(rt; subscriber.is_in(&domain));
     let updated = subscriber.update_connections(&mut domain).is_ok();
+    assert!(rt; is_ready(&domain, &publisher));
     let places = [
         publisher.get_connection_id_of(&domain, 1),
         publisher.get_connection_id_of(&domain, 7),
