@@ -65,6 +65,14 @@ GROUPS = {
 NO_SETTINGS = {"reserved_", "Config", "create", "create_shared", "create_with_lock", "builder", "slice_builder", "borrowed"}
 NO_SETTINGS |= {"publisher", "subscriber", "publisher_builder", "subscriber_builder"}
 
+# What has to be found: the file, the text that is replaced and the one in its place, and a part of the fault.
+FAULTS = (
+    ("bindings/include/iox2_pubsub.h", "  size_t history_size; ", "  size_t history_sizes; ", "has no row for history_sizes"),
+    ("bindings/rust/src/port_factory.rs", "    Warn = 1,", "    Warns = 1,", "has a row for Warn, which isn't there"),
+    ("bindings/cpp/settings.cpp", "AllocationStrategy::BestFit", "AllocationStrategy(1)", "doesn't use BestFit"),
+    ("bindings/c/settings.c", "  memory_grows_as_the_options_say();\n", "", "memory_grows_as_the_options_say of bindings/c/settings.c isn't run"),
+)
+
 # The functions of a file of tests by its end: where each begins, up to the next one that begins, and how it is shown to be run.
 FUNCTIONS = {
     ".c": (r"^(?:static )?[\w ]+?\b(\w+)\([^;]*?\) \{{$", r"^  {0}\(\);"),
