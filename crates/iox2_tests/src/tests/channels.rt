@@ -3,7 +3,6 @@
 ghost use Rattle.std.specs.Prelude.{◌<◌};
 ghost use Rattle.iox2_machine.specs.machine.Limits.{channel_count};
 
-use crate::tests::connection_sends::sent_to;
 use crate::tests::fixtures::{copied, next_reading, publisher_of, subscriber_of, waits};
 use iox2_fixtures::{Weather, close_publisher, is_ready, settings, smallest};
 use iox2_machine::ServiceConfig;
@@ -71,14 +70,6 @@ fn a_closed_channel_takes_no_message(rt: HostRuntime) {
     ];
     assert!(rt; subscriber.is_in(&domain));
     let updated = subscriber.update_connections(&mut domain).is_ok();
-    assert!(rt; is_ready(&domain, &publisher));
-    let places = [
-        publisher.get_connection_id_of(&domain, 1),
-        publisher.get_connection_id_of(&domain, 7),
-    ];
-    assert!(rt; subscriber.is_in(&domain));
-    assert_has_channel(&rt, &domain, 1);
-    let is_next_open = subscriber.at_least_one_channel_has_state(&domain, 1, 0);
     close(&rt, &mut domain, &subscriber, 5);
     let is_open = is_any(&rt, &domain, &subscriber, 0);
     close(&rt, &mut domain, &subscriber, 0);
@@ -97,18 +88,12 @@ fn a_closed_channel_takes_no_message(rt: HostRuntime) {
     publisher.close_channel(&mut domain, 0, 0, 7);
     let closed_again = is_first(&rt, &domain, &publisher, u64::MAX);
     let second = next_reading(&rt, &mut domain, &subscriber);
-    let taken_there = [
-        sent_to(&rt, &mut domain, &publisher, 3, 1, 0),
-        sent_to(&rt, &mut domain, &publisher, 4, 1, 0),
-        sent_to(&rt, &mut domain, &publisher, 5, 1, 5),
-    ];
     let more = waits(&rt, &mut domain, &subscriber);
     publisher.disown();
     subscriber.disown();
     drop(domain);
     assert!(rt; unconnected == [true, false]);
-    assert!(rt; updated && is_open && is_next_open);
-    assert!(rt; places == [Some(0), None]);
+    assert!(rt; updated && is_open);
     assert!(rt; closed == [true, false]);
     assert!(rt; [passed, taken] == [0, 1]);
     assert!(rt; [was_closed, was_open] == [true, false]);
@@ -116,7 +101,7 @@ fn a_closed_channel_takes_no_message(rt: HostRuntime) {
     assert!(rt; [hinted, still] == [[true, true], [true, true]]);
     assert!(rt; closed_again == [true, false]);
     assert!(rt; [nothing, second] == [None, Some(2)]);
-    assert!(rt; taken_there == [1, 0, 0] && !more);
+    assert!(rt; !more);
 }
 
 // Asserts that the connections of the domain have the channel.
