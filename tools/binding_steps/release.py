@@ -1,10 +1,12 @@
 """Packs a release of a commit, and compares a release with its commit and with the proofs."""
 import gzip
 import hashlib
+import os
 import re
 import shutil
 import subprocess
 import tarfile
+import tempfile
 from contextlib import nullcontext
 from pathlib import Path
 
@@ -173,14 +175,17 @@ def archive_twice(work):
 
 
 def built_anew(work):
-    """Builds the archive with an empty cache, so that it isn't the one that was built before."""
+    """Builds the archive without its cache, so that it isn't the one that was built before."""
     from .built import load_proved
 
     proved = load_proved()
-    with proved.tempfile.TemporaryDirectory(prefix="anew-") as room:
-        crate, _ = proved.crate_over_kept(proved.load_rt(), ARCHIVE_CRATE, room)
-        proved.build_archive(proved.load_rt(), crate, 1)
-        return shutil.copyfile(Path(crate.folder, "out", f"lib{ARCHIVE_CRATE}.a"), work / f"lib{ARCHIVE_CRATE}.a")
+    try:
+        with tempfile.TemporaryDirectory(prefix="anew-") as room:
+            crate, _ = proved.crate_over_kept(proved.load_rt(), ARCHIVE_CRATE, room)
+            archive = proved.build_archive(proved.load_rt(), crate, os.cpu_count())
+            return shutil.copyfile(archive, work / f"lib{ARCHIVE_CRATE}.a")
+    except (proved.NotKept, *proved.UNREADABLE) as lacking:
+        raise Failed(f"it isn't built again, since rt ci hasn't kept what it stands on: {lacking}") from lacking
 
 
 def publish(packed):
