@@ -19,6 +19,7 @@ use Rattle.iox2_request_response.specs.declared.service.RequestResponse.{Request
 use Rattle.iox2_request_response.proofs.ClientSteps.{client-stays, ports_then}
 use Rattle.iox2_request_response.proofs.Frames.{publisher-live, service-twice, subscriber-live}
 use Rattle.std.proofs.Common.{◌≡◌, ◌∙◌, ℕ, zero, suc, List, [], ◌∷◌, ap, refl, subst, sym}
+use Rattle.iox2_machine.specs.machine.Channel.{open_state}
 use Rattle.iox2_machine.specs.declared.service_config.ServiceConfig.{ServiceConfig}
 
 module _ {Q P F G : Type 0} where
@@ -31,6 +32,7 @@ module _ {Q P F G : Type 0} where
     responses = stays.responses.single_valued is.responses;
     requests_discard = ap (λ (c : ServiceConfig). c.backpressure_strategy) stays.requests.settings ∙ is.requests_discard;
     responses_discard = ap (λ (c : ServiceConfig). c.backpressure_strategy) stays.responses.settings ∙ is.responses_discard;
+    numbers = stays.numbers open_state is.numbers;
   }
 
   pub client_stays : (old new : RequestResponse Q P F G) → StaysService old new → (client : Client) → IsLiveClient old client → IsLiveClient new client
@@ -141,12 +143,14 @@ module _ {Q P F G : Type 0} where
   client_ends start old new client before is stays = record {
     requests = stays-on start.requests old.requests before.requests (publisher_port client.requests) new.requests is.requests stays.requests;
     responses = stays-on start.responses old.responses before.responses (idle_ports (client.slots).items) new.responses is.slots stays.responses;
+    numbers = λ number given. stays.numbers number (before.numbers number given);
   }
 
   pub server_ends : (start old new : RequestResponse Q P F G) (server : Server) → StaysService start old → IsNewServer start server → StaysButServer old new server → StaysService start new
   server_ends start old new server before is stays = record {
     requests = stays-on start.requests old.requests before.requests (subscriber_port server.requests) new.requests is.requests stays.requests;
     responses = stays-on start.responses old.responses before.responses (publisher_port server.responses) new.responses is.responses stays.responses;
+    numbers = λ number given. stays.numbers number (before.numbers number given);
   }
 
   -- what is new later was new before

@@ -6,6 +6,7 @@ use Rattle.iox2_pubsub.specs.declared.publisher.Publisher.{Publisher}
 use Rattle.iox2_pubsub.specs.declared.subscriber.Subscriber.{Subscriber}
 use Rattle.iox2_pubsub.proofs.StaysBut.{both-new, first-part, new-since, part-new, second-part, stays-itself, stays-twice, unchanged-stays}
 use Rattle.iox2_request_response.specs.Handles.{IsLiveClient}
+use Rattle.iox2_request_response.specs.Service.{IsGiven}
 use Rattle.iox2_request_response.specs.Slots.{AreDistinct, AreOthers, HasIdle, idle_ports}
 use Rattle.iox2_request_response.specs.declared.client.Client.{Client}
 use Rattle.iox2_request_response.specs.declared.service.RequestResponse.{RequestResponse}
@@ -24,10 +25,11 @@ pub record IsClosing {Q P F G : Type 0} (all : List Slot) (start : RequestRespon
   pub splits : all ≡ rest ++ closed
   pub requests : now.requests ≡ start.requests
   pub responses : StaysBut (idle_ports closed) start.responses now.responses
+  pub numbers : (number : ℕ) → IsGiven start number → IsGiven now number
 
 module _ {Q P F G : Type 0} (all : List Slot) (start : RequestResponse Q P F G) where
   pub none-closed : IsClosing all start all start
-  none-closed = record { closed = []; splits = sym (append-none all); requests = refl; responses = unchanged-stays No_item start.responses }
+  none-closed = record { closed = []; splits = sym (append-none all); requests = refl; responses = unchanged-stays No_item start.responses; numbers = λ number given. given }
 
   module _ (rest left : List Slot) (now : RequestResponse Q P F G) (closing : IsClosing all start rest now) where
     -- the last of the rest goes to those that are closed
@@ -54,6 +56,7 @@ pub record IsFilling {Q P F G : Type 0} (requests : Publisher) (start : RequestR
   pub slots : (at : ℕ) (subscriber : Subscriber) → HasIdle (client.slots).items at subscriber → IsLiveSubscriber now.responses subscriber
   pub distinct : AreDistinct (client.slots).items
   pub are_new : IsNewIn start.responses (idle_ports (client.slots).items)
+  pub numbers : (number : ℕ) → IsGiven start number → IsGiven now number
 
 module _ {Q P F G : Type 0} (requests : Publisher) (start : RequestResponse Q P F G) where
   -- those that are new, and one more
@@ -78,20 +81,23 @@ module _ {Q P F G : Type 0} (requests : Publisher) (start : RequestResponse Q P 
         same = subst (λ d. Stays start.requests d) (sym filling.requests_stay) (stays-itself start.requests)
 
     -- what changes nothing of theirs
-    pub still-filling : (new : RequestResponse Q P F G) → new.requests ≡ now.requests → Stays now.responses new.responses → IsFilling requests start client new
-    still-filling new same stays = record {
+    pub still-filling : (new : RequestResponse Q P F G) → new.requests ≡ now.requests → Stays now.responses new.responses → ((number : ℕ) → IsGiven now number → IsGiven new number)
+        → IsFilling requests start client new
+    still-filling new same stays numbers = record {
       publisher = filling.publisher;
       requests_stay = same ∙ filling.requests_stay;
       stays = stays-twice No_item start.responses now.responses new.responses filling.stays stays;
       slots = λ at subscriber idle. subscriber-live now.responses new.responses No_item subscriber stays tt (filling.slots at subscriber idle);
       distinct = filling.distinct;
       are_new = filling.are_new;
+      numbers = λ number given. numbers number (filling.numbers number given);
     }
 
     -- one more
     pub one-more : (more : Client) (new : RequestResponse Q P F G) (made : Subscriber) → more.requests ≡ client.requests → (more.slots).items ≡ (client.slots).items ++ Idle made ∷ []
-        → new.requests ≡ now.requests → Stays now.responses new.responses → IsLiveSubscriber new.responses made → IsNewIn now.responses (subscriber_port made) → IsFilling requests start more new
-    one-more more new made publisher items same stays live is-new = record {
+        → new.requests ≡ now.requests → Stays now.responses new.responses → IsLiveSubscriber new.responses made → IsNewIn now.responses (subscriber_port made) → ((number : ℕ) → IsGiven now number → IsGiven new number)
+        → IsFilling requests start more new
+    one-more more new made publisher items same stays live is-new numbers = record {
       publisher = publisher ∙ filling.publisher;
       requests_stay = same ∙ filling.requests_stay;
       stays = stays-twice No_item start.responses now.responses new.responses filling.stays stays;
@@ -102,6 +108,7 @@ module _ {Q P F G : Type 0} (requests : Publisher) (start : RequestResponse Q P 
       distinct = subst AreDistinct (sym items) (push-distinct (client.slots).items made filling.distinct apart);
       are_new = subst (λ (xs : List Slot). IsNewIn start.responses (idle_ports xs)) (sym items)
           (push-new (client.slots).items made filling.are_new (new-since start.responses now.responses filling.stays (subscriber_port made) is-new));
+      numbers = λ number given. numbers number (filling.numbers number given);
     }
       where
         apart : AreOthers (client.slots).items (subscriber_id made)

@@ -15,6 +15,7 @@ use Rattle.iox2_request_response.proofs.Calling.{client_but_active, client_but_r
 use Rattle.iox2_request_response.proofs.Frames.{subscriber-live}
 use Rattle.iox2_request_response.proofs.SlotSteps.{other-ports}
 use Rattle.std.proofs.Common.{◌∙◌, ℕ, ap, sym}
+use Rattle.iox2_machine.specs.machine.Channel.{open_state}
 use Rattle.iox2_machine.specs.declared.service_config.ServiceConfig.{ServiceConfig}
 
 -- two that are apart are so either way
@@ -29,6 +30,7 @@ module _ {Q P F G : Type 0} where
     responses = stays.responses.single_valued is.responses;
     requests_discard = ap (λ (c : ServiceConfig). c.backpressure_strategy) stays.requests.settings ∙ is.requests_discard;
     responses_discard = ap (λ (c : ServiceConfig). c.backpressure_strategy) stays.responses.settings ∙ is.responses_discard;
+    numbers = stays.numbers open_state is.numbers;
   }
 
   -- ---- requests and responses that were received since
@@ -43,12 +45,14 @@ module _ {Q P F G : Type 0} where
   active_ends start old new active before is stays = record {
     requests = stays-on start.requests old.requests before.requests (received_sample active.sample) new.requests is stays.requests;
     responses = stays-twice No_item start.responses old.responses new.responses before.responses stays.responses;
+    numbers = λ number given. stays.numbers number (before.numbers number given);
   }
 
   pub response_ends : (start old new : RequestResponse Q P F G) (response : Response) → StaysService start old → IsNewResponse start response → StaysButResponse old new response → StaysService start new
   response_ends start old new response before is stays = record {
     requests = stays-twice No_item start.requests old.requests new.requests before.requests stays.requests;
     responses = stays-on start.responses old.responses before.responses (received_sample response.sample) new.responses is stays.responses;
+    numbers = λ number given. stays.numbers number (before.numbers number given);
   }
 
   -- ---- what stays live where something else is spent

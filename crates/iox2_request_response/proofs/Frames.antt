@@ -28,4 +28,5 @@ module _ {Q P F G : Type 0} where
   service-twice asked answered start old new before next = record {
     requests = stays-twice asked start.requests old.requests new.requests before.requests next.requests;
     responses = stays-twice answered start.responses old.responses new.responses before.responses next.responses;
+    numbers = λ number given. next.numbers number (before.numbers number given);
   }

@@ -1,13 +1,15 @@
 -- When handles of a service are live.
-use Rattle.std.specs.Prelude.{◌≡◌, ◌≢◌, ℕ}
+use Rattle.std.specs.Prelude.{◌≡◌, ◌≢◌, ℕ, false, true}
 use Rattle.std.specs.declared.option.Option.TheVariants.{Some}
-use Rattle.iox2_machine.specs.machine.ChannelCalls.{connection_place}
+use Rattle.iox2_machine.specs.machine.Channel.{is_in_state}
+use Rattle.iox2_machine.specs.machine.ChannelCalls.{connection_place, senders_of}
+use Rattle.iox2_machine.specs.machine.Numbers.{contains}
 use Rattle.iox2_machine.specs.machine.State.{State, Messages}
 use Rattle.iox2_domain.specs.Shows.{Shows}
 use Rattle.iox2_pubsub.specs.Handles.{publisher_id, subscriber_id}
 use Rattle.iox2_pubsub.specs.Live.{IsLivePublisher, IsLiveSample, IsLiveSubscriber, IsNewIn, No_item, SampleHasUserHeader, publisher_port, received_sample, sample_key, subscriber_port}
 use Rattle.iox2_pubsub.specs.declared.subscriber.Subscriber.{Subscriber}
-use Rattle.iox2_request_response.specs.Service.{StaysBoth}
+use Rattle.iox2_request_response.specs.Service.{IsGiven, IsRequestNumber, StaysBoth}
 use Rattle.iox2_request_response.specs.Slots.{AreDistinct, AreOthers, HasIdle, IsInUse, idle_ports}
 use Rattle.iox2_request_response.specs.declared.active_request.ActiveRequest.{ActiveRequest}
 use Rattle.iox2_request_response.specs.declared.client.Client.{Client}
@@ -69,6 +71,16 @@ module _ {Q P F G : Type 0} (service : RequestResponse Q P F G) where
   -- The response wasn't borrowed.
   abbrev pub IsNewResponse : Response → Type 0
   IsNewResponse response = IsNewIn service.responses (received_sample response.sample)
+
+-- The request has a number that none had before, and none gets later.
+pub record HasNewNumber {Q P F G : Type 0} (old new : RequestResponse Q P F G) (number : ℕ) : Type 0 where
+  pub is_new : IsGiven old number → ⊥
+  pub given : IsGiven new number
+  pub is_number : IsRequestNumber number
+
+-- No connection of the subscriber with this id has the number as the state of channel 0.
+abbrev pub IsLetGo : {T U : Type 0} → State T U → (subscriber number : ℕ) → Type 0
+IsLetGo s subscriber number = (publisher : ℕ) → contains (senders_of s subscriber) publisher ≡ true → is_in_state number (s.channels publisher subscriber 0) ≡ false
 
 -- ---- what a call spent: all that was live in either domain is and reads as it did, but this
 

@@ -1,7 +1,7 @@
 //! A client.
 ghost use Rattle.std.specs.Prelude.{◌≡◌, ◌≤◌, ◌↔◌, [], Err, IfErr, IfOk, slice_set, vec_capacity};
 ghost use Rattle.iox2_pubsub.specs.Live.{IsLivePublisher, IsLiveSubscriber, IsNewIn, No_item, publisher_port};
-ghost use Rattle.iox2_request_response.specs.Handles.{AreApart, HasPortsOf, IsLiveClient, IsLivePending, IsNewClient, IsPendingOf, StaysButClient};
+ghost use Rattle.iox2_request_response.specs.Handles.{AreApart, HasNewNumber, HasPortsOf, IsLiveClient, IsLivePending, IsNewClient, IsPendingOf, StaysButClient};
 ghost use Rattle.iox2_request_response.specs.Service.{IsService, StaysBoth, StaysService};
 ghost use Rattle.iox2_request_response.specs.Slots.{AllInUse, HasIdle, IsInUse, idle_ports};
 ghost use Rattle.iox2_request_response.specs.declared.pending_response.PendingResponse.{PendingResponse as Pending};
@@ -90,6 +90,7 @@ impl Client {
         ensures its { IfOk result (IsPendingOf self.new) }
         ensures others { (other : Pending) → IsPendingOf self.old other → IsPendingOf self.new other × IfOk result (AreApart other) }
         ensures ports { HasPortsOf self.old self.new }
+        ensures numbered { IfOk result (λ pending. HasNewNumber service.old service.new pending.number) }
         ensures was_idle { IfOk result (λ pending. HasIdle self.old.slots.items pending.index pending.slot) }
         ensures client { IsLiveClient service.new self.new }
         ensures stays { StaysService service.old service.new }
@@ -154,6 +155,7 @@ fn send_request<Q: Drop, P: Drop, F: BackpressureFn, G: DegradationFn>(
     requires requests { IsLivePublisher service.old.requests requests.now }
     requires slot { IsLiveSubscriber service.old.responses slot.now }
     ensures errors { result ≡ Err RequestSendError.ExceedsMaxActiveRequests → ⊥ }
+    ensures numbered { IfOk result (λ it. HasNewNumber service.old service.new it.0) }
     ensures stays { StaysService service.old service.new }
 {
     let number = service.next_request;

@@ -1,12 +1,14 @@
 //! What waits for the responses to a request.
-ghost use Rattle.std.specs.Prelude.{◌≡◌, ◌<◌, ◌↔◌, IfOk, IfSome, IsTrue};
-ghost use Rattle.iox2_machine.specs.machine.ChannelCalls.{received_hinted, some_channel_has_state};
+ghost use Rattle.std.specs.Prelude.{ℕ, ◌≡◌, ◌<◌, ◌↔◌, IfOk, IfSome, IsTrue, false, true};
+ghost use Rattle.iox2_machine.specs.machine.Channel.{is_in_state};
+ghost use Rattle.iox2_machine.specs.machine.Numbers.{contains};
+ghost use Rattle.iox2_machine.specs.machine.ChannelCalls.{received_hinted, senders_of, some_channel_has_state};
 ghost use Rattle.iox2_machine.specs.machine.State.{State, Messages};
 ghost use Rattle.iox2_domain.specs.Shows.{Shows};
 ghost use Rattle.iox2_pubsub.specs.Handles.{subscriber_id};
 ghost use Rattle.iox2_pubsub.specs.Live.{IsLiveSubscriber, SampleHasUserHeader, sample_key, waiting};
-ghost use Rattle.iox2_request_response.specs.Handles.{AreApart, HasPortsOf, IsLiveClient, IsLivePending, IsLiveResponse, IsNewResponse, IsPendingOf, StaysButPending};
-ghost use Rattle.iox2_request_response.specs.Service.{StaysService};
+ghost use Rattle.iox2_request_response.specs.Handles.{AreApart, HasPortsOf, IsLetGo, IsLiveClient, IsLivePending, IsLiveResponse, IsNewResponse, IsPendingOf, StaysButPending};
+ghost use Rattle.iox2_request_response.specs.Service.{IsRequestNumber, StaysService};
 ghost use Rattle.iox2_request_response.specs.Slots.{HasIdle};
 ghost use Rattle.iox2_request_response.specs.declared.client.Client.{Client as ItsClient};
 ghost use Rattle.iox2_request_response.specs.declared.pending_response.PendingResponse.{PendingResponse as Pending};
@@ -105,6 +107,7 @@ impl PendingResponse {
         requires client { IsLiveClient service.old client.old }
         requires its { IsPendingOf client.old self }
         ensures client { IsLiveClient service.new client.new }
+        ensures let_go { IsRequestNumber self.number → (m : Messages P Tag) × (s : State P Tag) × Shows service.new.responses m s × IsLetGo s (subscriber_id self.slot) self.number }
         ensures given { HasIdle client.new.slots.items self.index self.slot }
         ensures others { (other : Pending) → IsPendingOf client.old other → AreApart self other → IsPendingOf client.new other }
         ensures ports { (before : ItsClient) → HasPortsOf before client.old → HasIdle before.slots.items self.index self.slot → HasPortsOf before client.new }
@@ -116,8 +119,9 @@ impl PendingResponse {
             number,
             servers: _,
         } = self;
-        slot.close_channel(&mut service.responses, 0, number);
         empty(&slot, service);
+        service.responses.config();
+        slot.close_channel(&mut service.responses, 0, number);
         client.give_back(index, slot);
     }
 
@@ -127,17 +131,19 @@ impl PendingResponse {
         service: &mut RequestResponse<Q, P, F, G>,
     )
         requires live { IsLivePending service.old self }
+        ensures let_go { IsRequestNumber self.number → (m : Messages P Tag) (s : State P Tag) (publisher : ℕ) → Shows service.old.responses m s → contains (senders_of s (subscriber_id self.slot)) publisher ≡ true
+            → (s' : State P Tag) × Shows service.new.responses m s' × (is_in_state self.number (s'.channels publisher (subscriber_id self.slot) 0) ≡ false) }
         ensures spent { IsLivePending service.new self → ⊥ }
         ensures stays { StaysButPending service.old service.new self }
     {
         let PendingResponse {
             slot,
             index: _,
-            number,
+            number: request,
             servers: _,
         } = self;
         // A publisher sees the state until it makes its connections anew, also of a closed subscriber.
-        slot.close_channel(&mut service.responses, 0, number);
+        slot.close_channel(&mut service.responses, 0, request);
         slot.close(&mut service.responses);
     }
 }

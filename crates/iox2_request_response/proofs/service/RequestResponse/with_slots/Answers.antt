@@ -5,14 +5,14 @@ use Rattle.iox2_request_response.proofs.service.RequestResponse.with_slots.Goals
 pub close-requires : goal.close-requires
 close-requires g c = record {
   client = filled-live {Q = g.row.Q.Denot} {P = g.row.P.Denot} {F = g.row.F.Denot} {G = g.row.G.Denot} c.args.client.requests c.args.self.now c.loop.client _
-      (still-filling {Q = g.row.Q.Denot} {P = g.row.P.Denot} {F = g.row.F.Denot} {G = g.row.G.Denot} c.args.client.requests c.args.self.now c.loop.client c.loop.self c.loop.invariant.0 _ refl c.create.ensures.leaves.stays)
+      (still-filling {Q = g.row.Q.Denot} {P = g.row.P.Denot} {F = g.row.F.Denot} {G = g.row.G.Denot} c.args.client.requests c.args.self.now c.loop.client c.loop.self c.loop.invariant.0 _ refl c.create.ensures.leaves.stays (λ number given. given))
       c.requires.client;
 }
 
 pub loop-preserved : goal.loop-preserved
 loop-preserved g c = (
   one-more {Q = g.row.Q.Denot} {P = g.row.P.Denot} {F = g.row.F.Denot} {G = g.row.G.Denot} c.args.client.requests c.args.self.now c.loop.client c.loop.self c.loop.invariant.0 _ _ c.in-Ok.subscriber refl
-      c.push_reserved.ensures.items refl c.create.ensures.leaves.stays c.in-Ok.ensures.live c.in-Ok.ensures.new,
+      c.push_reserved.ensures.items refl c.create.ensures.leaves.stays c.in-Ok.ensures.live c.in-Ok.ensures.new (λ number given. given),
   (let len = c.push_reserved.ensures.len in let before = c.loop.invariant.1 in omega (arith, len, before)),
   (let capacity = c.push_reserved.ensures.capacity in let room = c.loop.invariant.2 in omega (arith, capacity, room)),
 )
