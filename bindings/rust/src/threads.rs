@@ -1,6 +1,8 @@
 //! For which threads the handles of a domain are, and how they hold it.
 
 use crate::desk::Desk;
+use crate::errors::AFTER_FORK;
+use crate::fork::Process;
 use crate::guarded::Guarded;
 use crate::listeners::Listener;
 use crate::lock::{DomainLock, StdLock};
@@ -250,6 +252,9 @@ impl<L> Hold for Part<L> {
 /// Where a domain is.
 #[doc(hidden)]
 pub trait Place {
+    /// Whether threads share it.
+    const IS_SHARED: bool;
+
     /// Makes calls of the library, with no other between them, and returns the code of the last. What runs
     /// here is this crate's alone: no function of a user, which could call again.
     fn call(&self, brings: Brings, calls: impl FnOnce(&mut Shared) -> u32) -> u32;
@@ -296,20 +301,31 @@ pub trait WaitingPlace: Place {
 /// A domain that stays on its thread.
 #[doc(hidden)]
 #[allow(missing_debug_implementations)]
-pub struct Single(UnsafeCell<Shared>);
+pub struct Single {
+    shared: UnsafeCell<Shared>,
+    process: Process,
+}
 
 impl Single {
     pub(crate) fn new(shared: Shared) -> Self {
-        Single(UnsafeCell::new(shared))
+        Single {
+            process: shared.process(),
+            shared: UnsafeCell::new(shared),
+        }
     }
 }
 
 impl Place for Single {
+    const IS_SHARED: bool = false;
+
     #[inline(always)]
     fn call(&self, _: Brings, calls: impl FnOnce(&mut Shared) -> u32) -> u32 {
+        if !self.process.is_this() {
+            return AFTER_FORK;
+        }
         // SAFETY: this is the only reference: `calls` don't come back here, and no other thread has
         // a part, since this isn't `Sync`.
-        calls(unsafe { &mut *self.0.get() })
+        calls(unsafe { &mut *self.shared.get() })
     }
 
     fn wait(&self, wait: Wait, calls: impl FnMut(&mut Shared) -> u32) -> u32 {
