@@ -1,6 +1,6 @@
 //! A domain: a service and what is in it.
 
-use crate::errors::{unexpected, DomainCreateError, AFTER_FORK};
+use crate::errors::{is_after_fork, unexpected, DomainCreateError};
 use crate::guarded::Guarded;
 use crate::ids::{number, wide};
 use crate::lock::{DomainLock, StdLock};
@@ -18,7 +18,6 @@ use crate::warning::Warning;
 use crate::{PublisherCreateError, SubscriberCreateError};
 use std::fmt;
 use std::marker::PhantomData;
-use std::rc::Rc;
 use std::sync::Arc;
 
 /// A service whose messages are of the type `P`: a value, or a slice of values.
@@ -263,7 +262,7 @@ pub(crate) fn expect_here(code: u32) {
 
 #[cold]
 fn not_here(code: u32) {
-    if code != AFTER_FORK {
+    if !is_after_fork(code) {
         unexpected(code);
     }
 }
@@ -404,7 +403,7 @@ impl<P: Payload + ?Sized> DomainBuilder<P> {
     pub fn create(self) -> Result<Domain<P>, DomainCreateError> {
         let shared = self.shared()?;
         Ok(Domain {
-            hold: Rc::new(Single::new(shared)),
+            hold: Single::new(shared),
             messages: PhantomData,
         })
     }

@@ -7,15 +7,20 @@ use std::ptr;
 use std::slice;
 use std::str;
 
-/// What this crate's own calls return in a child after a fork, as those of C++ do.
+/// What calls of a domain that threads share return in a child after a fork, as those of C++ do.
 pub(crate) const AFTER_FORK: u32 = 0xffff_fffd;
+
+/// Whether a call found itself in a child after a fork, where a domain of one thread has none.
+pub(crate) fn is_after_fork(code: u32) -> bool {
+    matches!(code, AFTER_FORK | sys::NO_DOMAIN)
+}
 
 const AFTER_FORK_TEXT: &str =
     "AfterFork: the domain belongs to the process that was forked: make one in this process";
 
 /// The text of a code of the C header, or of that which this crate adds.
 pub(crate) fn text(code: u32) -> &'static str {
-    if code == AFTER_FORK {
+    if is_after_fork(code) {
         return AFTER_FORK_TEXT;
     }
     let mut start = ptr::null();
@@ -49,7 +54,7 @@ macro_rules! errors {
             pub(crate) fn of(code: u32) -> $name {
                 match code {
                     $(sys::$code => $name::$variant,)*
-                    AFTER_FORK => $name::AfterFork,
+                    AFTER_FORK | sys::NO_DOMAIN => $name::AfterFork,
                     _ => unexpected(code),
                 }
             }
@@ -90,7 +95,7 @@ impl DomainCreateError {
     pub(crate) fn of(code: u32) -> DomainCreateError {
         match code {
             sys::OUT_OF_MEMORY => DomainCreateError::OutOfMemory,
-            AFTER_FORK => DomainCreateError::AfterFork,
+            AFTER_FORK | sys::NO_DOMAIN => DomainCreateError::AfterFork,
             _ => unexpected(code),
         }
     }
@@ -225,7 +230,7 @@ impl SendError {
             sys::SEND_ERROR_INTERNAL_ERROR => SendError::InternalError,
             sys::PUBLISHER_IS_BLOCKED => SendError::PublisherIsBlocked,
             sys::NO_SUCH_CHANNEL => SendError::NoSuchChannel,
-            AFTER_FORK => SendError::AfterFork,
+            AFTER_FORK | sys::NO_DOMAIN => SendError::AfterFork,
             sys::SEND_ERROR_CONNECTION_INCOMPATIBLE_BUFFER_SIZE
             | sys::SEND_ERROR_CONNECTION_OUT_OF_MEMORY
             | sys::SEND_ERROR_CONNECTION_EXPIRED_BUFFER_FULL
@@ -298,7 +303,7 @@ impl ReceiveError {
     pub(crate) fn of(code: u32) -> ReceiveError {
         match code {
             sys::RECEIVE_ERROR_EXCEEDS_MAX_BORROWS => ReceiveError::ExceedsMaxBorrows,
-            AFTER_FORK => ReceiveError::AfterFork,
+            AFTER_FORK | sys::NO_DOMAIN => ReceiveError::AfterFork,
             _ => ReceiveError::ConnectionFailure(ConnectionFailure::of(code + FROM_RECEIVE)),
         }
     }

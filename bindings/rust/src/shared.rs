@@ -4,7 +4,7 @@ use crate::fork::Process;
 use crate::recording::Room;
 use crate::sys;
 use crate::threads::Brings;
-use std::ptr::null_mut;
+use std::ptr::{addr_of_mut, null_mut};
 
 /// The one owner of the library's domain. Its pointer is never copied out of it.
 #[allow(missing_debug_implementations)]
@@ -47,6 +47,12 @@ impl Shared {
             }),
             code => Err(code),
         }
+    }
+
+    // Where its domain is, without a reference to the rest.
+    pub(crate) fn place(shared: *mut Shared) -> *mut sys::Domain {
+        // SAFETY: it is there, and nothing is read.
+        unsafe { addr_of_mut!((*shared).domain) }
     }
 
     // The process that made it, whose calls alone may reach it.

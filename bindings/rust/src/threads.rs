@@ -1,8 +1,7 @@
 //! For which threads the handles of a domain are, and how they hold it.
 
 use crate::desk::Desk;
-use crate::errors::AFTER_FORK;
-use crate::fork::Process;
+use crate::fork;
 use crate::guarded::Guarded;
 use crate::listeners::Listener;
 use crate::lock::{DomainLock, StdLock};
@@ -301,17 +300,19 @@ pub trait WaitingPlace: Place {
 /// A domain that stays on its thread.
 #[doc(hidden)]
 #[allow(missing_debug_implementations)]
-pub struct Single {
-    shared: UnsafeCell<Shared>,
-    process: Process,
-}
+pub struct Single(UnsafeCell<Shared>);
 
 impl Single {
-    pub(crate) fn new(shared: Shared) -> Self {
-        Single {
-            process: shared.process(),
-            shared: UnsafeCell::new(shared),
-        }
+    pub(crate) fn new(shared: Shared) -> Rc<Self> {
+        let single = Rc::new(Single(UnsafeCell::new(shared)));
+        fork::remember(Shared::place(single.0.get()));
+        single
+    }
+}
+
+impl Drop for Single {
+    fn drop(&mut self) {
+        fork::forget(Shared::place(self.0.get()));
     }
 }
 
@@ -320,12 +321,9 @@ impl Place for Single {
 
     #[inline(always)]
     fn call(&self, _: Brings, calls: impl FnOnce(&mut Shared) -> u32) -> u32 {
-        if !self.process.is_this() {
-            return AFTER_FORK;
-        }
         // SAFETY: this is the only reference: `calls` don't come back here, and no other thread has
         // a part, since this isn't `Sync`.
-        calls(unsafe { &mut *self.shared.get() })
+        calls(unsafe { &mut *self.0.get() })
     }
 
     fn wait(&self, wait: Wait, calls: impl FnMut(&mut Shared) -> u32) -> u32 {

@@ -1,6 +1,6 @@
 //! What a domain did or left undone without failing a call.
 
-use crate::errors::{text, unexpected, ConnectionFailure, AFTER_FORK};
+use crate::errors::{is_after_fork, text, unexpected, ConnectionFailure};
 use crate::ids::{UniquePublisherId, UniqueSubscriberId};
 use crate::sys::{self, Wide};
 use crate::threads::{Brings, Place};
@@ -57,7 +57,7 @@ impl Warning {
         });
         match code {
             sys::OK => {}
-            AFTER_FORK => unexpected(code),
+            _ if is_after_fork(code) => unexpected(code),
             _ => return None,
         }
         let named = |id| Some(id).filter(|id| *id != Wide::default());

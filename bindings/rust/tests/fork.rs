@@ -81,7 +81,7 @@ impl<M: Threads> World<M> {
     }
 
     // What a child has of it. The bytes of messages are its own copies.
-    fn is_refused(self) {
+    fn all_is_refused(self) {
         let World { subscriber, .. } = &self;
         let lent = self.publisher.loan_uninit().map(drop);
         assert_eq!(lent, Err(LoanError::AfterFork));
@@ -138,7 +138,7 @@ impl<M: Threads> World<M> {
 fn a_child_is_refused_by_a_domain_of_one_thread() {
     let world = World::of(keeping().create().unwrap());
     // SAFETY: the child has a copy of it, as it is.
-    in_child(|| unsafe { std::ptr::read(&world) }.is_refused());
+    in_child(|| unsafe { std::ptr::read(&world) }.all_is_refused());
     world.goes_on();
 }
 
@@ -146,7 +146,7 @@ fn a_child_is_refused_by_a_domain_of_one_thread() {
 fn a_child_is_refused_by_a_shared_domain() {
     let world = World::of(keeping().create_shared().unwrap());
     // SAFETY: as above.
-    in_child(|| unsafe { std::ptr::read(&world) }.is_refused());
+    in_child(|| unsafe { std::ptr::read(&world) }.all_is_refused());
     world.goes_on();
 }
 
