@@ -80,6 +80,18 @@ def in_c(work, compiler, source, standard):
     return printed.strip()
 
 
+def whole(work, target):
+    """The releases are those that the sums beside them say, and the page of proofs beside them has what each says of its own."""
+    clone = cloned(work, "of_sums")
+    said("sha256sum", "--check", "--quiet", "SHA256SUMS", cwd=clone / "dist")
+    packed = next((clone / "dist").glob(f"*-{target.name}.tar.gz"))
+    own = said("tar", "xzOf", packed, f"{packed.name.removesuffix('.tar.gz')}/PROOFS", both=False)
+    lacking = [line for line in own.splitlines() if line not in (clone / "dist/PROOFS").read_text().splitlines()]
+    if lacking:
+        raise Failed(f"dist/PROOFS isn't that of {packed.name}, which has {lacking[0]!r}")
+    return packed.name
+
+
 # ---- for a board
 
 BOARDS, ON_BOARDS = "bindings/AARCH64.md", "aarch64: 12 readings, the last is 11"
@@ -102,6 +114,7 @@ def run_boards(steps, work, target):
     if lacking:
         steps.skip(f"the first program for {target.name}", ", ".join(lacking))
         return
+    steps.run(f"the release for {target.name} in dist/ has its sums", whole, work, target)
     for language, starting in (("C", "aarch64-linux-gnu-gcc"), ("C++", "aarch64-linux-gnu-g++")):
         steps.run(f"the first program in {language} for {target.name}, in a new clone without the kit", for_board, work, language, starting, PRINTS)
     if is_here("cmake"):
@@ -125,6 +138,7 @@ def run_first(steps, work, target):
     if target.is_crossed:
         run_boards(steps, work, target)
         return
+    steps.run("the release in dist/ has its sums", whole, work, target)
     for language, program, step, given in (
         ("Rust", "cargo", in_rust, ()),
         ("C", "gcc", in_c, ("gcc", "first.c", "c11")),
