@@ -19,3 +19,4 @@ pub mod SentEnds
 mod ToConnection
 mod WaitingChannels
 mod TakenUp
+mod BlockingReceivers
