@@ -1,8 +1,8 @@
 //! Receives messages.
 
-use crate::domain::expect;
+use crate::domain::expect_here;
 use crate::errors::{ConnectionFailure, ReceiveError};
-use crate::numbers::number;
+use crate::ids::UniqueSubscriberId;
 use crate::payload::Payload;
 use crate::sample::Sample;
 use crate::shared::Shared;
@@ -35,8 +35,8 @@ impl<P: Payload + ?Sized, M: Threads> Subscriber<P, M> {
 
     /// The subscriber's id, which no other port of the domain has.
     #[must_use]
-    pub fn id(&self) -> u128 {
-        number(self.port.id)
+    pub fn id(&self) -> UniqueSubscriberId {
+        UniqueSubscriberId::of(self.port.id)
     }
 
     /// How many messages of one publisher may wait.
@@ -303,7 +303,7 @@ impl<P: Payload + ?Sized, M: Threads> fmt::Debug for Subscriber<P, M> {
 impl<P: Payload + ?Sized, M: Threads> Drop for Subscriber<P, M> {
     fn drop(&mut self) {
         // SAFETY: see `Shared::at`. A send may wait for this subscriber, and slots come back.
-        expect(self.hold.call(Brings::COPY, |shared| unsafe {
+        expect_here(self.hold.call(Brings::COPY, |shared| unsafe {
             sys::iox2ps_subscriber_close(shared.at(), &self.port)
         }));
         self.hold.forget(self.port.id);
