@@ -10,10 +10,10 @@ from .steps import Failed, said
 
 # The tests that ask for no recording, warning or growth, which the model hasn't, and of these the ones that ask for texts or have memory
 # refused.
-TESTS = ("bounds", "calls", "capacity", "channels", "events", "fork", "futures", "hostile", "in_place", "latched", "locks", "panics",
-         "reader_writer", "stops", "threads", "waits")
-NOT_OVER_IT = ("errors_have_texts_and_causes", "a_connection_has_channel_0_alone", "extreme_settings_are_refused_or_work",
-               "an_update_that_fails_refuses_no_subscriber")
+TESTS = ("bounds", "calls", "capacity", "channels", "events", "fork", "futures", "hostile", "in_place", "latched", "locks", "numbers",
+         "panics", "reader_writer", "stops", "threads", "waits")
+NOT_OVER_IT = ("each_code_has_a_text_that_no_other_has", "errors_have_texts_and_causes", "a_connection_has_channel_0_alone",
+               "extreme_settings_are_refused_or_work", "an_update_that_fails_refuses_no_subscriber")
 # Those in which Miri has something to see that no other test shows: bytes that are used too long, and threads that meet in them. It
 # has no fork, no descriptors of Linux and little time.
 BY_MIRI = ("bounds", "capacity", "channels", "futures", "in_place", "panics", "stops")
