@@ -81,6 +81,12 @@ fn refuse(others: &[&PathBuf]) -> ! {
 }
 
 fn main() {
+    println!("cargo:rerun-if-env-changed=IOX2_PUBSUB_STAND_IN");
+    // Miri can't call the archive; tests ask for what stands in.
+    if env::var_os("CARGO_CFG_MIRI").is_some() || env::var_os("IOX2_PUBSUB_STAND_IN").is_some() {
+        println!("cargo:rustc-cfg=iox2ps_stand_in");
+        return;
+    }
     println!("cargo:rerun-if-env-changed=IOX2_PUBSUB_LIB_DIR");
     let folders = folders();
     let (fitting, others): (Vec<_>, Vec<_>) = folders

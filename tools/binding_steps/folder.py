@@ -52,7 +52,7 @@ class Progress:
                 self.open.discard(crate)
                 self.say(f"{crate} is proved ({len(self.crates) - len(self.open)} of {len(self.crates)})")
         if time.time() - self.said_at >= 60:
-            self.say("goes on")
+            self.say(f"goes on, {len(self.crates) - len(self.open)} of {len(self.crates)} crates are proved")
 
     def say(self, words):
         self.said_at = time.time()

@@ -129,7 +129,8 @@ public:
     return now;
   }
 
-  /* Waits until the topics' readers have what was sent, as a program does before it ends. */
+  /* Waits until the topics' readers have what was sent, as a program does before it ends. False where the time passed before, and
+   * where messages were sent and no reader of their type was met so far. */
   bool flush(std::chrono::nanoseconds timeout) {
     return group_ && iox2ps_dds_flush(group_.get(), detail::nanoseconds(timeout)) == IOX2PS_OK;
   }

@@ -2,11 +2,15 @@
 //! what each call returns, and what its caller has to do.
 #![allow(missing_docs)]
 #![deny(missing_debug_implementations)]
+// The build script asks for what stands in; older compilers have no such lint.
+#![allow(unknown_lints, unexpected_cfgs)]
 
 use std::ffi::c_void;
 
 #[cfg(feature = "dds")]
 pub mod dds;
+#[cfg(iox2ps_stand_in)]
+mod stand_in;
 
 /// This crate's version as one number, with which `iox2ps_version` is compared: that of the archive.
 pub const VERSION: u32 = part(env!("CARGO_PKG_VERSION_MAJOR")) << 16

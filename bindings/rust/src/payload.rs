@@ -54,6 +54,13 @@ mod sealed {
 /// # Ok(())
 /// # }
 /// ```
+#[cfg_attr(
+    has_diagnostics,
+    diagnostic::on_unimplemented(
+        message = "no message can be of the type `{Self}`",
+        label = "a message is `Copy` and `'static`, or a slice of such values"
+    )
+)]
 pub trait Payload: sealed::Sealed + 'static {
     /// The payload where nothing is written yet.
     type Uninit: ?Sized;
@@ -110,6 +117,19 @@ impl<T: Copy + 'static> Payload for T {
         payload.cast()
     }
 }
+
+/// Of [`Payload`] the single values, which are no slices.
+#[cfg_attr(
+    has_diagnostics,
+    diagnostic::on_unimplemented(
+        message = "`{Self}` is no single value that can be a message",
+        label = "a domain of slices is made by `Domain::slice_builder`",
+        note = "a single value is `Copy` and `'static`"
+    )
+)]
+pub trait Value: Payload {}
+
+impl<T: Copy + 'static> Value for T {}
 
 impl<T: Copy + 'static> Payload for [T] {
     type Uninit = [MaybeUninit<T>];
