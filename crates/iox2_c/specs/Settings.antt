@@ -1,5 +1,5 @@
 -- The settings that C may choose.
-use Rattle.std.specs.Prelude.{ℕ, false, ◌≡◌, ◌<◌, ◌%◌, ◌⊎◌, not, nat_eq}
+use Rattle.std.specs.Prelude.{ℕ, Bool, false, cond, not, nat_eq, nat_lt, ◌≡◌, ◌%◌, ◌==◌, ◌&&◌, ◌||◌}
 use Rattle.iox2_machine.specs.declared.service_config.ServiceConfig.{ServiceConfig}
 use Rattle.iox2_machine.specs.declared.service_config.TypeVariant.TheVariants.{Dynamic}
 use Rattle.iox2_machine.specs.declared.allocation.AllocationStrategy.TheVariants.{Static}
@@ -13,15 +13,45 @@ use Rattle.iox2_c.specs.declared.numbers.PublisherNumbers.{PublisherNumbers}
 use Rattle.iox2_c.specs.declared.options.PublisherOptions.{PublisherOptions}
 use Rattle.iox2_c.specs.declared.options.SubscriberOptions.{SubscriberOptions}
 
--- Payloads can be aligned so.
-abbrev pub IsAlignment : ℕ → Type 0
-IsAlignment n = (n ≡ 1) ⊎ (n ≡ 2) ⊎ (n ≡ 4) ⊎ (n ≡ 8) ⊎ (n ≡ 16)
+-- ---- the first setting that is invalid, by its code, and 0 where each is valid
 
--- The settings can be had: the alignment is one, the size a multiple of it, and the strategy has a number that is one.
-pub record AreValid (config : Config) : Type 0 where
-  pub aligned : IsAlignment config.payload_alignment
-  pub whole : config.payload_size % config.payload_alignment ≡ 0
-  pub strategy : config.backpressure_strategy < 2
+-- Payloads can be aligned so.
+abbrev pub is_alignment : ℕ → Bool
+is_alignment n = (n == 1) || (n == 2) || (n == 4) || (n == 8) || (n == 16)
+
+-- The length is a multiple of the alignment.
+abbrev pub is_aligned : (length alignment : ℕ) → Bool
+is_aligned length alignment = nat_lt 0 alignment && ((length % alignment) == 0)
+
+-- The first setting of a domain that is invalid, in the order of the fields, except that the alignment comes before the size that
+-- has to be a multiple of it.
+abbrev pub invalid_setting : Config → ℕ
+invalid_setting it =
+    cond (not (it.struct_size == 128)) 80
+    (cond (not (is_alignment it.payload_alignment)) 82
+    (cond (not (is_aligned it.payload_size it.payload_alignment)) 81
+    (cond (not (nat_lt it.backpressure_strategy 2)) 83 0)))
+
+-- The first setting of a publisher that is invalid where payloads are aligned so, in the order of the fields. Memory that grows
+-- begins with some.
+abbrev pub invalid_publisher_option : (alignment : ℕ) → PublisherOptions → ℕ
+invalid_publisher_option alignment it =
+    cond (not (it.struct_size == 48)) 80
+    (cond (not (is_aligned it.initial_max_slice_len alignment)) 87
+    (cond ((it.initial_max_slice_len == 0) && ((it.allocation_strategy == 1) || (it.allocation_strategy == 2))) 87
+    (cond (not (nat_lt it.backpressure_strategy 2)) 83
+    (cond (not (nat_lt it.backpressure_handler 5)) 84
+    (cond (not (nat_lt it.degradation 3)) 85
+    (cond (not (nat_lt it.allocation_strategy 3)) 86 0))))))
+
+-- The first setting of a subscriber that is invalid, in the order of the fields.
+abbrev pub invalid_subscriber_option : SubscriberOptions → ℕ
+invalid_subscriber_option it =
+    cond (not (it.struct_size == 24)) 80
+    (cond (not (nat_lt it.degradation 3)) 85
+    (cond (not (it.reserved == 0)) 88 0))
+
+-- ---- domains
 
 -- The settings of the domain: of slices of bytes, whose cells aren't handed out.
 abbrev pub settings_of : Config → ServiceConfig
@@ -76,17 +106,6 @@ publisher_settings config it = record (unasked_settings config it) { asked_slots
 -- The settings of a subscriber with these options.
 abbrev pub subscriber_settings : SubscriberOptions → SubscriberSettings
 subscriber_settings it = record { buffer_size = it.buffer_size; degradation_handler = Fixed (degradation_numbered it.degradation) }
-
--- A publisher can have the options where payloads are aligned so: its messages are of whole units, each number has a meaning, and
--- memory that grows begins with some.
-pub record AreOptions (alignment : ℕ) (it : PublisherOptions) : Type 0 where
-  pub aligned : 0 < alignment
-  pub whole : it.initial_max_slice_len % alignment ≡ 0
-  pub strategy : it.backpressure_strategy < 2
-  pub handler : it.backpressure_handler < 5
-  pub degradation : it.degradation < 3
-  pub allocation : it.allocation_strategy < 3
-  pub begins : (it.allocation_strategy ≡ 0) ⊎ (0 < it.initial_max_slice_len)
 
 -- The numbers of a publisher say what its settings do of its messages' length and of its strategy.
 pub record ReadsSettings (it : PublisherNumbers) (given : PublisherSettings) : Type 0 where

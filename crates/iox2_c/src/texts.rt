@@ -20,7 +20,6 @@ pub fn text_of(code: u32) -> &'static [u8]
             5 => b"the domain exists already\0",
             6 => b"the send is blocked by a subscriber whose buffer is full\0",
             7 => b"an earlier send of the publisher is blocked\0",
-            8 => b"invalid value in the settings\0",
             9 => b"the buffer is too small for the message\0",
             _ => UNKNOWN,
         },
@@ -83,6 +82,39 @@ pub fn text_of(code: u32) -> &'static [u8]
         7 => match code {
             70 => b"a connection has no channel with this number\0",
             71 => b"the publisher has no connection to that subscriber\0",
+            _ => UNKNOWN,
+        },
+        8 => match code {
+            80 => {
+                b"invalid struct_size: fill the struct with its function in the header of this library's version\0"
+            }
+            81 => {
+                b"invalid payload_size: it must be a multiple of payload_alignment\0"
+            }
+            82 => {
+                b"invalid payload_alignment: it must be 1, 2, 4, 8 or 16\0"
+            }
+            83 => {
+                b"invalid backpressure_strategy: it must be one of iox2ps_backpressure_strategy_e\0"
+            }
+            84 => {
+                b"invalid backpressure_handler: it must be one of iox2ps_backpressure_handler_e\0"
+            }
+            85 => {
+                b"invalid degradation: it must be one of iox2ps_degradation_e\0"
+            }
+            86 => {
+                b"invalid allocation_strategy: it must be one of iox2ps_allocation_strategy_e\0"
+            }
+            87 => {
+                b"invalid initial_max_slice_len: it must be a multiple of payload_alignment, and not 0 if memory may grow\0"
+            }
+            88 => {
+                b"invalid reserved_: it must be 0\0"
+            }
+            89 => {
+                b"the worst case of slots is too large: lower the limits in the settings, or the number of loans\0"
+            }
             _ => UNKNOWN,
         },
         _ => match code {
