@@ -5,13 +5,27 @@ use Rattle.iox2_machine.specs.declared.service_config.TypeVariant.TheVariants.{D
 use Rattle.iox2_machine.specs.declared.allocation.AllocationStrategy.TheVariants.{Static}
 use Rattle.iox2_machine.specs.machine.Ports.{default_publisher_settings, default_subscriber_settings}
 use Rattle.iox2_machine.specs.machine.Records.{Fixed, PublisherSettings, SubscriberSettings}
-use Rattle.iox2_c.specs.Codes.{allocation_numbered, degradation_numbered, handler_numbered, slots_numbered, strategy_numbered}
+use Rattle.iox2_c.specs.Codes.{invalid_struct_size, invalid_payload_size, invalid_payload_alignment, invalid_backpressure_strategy, invalid_backpressure_handler, invalid_degradation, invalid_allocation_strategy, invalid_initial_max_slice_len, invalid_reserved, allocation_numbered, degradation_numbered, handler_numbered, slots_numbered, strategy_numbered}
 use Rattle.iox2_c.specs.Numbers.{wide}
 use Rattle.iox2_c.specs.Serving.{KeptBytes, Serving}
 use Rattle.iox2_c.specs.declared.config.Config.{Config}
 use Rattle.iox2_c.specs.declared.numbers.PublisherNumbers.{PublisherNumbers}
 use Rattle.iox2_c.specs.declared.options.PublisherOptions.{PublisherOptions}
 use Rattle.iox2_c.specs.declared.options.SubscriberOptions.{SubscriberOptions}
+
+-- ---- sizes of structs
+
+-- How many bytes the settings of a domain have.
+abbrev pub config_size : ℕ
+config_size = 128
+
+-- How many the options of a publisher have.
+abbrev pub publisher_options_size : ℕ
+publisher_options_size = 48
+
+-- How many those of a subscriber have.
+abbrev pub subscriber_options_size : ℕ
+subscriber_options_size = 24
 
 -- ---- the first setting that is invalid, by its code, and 0 where each is valid
 
@@ -27,29 +41,29 @@ is_aligned length alignment = nat_lt 0 alignment && ((length % alignment) == 0)
 -- has to be a multiple of it.
 abbrev pub invalid_setting : Config → ℕ
 invalid_setting it =
-    cond (not (it.struct_size == 128)) 80
-    (cond (not (is_alignment it.payload_alignment)) 82
-    (cond (not (is_aligned it.payload_size it.payload_alignment)) 81
-    (cond (not (nat_lt it.backpressure_strategy 2)) 83 0)))
+    cond (not (it.struct_size == config_size)) invalid_struct_size
+    (cond (not (is_alignment it.payload_alignment)) invalid_payload_alignment
+    (cond (not (is_aligned it.payload_size it.payload_alignment)) invalid_payload_size
+    (cond (not (nat_lt it.backpressure_strategy 2)) invalid_backpressure_strategy 0)))
 
 -- The first setting of a publisher that is invalid where payloads are aligned so, in the order of the fields. Memory that grows
 -- begins with some.
 abbrev pub invalid_publisher_option : (alignment : ℕ) → PublisherOptions → ℕ
 invalid_publisher_option alignment it =
-    cond (not (it.struct_size == 48)) 80
-    (cond (not (is_aligned it.initial_max_slice_len alignment)) 87
-    (cond ((it.initial_max_slice_len == 0) && ((it.allocation_strategy == 1) || (it.allocation_strategy == 2))) 87
-    (cond (not (nat_lt it.backpressure_strategy 2)) 83
-    (cond (not (nat_lt it.backpressure_handler 5)) 84
-    (cond (not (nat_lt it.degradation 3)) 85
-    (cond (not (nat_lt it.allocation_strategy 3)) 86 0))))))
+    cond (not (it.struct_size == publisher_options_size)) invalid_struct_size
+    (cond (not (is_aligned it.initial_max_slice_len alignment)) invalid_initial_max_slice_len
+    (cond ((it.initial_max_slice_len == 0) && ((it.allocation_strategy == 1) || (it.allocation_strategy == 2))) invalid_initial_max_slice_len
+    (cond (not (nat_lt it.backpressure_strategy 2)) invalid_backpressure_strategy
+    (cond (not (nat_lt it.backpressure_handler 5)) invalid_backpressure_handler
+    (cond (not (nat_lt it.degradation 3)) invalid_degradation
+    (cond (not (nat_lt it.allocation_strategy 3)) invalid_allocation_strategy 0))))))
 
 -- The first setting of a subscriber that is invalid, in the order of the fields.
 abbrev pub invalid_subscriber_option : SubscriberOptions → ℕ
 invalid_subscriber_option it =
-    cond (not (it.struct_size == 24)) 80
-    (cond (not (nat_lt it.degradation 3)) 85
-    (cond (not (it.reserved == 0)) 88 0))
+    cond (not (it.struct_size == subscriber_options_size)) invalid_struct_size
+    (cond (not (nat_lt it.degradation 3)) invalid_degradation
+    (cond (not (it.reserved == 0)) invalid_reserved 0))
 
 -- ---- domains
 

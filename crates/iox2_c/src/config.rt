@@ -3,8 +3,8 @@ ghost use Rattle.std.specs.Prelude.{◌≡◌, ◌<◌, ◌≤◌, ◌⊎◌, fa
 ghost use Rattle.iox2_machine.specs.Defaults.{default_config};
 ghost use Rattle.iox2_machine.specs.declared.allocation.AllocationStrategy.TheVariants.{Static};
 ghost use Rattle.iox2_machine.specs.declared.service_config.TypeVariant.TheVariants.{Dynamic};
-ghost use Rattle.iox2_c.specs.Codes.{strategy_numbered};
-ghost use Rattle.iox2_c.specs.Settings.{invalid_setting, is_alignment, settings_of};
+ghost use Rattle.iox2_c.specs.Codes.{first_setting_code, strategy_numbered, worst_case_too_large};
+ghost use Rattle.iox2_c.specs.Settings.{config_size, invalid_setting, is_alignment, settings_of};
 
 use crate::numbers::Wide;
 use crate::status::{
@@ -55,7 +55,7 @@ pub struct Config {
 impl Config {
     /// The defaults of a domain with this id, for messages of that many bytes.
     pub fn defaults(service_id: u128, payload_size: usize, payload_alignment: usize) -> Config
-        ensures known { result.struct_size ≡ 128 }
+        ensures known { result.struct_size ≡ config_size }
         ensures settings { settings_of result ≡ record (default_config service_id) { variant = Dynamic; lists_cells = false } }
         ensures size { result.payload_size ≡ payload_size }
         ensures alignment { result.payload_alignment ≡ payload_alignment }
@@ -69,7 +69,7 @@ impl Config {
 
     /// The settings of a domain for messages of that many bytes.
     pub fn of(config: &ServiceConfig, payload_size: usize, payload_alignment: usize) -> Config
-        ensures known { result.struct_size ≡ 128 }
+        ensures known { result.struct_size ≡ config_size }
         ensures settings { settings_of result ≡ record (config.now) { variant = Dynamic; units_per_element = 1; lists_cells = false; publisher_allocation_strategy = Static } }
         ensures size { result.payload_size ≡ payload_size }
         ensures alignment { result.payload_alignment ≡ payload_alignment }
@@ -121,7 +121,7 @@ impl Config {
     /// them all.
     pub fn first_invalid(&self) -> u32
         ensures first { result ≡ invalid_setting self.now }
-        ensures range { (result ≡ 0) ⊎ ((80 ≤ result) × (result < 89)) }
+        ensures range { (result ≡ 0) ⊎ ((first_setting_code ≤ result) × (result < worst_case_too_large)) }
     {
         if self.struct_size != CONFIG_SIZE {
             return INVALID_STRUCT_SIZE;

@@ -4,8 +4,8 @@ ghost use Rattle.iox2_machine.specs.machine.Ports.{default_publisher_settings, d
 ghost use Rattle.iox2_machine.specs.machine.Records.{Fixed};
 ghost use Rattle.iox2_connections.specs.Handlers.{marks_of};
 ghost use Rattle.iox2_pubsub.specs.Factories.{answer_of};
-ghost use Rattle.iox2_c.specs.Codes.{allocation_numbered, degradation_numbered, handler_numbered};
-ghost use Rattle.iox2_c.specs.Settings.{invalid_publisher_option, invalid_subscriber_option, publisher_settings, settings_of, subscriber_settings};
+ghost use Rattle.iox2_c.specs.Codes.{allocation_numbered, degradation_numbered, first_setting_code, handler_numbered, worst_case_too_large};
+ghost use Rattle.iox2_c.specs.Settings.{invalid_publisher_option, invalid_subscriber_option, publisher_options_size, publisher_settings, settings_of, subscriber_options_size, subscriber_settings};
 
 use crate::config::Config;
 use crate::handlers::NoHandler;
@@ -49,7 +49,7 @@ pub struct PublisherOptions {
 impl PublisherOptions {
     /// What a publisher has that is made without options.
     pub fn of(config: &Config) -> PublisherOptions
-        ensures known { result.struct_size ≡ 48 }
+        ensures known { result.struct_size ≡ publisher_options_size }
         ensures settings { publisher_settings (settings_of config.now) result ≡ record (default_publisher_settings (settings_of config.now)) { initial_max_slice_len = config.now.payload_size } }
     {
         PublisherOptions {
@@ -68,7 +68,7 @@ impl PublisherOptions {
     /// fields; 0 if one can have them all.
     pub fn first_invalid(&self, alignment: usize) -> u32
         ensures first { result ≡ invalid_publisher_option alignment self.now }
-        ensures range { (result ≡ 0) ⊎ ((80 ≤ result) × (result < 89)) }
+        ensures range { (result ≡ 0) ⊎ ((first_setting_code ≤ result) × (result < worst_case_too_large)) }
     {
         if self.struct_size != PUBLISHER_OPTIONS_SIZE {
             return INVALID_STRUCT_SIZE;
@@ -137,7 +137,7 @@ pub struct SubscriberOptions {
 impl SubscriberOptions {
     /// What a subscriber has that is made without options.
     pub fn of(config: &Config) -> SubscriberOptions
-        ensures known { result.struct_size ≡ 24 }
+        ensures known { result.struct_size ≡ subscriber_options_size }
         ensures settings { subscriber_settings result ≡ default_subscriber_settings (settings_of config.now) }
     {
         SubscriberOptions {
@@ -152,7 +152,7 @@ impl SubscriberOptions {
     /// them all.
     pub fn first_invalid(&self) -> u32
         ensures first { result ≡ invalid_subscriber_option self.now }
-        ensures range { (result ≡ 0) ⊎ ((80 ≤ result) × (result < 89)) }
+        ensures range { (result ≡ 0) ⊎ ((first_setting_code ≤ result) × (result < worst_case_too_large)) }
     {
         if self.struct_size != SUBSCRIBER_OPTIONS_SIZE {
             return INVALID_STRUCT_SIZE;

@@ -5,7 +5,7 @@ ghost use Rattle.iox2_pubsub.specs.Factories.{with_slots};
 ghost use Rattle.iox2_pubsub.specs.Handles.{max_slice_len_of, strategy_of as handle_strategy, as_publisher, publisher_id};
 ghost use Rattle.iox2_pubsub.specs.Live.{A_publisher, IsNewIn, IsPublisherKey, IsReadyPublisher, No_item, publisher_key};
 ghost use Rattle.iox2_c.specs.Calls.{IsReady, MakesPublisher, RefusesPublisher};
-ghost use Rattle.iox2_c.specs.Codes.{code_of, publisher_code, slots_numbered, strategy_numbered};
+ghost use Rattle.iox2_c.specs.Codes.{code_of, first_setting_code, publisher_code, slots_numbered, strategy_numbered};
 ghost use Rattle.iox2_c.specs.Numbers.{named_publisher, wide};
 ghost use Rattle.iox2_c.specs.Serving.{ServesBut};
 ghost use Rattle.iox2_c.specs.Settings.{ReadsSettings, invalid_publisher_option, plain_publisher_settings, publisher_settings, unasked_settings};
@@ -125,9 +125,9 @@ pub fn create_with(
     out: &mut PublisherNumbers,
 ) -> u32
     ensures creates { result ≡ 0 → CreatesPublisher service.old.domain service.new.domain (publisher_settings (service.old.domain).config options.now) (Ok (wide (out.new).id)) }
-    ensures errors { 0 < result → result < 80 → (error : PublisherCreateError) × (result ≡ publisher_code error) × CreatesPublisher service.old.domain service.new.domain (publisher_settings (service.old.domain).config options.now) (Err error) }
-    ensures valid { result < 80 → invalid_publisher_option service.old.payload_alignment options.now ≡ 0 }
-    ensures invalid { 80 ≤ result → (result ≡ invalid_publisher_option service.old.payload_alignment options.now) × (service.new ≡ service.old) }
+    ensures errors { 0 < result → result < first_setting_code → (error : PublisherCreateError) × (result ≡ publisher_code error) × CreatesPublisher service.old.domain service.new.domain (publisher_settings (service.old.domain).config options.now) (Err error) }
+    ensures valid { result < first_setting_code → invalid_publisher_option service.old.payload_alignment options.now ≡ 0 }
+    ensures invalid { first_setting_code ≤ result → (result ≡ invalid_publisher_option service.old.payload_alignment options.now) × (service.new ≡ service.old) }
     ensures ready { result ≡ 0 → IsReady service.new.domain (named_publisher out.new) }
     ensures new { result ≡ 0 → IsNewIn service.old.domain (A_publisher (wide (out.new).id)) }
     ensures reads { result ≡ 0 → ReadsSettings out.new (publisher_settings (service.old.domain).config options.now) }

@@ -9,10 +9,10 @@ ghost use Rattle.iox2_machine.specs.declared.errors.ConnectionFailure.{Connectio
 ghost use Rattle.iox2_pubsub.specs.Live.{IsBlockedKey, IsPublisherKey, IsSubscriberKey, IsUnblocked, No_item};
 ghost use Rattle.iox2_c.specs.Calls.{RefusesPublisher};
 ghost use Rattle.iox2_c.specs.Channels.{TellsBlocker};
-ghost use Rattle.iox2_c.specs.Codes.{code_of, failure_code};
+ghost use Rattle.iox2_c.specs.Codes.{code_of, failure_code, invalid_struct_size};
 ghost use Rattle.iox2_c.specs.Numbers.{named_loan, named_publisher, named_subscriber, wide};
 ghost use Rattle.iox2_c.specs.Serving.{ServesBut};
-ghost use Rattle.iox2_c.specs.Settings.{settings_in, settings_of};
+ghost use Rattle.iox2_c.specs.Settings.{config_size, settings_in, settings_of};
 ghost use Rattle.iox2_c.specs.Warnings.{TellsOf};
 ghost use Rattle.iox2_c.specs.Steps.{Asks, UpdatesPublisher, UpdatesSubscriber};
 
@@ -204,9 +204,9 @@ pub fn blocker(service: &Service, numbers: &LoanNumbers, subscriber: &mut Wide) 
 
 /// The domain's settings, for a struct of that size.
 pub fn config(service: &Service, out: &mut Config, struct_size: usize) -> u32
-    ensures code { (result ≡ 0) ⊎ (result ≡ 80) }
-    ensures unknown { (result ≡ 80) ↔ (struct_size ≢ 128) }
-    ensures known { result ≡ 0 → (out.new).struct_size ≡ 128 }
+    ensures code { (result ≡ 0) ⊎ (result ≡ invalid_struct_size) }
+    ensures unknown { (result ≡ invalid_struct_size) ↔ (struct_size ≢ config_size) }
+    ensures known { result ≡ 0 → (out.new).struct_size ≡ config_size }
     ensures reads { result ≡ 0 → settings_of out.new ≡ settings_in service.now.domain }
     ensures size { result ≡ 0 → (out.new).payload_size ≡ service.now.payload_size }
     ensures alignment { result ≡ 0 → (out.new).payload_alignment ≡ service.now.payload_alignment }

@@ -7,7 +7,7 @@ ghost use Rattle.iox2_machine.specs.machine.Receives.{Got_sample, No_sample, Rec
 ghost use Rattle.iox2_pubsub.specs.Handles.{as_subscriber, buffer_size_of, origin_of, receiver_of, subscriber_id};
 ghost use Rattle.iox2_pubsub.specs.Slices.{SampleHasValues};
 ghost use Rattle.iox2_pubsub.specs.Live.{A_sample, A_subscriber, IsLiveSample, IsLiveSubscriber, IsNewIn, IsSampleKey, IsSubscriberKey, No_item, sample_key, subscriber_key};
-ghost use Rattle.iox2_c.specs.Codes.{code_of, receive_code, subscriber_code};
+ghost use Rattle.iox2_c.specs.Codes.{code_of, first_setting_code, receive_code, subscriber_code};
 ghost use Rattle.iox2_c.specs.Numbers.{named_sample, named_subscriber, wide};
 ghost use Rattle.iox2_c.specs.Returns.{ReceiveReturns};
 ghost use Rattle.iox2_c.specs.Serving.{ServesBut};
@@ -78,9 +78,9 @@ pub fn create_with(
     out: &mut SubscriberNumbers,
 ) -> u32
     ensures creates { result ≡ 0 → CreatesSubscriber service.old.domain service.new.domain (subscriber_settings options.now) (Ok out.new) }
-    ensures errors { 0 < result → result < 80 → (error : SubscriberCreateError) × (result ≡ subscriber_code error) × CreatesSubscriber service.old.domain service.new.domain (subscriber_settings options.now) (Err error) }
-    ensures valid { result < 80 → invalid_subscriber_option options.now ≡ 0 }
-    ensures invalid { 80 ≤ result → (result ≡ invalid_subscriber_option options.now) × (service.new ≡ service.old) }
+    ensures errors { 0 < result → result < first_setting_code → (error : SubscriberCreateError) × (result ≡ subscriber_code error) × CreatesSubscriber service.old.domain service.new.domain (subscriber_settings options.now) (Err error) }
+    ensures valid { result < first_setting_code → invalid_subscriber_option options.now ≡ 0 }
+    ensures invalid { first_setting_code ≤ result → (result ≡ invalid_subscriber_option options.now) × (service.new ≡ service.old) }
     ensures live { result ≡ 0 → IsSubscriberKey service.new.domain (named_subscriber out.new) }
     ensures new { result ≡ 0 → IsNewIn service.old.domain (A_subscriber (wide (out.new).id)) }
     ensures same { 0 < result → out.new ≡ out.old }

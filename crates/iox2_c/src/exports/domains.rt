@@ -7,7 +7,8 @@ ghost use Rattle.iox2_machine.specs.machine.Ports.{default_publisher_settings, d
 ghost use Rattle.iox2_machine.specs.machine.State.{fresh, no_messages};
 ghost use Rattle.iox2_domain.specs.Shows.{Shows};
 ghost use Rattle.iox2_c.specs.Boxed.{Knows};
-ghost use Rattle.iox2_c.specs.Settings.{invalid_setting, publisher_settings, settings_of, subscriber_settings};
+ghost use Rattle.iox2_c.specs.Settings.{config_size, invalid_setting, publisher_options_size, publisher_settings, settings_of, subscriber_options_size, subscriber_settings};
+ghost use Rattle.iox2_c.specs.Codes.{first_setting_code, worst_case_too_large};
 
 use crate::calls::questions;
 use crate::config::{CONFIG_SIZE, Config};
@@ -31,11 +32,11 @@ pub extern "C" fn iox2ps_config_defaults_sized(
     payload_size: usize,
     payload_alignment: usize,
 )
-    ensures known { struct_size ≡ 128 → (config.new).struct_size ≡ 128 }
-    ensures settings { struct_size ≡ 128 → settings_of config.new ≡ record (default_config service_id) { variant = Dynamic; lists_cells = false } }
-    ensures size { struct_size ≡ 128 → (config.new).payload_size ≡ payload_size }
-    ensures alignment { struct_size ≡ 128 → (config.new).payload_alignment ≡ payload_alignment }
-    ensures unknown { struct_size ≢ 128 → config.new ≡ record (config.old) { struct_size = 0 } }
+    ensures known { struct_size ≡ config_size → (config.new).struct_size ≡ config_size }
+    ensures settings { struct_size ≡ config_size → settings_of config.new ≡ record (default_config service_id) { variant = Dynamic; lists_cells = false } }
+    ensures size { struct_size ≡ config_size → (config.new).payload_size ≡ payload_size }
+    ensures alignment { struct_size ≡ config_size → (config.new).payload_alignment ≡ payload_alignment }
+    ensures unknown { struct_size ≢ config_size → config.new ≡ record (config.old) { struct_size = 0 } }
 {
     if struct_size == CONFIG_SIZE {
         *config = Config::defaults(service_id as u128, payload_size, payload_alignment);
@@ -52,10 +53,10 @@ pub extern "C" fn iox2ps_publisher_options_of_sized(
     options: &mut PublisherOptions,
     struct_size: usize,
 )
-    ensures known { config.now.struct_size ≡ 128 → struct_size ≡ 48 → (options.new).struct_size ≡ 48 }
-    ensures settings { config.now.struct_size ≡ 128 → struct_size ≡ 48
+    ensures known { config.now.struct_size ≡ config_size → struct_size ≡ publisher_options_size → (options.new).struct_size ≡ publisher_options_size }
+    ensures settings { config.now.struct_size ≡ config_size → struct_size ≡ publisher_options_size
         → publisher_settings (settings_of config.now) options.new ≡ record (default_publisher_settings (settings_of config.now)) { initial_max_slice_len = config.now.payload_size } }
-    ensures unknown { (config.now.struct_size ≢ 128) ⊎ (struct_size ≢ 48) → options.new ≡ record (options.old) { struct_size = 0 } }
+    ensures unknown { (config.now.struct_size ≢ config_size) ⊎ (struct_size ≢ publisher_options_size) → options.new ≡ record (options.old) { struct_size = 0 } }
 {
     if config.struct_size == CONFIG_SIZE && struct_size == PUBLISHER_OPTIONS_SIZE {
         *options = PublisherOptions::of(config);
@@ -72,9 +73,9 @@ pub extern "C" fn iox2ps_subscriber_options_of_sized(
     options: &mut SubscriberOptions,
     struct_size: usize,
 )
-    ensures known { config.now.struct_size ≡ 128 → struct_size ≡ 24 → (options.new).struct_size ≡ 24 }
-    ensures settings { config.now.struct_size ≡ 128 → struct_size ≡ 24 → subscriber_settings options.new ≡ default_subscriber_settings (settings_of config.now) }
-    ensures unknown { (config.now.struct_size ≢ 128) ⊎ (struct_size ≢ 24) → options.new ≡ record (options.old) { struct_size = 0 } }
+    ensures known { config.now.struct_size ≡ config_size → struct_size ≡ subscriber_options_size → (options.new).struct_size ≡ subscriber_options_size }
+    ensures settings { config.now.struct_size ≡ config_size → struct_size ≡ subscriber_options_size → subscriber_settings options.new ≡ default_subscriber_settings (settings_of config.now) }
+    ensures unknown { (config.now.struct_size ≢ config_size) ⊎ (struct_size ≢ subscriber_options_size) → options.new ≡ record (options.old) { struct_size = 0 } }
 {
     if config.struct_size == CONFIG_SIZE && struct_size == SUBSCRIBER_OPTIONS_SIZE {
         *options = SubscriberOptions::of(config);
@@ -87,9 +88,9 @@ pub extern "C" fn iox2ps_subscriber_options_of_sized(
 #[unsafe(no_mangle)]
 pub extern "C" fn iox2ps_worst_case_slots(config: &Config, loans: usize, slots: &mut usize) -> u32
     ensures slots { result ≡ 0 → slots.new ≡ worst_case (settings_of config.now) loans }
-    ensures code { (result ≡ 0) ⊎ (80 ≤ result) }
-    ensures valid { (result ≡ 0) ⊎ (result ≡ 89) → invalid_setting config.now ≡ 0 }
-    ensures invalid { 0 < result → result ≢ 89 → result ≡ invalid_setting config.now }
+    ensures code { (result ≡ 0) ⊎ (first_setting_code ≤ result) }
+    ensures valid { (result ≡ 0) ⊎ (result ≡ worst_case_too_large) → invalid_setting config.now ≡ 0 }
+    ensures invalid { 0 < result → result ≢ worst_case_too_large → result ≡ invalid_setting config.now }
     ensures fits { invalid_setting config.now ≡ 0 → (result ≡ 0) ↔ IsTrue (fits (worst_case (settings_of config.now) loans)) }
     ensures same { 0 < result → slots.new ≡ slots.old }
 {
@@ -114,11 +115,11 @@ pub extern "C" fn iox2ps_domain_create(
     config: &Config,
 ) -> u32
     ensures fresh { result ≡ 0 → Knows (λ kept. Shows kept no_messages (fresh (settings_of config.now))) domain.new.service }
-    ensures code { (result ≡ 0) ⊎ (result ≡ 4) ⊎ (result ≡ 5) ⊎ (80 ≤ result) }
+    ensures code { (result ≡ 0) ⊎ (result ≡ 4) ⊎ (result ≡ 5) ⊎ (first_setting_code ≤ result) }
     ensures sizes { result ≡ 0 → IfSome domain.new.service (λ it. (it.payload_size ≡ config.now.payload_size) × (it.payload_alignment ≡ config.now.payload_alignment)) }
     ensures valid { (result ≡ 0) ⊎ (result ≡ 4) → invalid_setting config.now ≡ 0 }
     ensures there { (result ≡ 5) ↔ (domain.old.service ≢ None) }
-    ensures invalid { 80 ≤ result → result ≡ invalid_setting config.now }
+    ensures invalid { first_setting_code ≤ result → result ≡ invalid_setting config.now }
     ensures refused { 0 < result → domain.new.service ≡ domain.old.service }
 {
     create(alloc, domain, config, None)
@@ -135,11 +136,11 @@ pub extern "C" fn iox2ps_domain_create_recorded(
     bytes: usize,
 ) -> u32
     ensures fresh { result ≡ 0 → Knows (λ kept. Shows kept no_messages (fresh (settings_of config.now))) domain.new.service }
-    ensures code { (result ≡ 0) ⊎ (result ≡ 4) ⊎ (result ≡ 5) ⊎ (80 ≤ result) }
+    ensures code { (result ≡ 0) ⊎ (result ≡ 4) ⊎ (result ≡ 5) ⊎ (first_setting_code ≤ result) }
     ensures sizes { result ≡ 0 → IfSome domain.new.service (λ it. (it.payload_size ≡ config.now.payload_size) × (it.payload_alignment ≡ config.now.payload_alignment)) }
     ensures valid { (result ≡ 0) ⊎ (result ≡ 4) → invalid_setting config.now ≡ 0 }
     ensures there { (result ≡ 5) ↔ (domain.old.service ≢ None) }
-    ensures invalid { 80 ≤ result → result ≡ invalid_setting config.now }
+    ensures invalid { first_setting_code ≤ result → result ≡ invalid_setting config.now }
     ensures refused { 0 < result → domain.new.service ≡ domain.old.service }
 {
     create(alloc, domain, config, Some(Room { commands, bytes }))
@@ -148,11 +149,11 @@ pub extern "C" fn iox2ps_domain_create_recorded(
 // Makes a domain where there is none, which is recorded where there is room for that.
 fn create(alloc: Global, domain: &mut DomainBox, config: &Config, room: Option<Room>) -> u32
     ensures fresh { result ≡ 0 → Knows (λ kept. Shows kept no_messages (fresh (settings_of config.now))) domain.new.service }
-    ensures code { (result ≡ 0) ⊎ (result ≡ 4) ⊎ (result ≡ 5) ⊎ (80 ≤ result) }
+    ensures code { (result ≡ 0) ⊎ (result ≡ 4) ⊎ (result ≡ 5) ⊎ (first_setting_code ≤ result) }
     ensures sizes { result ≡ 0 → IfSome domain.new.service (λ it. (it.payload_size ≡ config.now.payload_size) × (it.payload_alignment ≡ config.now.payload_alignment)) }
     ensures valid { (result ≡ 0) ⊎ (result ≡ 4) → invalid_setting config.now ≡ 0 }
     ensures there { (result ≡ 5) ↔ (domain.old.service ≢ None) }
-    ensures invalid { 80 ≤ result → result ≡ invalid_setting config.now }
+    ensures invalid { first_setting_code ≤ result → result ≡ invalid_setting config.now }
     ensures refused { 0 < result → domain.new.service ≡ domain.old.service }
 {
     if let Some(boxed) = domain.take(alloc) {

@@ -10,9 +10,9 @@ ghost use Rattle.iox2_pubsub.specs.Live.{IsBlockedKey, IsPublisherKey, IsSubscri
 ghost use Rattle.iox2_c.specs.Boxed.{Becomes, HoldsOn, Knows, KnowsNo};
 ghost use Rattle.iox2_c.specs.Calls.{RefusesPublisher};
 ghost use Rattle.iox2_c.specs.Channels.{TellsBlocker};
-ghost use Rattle.iox2_c.specs.Codes.{code_of, failure_code};
+ghost use Rattle.iox2_c.specs.Codes.{code_of, failure_code, invalid_struct_size};
 ghost use Rattle.iox2_c.specs.Numbers.{named_loan, named_publisher, named_subscriber, wide};
-ghost use Rattle.iox2_c.specs.Settings.{settings_in, settings_of};
+ghost use Rattle.iox2_c.specs.Settings.{config_size, settings_in, settings_of};
 ghost use Rattle.iox2_c.specs.Texts.{text_numbered};
 ghost use Rattle.iox2_c.specs.Warnings.{TellsOf};
 ghost use Rattle.iox2_c.specs.Steps.{Asks, UpdatesPublisher, UpdatesSubscriber};
@@ -196,9 +196,9 @@ pub extern "C" fn iox2ps_domain_config_sized(
     struct_size: usize,
 ) -> u32
     ensures no_domain { (result ≡ 1) ↔ (domain.old.service ≡ None) }
-    ensures code { (result ≡ 0) ⊎ (result ≡ 1) ⊎ (result ≡ 80) }
-    ensures unknown { result ≢ 1 → (result ≡ 80) ↔ (struct_size ≢ 128) }
-    ensures known { result ≡ 0 → (config.new).struct_size ≡ 128 }
+    ensures code { (result ≡ 0) ⊎ (result ≡ 1) ⊎ (result ≡ invalid_struct_size) }
+    ensures unknown { result ≢ 1 → (result ≡ invalid_struct_size) ↔ (struct_size ≢ config_size) }
+    ensures known { result ≡ 0 → (config.new).struct_size ≡ config_size }
     ensures reads { result ≡ 0 → Knows (λ kept. settings_of config.new ≡ settings_in kept) domain.old.service }
     ensures sizes { result ≡ 0 → IfSome domain.old.service (λ it. ((config.new).payload_size ≡ it.payload_size) × ((config.new).payload_alignment ≡ it.payload_alignment)) }
     ensures same { 0 < result → config.new ≡ config.old }
