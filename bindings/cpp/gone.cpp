@@ -1,30 +1,14 @@
 /* A loan that was sent, discarded or moved from, and a sample that was released or moved from, point nowhere: a program that writes
  * or reads there ends. */
 #include "iox2_pubsub.hpp"
-#include <csignal>
+#include "endings.hpp"
 #include <cstdio>
 #include <cstdlib>
-#include <sys/resource.h>
-#include <sys/wait.h>
-#include <unistd.h>
 
 static unsigned ended = 0;
 
-/* The child says nothing, and leaves no core. */
 template <typename Use> static void ends(const char *what, Use use) {
-  pid_t child = fork();
-  if (child == 0) {
-    rlimit none = {0, 0};
-    static_cast<void>(setrlimit(RLIMIT_CORE, &none));
-    static_cast<void>(close(STDERR_FILENO));
-    use();
-    _exit(0);
-  }
-  int status = 0;
-  if (child < 0 || waitpid(child, &status, 0) != child || !WIFSIGNALED(status) || WTERMSIG(status) != SIGABRT) {
-    std::fprintf(stderr, "%s: the program goes on\n", what);
-    std::exit(1);
-  }
+  ends(what, "was moved from", use);
   ended++;
 }
 

@@ -4,10 +4,15 @@
 #include <cstdio>
 #include <cstdlib>
 #include <cstring>
+#include <map>
 #include <memory>
 #include <new>
+#include <set>
+#include <sstream>
 #include <string>
+#include <system_error>
 #include <type_traits>
+#include <unordered_map>
 
 static int passed = 0, failed = 0;
 #define CHECK(...)                                                 \
@@ -42,7 +47,7 @@ template <typename H, typename... Parts> constexpr bool is_handle =
     !std::is_copy_constructible_v<H> && std::is_nothrow_move_constructible_v<H> && std::is_nothrow_move_assignable_v<H>
     && std::is_nothrow_destructible_v<H> && !std::is_default_constructible_v<H> && !std::is_constructible_v<H, Parts...>;
 using Hold = iox2ps::detail::Hold<iox2ps::OneThread>;
-static_assert(is_handle<iox2ps::Publisher<int>, Hold, std::unique_ptr<iox2ps::detail::Orphan>>);
+static_assert(is_handle<iox2ps::Publisher<int>, Hold, std::unique_ptr<iox2ps::detail::Sender>>);
 static_assert(is_handle<iox2ps::Subscriber<int>, Hold, iox2ps_subscriber_t>);
 static_assert(is_handle<iox2ps::Loan<int>, Hold, iox2ps_loan_t>);
 static_assert(is_handle<iox2ps::Sample<int>, Hold, iox2ps_sample_t, const int *, std::size_t>);
@@ -55,6 +60,9 @@ template <typename B, typename = void> constexpr bool takes_overflow = false;
 template <typename B> constexpr bool takes_overflow<B, std::void_t<Overflow<B>>> = true;
 static_assert(takes_overflow<bool> && !takes_overflow<int> && !takes_overflow<iox2ps_backpressure_strategy_e>);
 static_assert(!std::is_convertible_v<int, BackpressureStrategy>);
+
+/* A check of threads takes nothing where it isn't asked for. */
+static_assert(std::is_empty_v<iox2ps::detail::Threads<iox2ps::OneThread>>);
 
 static_assert(iox2ps::detail::elapsed_of(std::chrono::nanoseconds(-1)) == 0);
 static_assert(iox2ps::detail::elapsed_of(std::chrono::nanoseconds(7)) == 7);
@@ -643,6 +651,57 @@ static void settings_say_how_many_slots_a_publisher_has() {
   CHECK(!config.worst_case_slots());
 }
 
+template <typename T> static std::string written(const T &value) {
+  std::ostringstream out;
+  out << value;
+  return out.str();
+}
+
+static void an_id_is_a_key_and_a_number() {
+  constexpr std::uint64_t greatest = UINT64_MAX;
+  CHECK(written(Id{0, 0}) == "0" && written(Id{7, 0}) == "7" && written(Id{greatest, 0}) == "18446744073709551615");
+  CHECK(written(Id{0, 1}) == "18446744073709551616" && written(Id{greatest, greatest}) == "340282366920938463463374607431768211455");
+  Id one = {1, 0}, two = {2, 0}, high = {0, 1};
+  CHECK(one < two && two < high && !(two < one) && !(one < one) && one <= one && one <= two && high > two && high >= high);
+  CHECK(!(high < one) && !(one > two) && !(one >= two) && !(high <= two));
+  std::map<Id, int> ordered = {{high, 3}, {one, 1}, {two, 2}};
+  CHECK(ordered.begin()->second == 1 && ordered.rbegin()->second == 3 && ordered.at({2, 0}) == 2);
+  std::unordered_map<Id, int> hashed = {{one, 1}, {high, 2}};
+  CHECK(hashed.at({1, 0}) == 1 && hashed.at({0, 1}) == 2 && hashed.count(two) == 0);
+  /* The numbers of ports come one after the other, and those of services may differ in their high half alone. */
+  std::set<std::size_t> hashes;
+  for (std::uint64_t at = 0; at < 1000; at++) hashes.insert({std::hash<Id>()({at, 0}), std::hash<Id>()({0, at})});
+  CHECK(hashes.size() == 1999);
+}
+
+static void a_const_handle_answers() {
+  const auto domain = made(Config<int>(1));
+  const auto publisher = domain.publisher().expect("a publisher");
+  const auto subscriber = domain.subscriber().expect("a subscriber");
+  CHECK(subscriber.has_samples().value_or(true) == false && !publisher.is_blocked());
+  CHECK(publisher.has_channel_state(0, 0, 0).has_value() && subscriber.at_least_one_channel_has_state(0, 0).has_value());
+}
+
+static void an_error_is_an_error_code() {
+  std::error_code code = Error::LoanExceedsMaxLoans;
+  CHECK(code && code == Error::LoanExceedsMaxLoans && code != Error::OutOfMemory && code.category() == iox2ps::error_category());
+  CHECK(code.message() == iox2ps::text(Error::LoanExceedsMaxLoans) && std::string(code.category().name()) == "iox2_pubsub");
+  code = Error::ReceiveConnectionOutOfMemory;
+  CHECK(code == std::errc::not_enough_memory && code != std::errc::invalid_argument);
+  CHECK(std::error_code(Error::NoDescriptor) == std::errc::too_many_files_open && std::error_code(Error::NotLive) != std::errc::not_enough_memory);
+  CHECK(written(Error::OtherVersion) == iox2ps::text(Error::OtherVersion));
+}
+
+static void errors_say_what_helps() {
+  auto domain = made(Config<int>(1).publisher_max_loaned_samples(1));
+  auto publisher = domain.publisher().expect("a publisher");
+  auto loan = publisher.loan().expect("a loan");
+  std::string refused = iox2ps::text(publisher.loan().error());
+  CHECK(refused.find("ExceedsMaxLoans") != refused.npos && refused.find("publisher_max_loaned_samples") != refused.npos);
+  auto moved = std::move(loan);
+  CHECK(std::string(iox2ps::text(loan.send().error())).find("moved from") != std::string::npos);
+}
+
 static void errors_have_texts() {
   for (std::uint32_t code = 0; code < 130; code++) CHECK(std::strlen(iox2ps::text(static_cast<Error>(code))) > 0);
   CHECK(std::string(iox2ps::text(Error::NotLive)) != iox2ps::text(Error::OutOfMemory));
@@ -680,6 +739,10 @@ int main() {
   further_channels_have_states_of_their_own();
   a_blocked_send_goes_past_a_closed_channel();
   settings_say_how_many_slots_a_publisher_has();
+  an_id_is_a_key_and_a_number();
+  a_const_handle_answers();
+  an_error_is_an_error_code();
+  errors_say_what_helps();
   errors_have_texts();
   std::printf("%d passed, %d failed\n", passed, failed);
   return failed != 0;

@@ -274,11 +274,14 @@ void waits_are_stopped_twice_and_taken_back() {
   auto domain = keeping<Watched>(1);
   auto publisher = domain.publisher().expect("a publisher");
   auto subscriber = domain.subscriber().expect("a subscriber");
+  CHECK(!domain.waits_are_stopped());
   domain.stop_waits();
   domain.stop_waits();
+  CHECK(domain.waits_are_stopped());
   CHECK(!subscriber.blocking_receive().expect("a receive"));
   domain.stop_waits(false);
   domain.stop_waits(false);
+  CHECK(!domain.waits_are_stopped());
   auto waits = asleep_after(to_sleep, [&] { CHECK(first_of(subscriber.blocking_receive()) == 1); });
   CHECK(publisher.send_copy(message(1)).expect("a send").delivered() == 1u);
   waits.join();
@@ -288,6 +291,65 @@ void waits_are_stopped_twice_and_taken_back() {
   CHECK(!subscriber.timed_receive(std::chrono::nanoseconds::min()).expect("a receive"));
   CHECK(publisher.timed_send_copy(message(2), std::chrono::nanoseconds::max()).expect("a send").delivered() == 1u);
   CHECK(first_of(subscriber.timed_receive(std::chrono::nanoseconds::max())) == 2);
+}
+
+/* A loop of calls with a time ends, and doesn't spin. */
+void a_loop_of_timed_calls_sees_the_end() {
+  auto domain = keeping<Watched>(1);
+  auto subscriber = domain.subscriber().expect("a subscriber");
+  std::size_t turns = 0;
+  auto loops = asleep_after(to_sleep, [&] {
+    do {
+      CHECK(!subscriber.timed_receive(1h).expect("a receive"));
+      turns++;
+    } while (!domain.waits_are_stopped());
+  });
+  domain.stop_waits();
+  loops.join();
+  CHECK(turns == 1);
+}
+
+/* The history of a domain with these settings, as a subscriber has it that was made last. */
+void a_late_subscriber_has_the_history_at_once() {
+  for (bool overflows : {true, false}) {
+    iox2ps::Config<Message> config(1);
+    config.history_size(2).subscriber_max_buffer_size(3).enable_safe_overflow(overflows);
+    auto domain = Domain::create(config).expect("a domain");
+    auto silent = domain.publisher().expect("a publisher");
+    for (std::uint64_t number = 1; number < 4; number++) CHECK(silent.send_copy(message(number)).expect("a send").delivered() == 0u);
+    auto closed = domain.publisher().expect("a publisher");
+    closed.close();
+    auto other = domain.publisher().expect("a publisher");
+    CHECK(other.send_copy(message(7)).expect("a send").delivered() == 0u);
+    auto late = domain.subscriber().expect("a subscriber");
+    CHECK(first_of(late.blocking_receive()) == 2 && first_of(late.blocking_receive()) == 3 && first_of(late.blocking_receive()) == 7);
+    CHECK(!late.receive().expect("a receive"));
+    /* One of another thread too, which waits at once. */
+    std::thread([&] { CHECK(first_of(domain.subscriber().expect("a subscriber").blocking_receive()) == 2); }).join();
+    CHECK(silent.send_copy(message(4)).expect("a send").delivered() == 1u);
+  }
+}
+
+/* A publisher that can't connect now keeps no subscriber from being made, nor another publisher from handing over its history. It
+ * connects when the next subscriber is made, and who waits for its history is woken then. */
+void a_blocked_publisher_connects_later() {
+  iox2ps::Config<Message> config(1);
+  config.history_size(1).subscriber_max_buffer_size(1).enable_safe_overflow(false);
+  auto domain = iox2ps::SharedDomain<Message, Watched>::create(config).expect("a domain");
+  auto full = domain.publisher().expect("a publisher");
+  auto other = domain.publisher().expect("a publisher");
+  auto subscriber = domain.subscriber().expect("a subscriber");
+  CHECK(full.send_copy(message(1)).expect("a send").delivered() == 1u);
+  CHECK(other.send_copy(message(7)).expect("a send").delivered() == 1u);
+  auto waits = blocked(full.send_copy(message(2)));
+  auto late = domain.subscriber().expect("a subscriber");
+  CHECK(first_of(late.receive()) == 7 && !late.receive().expect("a receive"));
+  CHECK(first_of(subscriber.receive()) == 1 && first_of(subscriber.receive()) == 7);
+  CHECK(waits.retry().expect("a retry") == 1u);
+  auto receives = asleep_after(to_sleep, [&] { CHECK(first_of(late.blocking_receive()) == 2); });
+  auto last = domain.subscriber().expect("a subscriber");
+  receives.join();
+  CHECK(first_of(last.receive()) == 2);
 }
 
 constexpr auto is_closed = [](const auto &result) { return !result.has_value() && result.error() == iox2ps::Error::NotLive; };
@@ -549,7 +611,7 @@ void each_listener_is_called_for_each_message() {
     static_cast<void>(one.receive());
   }
   for (auto &thread : threads) thread.join();
-  CHECK(calls == before + 3 * 2 * messages);
+  CHECK(calls == before + 6 * messages);
 }
 
 #ifdef __linux__
@@ -718,6 +780,9 @@ int main() {
       threads_that_wait_for_a_loan_dont_wake_each_other,
       copies_and_all_take_the_lock_once,
       waits_are_stopped_twice_and_taken_back,
+      a_loop_of_timed_calls_sees_the_end,
+      a_late_subscriber_has_the_history_at_once,
+      a_blocked_publisher_connects_later,
       a_close_ends_the_waits_for_messages,
       a_close_ends_the_waits_for_loans,
       a_close_ends_the_waits_beside_a_blocked_send,

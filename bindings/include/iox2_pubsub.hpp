@@ -24,6 +24,7 @@
 #include "iox2_pubsub_settings.hpp"
 
 #include <algorithm>
+#include <atomic>
 #include <cassert>
 #include <chrono>
 #include <cstddef>
@@ -36,9 +37,25 @@
 #include <utility>
 #include <vector>
 
+#ifdef IOX2PS_CHECK_THREADS
+#include <thread>
+#endif
+#if defined(__unix__) || defined(__APPLE__)
+#include <pthread.h>
+#endif
+
 namespace iox2ps {
 
-struct OneThread;
+#ifdef IOX2PS_CHECK_THREADS
+/** Its types have other names where threads are checked: files that define IOX2PS_CHECK_THREADS and files that don't can't hand
+ * each other their handles by mistake. */
+inline namespace checked {
+#endif
+/** Says of handles that they are for one thread at a time: nothing is locked. */
+struct OneThread {};
+#ifdef IOX2PS_CHECK_THREADS
+} // namespace checked
+#endif
 
 // M says for which threads the handles are: OneThread, or ManyThreads of iox2_pubsub_shared.hpp.
 template <typename P, typename M = OneThread> class Domain;
@@ -48,100 +65,167 @@ template <typename P, typename M = OneThread> class Loan;
 template <typename P, typename M = OneThread> class Sample;
 template <typename P, typename M = OneThread> class BlockedSend;
 
-/** For what a thread waits. */
-enum class Waits : unsigned {
-  Message = 1, /**< a message */
-  Room = 2,    /**< room in the buffer that a blocked send has to reach */
-  Free = 4,    /**< that the publisher's earlier send ends */
-  Loan = 8     /**< a loan */
-};
-
-/** What a call may have brought to those who wait: a sum of the same. */
-using Brings = unsigned;
-constexpr Brings operator|(Waits one, Waits other) { return static_cast<Brings>(one) | static_cast<Brings>(other); } /**< both */
-constexpr Brings operator|(Brings some, Waits other) { return some | static_cast<Brings>(other); }                   /**< all of them */
-constexpr Brings only(Waits one) { return static_cast<Brings>(one); }                                                /**< one */
-
 inline constexpr std::uint64_t channel_state_open = IOX2PS_CHANNEL_STATE_OPEN;     /**< the state of a new channel */
 inline constexpr std::uint64_t channel_state_closed = IOX2PS_CHANNEL_STATE_CLOSED; /**< that of one which takes no message */
 
 /** Until when a call waits, or for good. */
 using Until = std::optional<std::chrono::steady_clock::time_point>;
 
-/** The handles of a domain are for one thread at a time, and nothing is locked. */
-struct OneThread {
-  /** How many handles a domain has. */
+namespace detail {
+
+/* For what a thread waits. */
+enum class Waits : unsigned {
+  Message = 1, /* a message */
+  Room = 2,    /* room in the buffer that a blocked send has to reach */
+  Free = 4,    /* that the publisher's earlier send ends */
+  Loan = 8     /* a loan */
+};
+
+/* What a call may have brought to those who wait: a sum of the same. */
+using Brings = unsigned;
+constexpr Brings operator|(Waits one, Waits other) { return static_cast<Brings>(one) | static_cast<Brings>(other); }
+constexpr Brings operator|(Brings some, Waits other) { return some | static_cast<Brings>(other); }
+constexpr Brings only(Waits one) { return static_cast<Brings>(one); }
+
+template <typename M> constexpr bool is_shared = !std::is_same_v<M, OneThread>;
+
+/* How often the process that runs was forked off another one that had domains. */
+inline std::atomic<unsigned> forks{0};
+
+/* Lets them be counted from now on, if memory for that is had. */
+inline bool count_forks() {
+#if defined(__unix__) || defined(__APPLE__)
+  static const bool is_counted = pthread_atfork(nullptr, nullptr, [] { forks.fetch_add(1, std::memory_order_relaxed); }) == 0;
+  return is_counted;
+#else
+  return true;
+#endif
+}
+
+/* What belongs to the process that made it, and to no child that has a copy of it. */
+class OfProcess {
+public:
+  [[nodiscard]] bool is_here() const { return forks_ == forks.load(std::memory_order_relaxed); }
+
+private:
+  unsigned forks_ = forks.load(std::memory_order_relaxed);
+};
+
+/* What a call returns in a child: the archive isn't called, since another thread may have been in it when the process was forked. */
+inline constexpr iox2ps_status_t after_fork = static_cast<iox2ps_status_t>(Error::AfterFork);
+
+/* How the calls of a domain are made for these threads. */
+template <typename M> class Threads;
+
+/* By one at a time. */
+template <> class Threads<OneThread> {
+public:
+  /* How many handles a domain has. */
   class Count {
   public:
-    void add() { count_++; }                 /**< one more */
-    bool is_last() { return --count_ == 0; } /**< one less, and whether it was the last */
+    void add() { count_++; }
+    bool is_last() { return --count_ == 0; }
 
   private:
     std::size_t count_ = 1;
   };
 
-  /** Whether a port is open. */
+  /* Whether a port is open. */
   class Open {
   public:
-    explicit operator bool() const { return is_so_; }     /**< whether it is */
-    bool close() { return std::exchange(is_so_, false); } /**< it isn't any longer, and whether it was */
+    explicit operator bool() const { return is_so_; }
+    bool close() { return std::exchange(is_so_, false); }
 
   private:
     bool is_so_ = true;
   };
 
-  /** Makes a call. */
-  template <typename Call> iox2ps_status_t call(Brings, Call &&make) { return make(); }
+  template <typename Call> iox2ps_status_t call(Brings, Call &&make) {
+    check_thread();
+    return make();
+  }
 
-  /** Nothing waits at a port, and nothing is called for a subscriber. */
+  /* Nothing waits at a port, and nothing is called for a subscriber. */
   void end_waits(Id) {}
-  void forget(Id) {} /**< the same */
+  void forget(Id) {}
+  struct MessageFd {};
+
+private:
+#ifdef IOX2PS_CHECK_THREADS
+  void check_thread() const {
+    if (std::this_thread::get_id() == own_) return;
+    std::fputs("iox2_pubsub: a second thread uses a domain that is for one: make it by SharedDomain<P>::create()\n", stderr);
+    std::abort();
+  }
+  std::thread::id own_ = std::this_thread::get_id();
+#else
+  void check_thread() const {}
+#endif
 };
 
-namespace detail {
-
-/* A publisher that went while a send of it waits, and closes when that has ended. It is made with the publisher, so that
- * no destructor takes memory. */
-struct Orphan {
+/* A publisher as its domain has it. It is made with the publisher, so that no destructor takes memory. It is in the list of those
+ * that are open; where it goes while a send of it waits it is an orphan, and closes when that has ended. */
+struct Sender {
   iox2ps_publisher_t port;
-  std::unique_ptr<Orphan> next;
+  std::unique_ptr<Sender> next_orphan;
+  Sender *before, *after;
 };
 
 /* The domain that its handles share. */
 template <typename M> struct Shared {
   iox2ps_domain_t domain = IOX2PS_DOMAIN_INIT;
-  typename M::Count holders;
-  M threads;
-  std::unique_ptr<Orphan> orphans;
+  OfProcess process;
+  typename Threads<M>::Count holders;
+  Threads<M> threads;
+  Sender *open = nullptr;
+  std::unique_ptr<Sender> orphans;
 
   Shared() = default;
   Shared(const Shared &) = delete;
   Shared &operator=(const Shared &) = delete;
   ~Shared() {
     static_cast<void>(iox2ps_domain_destroy(&domain));
-    while (orphans) orphans = std::move(orphans->next);
+    while (orphans) orphans = std::move(orphans->next_orphan);
   }
 
-  /* These two are parts of calls. */
-  iox2ps_status_t close_publisher(std::unique_ptr<Orphan> publisher) {
-    iox2ps_status_t code = iox2ps_publisher_close(&domain, &publisher->port);
+  /* These are parts of calls. */
+  iox2ps_status_t create_publisher(const iox2ps_publisher_options_t &options, Sender &sender) {
+    iox2ps_status_t code = iox2ps_publisher_create_with(&domain, &options, &sender.port);
+    if (code != IOX2PS_OK) return code;
+    sender.before = nullptr;
+    sender.after = open;
+    if (open) open->before = &sender;
+    open = &sender;
+    return code;
+  }
+
+  /* Each open publisher connects to a subscriber that was made, and hands it its history. One that can't does so with its next send. */
+  void update_publishers() {
+    for (Sender *one = open; one; one = one->after) static_cast<void>(iox2ps_publisher_update_connections(&domain, &one->port));
+  }
+
+  iox2ps_status_t close_publisher(std::unique_ptr<Sender> sender) {
+    (sender->before ? sender->before->after : open) = sender->after;
+    if (sender->after) sender->after->before = sender->before;
+    iox2ps_status_t code = iox2ps_publisher_close(&domain, &sender->port);
     if (code != IOX2PS_PUBLISHER_IS_BLOCKED) return code;
-    publisher->next = std::move(orphans);
-    orphans = std::move(publisher);
+    sender->next_orphan = std::move(orphans);
+    orphans = std::move(sender);
     return code;
   }
 
   void close_orphan(iox2ps_wide_t id) {
-    std::unique_ptr<Orphan> *at = &orphans;
-    while (*at && id_of((*at)->port.id) != id_of(id)) at = &(*at)->next;
+    std::unique_ptr<Sender> *at = &orphans;
+    while (*at && id_of((*at)->port.id) != id_of(id)) at = &(*at)->next_orphan;
     if (!*at) return;
     static_cast<void>(iox2ps_publisher_close(&domain, &(*at)->port));
-    std::unique_ptr<Orphan> next = std::move((*at)->next);
+    std::unique_ptr<Sender> next = std::move((*at)->next_orphan);
     *at = std::move(next);
   }
 };
 
-/* A counted reference to a domain; may be empty. */
+/* A counted reference to a domain; may be empty. In a child of the process that made the domain it calls nothing and gives back
+ * nothing. */
 template <typename M> class Hold {
 public:
   Hold() = default;
@@ -155,14 +239,25 @@ public:
     return *this;
   }
   ~Hold() {
-    if (shared_ && shared_->holders.is_last()) delete shared_;
+    if (is_here() && shared_->holders.is_last()) delete shared_;
   }
 
   explicit operator bool() const { return shared_ != nullptr; }
   Shared<M> *operator->() const { return shared_; }
 
+  /* How several threads make calls. The type is deduced, so that a compiler says these words before any others. */
+  auto &many() const {
+    static_assert(is_shared<M>, "only a domain for several threads waits, calls listeners and has descriptors: "
+                                "make it by SharedDomain<P>::create() of iox2_pubsub_shared.hpp");
+    return shared_->threads;
+  }
+
+  /* Whether there is a domain, and it is this process's. */
+  [[nodiscard]] bool is_here() const { return shared_ && shared_->process.is_here(); }
+
   /* Makes calls with no other between them, and returns the code of the last. No function of a user runs there. */
   template <typename Call> iox2ps_status_t call(Brings brings, Call &&make) const {
+    if (!shared_->process.is_here()) return after_fork;
     return shared_->threads.call(brings, [&] { return make(&shared_->domain); });
   }
 
@@ -180,22 +275,22 @@ public:
 
   /* Closes a port by these calls, and ends what waits there. Another thread may be in a call of its handle, which finds the port
    * closed: so where there are several the handle keeps the domain until it goes. */
-  template <typename Close> void close(typename M::Open &open, Brings brings, Id port, Close &&make) {
-    if (!shared_ || !open.close()) return;
+  template <typename Close> void close(typename Threads<M>::Open &open, Brings brings, Id port, Close &&make) {
+    if (!open.close() || !is_here()) return;
     call(brings, [&](iox2ps_domain_t *domain) {
       iox2ps_status_t code = make(domain);
       shared_->threads.end_waits(port);
       return code;
     });
     shared_->threads.forget(port);
-    if constexpr (std::is_same_v<M, OneThread>) *this = Hold();
+    if constexpr (!is_shared<M>) *this = Hold();
   }
 
   /* Makes them again as long as their code says that the port still waits, each time when something came that may help. */
   template <typename Call>
   iox2ps_status_t wait(Waits what, const iox2ps_wide_t &port, Brings brings, Until until, Call &&make) const {
-    static_assert(!std::is_same_v<M, OneThread>, "only the handles of a domain for several threads wait");
-    return shared_->threads.wait(what, id_of(port), brings, until, [&] { return make(&shared_->domain); });
+    if (!shared_->process.is_here()) return after_fork;
+    return many().wait(what, id_of(port), brings, until, [&] { return make(&shared_->domain); });
   }
 
 private:
@@ -204,13 +299,13 @@ private:
 
 /* A time that C counts, where none is negative. */
 constexpr std::uint64_t elapsed_of(std::chrono::nanoseconds elapsed) {
-  return static_cast<std::uint64_t>(std::max(elapsed, std::chrono::nanoseconds(0)).count());
+  return static_cast<std::uint64_t>((std::max)(elapsed, std::chrono::nanoseconds(0)).count());
 }
 
 /* So long from now, or for good where that is later than a time can be. */
 inline Until after(std::chrono::nanoseconds timeout) {
   auto now = std::chrono::steady_clock::now();
-  if (timeout > std::chrono::steady_clock::time_point::max() - now) return std::nullopt;
+  if (timeout > (std::chrono::steady_clock::time_point::max)() - now) return std::nullopt;
   return now + timeout;
 }
 
@@ -354,7 +449,7 @@ public:
     if (!hold_) return Error::NotLive;
     std::size_t count = 0;
     auto started = std::chrono::steady_clock::now();
-    iox2ps_status_t code = hold_.wait(Waits::Room, blocked_.publisher, brings, until, [&](iox2ps_domain_t *domain) {
+    iox2ps_status_t code = hold_.wait(detail::Waits::Room, blocked_.publisher, brings, until, [&](iox2ps_domain_t *domain) {
       return again(domain, std::chrono::steady_clock::now() - started, &count);
     });
     return ended(code, count);
@@ -379,7 +474,7 @@ private:
   friend class Publisher<P, M>;
 
   /* Others may have got the message on its way, and where it has ended its publisher is free, and its slot perhaps. */
-  static constexpr Brings brings = Waits::Message | Waits::Free | Waits::Loan;
+  static constexpr detail::Brings brings = detail::Waits::Message | detail::Waits::Free | detail::Waits::Loan;
 
   BlockedSend(detail::Hold<M> hold, const iox2ps_blocked_t &blocked) : hold_(std::move(hold)), blocked_(blocked) {}
 
@@ -436,7 +531,7 @@ public:
     if (!hold_) return Error::NotLive;
     std::size_t count = 0;
     iox2ps_blocked_t blocked;
-    iox2ps_status_t code = hold_.call(Waits::Message | Waits::Loan, [&](iox2ps_domain_t *domain) {
+    iox2ps_status_t code = hold_.call(detail::Waits::Message | detail::Waits::Loan, [&](iox2ps_domain_t *domain) {
       return iox2ps_loan_send(domain, &loan_, &count, &blocked);
     });
     return sent(code, count, blocked);
@@ -448,8 +543,8 @@ public:
     if (!hold_) return Error::NotLive;
     std::size_t count = 0;
     iox2ps_blocked_t blocked;
-    Brings brings = Waits::Message | Waits::Loan;
-    iox2ps_status_t code = hold_.wait(Waits::Free, loan_.publisher, brings, until, [&](iox2ps_domain_t *domain) {
+    detail::Brings brings = detail::Waits::Message | detail::Waits::Loan;
+    iox2ps_status_t code = hold_.wait(detail::Waits::Free, loan_.publisher, brings, until, [&](iox2ps_domain_t *domain) {
       return iox2ps_loan_send(domain, &loan_, &count, &blocked);
     });
     return Sent<P, M>::reach_all(sent(code, count, blocked), until);
@@ -465,7 +560,7 @@ public:
     if (!hold_) return Error::NotLive;
     std::size_t count = 0;
     iox2ps_blocked_t blocked;
-    iox2ps_status_t code = hold_.call(Waits::Message | Waits::Loan, [&](iox2ps_domain_t *domain) {
+    iox2ps_status_t code = hold_.call(detail::Waits::Message | detail::Waits::Loan, [&](iox2ps_domain_t *domain) {
       return iox2ps_loan_deliver_offset_to_connection(domain, &loan_, channel, connection, &count, &blocked);
     });
     if (code == IOX2PS_NO_SUCH_CHANNEL) return Error::NoSuchChannel;
@@ -475,7 +570,7 @@ public:
   /** Gives the loan back unsent, and leaves this empty. */
   void discard() {
     if (!hold_) return;
-    hold_.call(only(Waits::Loan), [&](iox2ps_domain_t *domain) { return iox2ps_loan_discard(domain, &loan_); });
+    hold_.call(only(detail::Waits::Loan), [&](iox2ps_domain_t *domain) { return iox2ps_loan_discard(domain, &loan_); });
     hold_ = detail::Hold<M>();
     this->see_nothing();
   }
@@ -537,7 +632,7 @@ public:
   /** Gives the message back, and leaves this empty. */
   void release() {
     if (!hold_) return;
-    hold_.call(only(Waits::Loan), [&](iox2ps_domain_t *domain) { return iox2ps_sample_release(domain, &sample_); });
+    hold_.call(only(detail::Waits::Loan), [&](iox2ps_domain_t *domain) { return iox2ps_sample_release(domain, &sample_); });
     hold_ = detail::Hold<M>();
     this->see_nothing();
   }
@@ -568,7 +663,7 @@ public:
       hold_ = std::move(other.hold_);
       open_ = other.open_;
       port_ = other.port_;
-      orphan_ = std::move(other.orphan_);
+      sender_ = std::move(other.sender_);
     }
     return *this;
   }
@@ -682,7 +777,7 @@ public:
   /** Makes the connections with new subscribers and drops those with closed ones, as each send does first. */
   Done update_connections() {
     if (!hold_) return Error::NotLive;
-    return detail::done(hold_.call(Waits::Message | Waits::Loan, [&](iox2ps_domain_t *domain) {
+    return detail::done(hold_.call(detail::Waits::Message | detail::Waits::Loan, [&](iox2ps_domain_t *domain) {
       return iox2ps_publisher_update_connections(domain, &port_);
     }));
   }
@@ -722,7 +817,7 @@ public:
    * Error::NoSuchChannel. */
   Done close_channel(std::size_t channel, std::size_t connection, std::uint64_t expected) {
     if (!hold_) return Error::NotLive;
-    return detail::done(hold_.call(only(Waits::Room), [&](iox2ps_domain_t *domain) {
+    return detail::done(hold_.call(only(detail::Waits::Room), [&](iox2ps_domain_t *domain) {
       return iox2ps_publisher_close_channel(domain, &port_, channel, connection, expected);
     }));
   }
@@ -730,17 +825,17 @@ public:
   /** Closes it, or lets it close when a send of it that waits has ended. Other threads that wait for a loan of it then
    * return Error::NotLive. */
   void close() {
-    auto make = [&](iox2ps_domain_t *) { return hold_->close_publisher(std::move(orphan_)); };
-    hold_.close(open_, only(Waits::Message), detail::id_of(port_.id), make);
+    auto make = [&](iox2ps_domain_t *) { return hold_->close_publisher(std::move(sender_)); };
+    hold_.close(open_, only(detail::Waits::Message), detail::id_of(port_.id), make);
   }
 
 private:
   friend class Domain<P, M>;
 
-  Publisher(detail::Hold<M> hold, std::unique_ptr<detail::Orphan> orphan)
-      : hold_(std::move(hold)), port_(orphan->port), orphan_(std::move(orphan)) {}
+  Publisher(detail::Hold<M> hold, std::unique_ptr<detail::Sender> sender)
+      : hold_(std::move(hold)), port_(sender->port), sender_(std::move(sender)) {}
 
-  static constexpr Brings sends = Waits::Message | Waits::Loan;
+  static constexpr detail::Brings sends = detail::Waits::Message | detail::Waits::Loan;
 
   /* How a loan's bytes become its values. */
   static auto begin_value(const Element &value) {
@@ -757,15 +852,15 @@ private:
   }
 
   /* How a call is made that may be refused now: once, or again whenever something came that may help. */
-  auto at_once(Brings brings = 0) const {
+  auto at_once(detail::Brings brings = 0) const {
     return [this, brings](auto &&make) { return hold_.call(brings, make); };
   }
-  auto waiting(Until until, Brings brings = only(Waits::Message)) const {
+  auto waiting(Until until, detail::Brings brings = only(detail::Waits::Message)) const {
     return [this, until, brings](auto &&make) {
-      return hold_.wait(Waits::Loan, port_.id, brings, until, [&](iox2ps_domain_t *domain) -> iox2ps_status_t {
+      return hold_.wait(detail::Waits::Loan, port_.id, brings, until, [&](iox2ps_domain_t *domain) -> iox2ps_status_t {
         iox2ps_status_t code = make(domain);
         if (code == IOX2PS_OK) return code;
-        if (!orphan_) return IOX2PS_NOT_LIVE; /* closed meanwhile, also where the send that it waits for goes on */
+        if (!sender_) return IOX2PS_NOT_LIVE; /* closed meanwhile, also where the send that it waits for goes on */
         /* A closed subscriber's slots come back by an update of the connections alone, which a loan doesn't make. */
         if (code != IOX2PS_LOAN_ERROR_OUT_OF_MEMORY) return code;
         if (iox2ps_publisher_update_connections(domain, &port_) != IOX2PS_OK) return code;
@@ -805,9 +900,9 @@ private:
   }
 
   detail::Hold<M> hold_;
-  typename M::Open open_;
+  typename detail::Threads<M>::Open open_;
   iox2ps_publisher_t port_;
-  std::unique_ptr<detail::Orphan> orphan_; // what it becomes where it goes while a send of it waits
+  std::unique_ptr<detail::Sender> sender_;
 };
 
 /** Receives the messages of every publisher of its domain, until it is destroyed. */
@@ -839,7 +934,7 @@ public:
   Result<std::optional<Sample<P, M>>> receive() {
     if (!hold_) return Error::NotLive;
     Got got;
-    iox2ps_status_t code = hold_.call(only(Waits::Room), [&](iox2ps_domain_t *domain) { return next(domain, got); });
+    iox2ps_status_t code = hold_.call(only(detail::Waits::Room), [&](iox2ps_domain_t *domain) { return next(domain, got); });
     return received(code, got);
   }
 
@@ -848,7 +943,7 @@ public:
   Result<std::optional<Sample<P, M>>> blocking_receive(Until until = {}) {
     if (!hold_) return Error::NotLive;
     Got got;
-    iox2ps_status_t code = hold_.wait(Waits::Message, port_.id, only(Waits::Room), until, [&](iox2ps_domain_t *domain) {
+    iox2ps_status_t code = hold_.wait(detail::Waits::Message, port_.id, only(detail::Waits::Room), until, [&](iox2ps_domain_t *domain) {
       return next(domain, got);
     });
     return received(code, got);
@@ -871,7 +966,7 @@ public:
     if (!hold_) return Error::NotLive;
     Copy copy;
     auto next = [&](iox2ps_domain_t *domain) { return copy.next(domain, port_); };
-    return copy.of(hold_.wait(Waits::Message, port_.id, copies, until, next));
+    return copy.of(hold_.wait(detail::Waits::Message, port_.id, copies, until, next));
   }
   /** The same, for so long. */
   template <typename Q = P, std::enable_if_t<!detail::is_slice<Q>, int> = 0>
@@ -888,11 +983,11 @@ public:
     while (true) {
       Got got;
       bool is_held = last.has_value();
-      iox2ps_status_t code = hold_.wait(Waits::Message, port_.id, copies, {}, [&](iox2ps_domain_t *domain) {
+      iox2ps_status_t code = hold_.wait(detail::Waits::Message, port_.id, copies, {}, [&](iox2ps_domain_t *domain) {
         if (!std::exchange(is_held, false)) return next(domain, got);
         static_cast<void>(iox2ps_sample_release(domain, &last->sample_));
         iox2ps_status_t received = next(domain, got);
-        if (received == IOX2PS_NO_SAMPLE) hold_->threads.bring_too(only(Waits::Loan));
+        if (received == IOX2PS_NO_SAMPLE) hold_.many().bring_too(only(detail::Waits::Loan));
         return received;
       });
       if (last) last->hold_ = detail::Hold<M>(); // it was released
@@ -905,7 +1000,7 @@ public:
   }
 
   /** Whether a message waits, also one that can't be received yet. */
-  Result<bool> has_samples() {
+  Result<bool> has_samples() const {
     return hold_.told([&](iox2ps_domain_t *domain, std::uint32_t *waits) {
       return iox2ps_subscriber_has_samples(domain, &port_, waits);
     });
@@ -927,7 +1022,7 @@ public:
     });
   }
 
-  /** Brings a channel into this state at each connection of it where it is closed, so that it takes messages again. Whether
+  /** detail::Brings a channel into this state at each connection of it where it is closed, so that it takes messages again. Whether
    * it was closed at all of them, and so true where there is none. Where it isn't closed it stays as it is.
    * Error::NoSuchChannel. */
   Result<bool> set_channel_state(std::size_t channel, std::uint64_t state) {
@@ -940,7 +1035,7 @@ public:
    * waits is received all the same. Error::NoSuchChannel. */
   Done close_channel(std::size_t channel, std::uint64_t expected) {
     if (!hold_) return Error::NotLive;
-    return detail::done(hold_.call(only(Waits::Room), [&](iox2ps_domain_t *domain) {
+    return detail::done(hold_.call(only(detail::Waits::Room), [&](iox2ps_domain_t *domain) {
       return iox2ps_subscriber_close_channel(domain, &port_, channel, expected);
     }));
   }
@@ -965,20 +1060,22 @@ public:
    * itself by a std::weak_ptr alone, or neither would ever go. */
   template <typename F> Done set_listener(F &&listener) {
     if (!*this) return Error::NotLive;
-    hold_->threads.listen(id(), std::make_shared<const std::function<void()>>(std::forward<F>(listener)));
+    if (!hold_.is_here()) return Error::AfterFork;
+    hold_.many().listen(id(), std::make_shared<const std::function<void()>>(std::forward<F>(listener)));
     return std::monostate{};
   }
 
   /** For several threads alone: calls nothing any longer. A call that has begun may still run. */
   void clear_listener() {
-    if (hold_) hold_->threads.forget(id());
+    if (hold_.is_here()) hold_.many().forget(id());
   }
 
   /** For several threads alone, on Linux: a file descriptor for an event loop. It is the subscriber's listener from now on, in
    * place of another. Error::NoDescriptor where the system has none left. */
-  template <typename N = M> Result<typename N::MessageFd> message_fd() {
+  template <typename N = M> Result<typename detail::Threads<N>::MessageFd> message_fd() {
     if (!hold_) return Error::NotLive;
-    auto made = N::MessageFd::create();
+    if (!hold_.is_here()) return Error::AfterFork;
+    auto made = detail::Threads<N>::MessageFd::create();
     if (!made) return made;
     Done set = set_listener([raised = *made] { raised.raise(); });
     if (!set) return set.error();
@@ -988,13 +1085,13 @@ public:
   /** Closes it. Its samples stay. Other threads that wait for a message of it then return Error::NotLive. */
   void close() {
     auto make = [&](iox2ps_domain_t *domain) { return iox2ps_subscriber_close(domain, &port_); };
-    hold_.close(open_, Waits::Room | Waits::Loan, detail::id_of(port_.id), make);
+    hold_.close(open_, detail::Waits::Room | detail::Waits::Loan, detail::id_of(port_.id), make);
   }
 
 private:
   friend class Domain<P, M>;
 
-  static constexpr Brings copies = Waits::Room | Waits::Loan;
+  static constexpr detail::Brings copies = detail::Waits::Room | detail::Waits::Loan;
 
   Subscriber(detail::Hold<M> hold, const iox2ps_subscriber_t &port) : hold_(std::move(hold)), port_(port) {}
 
@@ -1037,7 +1134,7 @@ private:
   };
 
   detail::Hold<M> hold_;
-  typename M::Open open_;
+  typename detail::Threads<M>::Open open_;
   iox2ps_subscriber_t port_;
 };
 
@@ -1048,6 +1145,7 @@ public:
   /** Makes a domain. Error::InvalidBackpressureStrategy, Error::OutOfMemory, Error::OtherVersion. */
   static Result<Domain> create(const Config<P> &config) {
     if (iox2ps_version() != IOX2PS_VERSION) return Error::OtherVersion;
+    if (!detail::count_forks()) return Error::OutOfMemory;
     detail::Hold<M> hold(new (std::nothrow) detail::Shared<M>);
     if (!hold) return Error::OutOfMemory;
     iox2ps_status_t code = detail::Raw::create(config, &hold->domain);
@@ -1058,23 +1156,25 @@ public:
   explicit operator bool() const { return static_cast<bool>(hold_); } /**< whether there is a domain */
 
   /** Makes a publisher with these options, and else with what the settings say. */
-  Result<Publisher<P, M>> publisher(const PublisherOptions<P> &options = {}) {
+  Result<Publisher<P, M>> publisher(const PublisherOptions<P> &options = {}) const {
     if (!hold_) return Error::NotLive;
-    std::unique_ptr<detail::Orphan> made(new (std::nothrow) detail::Orphan);
+    std::unique_ptr<detail::Sender> made(new (std::nothrow) detail::Sender);
     if (!made) return Error::OutOfMemory;
-    iox2ps_status_t code = hold_.call(only(Waits::Message), [&](iox2ps_domain_t *domain) {
+    iox2ps_status_t code = hold_.call(only(detail::Waits::Message), [&](iox2ps_domain_t *domain) {
       iox2ps_config_t settings;
       iox2ps_status_t read = iox2ps_domain_config(domain, &settings);
       if (read != IOX2PS_OK) return read;
-      auto raw = detail::Raw::options(options, settings);
-      return iox2ps_publisher_create_with(domain, &raw, &made->port);
+      return hold_->create_publisher(detail::Raw::options(options, settings), *made);
     });
     if (code != IOX2PS_OK) return detail::error_of(code);
     return Publisher<P, M>(hold_, std::move(made));
   }
 
-  /** Makes a subscriber with these options, and else with what the settings say. */
-  Result<Subscriber<P, M>> subscriber(const SubscriberOptions &options = {}) {
+  /** Makes a subscriber with these options, and else with what the settings say. Where several threads share the domain, each
+   * publisher of it connects to the subscriber in this call, as by update_connections(), and hands it its history: so a message
+   * that was sent long ago can be received at once. What keeps a publisher from that doesn't fail this call: it connects with its
+   * next send. */
+  Result<Subscriber<P, M>> subscriber(const SubscriberOptions &options = {}) const {
     if (!hold_) return Error::NotLive;
     iox2ps_subscriber_t port;
     iox2ps_status_t code = hold_.ask([&](iox2ps_domain_t *domain) {
@@ -1082,7 +1182,11 @@ public:
       iox2ps_status_t read = iox2ps_domain_config(domain, &settings);
       if (read != IOX2PS_OK) return read;
       auto raw = detail::Raw::options(options, settings);
-      return iox2ps_subscriber_create_with(domain, &raw, &port);
+      iox2ps_status_t made = iox2ps_subscriber_create_with(domain, &raw, &port);
+      if constexpr (detail::is_shared<M>) {
+        if (made == IOX2PS_OK) connect_publishers(settings.history_size > 0);
+      }
+      return made;
     });
     if (code != IOX2PS_OK) return detail::error_of(code);
     return Subscriber<P, M>(hold_, port);
@@ -1147,8 +1251,14 @@ public:
 
   /** For several threads alone: lets no call wait any longer: each tries once, and returns what it found. So a program
    * ends its threads. With false calls wait again. */
-  void stop_waits(bool stopped = true) {
-    if (hold_) hold_->threads.stop(stopped);
+  void stop_waits(bool stopped = true) const {
+    if (hold_.is_here()) hold_.many().stop(stopped);
+  }
+
+  /** For several threads alone: whether stop_waits() was called, and not taken back. So a loop of timed_ calls tells an end from a
+   * time that has passed. */
+  [[nodiscard]] bool waits_are_stopped() const {
+    return hold_.is_here() && hold_.many().is_stopped();
   }
 
 private:
@@ -1156,17 +1266,24 @@ private:
 
   explicit Domain(detail::Hold<M> hold) : hold_(std::move(hold)) {}
 
+  /* Part of a call that has made a subscriber. An update takes back what waited for closed subscribers, and other threads may wait
+   * for that or for what a history brings. */
+  void connect_publishers(bool have_history) const {
+    hold_->update_publishers();
+    hold_.many().bring_too(have_history ? detail::Waits::Message | detail::Waits::Loan : only(detail::Waits::Loan));
+  }
+
   /* Makes calls of iox2_pubsub.h on the domain with no other between them, and returns the code that make returns: for what goes
    * between domains, and has no handles. brings says what they may have brought to those who wait. No function of a handle is
    * called by make. */
-  template <typename Call> iox2ps_status_t call(Brings brings, Call &&make) const {
+  template <typename Call> iox2ps_status_t call(detail::Brings brings, Call &&make) const {
     if (!hold_) return IOX2PS_NOT_LIVE;
     return hold_.call(brings, std::forward<Call>(make));
   }
 
   /* For several threads alone: makes them again as long as their code says that this port still waits, each time when something
    * came that may help; or, where a time is given, until that has passed, or until waits are stopped. */
-  template <typename Call> iox2ps_status_t wait(Waits what, Id port, Brings brings, Until until, Call &&make) const {
+  template <typename Call> iox2ps_status_t wait(detail::Waits what, Id port, detail::Brings brings, Until until, Call &&make) const {
     if (!hold_) return IOX2PS_NOT_LIVE;
     return hold_.wait(what, {port.low, port.high}, brings, until, std::forward<Call>(make));
   }

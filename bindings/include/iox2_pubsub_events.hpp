@@ -4,8 +4,7 @@
 #ifndef IOX2_PUBSUB_EVENTS_HPP
 #define IOX2_PUBSUB_EVENTS_HPP
 
-#include "iox2_pubsub_results.hpp"
-#include "iox2_pubsub_settings.hpp"
+#include "iox2_pubsub.hpp"
 
 #include <atomic>
 #include <functional>
@@ -94,7 +93,7 @@ public:
   Listener set(Id port, Listener listener) {
     std::lock_guard<Lock> lock(lock_);
     auto at = all_.begin();
-    while (at != all_.end() && is_less(at->port, port)) ++at;
+    while (at != all_.end() && at->port < port) ++at;
     if (at == all_.end() || at->port != port) {
       if (listener) all_.insert(at, {port, std::move(listener)});
       return nullptr;
@@ -110,8 +109,6 @@ private:
     Listener listener;
   };
 
-  static bool is_less(Id one, Id other) { return one.high != other.high ? one.high < other.high : one.low < other.low; }
-
   void call_all() const override {
     for (One one = after(std::nullopt); one.listener; one = after(one.port)) (*one.listener)();
   }
@@ -120,7 +117,7 @@ private:
   One after(std::optional<Id> port) const {
     std::lock_guard<Lock> lock(lock_);
     for (const One &one : all_) {
-      if (!port || is_less(*port, one.port)) return one;
+      if (!port || *port < one.port) return one;
     }
     return {{0, 0}, nullptr};
   }
@@ -133,14 +130,17 @@ private:
 
 #ifdef __linux__
 /** A file descriptor that is readable when a message may have come for its subscriber, until reset(), for poll, epoll and event
- * loops. It begins readable. Copies are the same descriptor, which is closed with the last of them and the listener. */
+ * loops. It begins readable. Copies are the same descriptor, which is closed with the last of them and the listener; a child of the
+ * process leaves it open. */
 class MessageFd {
 public:
-  int fd() const { return raised_->fd; } /**< the descriptor, which isn't to be closed or read */
+  [[nodiscard]] int fd() const { return raised_->fd; } /**< the descriptor, which isn't to be closed or read */
 
-  /** Lets it be readable no longer. Reset it first, and then receive until nothing waits: so no message is missed. */
+  /** Lets it be readable no longer. Reset it first, and then receive until nothing waits: so no message is missed. In a child of the
+   * process that made it nothing is done, so that the signal stays the parent's. */
   void reset() const {
-    std::uint64_t count;
+    if (!raised_->process.is_here()) return;
+    std::uint64_t count = 0;
     static_cast<void>(!::read(raised_->fd, &count, sizeof count));
     raised_->is_raised.exchange(false, std::memory_order_acq_rel);
   }
@@ -151,11 +151,12 @@ private:
   struct Raised {
     int fd = ::eventfd(1, EFD_CLOEXEC | EFD_NONBLOCK);
     std::atomic<bool> is_raised{true};
+    detail::OfProcess process;
     Raised() = default;
     Raised(const Raised &) = delete;
     Raised &operator=(const Raised &) = delete;
     ~Raised() {
-      if (fd >= 0) ::close(fd);
+      if (fd >= 0 && process.is_here()) ::close(fd);
     }
   };
 

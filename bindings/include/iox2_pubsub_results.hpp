@@ -9,6 +9,9 @@
 #include <cstdio>
 #include <cstdlib>
 #include <functional>
+#include <iosfwd>
+#include <string>
+#include <system_error>
 #include <type_traits>
 #include <utility>
 #include <variant>
@@ -86,6 +89,8 @@ enum class Error : std::uint32_t {
   InvalidReserved = IOX2PS_INVALID_RESERVED,                          /**< never returned */
   WorstCaseTooLarge = IOX2PS_WORST_CASE_TOO_LARGE,                    /**< never returned */
 
+  /** The domain is that of the process that was forked, and this is its child. A domain of its own is made here. */
+  AfterFork = 0xfffffffdu,
   /** The system has no file descriptor left. */
   NoDescriptor = 0xfffffffeu,
   /** The program is linked to the archive of another version than that of these headers. */
@@ -93,11 +98,53 @@ enum class Error : std::uint32_t {
 };
 
 /** An error in words, which lie there for good. */
-inline const char *text(Error error) {
-  if (error == Error::NoDescriptor) return "NoDescriptor: the system has no file descriptor left";
-  if (error == Error::OtherVersion) return "OtherVersion: the archive isn't of the headers' version";
-  return iox2ps_error_text(static_cast<std::uint32_t>(error));
+[[nodiscard]] inline const char *text(Error error) {
+  switch (error) {
+  case Error::NotLive: return "NotLive: the handle is empty: it was moved from, sent, given back or closed";
+  case Error::LoanExceedsMaxLoans:
+    return "LoanError::ExceedsMaxLoans: as many loans of the publisher are out as may be: send or discard one, or allow more "
+           "by publisher_max_loaned_samples of the domain or max_loaned_samples of the publisher";
+  case Error::AfterFork: return "AfterFork: the domain belongs to the process that was forked: make one in this process";
+  case Error::NoDescriptor: return "NoDescriptor: the system has no file descriptor left";
+  case Error::OtherVersion: return "OtherVersion: the archive isn't of the headers' version";
+  default: return iox2ps_error_text(static_cast<std::uint32_t>(error));
+  }
 }
+
+/** Writes the error in words to a stream. */
+template <typename Traits> std::basic_ostream<char, Traits> &operator<<(std::basic_ostream<char, Traits> &out, Error error) {
+  return out << text(error);
+}
+
+namespace detail {
+
+class ErrorCategory final : public std::error_category {
+public:
+  const char *name() const noexcept override { return "iox2_pubsub"; }
+  std::string message(int code) const override { return text(static_cast<Error>(code)); }
+  std::error_condition default_error_condition(int code) const noexcept override {
+    switch (static_cast<Error>(code)) {
+    case Error::OutOfMemory:
+    case Error::SendConnectionOutOfMemory:
+    case Error::ReceiveConnectionOutOfMemory:
+    case Error::ConnectionOutOfMemory: return std::errc::not_enough_memory;
+    case Error::NoDescriptor: return std::errc::too_many_files_open;
+    default: return {code, *this};
+    }
+  }
+};
+
+} // namespace detail
+
+/** What the codes of make_error_code() belong to. */
+[[nodiscard]] inline const std::error_category &error_category() noexcept {
+  static const detail::ErrorCategory category;
+  return category;
+}
+
+/** The error as the standard library's: `std::error_code code = result.error();`. Those of memory and of descriptors compare equal to
+ * the std::errc that says the same. */
+[[nodiscard]] inline std::error_code make_error_code(Error error) noexcept { return {static_cast<int>(error), error_category()}; }
 
 /** A value, or why there is none. What asks for a value that isn't there ends the program, and says why on standard
  * error: value(), *, -> and expect(). */
@@ -106,33 +153,39 @@ public:
   Result(V value) : held_(std::in_place_index<0>, std::move(value)) {} /**< a value */
   Result(Error error) : held_(std::in_place_index<1>, error) {}        /**< none */
 
-  bool has_value() const noexcept { return held_.index() == 0; }       /**< whether there is a value */
+  [[nodiscard]] bool has_value() const noexcept { return held_.index() == 0; }       /**< whether there is a value */
   /** The same, but not of a Result<bool>: `if (subscriber.has_samples())` would ask whether there is an answer, and not what it is.
    * So that is refused when it is compiled: read the answer by *, or by value_or(). */
-  template <typename U = V, std::enable_if_t<!std::is_same_v<U, bool>, int> = 0> explicit operator bool() const noexcept {
+  template <typename U = V, std::enable_if_t<!std::is_same_v<U, bool>, int> = 0>
+  [[nodiscard]] explicit operator bool() const noexcept {
     return has_value();
   }
   template <typename U = V, std::enable_if_t<std::is_same_v<U, bool>, int> = 0>
   explicit operator bool() const = delete; /**< as said there */
 
-  V &value() & { return there("no value"); }                           /**< the value */
-  const V &value() const & { return there("no value"); }               /**< the value */
-  V &&value() && { return std::move(there("no value")); }              /**< the value */
-  V &operator*() & { return value(); }                                 /**< the value */
-  const V &operator*() const & { return value(); }                     /**< the value */
-  V &&operator*() && { return std::move(*this).value(); }              /**< the value */
-  V *operator->() { return &value(); }                                 /**< the value's members */
-  const V *operator->() const { return &value(); }                     /**< the value's members */
+  [[nodiscard]] V &value() & { return there("no value"); }                     /**< the value */
+  [[nodiscard]] const V &value() const & { return there("no value"); }         /**< the value */
+  [[nodiscard]] V &&value() && { return std::move(there("no value")); }        /**< the value */
+  [[nodiscard]] V &operator*() & { return value(); }                           /**< the value */
+  [[nodiscard]] const V &operator*() const & { return value(); }               /**< the value */
+  [[nodiscard]] V &&operator*() && { return std::move(*this).value(); }        /**< the value */
+  V *operator->() { return &value(); }                                         /**< the value's members */
+  const V *operator->() const { return &value(); }                             /**< the value's members */
 
   /** The value; where there is none the program ends, and says these words and the error's. */
   V expect(const char *words) && { return std::move(there(words)); }
+  /** Refused when it is compiled: of a Result with a name value() is read, or the value is moved out. */
+  template <typename Words> V expect(Words) const & {
+    static_assert(!std::is_same_v<Words, Words>,
+                  "expect() takes the value out of its Result: write std::move(result).expect(..), or read it by result.value()");
+  }
 
   /** The value, or this one where there is none. */
-  template <typename U> V value_or(U &&other) const & {
+  template <typename U> [[nodiscard]] V value_or(U &&other) const & {
     return has_value() ? value() : static_cast<V>(std::forward<U>(other));
   }
   /** The value, moved out, or this one where there is none. */
-  template <typename U> V value_or(U &&other) && {
+  template <typename U> [[nodiscard]] V value_or(U &&other) && {
     return has_value() ? std::move(*this).value() : static_cast<V>(std::forward<U>(other));
   }
 
@@ -144,7 +197,7 @@ public:
   template <typename F> auto and_then(F &&next) && { return then(std::move(*this), std::forward<F>(next)); }
 
   /** Why there is no value. Where there is one the program ends. */
-  Error error() const {
+  [[nodiscard]] Error error() const {
     if (has_value()) end("error() of a value");
     return *std::get_if<1>(&held_);
   }
@@ -187,5 +240,8 @@ inline Done done(iox2ps_status_t code) {
 } // namespace detail
 
 } // namespace iox2ps
+
+/** Lets a std::error_code be made of an Error. */
+template <> struct std::is_error_code_enum<iox2ps::Error> : std::true_type {};
 
 #endif

@@ -12,20 +12,63 @@
 
 #include "iox2_pubsub_results.hpp"
 
+#include <array>
 #include <cstddef>
+#include <functional>
 #include <limits>
 #include <optional>
 #include <string>
 
 namespace iox2ps {
 
-/** The number of a domain, a port or a message, which no other of its domain has. */
+/** The number of a domain, a port or a message, which no other of its domain has. It may be the key of a std::map or a
+ * std::unordered_map, and is written to a stream as a decimal number. */
 struct Id {
   std::uint64_t low;  /**< the number modulo 2 to the 64th */
   std::uint64_t high; /**< the rest of it */
   friend bool operator==(Id a, Id b) { return a.low == b.low && a.high == b.high; } /**< whether it is the same */
   friend bool operator!=(Id a, Id b) { return !(a == b); }                          /**< whether it is another */
+  friend bool operator<(Id a, Id b) { return a.high != b.high ? a.high < b.high : a.low < b.low; } /**< whether it is less */
+  friend bool operator>(Id a, Id b) { return b < a; }                               /**< whether it is greater */
+  friend bool operator<=(Id a, Id b) { return !(b < a); }                           /**< whether it isn't greater */
+  friend bool operator>=(Id a, Id b) { return !(a < b); }                           /**< whether it isn't less */
 };
+
+namespace detail {
+
+/* The decimal digits of a number, which has 39 at most, and a zero byte: filled from behind, by a division of its quarters. */
+class Digits {
+public:
+  explicit Digits(Id id)
+      : quarters_{static_cast<std::uint32_t>(id.high >> 32), static_cast<std::uint32_t>(id.high),
+                  static_cast<std::uint32_t>(id.low >> 32), static_cast<std::uint32_t>(id.low)} {
+    do all_[--first_] = static_cast<char>('0' + last_digit());
+    while (quarters_ != std::array<std::uint32_t, 4>{});
+  }
+  [[nodiscard]] const char *text() const { return &all_[first_]; }
+
+private:
+  std::uint32_t last_digit() {
+    std::uint64_t rest = 0;
+    for (std::uint32_t &quarter : quarters_) {
+      rest = rest << 32 | quarter;
+      quarter = static_cast<std::uint32_t>(rest / 10);
+      rest %= 10;
+    }
+    return static_cast<std::uint32_t>(rest);
+  }
+
+  std::array<std::uint32_t, 4> quarters_;
+  std::array<char, 40> all_{};
+  std::size_t first_ = 39;
+};
+
+} // namespace detail
+
+/** Writes the number to a stream. */
+template <typename Traits> std::basic_ostream<char, Traits> &operator<<(std::basic_ostream<char, Traits> &out, Id id) {
+  return out << detail::Digits(id).text();
+}
 
 /** What a publisher does where a subscriber's buffer is full and the domain doesn't overflow. */
 enum class BackpressureStrategy : std::uint32_t {
@@ -71,7 +114,7 @@ template <typename P> constexpr void check() {
 
 /* How many bytes this number of values has, or the greatest number that there can be. */
 template <typename T> constexpr std::size_t bytes_of(std::size_t values) {
-  constexpr std::size_t greatest = std::numeric_limits<std::size_t>::max();
+  constexpr std::size_t greatest = (std::numeric_limits<std::size_t>::max)();
   return values > greatest / sizeof(T) ? greatest - greatest % alignof(T) : values * sizeof(T);
 }
 
@@ -95,35 +138,35 @@ struct Raw {
 /** The settings of a domain, whatever its messages are. */
 class ServiceConfig {
 public:
-  Id service_id() const { return detail::id_of(raw_.service_id); } /**< names the domain */
-  Id node_id() const { return detail::id_of(raw_.node_id); }       /**< what the header of each message names */
-  std::size_t payload_size() const { return raw_.payload_size; }   /**< how many bytes a message may have */
-  std::size_t payload_alignment() const { return raw_.payload_alignment; } /**< to how many bytes each is aligned */
-  std::size_t max_publishers() const { return raw_.max_publishers; }       /**< how many may be open at a time */
+  [[nodiscard]] Id service_id() const { return detail::id_of(raw_.service_id); } /**< names the domain */
+  [[nodiscard]] Id node_id() const { return detail::id_of(raw_.node_id); }       /**< what the header of each message names */
+  [[nodiscard]] std::size_t payload_size() const { return raw_.payload_size; }   /**< how many bytes a message may have */
+  [[nodiscard]] std::size_t payload_alignment() const { return raw_.payload_alignment; } /**< to how many bytes each is aligned */
+  [[nodiscard]] std::size_t max_publishers() const { return raw_.max_publishers; }       /**< how many may be open at a time */
   /** How many subscribers there may be at a time. Each counts in the memory of each publisher. */
-  std::size_t max_subscribers() const { return raw_.max_subscribers; }
+  [[nodiscard]] std::size_t max_subscribers() const { return raw_.max_subscribers; }
   /** How many messages of one publisher may wait for a subscriber. */
-  std::size_t subscriber_max_buffer_size() const { return raw_.subscriber_max_buffer_size; }
+  [[nodiscard]] std::size_t subscriber_max_buffer_size() const { return raw_.subscriber_max_buffer_size; }
   /** How many samples of one publisher a subscriber may hold. */
-  std::size_t subscriber_max_borrowed_samples() const { return raw_.subscriber_max_borrowed_samples; }
+  [[nodiscard]] std::size_t subscriber_max_borrowed_samples() const { return raw_.subscriber_max_borrowed_samples; }
   /** How many messages a publisher keeps for later subscribers. */
-  std::size_t history_size() const { return raw_.history_size; }
+  [[nodiscard]] std::size_t history_size() const { return raw_.history_size; }
   /** How many channels each connection has; 0 counts as 1. */
-  std::size_t number_of_channels() const { return raw_.number_of_channels; }
+  [[nodiscard]] std::size_t number_of_channels() const { return raw_.number_of_channels; }
   /** How many connections to closed publishers are kept. */
-  std::size_t subscriber_expired_connection_buffer() const { return raw_.subscriber_expired_connection_buffer; }
+  [[nodiscard]] std::size_t subscriber_expired_connection_buffer() const { return raw_.subscriber_expired_connection_buffer; }
   /** How many loans of a publisher may be out at a time. */
-  std::size_t publisher_max_loaned_samples() const { return raw_.publisher_max_loaned_samples; }
+  [[nodiscard]] std::size_t publisher_max_loaned_samples() const { return raw_.publisher_max_loaned_samples; }
   /** Whether a full buffer lets its oldest message go. */
-  bool enable_safe_overflow() const { return raw_.enable_safe_overflow != 0; }
+  [[nodiscard]] bool enable_safe_overflow() const { return raw_.enable_safe_overflow != 0; }
   /** What a publisher does at a full buffer where that isn't so. */
-  BackpressureStrategy backpressure_strategy() const { return static_cast<BackpressureStrategy>(raw_.backpressure_strategy); }
+  [[nodiscard]] BackpressureStrategy backpressure_strategy() const { return static_cast<BackpressureStrategy>(raw_.backpressure_strategy); }
 
   /** How many slots a publisher has that is made without options, or none where the number doesn't fit. */
-  std::optional<std::size_t> worst_case_slots() const { return worst_case_slots(raw_.publisher_max_loaned_samples); }
+  [[nodiscard]] std::optional<std::size_t> worst_case_slots() const { return worst_case_slots(raw_.publisher_max_loaned_samples); }
 
   /** The same of one with this number of loans. */
-  std::optional<std::size_t> worst_case_slots(std::size_t loans) const {
+  [[nodiscard]] std::optional<std::size_t> worst_case_slots(std::size_t loans) const {
     std::size_t slots = 0;
     if (iox2ps_worst_case_slots(&raw_, loans, &slots) != IOX2PS_OK) return std::nullopt;
     return slots;
@@ -334,7 +377,7 @@ enum class WarningKind : std::uint32_t {
 };
 
 /** The kind in words, which lie there for good. */
-inline const char *text(WarningKind kind) { return iox2ps_error_text(static_cast<std::uint32_t>(kind)); }
+[[nodiscard]] inline const char *text(WarningKind kind) { return iox2ps_error_text(static_cast<std::uint32_t>(kind)); }
 
 /** Something that a domain did or left undone without failing the call. */
 struct Warning {
@@ -355,5 +398,13 @@ inline Warning warning_of(const iox2ps_warning_t &raw) {
 } // namespace detail
 
 } // namespace iox2ps
+
+/** Lets an Id be the key of a std::unordered_map. */
+template <> struct std::hash<iox2ps::Id> {
+  /** Of both halves. */
+  [[nodiscard]] std::size_t operator()(iox2ps::Id id) const noexcept {
+    return std::hash<std::uint64_t>()(id.low ^ id.high * 0x9e3779b97f4a7c15u);
+  }
+};
 
 #endif

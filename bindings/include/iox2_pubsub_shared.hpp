@@ -21,137 +21,166 @@
  * set_listener and message_fd of a subscriber let a receive fit into an event loop: a function is called, or a file descriptor
  * is readable, when a message may have come.
  *
- * Nothing more is thrown than by iox2_pubsub.hpp, but std::bad_alloc by the calls that wait and by these two. */
+ * Nothing more is thrown than by iox2_pubsub.hpp, but std::bad_alloc by these two. No call on a message takes memory, also where a
+ * thread waits for the first time; only connections do, which are made when a port is, or by an update. A lock that throws where a
+ * thread waits ends the program. */
 #ifndef IOX2_PUBSUB_SHARED_HPP
 #define IOX2_PUBSUB_SHARED_HPP
 
 #include "iox2_pubsub.hpp"
 #include "iox2_pubsub_events.hpp"
 
+#include <array>
 #include <atomic>
 #include <condition_variable>
 #include <memory>
 #include <mutex>
+#include <new>
 #include <thread>
 
 namespace iox2ps {
 
 namespace detail {
 
-/* Where a thread sleeps until it is woken. */
-class Sleeper {
+/* Where threads sleep until they are woken. Whoever wakes a thread may come late, when its call and the thread itself are gone: so
+ * bells are there for good. A thread that shares its bell with another is woken for that one too, and sleeps on. */
+class Bell {
 public:
-  void wake() {
-    {
-      std::lock_guard<std::mutex> lock(mutex_);
-      woken_ = true;
-    }
-    signal_.notify_one();
+  void ring() {
+    { std::lock_guard<std::mutex> lock(mutex_); }
+    signal_.notify_all();
   }
 
-  void sleep(Until until) {
+  void sleep(const std::atomic<bool> &is_woken, Until until) {
     std::unique_lock<std::mutex> lock(mutex_);
-    auto is_woken = [this] { return woken_; };
-    if (until) signal_.wait_until(lock, *until, is_woken);
-    else signal_.wait(lock, is_woken);
-    woken_ = false;
+    auto is_so = [&] { return is_woken.load(std::memory_order_acquire); };
+    if (until) signal_.wait_until(lock, *until, is_so);
+    else signal_.wait(lock, is_so);
   }
 
 private:
   std::mutex mutex_;
   std::condition_variable signal_;
-  bool woken_ = false;
 };
 
-/* This thread's. It is shared with whoever wakes it, since a thread whose time is up doesn't wait for that. A destructor at the end
- * of a thread or the program may wait after the thread's own is gone: such a wait has one for itself. */
-inline std::shared_ptr<Sleeper> own_sleeper() {
-  static thread_local bool is_gone = false; /* without a destructor, and so it stays */
-  struct Own {
-    std::shared_ptr<Sleeper> sleeper = std::make_shared<Sleeper>();
-    ~Own() { is_gone = true; }
-  };
-  if (is_gone) return std::make_shared<Sleeper>();
-  static thread_local const Own own;
-  return own.sleeper;
-}
+/* The bells of all threads, which are made with the first domain: so no thread takes memory where it first waits. They are never
+ * destroyed, since a destructor at the end of the program may wait too. A child of the process begins with new ones: a thread that
+ * it doesn't have may have been at one of those. */
+class Bells {
+public:
+  static Bells &all() {
+    static Bells &all = made();
+    return all;
+  }
+
+  /* This thread's. */
+  Bell &own() {
+    static thread_local const std::size_t at = threads_.fetch_add(1, std::memory_order_relaxed) % bells_.size();
+    return bells_[at];
+  }
+
+private:
+  static Bells &made() {
+    Bells &all = made_anew();
+#if defined(__unix__) || defined(__APPLE__)
+    static_cast<void>(pthread_atfork(nullptr, nullptr, [] { static_cast<void>(made_anew()); }));
+#endif
+    return all;
+  }
+
+  static Bells &made_anew() {
+    alignas(Bells) static unsigned char place[sizeof(Bells)];
+    return *new (place) Bells;
+  }
+
+  std::array<Bell, 256> bells_;
+  std::atomic<std::size_t> threads_{0};
+};
+
+/* A thread that waits in a domain, for as long as its call does. But for the last field all of it is used under the lock. */
+struct Waiting {
+  Waits what;
+  Id port;
+  Bell &bell;
+  /* Something came that may help; it was woken, and isn't back yet. */
+  bool is_due = false, is_awake = false;
+  Waiting *before = nullptr, *after = nullptr;
+  std::atomic<bool> is_woken{false};
+};
 
 /* Those who wait in a domain. All of it is used under the lock. */
 class WaitingList {
 public:
-  bool is_empty() const { return all_.empty(); }
+  [[nodiscard]] bool is_empty() const { return !first_; }
 
-  /* This thread begins to wait. */
-  void add(Waits what, Id port, std::shared_ptr<Sleeper> sleeper) { all_.push_back({what, port, std::move(sleeper), false, false}); }
+  /* A thread begins to wait. */
+  void add(Waiting &one) {
+    one.is_due = one.is_awake = false;
+    one.is_woken.store(false, std::memory_order_relaxed);
+    one.before = last_;
+    one.after = nullptr;
+    (last_ ? last_->after : first_) = &one;
+    last_ = &one;
+  }
 
   /* It is back: by a wake-up, because its time is up, or for no reason. */
-  void remove(const std::shared_ptr<Sleeper> &sleeper) {
-    for (auto one = all_.begin(); one != all_.end(); ++one) {
-      if (one->sleeper != sleeper) continue;
-      if (one->is_awake) awake_--;
-      all_.erase(one);
-      return;
-    }
+  void remove(Waiting &one) {
+    if (one.is_awake) awake_--;
+    (one.before ? one.before->after : first_) = one.after;
+    (one.after ? one.after->before : last_) = one.before;
   }
 
   /* Something came that may help those who wait for it. One that is awake tries again anyway. */
   void bring(Brings brings) {
-    for (auto &one : all_) {
-      if (!one.is_awake && (brings & helped_by(one.what)) != 0) one.is_due = true;
+    for (Waiting *one = first_; one; one = one->after) {
+      if (!one->is_awake && (brings & helped_by(one->what)) != 0) one->is_due = true;
     }
   }
 
   /* Nothing came for this subscriber, so that no other thread finds it there. */
   void nothing_for(Id port) {
-    for (auto &one : all_) {
-      if (one.what == Waits::Message && one.port == port) one.is_due = false;
+    for (Waiting *one = first_; one; one = one->after) {
+      if (one->what == Waits::Message && one->port == port) one->is_due = false;
     }
   }
 
   /* This port was closed, and each that waits for it finds that. */
   void end(Id port) {
-    for (auto &one : all_) {
-      if (!one.is_awake && one.port == port) one.is_due = true;
+    for (Waiting *one = first_; one; one = one->after) {
+      if (!one->is_awake && one->port == port) one->is_due = true;
     }
   }
 
   /* Whom to wake once the lock was given back: the first whom something may help. Nobody, where another thread is awake that
    * will come here, and so wake the next. */
-  std::shared_ptr<Sleeper> next() {
-    for (auto &one : all_) {
+  Bell *next() {
+    for (Waiting *one = first_; one; one = one->after) {
       if (awake_ > 0) break;
-      if (one.is_due) return rouse(one);
+      if (one->is_due) return &rouse(*one);
     }
     return nullptr;
   }
 
   /* Wakes all whom something may help. */
   void wake_all() {
-    for (auto &one : all_) {
-      if (one.is_due) rouse(one)->wake();
+    for (Waiting *one = first_; one; one = one->after) {
+      if (one->is_due) rouse(*one).ring();
     }
   }
 
 private:
-  struct Waiting {
-    Waits what;
-    Id port;
-    std::shared_ptr<Sleeper> sleeper;
-    /* Something came that may help; it was woken, and isn't back yet. */
-    bool is_due, is_awake;
-  };
-
   /* What may bring what is waited for. */
   static Brings helped_by(Waits what) { return what == Waits::Loan ? Waits::Loan | Waits::Free : only(what); }
 
-  std::shared_ptr<Sleeper> rouse(Waiting &one) {
+  Bell &rouse(Waiting &one) {
     one.is_due = false;
     one.is_awake = true;
     awake_++;
-    return one.sleeper;
+    one.is_woken.store(true, std::memory_order_release);
+    return one.bell;
   }
 
-  std::vector<Waiting> all_;
+  Waiting *first_ = nullptr, *last_ = nullptr;
   std::size_t awake_ = 0;
 };
 
@@ -192,42 +221,46 @@ template <typename Lock> constexpr unsigned looks<Lock, std::enable_if_t<(Lock::
 
 } // namespace detail
 
-/** The handles of a domain are for many threads, under a lock of this type. */
-template <typename Lock> class ManyThreadsWith {
+/** Says of handles that they are for many threads, under a lock of this type. */
+template <typename Lock> struct ManyThreadsWith {};
+
+namespace detail {
+
+/* By one after the other, each with the lock. */
+template <typename Lock> class Threads<ManyThreadsWith<Lock>> {
 public:
 #ifdef __linux__
-  using MessageFd = iox2ps::MessageFd; /**< what Subscriber::message_fd() makes */
+  using MessageFd = iox2ps::MessageFd;
 #endif
 
-  /** How many handles a domain has. */
+  /* How many handles a domain has. */
   class Count {
   public:
-    void add() { count_.fetch_add(1, std::memory_order_relaxed); } /**< one more */
-    bool is_last() { return count_.fetch_sub(1, std::memory_order_acq_rel) == 1; } /**< one less: was it the last? */
+    void add() { count_.fetch_add(1, std::memory_order_relaxed); }
+    bool is_last() { return count_.fetch_sub(1, std::memory_order_acq_rel) == 1; }
 
   private:
     std::atomic<std::size_t> count_{1};
   };
 
-  /** Whether a port is open, which other threads may ask. */
+  /* Whether a port is open, which other threads may ask. */
   class Open {
   public:
     Open() = default;
-    Open(const Open &other) noexcept : is_so_(static_cast<bool>(other)) {} /**< the same */
-    /** The same. */
+    Open(const Open &other) noexcept : is_so_(static_cast<bool>(other)) {}
     Open &operator=(const Open &other) noexcept {
       is_so_.store(static_cast<bool>(other), std::memory_order_relaxed);
       return *this;
     }
 
-    explicit operator bool() const { return is_so_.load(std::memory_order_relaxed); } /**< whether it is */
-    bool close() { return is_so_.exchange(false, std::memory_order_relaxed); }        /**< it isn't any longer, and whether it was */
+    explicit operator bool() const { return is_so_.load(std::memory_order_relaxed); }
+    bool close() { return is_so_.exchange(false, std::memory_order_relaxed); }
 
   private:
     std::atomic<bool> is_so_{true};
   };
 
-  /** Makes a call, and wakes those whom it may help. */
+  /* Makes a call, and wakes those whom it may help. */
   template <typename Call> iox2ps_status_t call(Brings brings, Call &&make) {
     Wake wake;
     iox2ps_status_t code;
@@ -240,9 +273,9 @@ public:
     return code;
   }
 
-  /** Makes calls as long as their code says that the port still waits, each time when something came that may help. */
-  template <typename Call> iox2ps_status_t wait(Waits what, Id port, Brings brings, Until until, Call &&make) {
-    std::shared_ptr<detail::Sleeper> sleeper;
+  /* Makes calls as long as their code says that the port still waits, each time when something came that may help. */
+  template <typename Call> iox2ps_status_t wait(Waits what, Id port, Brings brings, Until until, Call &&make) noexcept {
+    Waiting mine{what, port, bells_.own()};
     bool is_listed = false;
     while (true) {
       Wake wake;
@@ -251,37 +284,36 @@ public:
       bool is_over;
       {
         std::lock_guard<Lock> lock(lock_);
-        if (std::exchange(is_listed, false)) list_.remove(sleeper);
+        if (std::exchange(is_listed, false)) list_.remove(mine);
         code = make();
         if (code == IOX2PS_NO_SAMPLE) list_.nothing_for(port);
         wake = brought(brings, code);
-        is_over = !detail::waits_on(what, code) || is_stopped_ || (until && *until <= std::chrono::steady_clock::now());
+        is_over = !waits_on(what, code) || is_stopped_ || (until && *until <= std::chrono::steady_clock::now());
         seen = changes(what).load(std::memory_order_relaxed);
       }
       wake.wake();
-      if (is_over || detail::calling().is_on) return code;
+      if (is_over || calling().is_on) return code;
       if (looks_out(what, seen)) continue;
-      if (!sleeper) sleeper = detail::own_sleeper();
       {
         std::lock_guard<Lock> lock(lock_);
         is_listed = seen == changes(what).load(std::memory_order_relaxed);
-        if (is_listed) list_.add(what, port, sleeper);
+        if (is_listed) list_.add(mine);
       }
-      if (is_listed) sleeper->sleep(until);
+      if (is_listed) mine.bell.sleep(mine.is_woken, until);
     }
   }
 
-  /** Of a call under way: it has brought this, whatever its code says. */
+  /* Of a call under way: it has brought this, whatever its code says. */
   void bring_too(Brings brings) { too_ = brings; }
 
-  /** Of a call under way: it has closed this port, and nothing waits for it any longer. */
+  /* Of a call under way: it has closed this port, and nothing waits for it any longer. */
   void end_waits(Id port) {
     count(messages_);
     count(others_);
     list_.end(port);
   }
 
-  /** No call waits any longer, or calls wait again. */
+  /* No call waits any longer, or calls wait again. */
   void stop(bool is_stopped) {
     Wake wake;
     {
@@ -296,9 +328,14 @@ public:
     wake.wake();
   }
 
-  /** This is called from now on when a message may have come for the port, in place of what was before; or nothing is. */
-  void listen(Id port, detail::Listener listener) {
-    auto made = std::make_shared<detail::Listeners<Lock>>();
+  bool is_stopped() {
+    std::lock_guard<Lock> lock(lock_);
+    return is_stopped_;
+  }
+
+  /* This is called from now on when a message may have come for the port, in place of what was before; or nothing is. */
+  void listen(Id port, Listener listener) {
+    auto made = std::make_shared<Listeners<Lock>>();
     {
       std::lock_guard<Lock> lock(lock_);
       if (listeners_) made = listeners_;
@@ -307,9 +344,9 @@ public:
     made->set(port, std::move(listener));
   }
 
-  /** A subscriber goes, and nothing is called for it any longer. */
+  /* A subscriber goes, and nothing is called for it any longer. */
   void forget(Id port) {
-    std::shared_ptr<detail::Listeners<Lock>> listeners;
+    std::shared_ptr<Listeners<Lock>> listeners;
     {
       std::lock_guard<Lock> lock(lock_);
       listeners = listeners_;
@@ -320,39 +357,39 @@ public:
 private:
   /* Whom to wake, and what to call, once the lock was given back. */
   struct Wake {
-    std::shared_ptr<detail::Sleeper> sleeper;
-    std::shared_ptr<detail::Listeners<Lock>> listeners;
+    Bell *bell = nullptr;
+    std::shared_ptr<Listeners<Lock>> listeners;
 
     void wake() {
-      if (sleeper) sleeper->wake();
-      if (listeners) detail::Due::call(std::move(listeners));
+      if (bell) bell->ring();
+      if (listeners) Due::call(std::move(listeners));
     }
   };
 
   /* Under the lock: what a call that returned this code has brought. */
   Wake brought(Brings brings, iox2ps_status_t code) {
     Wake wake;
-    if (code != IOX2PS_OK) brings = detail::brought_by(brings, code);
+    if (code != IOX2PS_OK) brings = brought_by(brings, code);
     brings |= std::exchange(too_, 0u);
     if ((brings & only(Waits::Message)) != 0) {
       count(messages_);
       wake.listeners = listeners_;
     }
     if ((brings & ~only(Waits::Message)) != 0) count(others_);
-    if (!list_.is_empty()) wake.sleeper = next(brings);
+    if (!list_.is_empty()) wake.bell = next(brings);
     return wake;
   }
 
-  std::shared_ptr<detail::Sleeper> next(Brings brings) {
+  Bell *next(Brings brings) {
     list_.bring(brings);
-    if (!detail::wakes_all<Lock>) return list_.next();
+    if (!wakes_all<Lock>) return list_.next();
     list_.wake_all();
     return nullptr;
   }
 
   /* Looks for a change without the lock, for about as long as it takes to fall asleep. */
   bool looks_out(Waits what, std::size_t seen) {
-    for (unsigned turn = 0; turn < detail::looks<Lock>; turn++) {
+    for (unsigned turn = 0; turn < looks<Lock>; turn++) {
       if (turn > 6) std::this_thread::yield();
       for (unsigned look = 0; look < 1u << (turn < 6 ? turn : 0); look++) {
         if (changes(what).load(std::memory_order_relaxed) != seen) return true;
@@ -369,14 +406,17 @@ private:
   }
 
   Lock lock_;
-  detail::WaitingList list_;
+  WaitingList list_;
   bool is_stopped_ = false;
   Brings too_ = 0;
   /* None until one is set. */
-  std::shared_ptr<detail::Listeners<Lock>> listeners_;
+  std::shared_ptr<Listeners<Lock>> listeners_;
   /* What came so far: messages, and all else. They are read without the lock too. */
   std::atomic<std::size_t> messages_{0}, others_{0};
+  Bells &bells_ = Bells::all();
 };
+
+} // namespace detail
 
 /** The same, under the standard library's lock. */
 using ManyThreads = ManyThreadsWith<std::mutex>;

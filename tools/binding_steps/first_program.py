@@ -77,8 +77,20 @@ def in_c(work, compiler, source, standard):
     return printed.strip()
 
 
+def whole(work):
+    """The release is the one that the sums beside it say, and so is its page of proofs."""
+    clone = cloned(work, "of_sums")
+    said("sha256sum", "--check", "--quiet", "SHA256SUMS", cwd=clone / "dist")
+    packed = next((clone / "dist").glob("*.tar.gz"))
+    name = f"{packed.name.removesuffix('.tar.gz')}/PROOFS"
+    if said("tar", "xzOf", packed, name, both=False) != (clone / "dist/PROOFS").read_text():
+        raise Failed(f"dist/PROOFS isn't that of {packed.name}")
+    return packed.name
+
+
 def run_first(steps, work):
     """All languages that are here."""
+    steps.run("the release in dist/ has its sums", whole, work)
     for language, program, step, given in (
         ("Rust", "cargo", in_rust, ()),
         ("C", "gcc", in_c, ("gcc", "first.c", "c11")),

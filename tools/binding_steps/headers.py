@@ -37,6 +37,23 @@ def same_versions():
     return version()
 
 
+MACROS = """#define min(a, b) ((a) < (b) ? (a) : (b))
+#define max(a, b) ((a) > (b) ? (a) : (b))
+"""
+
+
+def beside_macros(compiler_of):
+    """The headers of C++ behind macros that have the names of functions, as a system's header may define them. The standard library's
+    own headers stand before these."""
+    used = {line for header in CPP_HEADERS for line in re.findall(r"^#include <[a-z_]+>$", (INCLUDE / header).read_text(), re.M)}
+    ours = [f'#include "{header}"' for header in CPP_HEADERS]
+    text = "\n".join([*sorted(used), MACROS, *ours, "template class iox2ps::Config<int[]>;", ""])
+    ran = compiled(compiler_of, "c++17", text)
+    if ran.returncode:
+        raise Failed(ran.stderr[-3000:])
+    return f"{len(ours)} headers"
+
+
 def header_alone(compiler_of):
     """Each header by itself, as each standard reads it, those of C++ without exceptions too."""
     for header, language, standards in ALONE:
@@ -83,6 +100,17 @@ REFUSED = (
     ("c++17", CPP, "Sent<int> sent(1);", "private"),
     ("c++17", CPP, "domain.call(0u, [](iox2ps_domain_t *) { return IOX2PS_OK; });", "private"),
     ("c++17", CPP, "auto copy = *domain.publisher(); auto again = copy;", "deleted"),
+    ("c++17", CPP, "auto named = domain.publisher(); named.expect(\"one\");", "std::move(result).expect(..)"),
+    ("c++17", CPP, "domain.connection_count();", "nodiscard"),
+    ("c++17", CPP, "iox2ps::text(Error::NotLive);", "nodiscard"),
+    ("c++17", CPP, "domain.stop_waits();", "SharedDomain"),
+    ("c++17", CPP, "return domain.waits_are_stopped();", "SharedDomain"),
+    ("c++17", CPP, "(void)domain.subscriber()->set_listener([] {});", "SharedDomain"),
+    ("c++17", CPP, "domain.subscriber()->clear_listener();", "SharedDomain"),
+    ("c++17", CPP, "(void)domain.subscriber()->message_fd();", "SharedDomain"),
+    ("c++17", CPP, "(void)domain.subscriber()->blocking_receive();", "SharedDomain"),
+    ("c++17", CPP, "(void)domain.publisher()->timed_loan({});", "SharedDomain"),
+    ("c++17", CPP, "iox2ps::Waits::Message;", ""),
     ("c++14", '#include "iox2_pubsub.hpp"\n{}', "int x;", "iox2_pubsub.hpp is for C++17"),
 )
 # What has to compile without a warning: the code of a call that gives back may be dropped.
@@ -169,6 +197,7 @@ def run_headers(steps, work):
             continue
         compiler_of = {"c": c, "c++": cpp}
         steps.run(f"the headers alone, {c}", header_alone, compiler_of)
+        steps.run(f"the headers behind macros, {cpp}", beside_macros, compiler_of)
         steps.run(f"what has to be refused, {c}", refuses, compiler_of)
         steps.run(f"what has to be taken, {c}", takes, compiler_of)
         steps.run(f"beside iceoryx, {c}", beside_others, work, (c, cpp))

@@ -70,6 +70,9 @@ ROWS = (
     ("cpp/at_exit.cpp", "c++17", True),
     ("cpp/large.cpp", "c++17", True),
     ("cpp/gone.cpp", "c++17", True),
+    ("cpp/one_thread.cpp", "c++17", True),
+    ("cpp/forked.cpp", "c++17", True),
+    ("cpp/allocations.cpp", "c++17", False),
     ("cpp/one_may_lose.cpp", "c++17", True),
     ("cpp/threads.cpp", "c++20", False),
 )

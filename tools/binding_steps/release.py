@@ -208,10 +208,15 @@ def latest():
 
 def check(steps, folder, work, archive=None):
     """Compares a release with its commit, with this clone, and with the proofs."""
-    steps.run("no file was changed on its way", lambda: said("sha256sum", "--check", "--quiet", SUMS, cwd=folder) or "all sums fit")
+    steps.run("no file was changed on its way", same_sums, folder)
     steps.run("each file is the commit's", same_files, folder, work)
     steps.run("the crates are those of this clone", same_crates, folder)
     steps.run("the archive is that of the proofs", same_archive, folder, work, archive)
+
+
+def same_sums(folder):
+    """The files are those that the release's own sums say."""
+    return said("sha256sum", "--check", "--quiet", SUMS, cwd=folder) or "all sums fit"
 
 
 def told(folder, word):

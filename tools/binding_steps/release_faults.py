@@ -1,10 +1,11 @@
 """Releases with faults, which have to be refused."""
 import io
+import re
 import tarfile
 
-from . import abi
+from . import abi, release
 from .places import HEADER, is_here, version
-from .release import MACHINE, PROOFS, head, made, same_files, unpacked, write_sums
+from .release import MACHINE, PROOFS, head, made, same_archive, same_crates, same_files, same_sums, unpacked, write_sums
 from .steps import Failed
 
 NAME = f"iox2_pubsub-{version()}-{MACHINE}"
@@ -134,6 +135,67 @@ def interface_is_compared(work):
     return ", ".join(CHANGES)
 
 
+def with_version(text, version):
+    """A header of another version."""
+    for part, number in zip(("MAJOR", "MINOR", "PATCH"), version.split(".")):
+        text = re.sub(rf"(#define IOX2PS_VERSION_{part}) \d+", rf"\1 {number}", text)
+    return text
+
+
+def wants_new_version(work, packed):
+    """A header with the last release's interface may have its version; one with another needs a new minor version."""
+    text = HEADER.read_text()
+    old, new, _ = CHANGES["a parameter of another type"]
+    after = work / "after.h"
+    major, minor, patch = map(int, version().split("."))
+    next_patch, next_minor = f"{major}.{minor}.{patch + 1}", f"{major}.{minor + 1}.0"
+    for what, header, is_refused in (
+        ("the same interface", text, False),
+        ("the same interface with a new patch version", with_version(text, next_patch), False),
+        ("another interface with the same version", text.replace(old, new, 1), True),
+        ("another interface with a new patch version", with_version(text.replace(old, new, 1), next_patch), True),
+        ("another interface with a new minor version", with_version(text.replace(old, new, 1), next_minor), False),
+    ):
+        after.write_text(header)
+        place = work / what.replace(" ", "_")
+        place.mkdir()
+        if is_refused:
+            refused(what, abi.same_or_newer, packed, after, place)
+        else:
+            abi.same_or_newer(packed, after, place)
+    return f"{next_minor} is taken, {next_patch} is not"
+
+
+def other_archive_is_seen(work, packed):
+    """An archive with a byte more isn't the one that is made here."""
+    (work / "archives").mkdir()
+    folder = unpacked(packed, work / "archives")
+    given = work / "archives/libiox2_pubsub.a"
+    given.write_bytes(ARCHIVE)
+    same_archive(folder, work, given)
+    (folder / release.ARCHIVE).write_bytes(ARCHIVE + b"\n")
+    return refused("an archive with a byte more", same_archive, folder, work, given)
+
+
+def other_crate_is_seen(work, packed):
+    """A crate that isn't this clone's is named."""
+    (work / "crates").mkdir()
+    folder = unpacked(packed, work / "crates")
+    same_crates(folder)
+    text = (folder / PROOFS).read_text()
+    (folder / PROOFS).write_text(re.sub(r"^crate [0-9a-f]{64}", f"crate {'0' * 64}", text, count=1, flags=re.M))
+    return refused("another crate", same_crates, folder)
+
+
+def changed_byte_is_seen(work, packed):
+    """Without sums made anew, the release's own sums say that a file was changed."""
+    (work / "way").mkdir()
+    folder = unpacked(packed, work / "way")
+    same_sums(folder)
+    add_line("include/iox2_pubsub.h", "\n")(folder)
+    return refused("a changed file", same_sums, folder)
+
+
 def run_faults(steps, work):
     """All of these."""
     try:
@@ -147,7 +209,11 @@ def run_faults(steps, work):
         steps.run(what, is_seen, work, packed, what, change)
     for what, members in MEMBERS.items():
         steps.run(what, is_kept_in, work, packed, what, members)
+    steps.run("a file that was changed on its way", changed_byte_is_seen, work, packed)
+    steps.run("another crate than this clone's", other_crate_is_seen, work, packed)
+    steps.run("another archive than the proved one", other_archive_is_seen, work, packed)
     if is_here("abidiff") and is_here("gcc"):
         steps.run("the binary interface is compared", interface_is_compared, work)
+        steps.run("another interface wants another version", wants_new_version, work, packed)
     else:
         steps.skip("the binary interface is compared", "abidiff (Debian's abigail-tools)")

@@ -3,7 +3,7 @@ import re
 import tempfile
 from pathlib import Path
 
-from . import requirements, settings, table
+from . import mutants, requirements, settings, table
 from .model import Model
 from .pages import Pages
 from .repository import TOP, Repository
@@ -37,6 +37,12 @@ TAKEN = (
         re.compile(r".*", re.S),
         "release-by-its-hint-looks-at-another-number",
     ),
+    (
+        "the goal of a mutant",
+        mutants.GOALS,
+        re.compile(r"^.*/channel-0-is-asked-whether-it-is-closed\.edit .*\n", re.M),
+        "returns-then-not-is_open-clause-puts",
+    ),
 )
 
 
@@ -52,7 +58,7 @@ def faults(model):
     for entry in model.all():
         if entry.crate == LIBRARY and entry.is_call and not entry.tests and not entry.callers:
             found.append(f"{entry.item.file}:{entry.item.line}: no test calls {entry.name}, nor a call that has tests")
-    return found + settings.faults(model.repository)
+    return found + [*mutants.faults(model.repository, model.mutants)] + settings.faults(model.repository)
 
 
 # What the check has to find: the file, the text that is replaced and the one in its place, and a part of the fault.
@@ -61,6 +67,8 @@ FAULTS = (
     (requirements.PAGE, "`SampleMut::send`", "`SampleMut::sends`", "the page is stale"),
     (requirements.SOURCE, '"given_back"', '"given_away"', "no contract has the clause given_away"),
     ("crates/iox2_pubsub/src/sample.rt", "ensures header {", "ensures headers {", "the page is stale"),
+    (mutants.GOALS, "/channel-is-missing.edit ", "/channel-goes-missing.edit ", "there is no edit"),
+    (mutants.GOALS, "-is_open-clause-puts", "-is_open-clause-pulls", "has the clause pulls"),
     (
         "crates/iox2_slice_tests/src/tests/custom_payloads.rt",
         ".receive_custom_payload(",

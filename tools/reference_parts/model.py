@@ -108,10 +108,11 @@ class Model(PublicItems, Graph, Languages):
     def note_mutants(self):
         """Gives each entry the mutants of the functions that its body leads to, in the library."""
         by_function = defaultdict(list)
-        for mutant in mutants(self.repository):
-            item = self.function_at(mutant.file, mutant.line)
-            if item:
-                by_function[id(item)].append(mutant)
+        self.mutants = list(mutants(self.repository))
+        for mutant in self.mutants:
+            mutant.function = self.function_at(mutant.file, mutant.line)
+            if mutant.function:
+                by_function[id(mutant.function)].append(mutant)
         for entry in self.all():
             if entry.is_call:
                 reached = [(entry.item, 0), *self.reach(entry.item, lambda one: True)]

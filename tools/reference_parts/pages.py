@@ -139,8 +139,8 @@ class Pages:
         else:
             parts.append("<p class=soft>No test calls it.</p>")
         if entry.mutants:
-            mutants = "".join(f"<li>{code(mutant.path)}, in {code(mutant.file)}</li>" for mutant in entry.mutants)
-            parts.append(f"<details><summary>Mutants of what it calls: {len(entry.mutants)}</summary><ul>{mutants}</ul></details>")
+            mutants = requirements.mutants_table(entry.mutants)
+            parts.append(f"<details><summary>Mutants of what it calls: {len(entry.mutants)}</summary>{mutants}</details>")
         return "".join(parts)
 
     def call(self, entry):

@@ -18,7 +18,8 @@ HEAD = """\
 `tools/reference --table` writes this page from `docs/requirements.toml`, the contracts, the tests and the mutants, and `tools/docs` refuses one that is stale or names a clause that isn't there. `tools/reference` lists all tests and mutants of each, in `out/reference/requirements.html`.
 
 - A clause is one of the functions' contracts, or a field of the record that such a clause names. A law has one clause, without a name. All are proved.
-- *Tests* counts the tests and programs that make one of these calls, and names the most direct ones. *Mutants* counts wrong bodies of what the calls are made of: one kind the prover has to refuse, the other a test has to kill.
+- *Tests* counts the tests and programs that make one of these calls, and names the most direct ones.
+- *Mutants* counts wrong bodies of what the calls are made of. One kind the prover has to refuse: at a clause of the contract of the function that was changed, which stands behind it (where the function has several, and the goal isn't written down in `tools/refusing_goals.txt`, all of them). The other kind a test has to kill.
 """
 
 
@@ -74,7 +75,8 @@ def gather(found):
                 key = one.name if kind == "tests" else one.path
                 if key not in [known.name if kind == "tests" else known.path for known in into]:
                     into.append(one)
-    found.mutants.sort(key=lambda one: not one.is_for_prover)
+    # Those first whose clause is known, above all where it is one of the requirement's.
+    found.mutants.sort(key=lambda one: (not one.is_for_prover, len(one.refused_by) > 1, set(one.refused_by).isdisjoint(found.clauses)))
 
 
 def some(names):
@@ -82,21 +84,47 @@ def some(names):
     return f"{len(names)}: {shown}" if len(names) > MOST_NAMES else shown
 
 
+def by_clause(mutants):
+    """The mutants that the prover refuses, by the function and its clauses that refuse them; those of one clause first."""
+    found = {}
+    for mutant in mutants:
+        if mutant.is_for_prover:
+            found.setdefault((mutant.where, tuple(mutant.refused_by)), []).append(mutant)
+    return list(found.items())
+
+
+def contract(where, clauses):
+    """A function with the clauses of it that refuse a mutant; of a contract of one clause without a name, the function alone."""
+    names = [clause if " " in clause else span(clause) for clause in clauses if clause]
+    return f"{span(where)}: {', '.join(names)}" if names else span(where)
+
+
 def mutants_cell(mutants):
-    """How many there are of each kind, and some."""
-    refused = [one.name for one in mutants if one.is_for_prover]
-    killed = [one.name for one in mutants if not one.is_for_prover]
-    parts = [
-        f"{len(names)} {by}: {', '.join(span(name) for name in names[:1])}"
-        for names, by in ((refused, "refused"), (killed, "killed by tests"))
-        if names
-    ]
+    """How many there are of each kind, and some with the clause that refuses them."""
+    refused, killed = by_clause(mutants), [one.name for one in mutants if not one.is_for_prover]
+    shown = "; ".join(f"{span(ones[0].name)} by {contract(*key)}" for key, ones in refused[:MOST_NAMES])
+    parts = []
+    if refused:
+        parts.append(f"{sum(len(ones) for _, ones in refused)} refused by {len({where for (where, _), _ in refused})} contracts: {shown}")
+    if killed:
+        parts.append(f"{len(killed)} killed by tests: {span(killed[0])}")
     return "; ".join(parts)
+
+
+def mutants_table(mutants):
+    """The same of all of them, as HTML."""
+    rows = ""
+    for (where, clauses), ones in by_clause(mutants):
+        names = "<br>".join(code(one.path) + (f" at {code(one.goal)}" if one.goal else "") for one in ones)
+        rows += f"<tr><td>{code(where)}</td><td>{', '.join(clause if ' ' in clause else code(clause) for clause in clauses if clause) or 'its only clause'}</td><td>{names}</td></tr>"
+    refused = f"<table><tr><th>Contract of</th><th>Clause</th><th>Mutants that it refuses</th></tr>{rows}</table>" if rows else ""
+    killed = "".join(f"<li>{code(one.path)}, in {code(one.where)}</li>" for one in mutants if not one.is_for_prover)
+    return refused + (f"<p>Killed by tests:</p><ul>{killed}</ul>" if killed else "")
 
 
 def page(model):
     """The page."""
-    rows = [HEAD, "|#|Requirement|Kept by|Tests|Mutants|", "|---|---|---|---|---|"]
+    rows = [HEAD, "|#|Requirement|Kept by|Tests|Mutants, and the clause that refuses each|", "|---|---|---|---|---|"]
     for one in requirements(model):
         kept = ", ".join(span(entry.name) for entry in one.entries) + (f" ({', '.join(map(span, one.clauses))})" if one.clauses else "")
         rows.append(f"|{one.number}|{one.says}|{kept}|{some([test.name for test in one.tests])}|{mutants_cell(one.mutants)}|")
@@ -108,15 +136,12 @@ def html(model, link):
     parts = ["<h1>Requirements</h1>"]
     for one in requirements(model):
         tests = "".join(f"<li>{code(test.name)}</li>" for test in one.tests)
-        mutants = "".join(
-            f"<li>{code(mutant.path)}, in {code(mutant.file)}: {'the prover refuses it' if mutant.is_for_prover else 'tests kill it'}</li>"
-            for mutant in one.mutants
-        )
+        mutants = mutants_table(one.mutants)
         parts.append(
             f'<h2 id="{anchor(f"R{one.number}")}">R{one.number}</h2><p>{inline(one.says)}.</p><p>Kept by {", ".join(link(entry.name) for entry in one.entries)}'
             f'{"; clauses " + ", ".join(map(code, one.clauses)) if one.clauses else ""}.</p>'
             f"<details><summary>{len(one.tests)} tests and programs</summary><ul>{tests}</ul></details>"
-            f"<details><summary>{len(one.mutants)} mutants</summary><ul>{mutants}</ul></details>"
+            f"<details><summary>{len(one.mutants)} mutants, by the clause that refuses them</summary>{mutants}</details>"
         )
     links = "".join(f'<a class=to href="#R{one.number}">R{one.number}: {escaped(one.says[:60])}</a>' for one in requirements(model))
     return "".join(parts), links

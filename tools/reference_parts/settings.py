@@ -14,7 +14,7 @@ ENUM = (r"^typedef enum {0} \{{(.*?)^\}} {0};", r"^  (IOX2PS_\w+) =")
 ARGUMENTS = (r"^uint32_t {0}\((.*?)\);", r"\b(dds_domain|max_message_size)\b")
 CLASS = (
     r"^(?:template <[^;]*?> )?class {0} [^;]*?^public:\n(.*?)^(?:protected|private):",
-    r"^  (?:template <.*?> )?(?:\w+ &|[\w:<>]+ )(\w+)\([^)]*\)(?: const)? \{{",
+    r"^  (?:\[\[nodiscard\]\] )?(?:template <.*?> )?(?:\w+ &|[\w:<>]+ )(\w+)\([^)]*\)(?: const)? \{{",
 )
 FIELDS = (r"^struct {0} \{{(.*?)^\}};", r"^  [\w:]+ (\w+)(?: =|\{{)")
 ENUM_CLASS = (r"^enum class {0} [^{{]*\{{(.*?)\}};", r"\b(\w+) = IOX2PS_")

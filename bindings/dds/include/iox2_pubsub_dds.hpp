@@ -79,7 +79,7 @@ inline GroupHandle open_group(std::uint32_t dds_domain, std::size_t max_message_
 }
 
 inline std::uint64_t nanoseconds(std::chrono::nanoseconds timeout) {
-  return static_cast<std::uint64_t>(std::max<std::chrono::nanoseconds::rep>(timeout.count(), 0));
+  return static_cast<std::uint64_t>((std::max)(timeout.count(), std::chrono::nanoseconds::rep(0)));
 }
 
 /* The lock of a domain that threads share. */
@@ -93,7 +93,7 @@ template <typename P, typename M> struct Lock {
     auto made = [&](iox2ps_domain_t *its) { return make(its, what); };
     Until until = std::chrono::steady_clock::now() + std::chrono::nanoseconds(timeout);
     auto &shared = *static_cast<Domain<P, M> *>(domain);
-    return iox2ps::detail::Raw::wait(shared, static_cast<Waits>(waits), Id{port.low, port.high}, brings, until, made);
+    return iox2ps::detail::Raw::wait(shared, static_cast<iox2ps::detail::Waits>(waits), Id{port.low, port.high}, brings, until, made);
   }
 };
 
@@ -134,7 +134,7 @@ public:
     return group_ && iox2ps_dds_flush(group_.get(), detail::nanoseconds(timeout)) == IOX2PS_OK;
   }
 
-  Waker waker() const { return Waker(group_); }
+  [[nodiscard]] Waker waker() const { return Waker(group_); }
 
 protected:
   explicit Polled(detail::GroupHandle group) : group_(std::move(group)) {}
@@ -150,10 +150,10 @@ template <typename P, typename M = OneThread> class Gateway : public Polled {
 
 public:
   /* A gateway that is polled alone. Nothing where a port or an entity of DDS was refused, and why says which. */
-  static std::optional<Gateway> open(Domain<P, M> domain, const Settings &settings, std::string &why) {
+  [[nodiscard]] static std::optional<Gateway> open(Domain<P, M> domain, const Settings &settings, std::string &why) {
     auto config = domain.config();
     if (!config) return why = text(config.error()), std::nullopt;
-    std::size_t longest = std::max(config->payload_size(), settings.max_message_size);
+    std::size_t longest = (std::max)(config->payload_size(), settings.max_message_size);
     auto group = detail::open_group(settings.dds_domain, longest, why);
     if (!group) return std::nullopt;
     return open_in(std::move(group), std::move(domain), settings, why);
@@ -167,22 +167,22 @@ public:
     return *this;
   }
 
-  Counts counts() const {
+  [[nodiscard]] Counts counts() const {
     Counts counts = {};
     if (gateway_) iox2ps_dds_counts(gateway_.get(), &counts);
     return counts;
   }
-  Peers peers() const {
+  [[nodiscard]] Peers peers() const {
     Peers peers = {};
     if (gateway_) iox2ps_dds_peers(gateway_.get(), &peers);
     return peers;
   }
 
   /* The origin of all that came from elsewhere, in this domain. */
-  Id publisher() const { return gateway_ ? iox2ps::detail::id_of(iox2ps_dds_publisher(gateway_.get())) : Id{0, 0}; }
+  [[nodiscard]] Id publisher() const { return gateway_ ? iox2ps::detail::id_of(iox2ps_dds_publisher(gateway_.get())) : Id{0, 0}; }
 
   /* Who sent a message elsewhere, or nothing where it came from this process. */
-  std::optional<Origin> origin(const Sample<P, M> &sample) const {
+  [[nodiscard]] std::optional<Origin> origin(const Sample<P, M> &sample) const {
     if (!gateway_) return std::nullopt;
     iox2ps_dds_origin_t origin;
     iox2ps_wide_t number{sample.number().low, sample.number().high};
@@ -191,7 +191,7 @@ public:
   }
 
   /* For several threads alone: gives the gateway two threads, one for each way, until it is stopped or goes. */
-  bool start() { return gateway_ && iox2ps_dds_start(gateway_.get()) == IOX2PS_OK; }
+  [[nodiscard]] bool start() { return gateway_ && iox2ps_dds_start(gateway_.get()) == IOX2PS_OK; }
   void stop() {
     if (gateway_) iox2ps_dds_stop(gateway_.get());
   }
@@ -212,7 +212,7 @@ private:
     plain.volatile_reader = settings.volatile_reader;
     plain.only_known = settings.only_known;
     plain.reader_limit = settings.reader_limit;
-    if constexpr (!std::is_same_v<M, OneThread>) plain.lock = {detail::Lock<P, M>::call, detail::Lock<P, M>::wait, domain};
+    if constexpr (iox2ps::detail::is_shared<M>) plain.lock = {detail::Lock<P, M>::call, detail::Lock<P, M>::wait, domain};
     return plain;
   }
 
@@ -242,7 +242,7 @@ private:
 class Gateways : public Polled {
 public:
   /* For messages of at most this number of bytes: DDS throws longer ones away before it takes memory. */
-  static std::optional<Gateways> open(std::uint32_t dds_domain, std::size_t max_message_size, std::string &why) {
+  [[nodiscard]] static std::optional<Gateways> open(std::uint32_t dds_domain, std::size_t max_message_size, std::string &why) {
     auto group = detail::open_group(dds_domain, max_message_size, why);
     if (!group) return std::nullopt;
     return Gateways(std::move(group));
@@ -250,7 +250,7 @@ public:
 
   /* A gateway that is polled with these. */
   template <typename P, typename M>
-  std::optional<Gateway<P, M>> add(Domain<P, M> domain, const Settings &settings, std::string &why) {
+  [[nodiscard]] std::optional<Gateway<P, M>> add(Domain<P, M> domain, const Settings &settings, std::string &why) {
     if (!group_) return why = text(Error::NotLive), std::nullopt;
     return Gateway<P, M>::open_in(group_, std::move(domain), settings, why);
   }

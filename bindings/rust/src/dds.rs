@@ -36,8 +36,8 @@
 //! ```
 
 use crate::domain::Domain;
+use crate::ids::{number, wide, UniquePublisherId};
 use crate::lock::DomainLock;
-use crate::numbers::{number, wide};
 use crate::payload::Payload;
 use crate::sample::Sample;
 use crate::sys;
@@ -180,7 +180,7 @@ pub struct Origin {
     /// The node's id, or the participant's where the node has none.
     pub node: u128,
     /// The publisher's id in its process.
-    pub publisher: u128,
+    pub publisher: UniquePublisherId,
 }
 
 // What gateways have together that were opened together.
@@ -478,9 +478,9 @@ impl<P: Payload + ?Sized, M: Owning> Gateway<P, M> {
 
     /// The origin, in this domain, of all that came from elsewhere.
     #[must_use]
-    pub fn publisher(&self) -> u128 {
+    pub fn publisher(&self) -> UniquePublisherId {
         // SAFETY: the gateway is open.
-        number(unsafe { c::iox2ps_dds_publisher(self.handle) })
+        UniquePublisherId::of(unsafe { c::iox2ps_dds_publisher(self.handle) })
     }
 
     /// Who sent a message elsewhere. `None` where it came from this process.
@@ -491,7 +491,7 @@ impl<P: Payload + ?Sized, M: Owning> Gateway<P, M> {
         match unsafe { c::iox2ps_dds_origin(self.handle, wide(sample.number()), &mut origin) } {
             sys::OK => Some(Origin {
                 node: number(origin.node),
-                publisher: number(origin.publisher),
+                publisher: UniquePublisherId::of(origin.publisher),
             }),
             _ => None,
         }

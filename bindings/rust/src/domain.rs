@@ -2,8 +2,8 @@
 
 use crate::errors::{unexpected, DomainCreateError};
 use crate::guarded::Guarded;
+use crate::ids::{number, wide};
 use crate::lock::{DomainLock, StdLock};
-use crate::numbers::{number, wide};
 use crate::payload::Payload;
 use crate::port_factory::{PortFactoryPublisher, PortFactorySubscriber};
 use crate::publisher::{BackpressureStrategy, Publisher};

@@ -1,13 +1,13 @@
 //! Where a message comes from.
 
-use crate::numbers::number;
+use crate::ids::{number, UniquePublisherId};
 use crate::sys;
 
 /// Where a message comes from, and how many elements it has.
 #[derive(Clone, Copy, Debug, PartialEq, Eq, Hash)]
 pub struct Header {
     node_id: u128,
-    publisher_id: u128,
+    publisher_id: UniquePublisherId,
     number_of_elements: usize,
 }
 
@@ -17,7 +17,7 @@ impl Header {
         let bytes = header.number_of_elements as usize;
         Header {
             node_id: number(header.node_id),
-            publisher_id: number(header.publisher),
+            publisher_id: UniquePublisherId::of(header.publisher),
             number_of_elements: bytes.checked_div(size).unwrap_or(1),
         }
     }
@@ -30,7 +30,7 @@ impl Header {
 
     /// The id of the publisher that sent it.
     #[must_use]
-    pub fn publisher_id(&self) -> u128 {
+    pub fn publisher_id(&self) -> UniquePublisherId {
         self.publisher_id
     }
 

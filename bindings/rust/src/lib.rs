@@ -87,13 +87,13 @@ mod errors;
 mod events;
 mod guarded;
 mod header;
+mod ids;
 mod in_place;
 mod listeners;
 mod loan;
 mod lock;
 #[cfg(target_os = "linux")]
 mod message_fd;
-mod numbers;
 mod payload;
 mod port_factory;
 mod publisher;
@@ -112,7 +112,6 @@ mod zeroable;
 
 pub(crate) use iox2_pubsub_sys as sys;
 
-pub use channels::{CHANNEL_STATE_CLOSED, CHANNEL_STATE_OPEN};
 pub use domain::{Domain, DomainBuilder, SharedDomain};
 pub use errors::{
     ChannelError, ConnectionFailure, DomainCreateError, LoanError, PublisherCreateError,
@@ -120,6 +119,10 @@ pub use errors::{
 };
 pub use events::Receive;
 pub use header::Header;
+pub use ids::{
+    ChannelId, ChannelState, ConnectionId, UniquePublisherId, UniqueSubscriberId,
+    CHANNEL_STATE_CLOSED, CHANNEL_STATE_OPEN,
+};
 #[doc(hidden)]
 pub use in_place::Field;
 pub use in_place::{Unwritten, Written};

@@ -2,8 +2,8 @@
 
 use crate::domain::expect;
 use crate::errors::SendError;
+use crate::ids::{number, ChannelId, ConnectionId, UniquePublisherId};
 use crate::in_place::{Unwritten, Written};
-use crate::numbers::number;
 use crate::payload::Payload;
 use crate::send_outcome::{outcome, SendOutcome};
 use crate::shared::Shared;
@@ -171,8 +171,8 @@ pub struct Loan<P: Payload + ?Sized, M: Threads = OneThread> {
 impl<P: Payload + ?Sized, M: Threads> Loan<P, M> {
     /// The id of the publisher that lent it.
     #[must_use]
-    pub fn publisher(&self) -> u128 {
-        number(self.lent.loan.publisher)
+    pub fn publisher(&self) -> UniquePublisherId {
+        UniquePublisherId::of(self.lent.loan.publisher)
     }
 
     /// The number that the message has: no other message of the domain has it.
@@ -221,14 +221,15 @@ impl<P: Payload + ?Sized, M: Threads> Loan<P, M> {
     /// updated, and the message enters no history. A message in another channel than 0 can't be received.
     ///
     /// ```
-    /// use iox2_pubsub::Domain;
+    /// use iox2_pubsub::{ChannelId, Domain};
     ///
     /// # fn main() -> Result<(), Box<dyn std::error::Error>> {
     /// let domain = Domain::<u64>::builder(7).max_subscribers(2).create()?;
     /// let (first, second) = (domain.subscriber()?, domain.subscriber()?);
     /// let publisher = domain.publisher()?;
     /// let to = publisher.get_connection_id_of(second.id()).expect("a connection");
-    /// let sent = publisher.loan_uninit()?.write_payload(5).deliver_offset_to_connection(0, to)?;
+    /// let loan = publisher.loan_uninit()?.write_payload(5);
+    /// let sent = loan.deliver_offset_to_connection(ChannelId::default(), to)?;
     /// assert_eq!(sent.delivered(), Some(1));
     /// assert!(first.receive()?.is_none());
     /// assert_eq!(*second.receive()?.expect("a message"), 5);
@@ -242,8 +243,8 @@ impl<P: Payload + ?Sized, M: Threads> Loan<P, M> {
     /// `NoSuchChannel` it was given back unsent.
     pub fn deliver_offset_to_connection(
         self,
-        channel: usize,
-        connection: usize,
+        channel: ChannelId,
+        connection: ConnectionId,
     ) -> Result<SendOutcome<P, M>, SendError> {
         let (mut receivers, mut blocked) = (0, MaybeUninit::uninit());
         // SAFETY: see `Shared::at`.
@@ -251,8 +252,8 @@ impl<P: Payload + ?Sized, M: Threads> Loan<P, M> {
             sys::iox2ps_loan_deliver_offset_to_connection(
                 shared.at(),
                 &self.lent.loan,
-                channel,
-                connection,
+                channel.value(),
+                connection.value(),
                 &mut receivers,
                 blocked.as_mut_ptr(),
             )

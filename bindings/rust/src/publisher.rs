@@ -2,8 +2,8 @@
 
 use crate::domain::expect;
 use crate::errors::{ConnectionFailure, LoanError, SendError};
+use crate::ids::UniquePublisherId;
 use crate::loan::{Loan, LoanUninit};
-use crate::numbers::number;
 use crate::payload::Payload;
 use crate::send_outcome::{outcome, SendOutcome};
 use crate::shared::Shared;
@@ -60,8 +60,8 @@ impl<P: Payload + ?Sized, M: Threads> Publisher<P, M> {
 
     /// The publisher's id, which no other port of the domain has.
     #[must_use]
-    pub fn id(&self) -> u128 {
-        number(self.port.id)
+    pub fn id(&self) -> UniquePublisherId {
+        UniquePublisherId::of(self.port.id)
     }
 
     /// What it does at a full buffer, where there is no overflow.

@@ -2,7 +2,7 @@
 
 use crate::domain::expect;
 use crate::header::Header;
-use crate::numbers::number;
+use crate::ids::{number, UniquePublisherId, UniqueSubscriberId};
 use crate::payload::Payload;
 use crate::shared::Shared;
 use crate::subscriber::Got;
@@ -39,14 +39,14 @@ impl<P: Payload + ?Sized, M: Threads> Sample<P, M> {
 
     /// The id of the publisher that sent it.
     #[must_use]
-    pub fn origin(&self) -> u128 {
-        number(self.sample.origin)
+    pub fn origin(&self) -> UniquePublisherId {
+        UniquePublisherId::of(self.sample.origin)
     }
 
     /// The id of the subscriber that received it.
     #[must_use]
-    pub fn subscriber(&self) -> u128 {
-        number(self.sample.subscriber)
+    pub fn subscriber(&self) -> UniqueSubscriberId {
+        UniqueSubscriberId::of(self.sample.subscriber)
     }
 
     /// The number of the message: no other message of the domain has it.

@@ -1,7 +1,7 @@
 //! The outcome of a send.
 
 use crate::errors::{unexpected, SendError};
-use crate::numbers::number;
+use crate::ids::{number, UniquePublisherId};
 use crate::payload::Payload;
 use crate::shared::Shared;
 use crate::sys;
@@ -110,8 +110,8 @@ pub struct BlockedSend<P: Payload + ?Sized, M: Threads = OneThread> {
 impl<P: Payload + ?Sized, M: Threads> BlockedSend<P, M> {
     /// The id of the publisher that waits.
     #[must_use]
-    pub fn publisher(&self) -> u128 {
-        number(self.blocked.publisher)
+    pub fn publisher(&self) -> UniquePublisherId {
+        UniquePublisherId::of(self.blocked.publisher)
     }
 
     /// Tries the send again at the subscriber that it waits for, and goes on to the others. `elapsed`

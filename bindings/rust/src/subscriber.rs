@@ -2,7 +2,7 @@
 
 use crate::domain::expect;
 use crate::errors::{ConnectionFailure, ReceiveError};
-use crate::numbers::number;
+use crate::ids::UniqueSubscriberId;
 use crate::payload::Payload;
 use crate::sample::Sample;
 use crate::shared::Shared;
@@ -35,8 +35,8 @@ impl<P: Payload + ?Sized, M: Threads> Subscriber<P, M> {
 
     /// The subscriber's id, which no other port of the domain has.
     #[must_use]
-    pub fn id(&self) -> u128 {
-        number(self.port.id)
+    pub fn id(&self) -> UniqueSubscriberId {
+        UniqueSubscriberId::of(self.port.id)
     }
 
     /// How many messages of one publisher may wait.

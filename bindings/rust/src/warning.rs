@@ -1,8 +1,8 @@
 //! What a domain did or left undone without failing a call.
 
 use crate::errors::{text, ConnectionFailure};
-use crate::numbers::number;
-use crate::sys;
+use crate::ids::{UniquePublisherId, UniqueSubscriberId};
+use crate::sys::{self, Wide};
 use crate::threads::{Brings, Place};
 use std::fmt;
 
@@ -40,9 +40,9 @@ pub struct Warning {
     /// What it is of.
     pub kind: WarningKind,
     /// The id of the publisher that it names.
-    pub publisher: Option<u128>,
+    pub publisher: Option<UniquePublisherId>,
     /// The id of the subscriber that it names.
-    pub subscriber: Option<u128>,
+    pub subscriber: Option<UniqueSubscriberId>,
     /// How the update of connections failed.
     pub failure: Option<ConnectionFailure>,
 }
@@ -58,11 +58,11 @@ impl Warning {
         if code != sys::OK {
             return None;
         }
-        let named = |id| Some(number(id)).filter(|id| *id != 0);
+        let named = |id| Some(id).filter(|id| *id != Wide::default());
         Some(Warning {
             kind: WarningKind::of(warning.kind)?,
-            publisher: named(warning.publisher),
-            subscriber: named(warning.subscriber),
+            publisher: named(warning.publisher).map(UniquePublisherId::of),
+            subscriber: named(warning.subscriber).map(UniqueSubscriberId::of),
             failure: Some(warning.failure)
                 .filter(|code| *code != 0)
                 .map(ConnectionFailure::of),

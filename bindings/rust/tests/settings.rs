@@ -2,9 +2,9 @@
 //! with another of its type, fails a test. `bindings/settings.toml` names the test of each.
 
 use iox2_pubsub::{
-    AllocationStrategy, BackpressureAction, BackpressureStrategy, ConnectionFailure,
+    AllocationStrategy, BackpressureAction, BackpressureStrategy, ChannelId, ConnectionFailure,
     DegradationAction, Domain, DomainBuilder, LoanError, PublisherCreateError, ReceiveError,
-    SendError, Subscriber, SubscriberCreateError, WarningKind,
+    SendError, Subscriber, SubscriberCreateError, WarningKind, CHANNEL_STATE_OPEN,
 };
 
 // A connection with a buffer of this length needs more memory than there are addresses.
@@ -80,7 +80,8 @@ fn as_many_channels_as_the_settings_say() {
     let _publisher = domain.publisher().unwrap();
     subscriber.update_connections().unwrap();
     for channel in 0..9 {
-        let is_open = subscriber.at_least_one_channel_has_state(channel, 0);
+        let is_open =
+            subscriber.at_least_one_channel_has_state(ChannelId::new(channel), CHANNEL_STATE_OPEN);
         assert_eq!(is_open.is_ok(), channel < 7);
     }
 }

@@ -3,7 +3,10 @@
 ghost use Rattle.std.specs.Prelude.{◌<◌};
 ghost use Rattle.iox2_machine.specs.machine.Limits.{channel_count};
 
-use crate::tests::fixtures::{copied, next_reading, publisher_of, subscriber_of, waits};
+use crate::tests::connection_sends::sent_to;
+use crate::tests::fixtures::{
+    celsius_of, copied, next_reading, publisher_of, received, subscriber_of, waits,
+};
 use iox2_fixtures::{Weather, close_publisher, is_ready, settings, smallest};
 use iox2_machine::ServiceConfig;
 use iox2_pubsub::{Domain, Publisher, Subscriber, UpdateConnections};
@@ -59,6 +62,44 @@ fn is_first(rt: &impl Abort, domain: &Weather, publisher: &Publisher, state: u64
     ]
 }
 
+// Whether the channel behind the subscriber's first one is in the state.
+fn is_next_in(rt: &impl Abort, domain: &Weather, subscriber: &Subscriber, state: u64) -> bool {
+    assert!(rt; subscriber.is_in(domain));
+    assert_has_channel(rt, domain, 1);
+    subscriber.at_least_one_channel_has_state(domain, 1, state)
+}
+
+// The places of the publisher's connections to the ports with the ids 1 and 7.
+fn places_of_1_and_7(
+    rt: &impl Abort,
+    domain: &Weather,
+    publisher: &Publisher,
+) -> [Option<usize>; 2] {
+    assert!(rt; is_ready(domain, publisher));
+    [
+        publisher.get_connection_id_of(domain, 1),
+        publisher.get_connection_id_of(domain, 7),
+    ]
+}
+
+// How many subscribers take each of three messages: two in channel 1 of the first connection, and one in a
+// connection that isn't there.
+fn taken_by_next(rt: &impl Abort, domain: &mut Weather, publisher: &Publisher) -> [usize; 3] {
+    [
+        sent_to(rt, domain, publisher, 3, 1, 0),
+        sent_to(rt, domain, publisher, 4, 1, 0),
+        sent_to(rt, domain, publisher, 5, 1, 5),
+    ]
+}
+
+// Reads what the subscriber receives next, which stays borrowed.
+fn borrowed_reading(rt: &impl Abort, domain: &mut Weather, subscriber: &Subscriber) -> Option<u64> {
+    let sample = received(rt, domain, subscriber)?;
+    let celsius = celsius_of(rt, domain, &sample);
+    sample.disown();
+    Some(celsius)
+}
+
 #[test]
 fn a_closed_channel_takes_no_message(rt: HostRuntime) {
     let mut domain: Weather = Domain::new(rt.alloc(), two_channels()).expect(&rt, "a domain");
@@ -70,6 +111,8 @@ fn a_closed_channel_takes_no_message(rt: HostRuntime) {
     ];
     assert!(rt; subscriber.is_in(&domain));
     let updated = subscriber.update_connections(&mut domain).is_ok();
+    let places = places_of_1_and_7(&rt, &domain, &publisher);
+    let is_next_open = is_next_in(&rt, &domain, &subscriber, 0);
     close(&rt, &mut domain, &subscriber, 5);
     let is_open = is_any(&rt, &domain, &subscriber, 0);
     close(&rt, &mut domain, &subscriber, 0);
@@ -87,13 +130,15 @@ fn a_closed_channel_takes_no_message(rt: HostRuntime) {
     assert!(rt; is_ready(&domain, &publisher));
     publisher.close_channel(&mut domain, 0, 0, 7);
     let closed_again = is_first(&rt, &domain, &publisher, u64::MAX);
-    let second = next_reading(&rt, &mut domain, &subscriber);
+    let second = borrowed_reading(&rt, &mut domain, &subscriber);
+    let taken_there = taken_by_next(&rt, &mut domain, &publisher);
     let more = waits(&rt, &mut domain, &subscriber);
     publisher.disown();
     subscriber.disown();
     drop(domain);
     assert!(rt; unconnected == [true, false]);
-    assert!(rt; updated && is_open);
+    assert!(rt; updated && is_open && is_next_open);
+    assert!(rt; places == [Some(0), None]);
     assert!(rt; closed == [true, false]);
     assert!(rt; [passed, taken] == [0, 1]);
     assert!(rt; [was_closed, was_open] == [true, false]);
@@ -101,7 +146,7 @@ fn a_closed_channel_takes_no_message(rt: HostRuntime) {
     assert!(rt; [hinted, still] == [[true, true], [true, true]]);
     assert!(rt; closed_again == [true, false]);
     assert!(rt; [nothing, second] == [None, Some(2)]);
-    assert!(rt; !more);
+    assert!(rt; taken_there == [1, 0, 0] && !more);
 }
 
 // Asserts that the connections of the domain have the channel.

@@ -63,7 +63,7 @@ fn send_there(
 }
 
 // Lends, writes and sends a message into a channel of a connection. Returns how many took it.
-fn sent_to(
+pub(super) fn sent_to(
     rt: &impl Abort,
     domain: &mut Weather,
     publisher: &Publisher,
@@ -121,6 +121,30 @@ fn a_message_goes_into_one_channel_of_one_connection(rt: HostRuntime) {
     assert!(rt; taken == [1, 0, 0, 1]);
     assert!(rt; more == [false, true]);
     assert!(rt; read == Some(4));
+}
+
+// The last of many channels takes a message of its own, as the one before it and the first do.
+#[test]
+fn each_of_many_channels_takes_a_message(rt: HostRuntime) {
+    for (number, last) in [(5, 4), (4, 3), (12, 11)] {
+        let mut domain = domain_of(&rt, rt.alloc(), channels(number, 1));
+        let subscriber = subscriber_of(&rt, &mut domain);
+        let publisher = publisher_of(&rt, &mut domain);
+        let taken = [
+            sent_to(&rt, &mut domain, &publisher, 1, last, 0),
+            sent_to(&rt, &mut domain, &publisher, 2, last, 0),
+            sent_to(&rt, &mut domain, &publisher, 3, 2, 0),
+        ];
+        let is_waiting = waits(&rt, &mut domain, &subscriber);
+        let first = copied(&rt, &mut domain, &publisher, 4);
+        let read = next_reading(&rt, &mut domain, &subscriber);
+        publisher.disown();
+        subscriber.disown();
+        drop(domain);
+        assert!(rt; taken == [1, 0, 1]);
+        assert!(rt; !is_waiting && first == 1);
+        assert!(rt; read == Some(4));
+    }
 }
 
 // A subscriber that came after the publisher's update has no connection with it yet, and gets no

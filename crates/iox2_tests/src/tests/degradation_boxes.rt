@@ -5,10 +5,12 @@ use iox2_handler_fixtures::{Patience, SameAnswer};
 use iox2_machine::ServiceConfig;
 use iox2_pubsub::{
     BackpressureAction, BackpressureFn, BackpressureHandler, DegradationAction, DegradationCause,
-    DegradationFn, DegradationHandler, DegradationInfo, Domain, UpdateConnections,
+    DegradationFn, DegradationHandler, DegradationInfo, Domain, Subscriber, UpdateConnections,
 };
 use std::alloc::Global;
+use std::cell::Cell;
 use std::process::Abort;
+use std::rc::Rc;
 
 // Goes on without a connection from a port to one that was made later, and fails with any other.
 #[derive(Drop)]
@@ -67,6 +69,60 @@ fn messages_arrive_between_ports_with_boxes(rt: HostRuntime) {
     assert!(rt; count == Some(1));
     assert!(rt; read == Some(21));
     assert!(rt; refused == 0);
+}
+
+// Counts how often it is asked, and goes on without the connection.
+#[derive(Drop)]
+struct Counting {
+    asked: Rc<Cell<u64>>,
+}
+
+impl DegradationFn for Counting {
+    ghost allows = { λ _ _ _ _. Unit {0} };
+
+    fn call(&self, _: DegradationCause, _: &DegradationInfo) -> DegradationAction {
+        self.asked.set(self.asked.get().wrapping_add(1));
+        DegradationAction::Ignore
+    }
+}
+
+// A subscriber whose box counts how often it is asked.
+fn counted_subscriber(
+    rt: &impl Abort,
+    alloc: Global,
+    domain: &mut Weather,
+    asked: &Rc<Cell<u64>>,
+) -> Subscriber {
+    let asked = asked.clone().expect(rt, "memory");
+    let counting: Box<dyn DegradationFn> = Box::new(alloc, Counting { asked }).expect(rt, "memory");
+    let factory = domain
+        .subscriber_builder()
+        .set_degradation_handler(DegradationHandler::Custom(counting));
+    factory.create(domain).expect(rt, "a subscriber")
+}
+
+// No memory holds a buffer of 2^58 messages, so no connection is made. Each is tried at its subscriber's making.
+#[test]
+fn the_box_of_each_of_six_subscribers_is_asked(rt: HostRuntime) {
+    let config = ServiceConfig {
+        max_subscribers: 6,
+        subscriber_max_buffer_size: 1 << 58,
+        ..settings()
+    };
+    let mut domain: Weather = Domain::new(rt.alloc(), config).expect(&rt, "a domain");
+    let factory = domain
+        .publisher_builder()
+        .override_sample_preallocation(|_| 1);
+    let publisher = factory.create(&mut domain).expect(&rt, "a publisher");
+    let asked = Rc::new(rt.alloc(), Cell::new(0u64)).expect(&rt, "memory");
+    for made in 0..6 {
+        let before = asked.get();
+        counted_subscriber(&rt, rt.alloc(), &mut domain, &asked).disown();
+        assert!(rt; before == made && asked.get() == made.wrapping_add(1));
+    }
+    publisher.disown();
+    drop(domain);
+    drop(asked);
 }
 
 // No memory holds a buffer of 2^60 messages, so the subscriber's connection is refused. The publisher was
