@@ -1,5 +1,5 @@
 -- What comes of a creation, by its code.
-use Rattle.std.proofs.Common.{◌≡◌, ◌∙◌, ◌<◌, ◌≤◌, ℕ, zero, suc, refl, ap, sym, subst, arith}
+use Rattle.std.proofs.Common.{◌≡◌, ◌∙◌, ◌<◌, ℕ, zero, suc, refl, ap, sym, subst, arith}
 use Rattle.std.specs.Prelude.{IfOk, MatchResult}
 use Rattle.std.specs.declared.option.Option.TheVariants.{None, Some}
 use Rattle.std.specs.declared.result.Result.{Result}
@@ -45,27 +45,6 @@ subscriber-code-high subscriber.ExceedsMaxSupportedSubscribers = omega arith
 subscriber-code-high subscriber.BufferSizeExceedsMaxSupportedBufferSizeOfService = omega arith
 subscriber-code-high subscriber.FailedToDeployThreadsafetyPolicy = omega arith
 subscriber-code-high subscriber.UnableToCreatePortTag = omega arith
-
--- and none of them is that of a setting
-publisher-code-low : (error : PublisherCreateError) → publisher_code error < 80
-publisher-code-low publisher.ExceedsMaxSupportedPublishers = omega arith
-publisher-code-low publisher.UnableToCreateDataSegment = omega arith
-publisher-code-low publisher.FailedToDeployThreadsafetyPolicy = omega arith
-publisher-code-low publisher.UnableToCreatePortTag = omega arith
-
-subscriber-code-low : (error : SubscriberCreateError) → subscriber_code error < 80
-subscriber-code-low subscriber.ExceedsMaxSupportedSubscribers = omega arith
-subscriber-code-low subscriber.BufferSizeExceedsMaxSupportedBufferSizeOfService = omega arith
-subscriber-code-low subscriber.FailedToDeployThreadsafetyPolicy = omega arith
-subscriber-code-low subscriber.UnableToCreatePortTag = omega arith
-
-pub made-publisher-low : (made : Result Publisher PublisherCreateError) (code : ℕ) → code ≡ code_of publisher_code made → 80 ≤ code → ⊥
-made-publisher-low (Ok it) code is high = omega (arith, is, high)
-made-publisher-low (Err error) code is high = let low = publisher-code-low error in omega (arith, is, high, low)
-
-pub made-subscriber-low : (made : Result Subscriber SubscriberCreateError) (code : ℕ) → code ≡ code_of subscriber_code made → 80 ≤ code → ⊥
-made-subscriber-low (Ok it) code is high = omega (arith, is, high)
-made-subscriber-low (Err error) code is high = let low = subscriber-code-low error in omega (arith, is, high, low)
 
 module _ (old new : KeptBytes) (given : PublisherSettings) where
   -- what a factory says of a publisher
