@@ -12,8 +12,9 @@ from pathlib import Path
 
 from .folder import crates_below
 from .places import LICENCES, TOP, version
-from .release import MACHINE, SUMS, commit, kit, pack as pack_files, seconds_of, write_sums
+from .release import SUMS, commit, kit, pack as pack_files, seconds_of, write_sums
 from .steps import Failed, said
+from .targets import X86_64
 
 CRATE = "iox2_pubsub"
 PARTS = ("src", "specs", "proofs")
@@ -103,7 +104,7 @@ def write_notes(folder):
 
 def pack(to):
     """Makes the archive file, and returns where it lies."""
-    name = f"iox2_pubsub-{version()}-rattle-{MACHINE}"
+    name = f"iox2_pubsub-{version()}-rattle-{X86_64.name}"
     folder = to / name
     shutil.rmtree(folder, ignore_errors=True)
     folder.mkdir(parents=True)

@@ -4,6 +4,7 @@ import re
 import shutil
 import subprocess
 
+from .emulated import NO_RUST, rust_for
 from .places import TOP, is_here
 from .steps import Failed, said
 
@@ -39,9 +40,11 @@ def commands(page, starting):
     return [line.split("  #")[0].strip() for line in block[0].splitlines()]
 
 
-def run(clone, work, lines):
-    """What the commands print in a clone."""
+def run(clone, work, lines, first=None):
+    """What the commands print in a clone, with a folder of programs that come before the others."""
     environment = without_kit(work)
+    if first:
+        environment["PATH"] = f"{first}{os.pathsep}{environment['PATH']}"
     if shutil.which("rt", path=environment["PATH"]):
         raise Failed("the kit is still on the path")
     return said(*hidden(["bash", "-euc", "\n".join(lines)]), cwd=clone, env=environment, both=False)
@@ -77,20 +80,65 @@ def in_c(work, compiler, source, standard):
     return printed.strip()
 
 
-def whole(work):
-    """The release is the one that the sums beside it say, and so is its page of proofs."""
+def whole(work, target):
+    """The releases are those that the sums beside them say, and the page of proofs beside them has what each says of its own."""
     clone = cloned(work, "of_sums")
     said("sha256sum", "--check", "--quiet", "SHA256SUMS", cwd=clone / "dist")
-    packed = next((clone / "dist").glob("*.tar.gz"))
-    name = f"{packed.name.removesuffix('.tar.gz')}/PROOFS"
-    if said("tar", "xzOf", packed, name, both=False) != (clone / "dist/PROOFS").read_text():
-        raise Failed(f"dist/PROOFS isn't that of {packed.name}")
+    packed = next((clone / "dist").glob(f"*-{target.name}.tar.gz"))
+    own = said("tar", "xzOf", packed, f"{packed.name.removesuffix('.tar.gz')}/PROOFS", both=False)
+    lacking = [line for line in own.splitlines() if line not in (clone / "dist/PROOFS").read_text().splitlines()]
+    if lacking:
+        raise Failed(f"dist/PROOFS isn't that of {packed.name}, which has {lacking[0]!r}")
     return packed.name
 
 
-def run_first(steps, work):
+# ---- for a board
+
+BOARDS, ON_BOARDS = "bindings/AARCH64.md", "aarch64: 12 readings, the last is 11"
+
+
+def for_board(work, name, starting, prints, first=None):
+    """A program that is compiled for another processor and runs under the emulator, by the page's commands."""
+    unpack = commands(BOARDS, "tar xzf dist/")
+    printed = run(cloned(work, f"of_board_{name}"), work, [*unpack, *commands(BOARDS, starting)], first)
+    if prints not in printed:
+        raise Failed(f"it printed {printed!r}")
+    return "; ".join(line for line in printed.splitlines() if prints in line)
+
+
+def run_boards(steps, work, target):
     """All languages that are here."""
-    steps.run("the release in dist/ has its sums", whole, work)
+    lacking = target.lacking()
+    if not list((TOP / "dist").glob(f"*-{target.name}.tar.gz")):
+        lacking.append(f"a release for {target.name} in dist/")
+    if lacking:
+        steps.skip(f"the first program for {target.name}", ", ".join(lacking))
+        return
+    steps.run(f"the release for {target.name} in dist/ has its sums", whole, work, target)
+    for language, starting in (("C", "aarch64-linux-gnu-gcc"), ("C++", "aarch64-linux-gnu-g++")):
+        steps.run(f"the first program in {language} for {target.name}, in a new clone without the kit", for_board, work, language, starting, PRINTS)
+    if is_here("cmake"):
+        name = f"the project of CMake for {target.name}, in a new clone without the kit"
+        steps.run(name, for_board, work, "CMake", "cmake -S cross", "100% tests passed")
+    else:
+        steps.skip(f"the project of CMake for {target.name}", "cmake")
+    rust = rust_for(target)
+    if rust:
+        name = f"the project of cargo for {target.name}, in a new clone without the kit"
+        steps.run(name, for_board, work, "cargo", "cd cross && cargo run", ON_BOARDS, rust)
+    else:
+        steps.skip(f"the project of cargo for {target.name}", NO_RUST.format(target.triple))
+
+
+# ---- for this machine
+
+
+def run_first(steps, work, target):
+    """All languages that are here."""
+    if target.is_crossed:
+        run_boards(steps, work, target)
+        return
+    steps.run("the release in dist/ has its sums", whole, work, target)
     for language, program, step, given in (
         ("Rust", "cargo", in_rust, ()),
         ("C", "gcc", in_c, ("gcc", "first.c", "c11")),

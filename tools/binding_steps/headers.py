@@ -3,6 +3,7 @@ import re
 import subprocess
 from pathlib import Path
 
+from . import layouts
 from .places import BINDINGS, CRATES, OUT, is_here, version
 from .programs import ARCHIVE, PAIRS, WARNINGS
 from .steps import Failed, said
@@ -17,9 +18,9 @@ ALONE = (
 )
 
 
-def same_functions():
+def same_functions(archive=ARCHIVE, nm="nm"):
     """The archive defines what the header declares, and no other function of this name."""
-    symbols = said("nm", "-g", "--defined-only", ARCHIVE, both=False)
+    symbols = said(nm, "-g", "--defined-only", archive, both=False)
     defined = set(re.findall(r" T (iox2\w*)", symbols))
     text = (INCLUDE / "iox2_pubsub.h").read_text()
     declared = set(re.findall(r"^(?:IOX2PS_NODISCARD iox2ps_status_t|IOX2PS_NODISCARD uint32_t|iox2ps_status_t|void) (iox2ps_\w+)\(", text, re.M))
@@ -191,12 +192,14 @@ def run_headers(steps, work):
     """All of these."""
     steps.run("the archive has the functions of the header", same_functions)
     steps.run("one version", same_versions)
+    steps.run("the table of structs", layouts.is_of_the_header, work)
     for c, cpp in PAIRS:
         if not is_here(c) or not is_here(cpp):
             steps.skip(f"headers by {c} and {cpp}", c if not is_here(c) else cpp)
             continue
         compiler_of = {"c": c, "c++": cpp}
         steps.run(f"the headers alone, {c}", header_alone, compiler_of)
+        steps.run(f"how structs lie in memory, {c}", layouts.holds, (c, cpp), INCLUDE)
         steps.run(f"the headers behind macros, {cpp}", beside_macros, compiler_of)
         steps.run(f"what has to be refused, {c}", refuses, compiler_of)
         steps.run(f"what has to be taken, {c}", takes, compiler_of)

@@ -45,6 +45,13 @@ def same_library(work):
     return f"glibc {version}, {len(names)} functions"
 
 
+def has_no_marks():
+    """The archive's code isn't marked for control-flow enforcement, as the page says."""
+    if "x86 feature: " in said("readelf", "--notes", ARCHIVE, both=False) or "(CET)" not in PAGE.read_text():
+        raise Failed(f"the archive is marked for CET, or {PAGE.name} doesn't say that it isn't")
+    return "none"
+
+
 def no_newer_instructions():
     """The archive has no instruction that x86-64-v2 lacks."""
     lines = said("objdump", "--disassemble", "--no-show-raw-insn", ARCHIVE, both=False).splitlines()
@@ -57,5 +64,6 @@ def no_newer_instructions():
 def run_needs(steps, work):
     """Both, for the archive that was built."""
     steps.run("what the archive needs of the C library", same_library, work)
+    steps.run("marks for control-flow enforcement", has_no_marks)
     if "elf64-x86-64" in said("objdump", "-f", ARCHIVE, both=False):
         steps.run("instructions of x86-64-v2 alone", no_newer_instructions)

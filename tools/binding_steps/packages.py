@@ -5,9 +5,11 @@ import re
 import shutil
 
 from . import registry
+from .installed import run_installed
 from .places import BINDINGS, OUT, is_here
 from .programs import ARCHIVE, GRIND, PAIRS, check_example
 from .steps import Failed, said
+from .targets import AARCH64, X86_64, stand_in
 
 READING = "21.5 °C, read by 1\n"
 # The crate of others that the crate of streams needs.
@@ -56,39 +58,32 @@ def project_of(work, languages, extension, version="0.2", fails=False):
     return prints_reading(folder / "build/one")
 
 
-def install(work, c, cpp):
-    """Installs the folder elsewhere, and builds the example over that."""
-    prefix = work / "prefix"
-    said("cmake", "-S", OUT, "-B", work / "installing")
-    said("cmake", "--install", work / "installing", "--prefix", prefix)
-    return cmake_example(work, prefix, c, cpp, "cmake_installed")
-
-
-def pkg_config(work):
-    """The page's program in C, compiled by what pkg-config says."""
-    environment = {**os.environ, "PKG_CONFIG_PATH": str(moved(work) / "lib/pkgconfig")}
+def pkg_config(work, prefix=None, libdir="lib", name="by_pkg_config"):
+    """The page's program in C, compiled by what pkg-config says, and told where a shared library lies."""
+    folder = (prefix or moved(work)) / libdir
+    environment = {**os.environ, "PKG_CONFIG_PATH": str(folder / "pkgconfig")}
     flags = said("pkg-config", "--cflags", "--libs", "iox2_pubsub", both=False, env=environment)
     version = said("pkg-config", "--modversion", "iox2_pubsub", both=False, env=environment).strip()
     (work / "first.c").write_text(block("c"))
-    said("sh", "-c", f"gcc '{work}/first.c' {flags.strip()} -o '{work}/by_pkg_config'")
-    return f"{version}, {prints_reading(work / 'by_pkg_config')}"
+    said("sh", "-c", f"gcc '{work}/first.c' {flags.strip()} -o '{work}/{name}'")
+    return f"{version}, {prints_reading(work / name, env={**os.environ, 'LD_LIBRARY_PATH': str(folder)})}"
 
 
 def run_packages(steps, work):
     """All of these."""
-    if is_here("cmake"):
-        for c, cpp in (pair for pair in PAIRS if is_here(pair[0]) and is_here(pair[1])):
-            steps.run(f"cmake, {c} and {cpp}", cmake_example, work, moved(work), c, cpp, f"cmake_{c}")
-        steps.run("cmake --install", install, work, "gcc", "g++")
-        steps.run("cmake, a project of C", project_of, work, "C", "c")
-        steps.run("cmake, a project of C++", project_of, work, "CXX", "cpp")
-        steps.run("cmake, a later version", project_of, work, "C", "c", "0.2", True)
-    else:
-        steps.skip("cmake", "cmake")
     if is_here("pkg-config"):
         steps.run("pkg-config", pkg_config, work)
     else:
         steps.skip("pkg-config", "pkg-config")
+    if not is_here("cmake"):
+        steps.skip("cmake", "cmake")
+        return
+    for c, cpp in (pair for pair in PAIRS if is_here(pair[0]) and is_here(pair[1])):
+        steps.run(f"cmake, {c} and {cpp}", cmake_example, work, moved(work), c, cpp, f"cmake_{c}")
+    steps.run("cmake, a project of C", project_of, work, "C", "c")
+    steps.run("cmake, a project of C++", project_of, work, "CXX", "cpp")
+    steps.run("cmake, a later version", project_of, work, "C", "c", "0.2", True)
+    run_installed(steps, work)
 
 
 # ---- the programs of bindings/README.md
@@ -173,6 +168,19 @@ def as_on_docs_rs(work, crate="rust", words=()):
     return without_archive(work, "doc", "--no-deps", "--features", features, *places, *words, crate=crate)
 
 
+def other_processor(work):
+    """An archive for another processor is refused, with the target's name and what there is."""
+    folder = work / "other processor"
+    folder.mkdir()
+    (folder / ARCHIVE.name).write_bytes(stand_in(AARCH64.machine))
+    places = {"IOX2_PUBSUB_LIB_DIR": str(folder), "CARGO_TARGET_DIR": str(work / "target_other")}
+    written = said("cargo", "check", "--offline", cwd=OUT / "rust-sys", env={**os.environ, **places}, fails=True)
+    for words in (f"has no archive for {X86_64.triple}", f"{ARCHIVE.name} for Linux on {AARCH64.name}"):
+        if words not in written:
+            raise Failed(written)
+    return f"no archive for {X86_64.triple}"
+
+
 def builds_once(work):
     """A second build of the folder, as others have it, compiles nothing."""
     folder = shutil.copytree(OUT, work / "folder of crates", dirs_exist_ok=True)
@@ -210,6 +218,8 @@ def run_cargo(steps, work):
     steps.run("rust, cargo test", cargo_test, work)
     steps.run("rust, a second cargo build", builds_once, work)
     steps.run("rust, an archive of another version", other_version, work)
+    steps.run("rust, an archive for another processor", other_processor, work)
+    steps.run("rust-sys, cargo test", lambda: cargo_test(work, crate="rust-sys"))
     steps.run("rust, cargo run --example thermometer", cargo_example, work)
     steps.run("rust, cargo check without the archive", without_archive, work, "check", "--all-targets")
     if is_here("cargo-clippy"):

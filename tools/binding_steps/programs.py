@@ -1,5 +1,6 @@
 """The programs of C and C++: compiled and run by gcc and clang, with sanitizers and valgrind."""
 import filecmp
+import subprocess
 
 from .places import BINDINGS, OUT, is_here
 from .steps import Failed, said
@@ -21,13 +22,13 @@ NOTHING_LEFT = ("--show-leak-kinds=all", "--errors-for-leak-kinds=all")
 BUT_REACHABLE = ("--show-leak-kinds=definite,indirect,possible", "--errors-for-leak-kinds=definite,indirect,possible")
 
 
-def compile_program(compiler, source, standard, program, *flags, objects=()):
-    """Compiles a file of bindings to a program over the archive, with what is compiled already."""
+def compile_program(compiler, source, standard, program, *flags, objects=(), out=OUT):
+    """Compiles a file of bindings to a program over the archive of a folder, with what is compiled already."""
     language = "c++" if standard.startswith("c++") else "c"
     # gcc's manual says that a sanitizer makes it warn of values that are set.
     warnings = [*WARNINGS, "-Wno-maybe-uninitialized"] if SANITIZERS[0] in flags and compiler in PAIRS[0] else WARNINGS
-    words = [compiler, "-x", language, f"-std={standard}", *warnings, *flags, "-I", OUT / "include", BINDINGS / source]
-    said(*words, "-x", "none", *objects, ARCHIVE, "-pthread", "-o", program)
+    words = [compiler, "-x", language, f"-std={standard}", *warnings, *flags, "-I", out / "include", BINDINGS / source]
+    said(*words, "-x", "none", *objects, out / "lib/libiox2_pubsub.a", "-pthread", "-o", program)
     return program
 
 
@@ -78,6 +79,32 @@ ROWS = (
 )
 
 
+# Processors of QEMU's: those that lack something of x86-64-v2, and the first that has all of it.
+TOO_OLD, FIRST = ("qemu64", "core2duo", "Penryn"), "Nehalem"
+QEMU = "qemu-x86_64-static"
+
+
+def on_processor(program, processor):
+    """How a program ends on a processor, and what it says."""
+    ran = subprocess.run([QEMU, "-cpu", processor, program], stdout=subprocess.PIPE, stderr=subprocess.STDOUT, text=True)
+    return ran.returncode, ran.stdout
+
+
+def told_of_processor(work):
+    """A program on an older processor says so and ends, before it calls anything; so does one that only asks for the version."""
+    asks = work / "asks.c"
+    asks.write_text('#include "iox2_pubsub.h"\nint main(void) { return iox2ps_version() != IOX2PS_VERSION; }\n')
+    for source in (BINDINGS / "c/first.c", asks):
+        program = compile_program("gcc", source, "c11", work / "on_processor", "-static", "-Wl,--gc-sections")
+        for processor in TOO_OLD:
+            status, written = on_processor(program, processor)
+            if status != 127 or "needs a processor of x86-64-v2" not in written:
+                raise Failed(f"{source.name} on {processor} ends with {status}:\n{written}")
+        if on_processor(program, FIRST)[0]:
+            raise Failed(f"{source.name} on {FIRST}: {on_processor(program, FIRST)}")
+    return f"{', '.join(TOO_OLD)} are told, and {FIRST} isn't"
+
+
 def run_pair(steps, work, c, cpp):
     """The rows of one pair of compilers."""
     for source, standard, is_sanitized in ROWS:
@@ -89,6 +116,8 @@ def run_pair(steps, work, c, cpp):
     for source in OWN_MALLOC:
         steps.run(f"{source}, {c} c11", compile_and_run, work, c, source, "c11", "-O2", *WRAPS)
         steps.run(f"{source}, {c} c11, sanitizers", compile_and_run, work, c, source, "c11", "-O1", *WRAPS, *SANITIZERS)
+    # Not by the sanitizers, which end a program that asks for more memory than there is.
+    steps.run(f"c/heap.c, {c} c11", compile_and_run, work, c, "c/heap.c", "c11", "-O2", *WRAPS)
     for source in ("cpp/tests.cpp", "cpp/threads.cpp"):
         for standard in ("c++17", "c++20"):
             steps.run(f"{source}, {cpp} {standard}, no exceptions", compile_and_run, work, cpp, source, standard, *NO_EXCEPTIONS)
@@ -107,6 +136,10 @@ def run_programs(steps, work):
             run_pair(steps, work, c, cpp)
         else:
             steps.skip(f"what is compiled by {c} and {cpp}", c if not is_here(c) else cpp)
+    if is_here(QEMU):
+        steps.run("older processors", told_of_processor, work)
+    else:
+        steps.skip("older processors", f"{QEMU} (Debian's qemu-user-static)")
     if not is_here("valgrind"):
         steps.skip("programs under valgrind", "valgrind")
         return

@@ -10,16 +10,16 @@ import tempfile
 from contextlib import nullcontext
 from pathlib import Path
 
-from .folder import ARCHIVE_CRATE, crates_below, fill, join_archives, made_of_proof
-from .places import OUT, TOP, version
+from .folder import ARCHIVE_CRATE, NO_PROOF, PROOF, crates_below, fill, join_archives, made_of_proof
+from .places import TOP, version
 from .steps import Failed, said
+from .targets import TARGETS, X86_64, is_for
 
-MACHINE = "x86_64"
 DIST = TOP / "dist"
 SUMS, PROOFS = "SHA256SUMS", "PROOFS"
 ARCHIVE = "lib/libiox2_pubsub.a"
 PARTS = ("src", "specs", "proofs", "must-fail")
-PAGES = ("README.md", "THREADS.md", "DDS.md", "TESTED.md")
+PAGES = ("README.md", "THREADS.md", "DDS.md", "AARCH64.md", "TESTED.md")
 EXAMPLES = ("c/first.c", "cpp/first.cpp")
 
 HOW = """\
@@ -31,8 +31,9 @@ HOW = """\
 #        git checkout {commit} && tools/release --check <this folder>
 #    It compares each file with the commit's, proves the crates (some twenty minutes on four cores), builds the archive anew, and
 #    compares its bytes with lib/libiox2_pubsub.a.
-# A crate's sum is that of its files in src, specs, proofs and must-fail, by name. The headers, the classes of C++ and the crates of Rust
-# are not proved: TESTED.md says what is.
+# The proof's line is the last one that the kit says of the archive's own crate, over the crates below it. A crate's sum is that of its
+# files in src, specs, proofs and must-fail, by name. The headers, the classes of C++, the crates of Rust and the files of bindings/archive
+# are not proved: TESTED.md says what is tested.
 
 version {version}
 commit {commit}
@@ -107,15 +108,25 @@ def write_sums(folder):
     (folder / SUMS).write_text("".join(f"{sum_of(file.read_bytes())}  {file.relative_to(folder)}\n" for file in files))
 
 
-def proofs(commit_, kit_, top):
-    """What a release says of its proofs."""
-    return HOW.format(commit=commit_, version=version(top), kit=kit_) + "\n".join(crate_lines(top)) + "\n"
+def proofs(commit_, kit_, lines, top):
+    """What a release says of its proofs, with the lines of its targets."""
+    return HOW.format(commit=commit_, version=version(top), kit=kit_) + lines + "\n".join(crate_lines(top)) + "\n"
 
 
-def make(to, commit_, kit_, archive, work):
+def lines_of(target, proof):
+    """What a release says of its archive: for what it is, and what the last line of its proof is."""
+    return f"target {target.triple}\nproof {proof.strip()}\n"
+
+
+def proof_of(folder):
+    """The last line of the proof that a folder's archive comes of."""
+    return (folder / PROOF).read_text() if (folder / PROOF).exists() else NO_PROOF
+
+
+def make(to, commit_, kit_, archive, target, proof, work):
     """Makes the folder of a release, of the files of a commit and of the archive."""
     top = files_of(commit_, work)
-    fill(to, archive, top)
+    fill(to, archive, target, top)
     shutil.copytree(top / "bindings/dds", to / "dds", ignore=shutil.ignore_patterns("tests"))
     (to / "examples").mkdir()
     for name in EXAMPLES:
@@ -123,7 +134,7 @@ def make(to, commit_, kit_, archive, work):
     for name in PAGES:
         (to / name).write_text(page((top / "bindings" / name).read_text()))
     (to / "CHANGELOG.md").write_text(page((top / "CHANGELOG.md").read_text()))
-    (to / PROOFS).write_text(proofs(commit_, kit_, top))
+    (to / PROOFS).write_text(proofs(commit_, kit_, lines_of(target, proof), top))
     write_sums(to)
 
 
@@ -146,35 +157,41 @@ def seconds_of(commit_):
     return int(said("git", "show", "-s", "--format=%ct", commit_, cwd=TOP, both=False))
 
 
-def made(folder, archive, commit_):
+def name_of(target):
+    """What a release for a target is called."""
+    return f"iox2_pubsub-{version()}-{target.name}"
+
+
+def made(folder, archive, commit_, target=X86_64, proof=NO_PROOF):
     """Makes a release in a folder of its own, and returns the packed file."""
-    name = f"iox2_pubsub-{version()}-{MACHINE}"
+    name = name_of(target)
     folder.mkdir()
-    make(folder / name, commit_, kit(), archive, folder / "source")
+    make(folder / name, commit_, kit(), archive, target, proof, folder / "source")
     packed = folder / f"{name}.tar.gz"
     pack(folder, [folder / name, *sorted((folder / name).rglob("*"))], packed, seconds_of(commit_))
     return packed
 
 
-def twice(work, archive):
+def twice(work, target):
     """Makes it twice in two folders, which has to give the same bytes."""
-    commit_ = commit()
-    first, second = (made(work / name, archive, commit_) for name in ("once", "again"))
+    commit_, archive, proof = commit(), target.out / ARCHIVE, proof_of(target.out)
+    is_for(archive, target)
+    first, second = (made(work / f"{name}_{target.name}", archive, commit_, target, proof) for name in ("once", "again"))
     if first.read_bytes() != second.read_bytes():
         raise Failed("made twice, it isn't the same")
     return first
 
 
-def archive_twice(work):
+def archive_twice(work, target):
     """The static library that is built anew from the proofs, in another folder, has the bytes of the one that is released."""
-    joined = work / "again.a"
-    join_archives(built_anew(work), joined)
-    if joined.read_bytes() != (OUT / ARCHIVE).read_bytes():
+    joined = work / f"again_{target.name}.a"
+    join_archives(built_anew(work, target), joined, target)
+    if joined.read_bytes() != (target.out / ARCHIVE).read_bytes():
         raise Failed("built twice, the archive isn't the same")
     return f"{joined.stat().st_size} bytes"
 
 
-def built_anew(work):
+def built_anew(work, target):
     """Builds the archive without its cache, so that it isn't the one that was built before."""
     from .built import load_proved
 
@@ -182,33 +199,35 @@ def built_anew(work):
     try:
         with tempfile.TemporaryDirectory(prefix="anew-") as room:
             crate, _ = proved.crate_over_kept(proved.load_rt(), ARCHIVE_CRATE, room)
-            archive = proved.build_archive(proved.load_rt(), crate, os.cpu_count())
+            archive = proved.build_archive(proved.load_rt(), crate, os.cpu_count(), target)
             return shutil.copyfile(archive, work / f"lib{ARCHIVE_CRATE}.a")
     except (proved.NotKept, *proved.UNREADABLE) as lacking:
         raise Failed(f"it isn't built again, since rt ci hasn't kept what it stands on: {lacking}") from lacking
 
 
 def publish(packed):
-    """Puts a release into dist/, in place of the one that is there."""
+    """Puts the releases of all targets into dist/, in place of those that are there, with what they say of their proofs on one page."""
     shutil.rmtree(DIST, ignore_errors=True)
     DIST.mkdir()
-    shutil.copyfile(packed, DIST / packed.name)
-    with tarfile.open(packed) as file:
-        (DIST / PROOFS).write_bytes(file.extractfile(f"{packed.name.removesuffix('.tar.gz')}/{PROOFS}").read())
-    (DIST / SUMS).write_text(f"{sum_of(packed.read_bytes())}  {packed.name}\n")
+    for file in packed.values():
+        shutil.copyfile(file, DIST / file.name)
+    lines = "".join(lines_of(target, proof_of(target.out)) for target in packed)
+    (DIST / PROOFS).write_text(proofs(commit(), kit(), lines, TOP))
+    (DIST / SUMS).write_text("".join(f"{sum_of(file.read_bytes())}  {file.name}\n" for file in packed.values()))
 
 
 def latest():
-    """The release that dist/ has, or None."""
-    return next(iter(sorted(DIST.glob("iox2_pubsub-*.tar.gz"))), None)
+    """The release for the first target that dist/ has, or None. Their headers are the same files."""
+    return next(iter(sorted(DIST.glob(f"iox2_pubsub-*-{X86_64.name}.tar.gz"))), None)
 
 
 # ---- what is compared
 
 
-def check(steps, folder, work, archive=None):
-    """Compares a release with its commit, with this clone, and with the proofs."""
+def check(steps, folder, work, archive=None, target=None):
+    """Compares a release with its commit, with this clone, and with the proofs. With a target, it has to be for that."""
     steps.run("no file was changed on its way", same_sums, folder)
+    steps.run("its archive is for the processor that it names", same_target, folder, target)
     steps.run("each file is the commit's", same_files, folder, work)
     steps.run("the crates are those of this clone", same_crates, folder)
     steps.run("the archive is that of the proofs", same_archive, folder, work, archive)
@@ -227,12 +246,35 @@ def told(folder, word):
     return found[1]
 
 
+def target_of(folder):
+    """The target that the release says it is for."""
+    triple = told(folder, "target")
+    known = {target.triple: target for target in TARGETS.values()}
+    if triple not in known:
+        raise Failed(f"it is for {triple}, and this clone knows {', '.join(known)}")
+    return known[triple]
+
+
+def same_target(folder, wanted=None):
+    """The release's name, its page of proofs, the last line of its proof and its archive are for one processor: the one that is wanted."""
+    target = target_of(folder)
+    if wanted not in (None, target):
+        raise Failed(f"it is for {target.name}, not for {wanted.name}")
+    named = re.fullmatch(r"iox2_pubsub-[\d.]+-(\w+)", folder.name)
+    if named and named[1] != target.name:
+        raise Failed(f"it is called {folder.name}, and is for {target.name}")
+    proved_for = re.search(r"\btarget=(\S+)", told(folder, "proof"))
+    if proved_for and proved_for[1] != target.triple:
+        raise Failed(f"it is for {target.triple}, and what was proved is for {proved_for[1]}")
+    return is_for(folder / ARCHIVE, target)
+
+
 def same_files(folder, work):
     """The release has the files of its commit, byte for byte, and no others. Its archive is compared with the proofs."""
     if not re.fullmatch(r"[0-9a-f]{40}", told(folder, "commit")):
         raise Failed(f"{PROOFS} names no commit")
     wanted = work / "wanted"
-    make(wanted, told(folder, "commit"), told(folder, "kit"), folder / ARCHIVE, work / "source")
+    make(wanted, told(folder, "commit"), told(folder, "kit"), folder / ARCHIVE, target_of(folder), told(folder, "proof"), work / "source")
     here, there = names_of(folder), names_of(wanted)
     faults = [f"{name} isn't the commit's" for name in sorted(here - there)] + [f"{name} is missing" for name in sorted(there - here)]
     # The sums were made anew by whoever changed something else: they come last.
@@ -266,8 +308,8 @@ def same_crates(folder):
 
 def same_archive(folder, work, archive):
     """The archive has the bytes of one that is made here."""
-    joined = work / "made.a"
-    join_archives(archive or made_of_proof(ARCHIVE_CRATE), joined)
+    joined, target = work / "made.a", target_of(folder)
+    join_archives(archive or made_of_proof(ARCHIVE_CRATE, target), joined, target)
     if joined.read_bytes() != (folder / ARCHIVE).read_bytes():
         raise Failed("its bytes aren't those of the archive that is made here; the kit may be another")
     return f"{joined.stat().st_size} bytes"

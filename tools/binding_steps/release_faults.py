@@ -5,12 +5,11 @@ import tarfile
 
 from . import abi, release
 from .places import HEADER, is_here, version
-from .release import MACHINE, PROOFS, head, made, same_archive, same_crates, same_files, same_sums, unpacked, write_sums
+from .release import PROOFS, head, made, name_of, same_archive, same_crates, same_files, same_sums, same_target, unpacked, write_sums
 from .steps import Failed
+from .targets import AARCH64, TARGETS, X86_64, stand_in
 
-NAME = f"iox2_pubsub-{version()}-{MACHINE}"
-# What stands in the place of the archive: these compare all else.
-ARCHIVE = b"!<arch>\n"
+NAME = name_of(X86_64)
 
 
 def add_line(name, line):
@@ -46,10 +45,14 @@ FAULTS = {
 }
 
 
+# What a member has that leads outside.
+OUTSIDE = b"outside"
+
+
 def member(name, kind=tarfile.REGTYPE, link=""):
     """A member that leads outside."""
     found = tarfile.TarInfo(name)
-    found.type, found.linkname, found.size = kind, link, len(ARCHIVE) if kind == tarfile.REGTYPE else 0
+    found.type, found.linkname, found.size = kind, link, len(OUTSIDE) if kind == tarfile.REGTYPE else 0
     return found
 
 
@@ -71,11 +74,12 @@ def refused(what, call, *given):
     raise Failed(f"{what} is taken")
 
 
-def whole_release(work):
+def whole_release(work, target):
     """A release of the clone's commit, packed, with another archive than the proved one."""
-    archive = work / "archive.a"
-    archive.write_bytes(ARCHIVE)
-    first, second = (made(work / name, archive, head()) for name in ("once", "again"))
+    archive = work / f"{target.name}.a"
+    archive.write_bytes(stand_in(target.machine)) # in the place of the proved one: these compare all else
+    proof = f"logic=proved target={target.triple}\n"
+    first, second = (made(work / f"{name}_{target.name}", archive, head(), target, proof) for name in ("once", "again"))
     if first.read_bytes() != second.read_bytes():
         raise Failed("made twice, it isn't the same")
     return first
@@ -83,18 +87,69 @@ def whole_release(work):
 
 def is_taken(work, packed):
     """Without a fault it passes."""
-    (work / "taken").mkdir()
-    return same_files(unpacked(packed, work / "taken"), work / "taken")
+    place = work / f"taken_{packed.stem}"
+    place.mkdir()
+    folder = unpacked(packed, place)
+    return f"{same_target(folder)}, {same_files(folder, place)}"
 
 
-def is_seen(work, packed, what, change):
-    """With a fault it doesn't, though its sums were made anew."""
+def changed(work, packed, what, change):
+    """A release with a fault, whose sums were made anew, and the folder that it lies in."""
     place = work / what.replace(" ", "_")
     place.mkdir()
     folder = unpacked(packed, place)
     change(folder)
     write_sums(folder)
-    return refused(what, same_files, folder, place)
+    return folder, place
+
+
+def is_seen(work, packed, what, change):
+    """With a fault in a file it doesn't."""
+    return refused(what, same_files, *changed(work, packed, what, change))
+
+
+def put_archive(machine):
+    """A fault: an archive for another processor."""
+    return lambda folder: (folder / release.ARCHIVE).write_bytes(stand_in(machine))
+
+
+def say(word, old, new):
+    """A fault: the page of proofs names another processor in a line."""
+
+    def change(folder):
+        text = (folder / PROOFS).read_text()
+        lines = [line.replace(old, new) if line.startswith(f"{word} ") else line for line in text.splitlines(keepends=True)]
+        (folder / PROOFS).write_text("".join(lines))
+
+    return change
+
+
+# What names another processor than the rest, and a part of what is said of it.
+OTHER_PROCESSORS = {
+    "an archive for another target": (put_archive(AARCH64.machine), f"for {AARCH64.name}, not for {X86_64.name}"),
+    "an archive for a processor that nobody knows": (put_archive(243), "for ELF's machine 243"),
+    "a page of proofs for another target": (say("target", X86_64.triple, AARCH64.triple), f"is for {AARCH64.name}"),
+    "a page of proofs for a target that nobody knows": (say("target", X86_64.triple, "riscv64gc-unknown-linux-gnu"), "it is for riscv64gc"),
+    "a proof for another target": (say("proof", X86_64.triple, AARCH64.triple), f"what was proved is for {AARCH64.triple}"),
+}
+
+
+def is_for_another(work, packed, what, change, words):
+    """A release for another processor than it says is refused, with what it is for."""
+    folder, _ = changed(work, packed, what, change)
+    said = refused(what, same_target, folder)
+    if words not in said:
+        raise Failed(said)
+    return said
+
+
+def is_asked_for(work, packed):
+    """One for another processor than is asked for is refused, and one for that isn't."""
+    place = work / "asked_for"
+    place.mkdir()
+    folder = unpacked(packed, place)
+    same_target(folder, X86_64)
+    return refused("a release for another processor", same_target, folder, AARCH64)
 
 
 def is_kept_in(work, packed, what, members):
@@ -106,7 +161,7 @@ def is_kept_in(work, packed, what, members):
         for one in old.getmembers():
             new.addfile(one, old.extractfile(one) if one.isfile() else None)
         for one in members:
-            new.addfile(one, io.BytesIO(ARCHIVE) if one.isreg() else None)
+            new.addfile(one, io.BytesIO(OUTSIDE) if one.isreg() else None)
     (place / "inside").mkdir()
     said = refused(what, unpacked, planted, place / "inside")
     outside = [path for path in (work / "outside", place / "outside", place / "inside/outside") if path.exists()]
@@ -171,9 +226,9 @@ def other_archive_is_seen(work, packed):
     (work / "archives").mkdir()
     folder = unpacked(packed, work / "archives")
     given = work / "archives/libiox2_pubsub.a"
-    given.write_bytes(ARCHIVE)
+    given.write_bytes(stand_in(X86_64.machine))
     same_archive(folder, work, given)
-    (folder / release.ARCHIVE).write_bytes(ARCHIVE + b"\n")
+    (folder / release.ARCHIVE).write_bytes(stand_in(X86_64.machine) + b"\n")
     return refused("an archive with a byte more", same_archive, folder, work, given)
 
 
@@ -198,22 +253,28 @@ def changed_byte_is_seen(work, packed):
 
 def run_faults(steps, work):
     """All of these."""
-    try:
-        packed = whole_release(work)
-    except Failed as failure:
-        steps.add(0, 1, f"FAILED  a release is made twice\n{failure}\n")
-        return
-    steps.add(1, 0, "ok      a release is made twice, with the same bytes\n")
-    steps.run("one without a fault is taken", is_taken, work, packed)
+    packed = {}
+    for target in TARGETS.values():
+        try:
+            packed[target] = whole_release(work, target)
+        except Failed as failure:
+            steps.add(0, 1, f"FAILED  a release for {target.name} is made twice\n{failure}\n")
+            return
+        steps.add(1, 0, f"ok      a release for {target.name} is made twice, with the same bytes\n")
+        steps.run(f"one for {target.name} without a fault is taken", is_taken, work, packed[target])
+    first = packed[X86_64]
     for what, change in FAULTS.items():
-        steps.run(what, is_seen, work, packed, what, change)
+        steps.run(what, is_seen, work, first, what, change)
+    for what, (change, words) in OTHER_PROCESSORS.items():
+        steps.run(what, is_for_another, work, first, what, change, words)
+    steps.run("a release for another target than is asked for", is_asked_for, work, first)
     for what, members in MEMBERS.items():
-        steps.run(what, is_kept_in, work, packed, what, members)
-    steps.run("a file that was changed on its way", changed_byte_is_seen, work, packed)
-    steps.run("another crate than this clone's", other_crate_is_seen, work, packed)
-    steps.run("another archive than the proved one", other_archive_is_seen, work, packed)
+        steps.run(what, is_kept_in, work, first, what, members)
+    steps.run("a file that was changed on its way", changed_byte_is_seen, work, first)
+    steps.run("another crate than this clone's", other_crate_is_seen, work, first)
+    steps.run("another archive than the proved one", other_archive_is_seen, work, first)
     if is_here("abidiff") and is_here("gcc"):
         steps.run("the binary interface is compared", interface_is_compared, work)
-        steps.run("another interface wants another version", wants_new_version, work, packed)
+        steps.run("another interface wants another version", wants_new_version, work, first)
     else:
         steps.skip("the binary interface is compared", "abidiff (Debian's abigail-tools)")

@@ -412,6 +412,13 @@ where
         let code = unsafe {
             c::iox2ps_dds_gateway_open(polled.1 .0, key, &plain, &mut handle, why.as_mut_ptr(), 256)
         };
+        // The gateway has made a subscriber.
+        if code == sys::OK && M::Place::IS_SHARED {
+            place.call(Brings::SEND, |shared| {
+                shared.update_publishers();
+                sys::OK
+            });
+        }
         match code {
             sys::OK => Ok(Gateway {
                 handle,

@@ -1,6 +1,6 @@
 //! A domain: a service and what is in it.
 
-use crate::errors::{unexpected, DomainCreateError};
+use crate::errors::{is_after_fork, unexpected, DomainCreateError};
 use crate::guarded::Guarded;
 use crate::ids::{number, wide};
 use crate::lock::{DomainLock, StdLock};
@@ -18,7 +18,6 @@ use crate::warning::Warning;
 use crate::{PublisherCreateError, SubscriberCreateError};
 use std::fmt;
 use std::marker::PhantomData;
-use std::rc::Rc;
 use std::sync::Arc;
 
 /// A service whose messages are of the type `P`: a value, or a slice of values.
@@ -98,7 +97,8 @@ impl<P: Payload + ?Sized, M: Threads> Domain<P, M> {
         self.publisher_builder().create()
     }
 
-    /// Makes a subscriber as the settings of the domain say.
+    /// Makes a subscriber as the settings of the domain say; see
+    /// [`create`](PortFactorySubscriber::create) for what it gets then.
     ///
     /// # Errors
     ///
@@ -227,16 +227,42 @@ impl<P: Payload + ?Sized, M: MayWait> Domain<P, M> {
 /// The settings of the domain that is there.
 pub(crate) fn config(place: &impl Place) -> sys::Config {
     let mut config = sys::Config::default();
-    // SAFETY: see `Shared::at`.
-    expect(place.call(Brings::NOTHING, |shared| unsafe {
-        sys::iox2ps_domain_config(shared.at(), &mut config)
-    }));
+    expect(read_config(place, &mut config));
     config
+}
+
+/// The same, and zeros in a child after a fork, where a later call says so.
+pub(crate) fn config_or_zeros(place: &impl Place) -> sys::Config {
+    let mut config = sys::Config::default();
+    expect_here(read_config(place, &mut config));
+    config
+}
+
+fn read_config(place: &impl Place, config: &mut sys::Config) -> u32 {
+    // SAFETY: see `Shared::at`.
+    place.call(Brings::NOTHING, |shared| unsafe {
+        sys::iox2ps_domain_config(shared.at(), config)
+    })
 }
 
 #[inline(always)]
 pub(crate) fn expect(code: u32) {
     if code != sys::OK {
+        unexpected(code);
+    }
+}
+
+/// The same of a call that does nothing in a child after a fork, as one that gives something back.
+#[inline(always)]
+pub(crate) fn expect_here(code: u32) {
+    if code != sys::OK {
+        not_here(code);
+    }
+}
+
+#[cold]
+fn not_here(code: u32) {
+    if !is_after_fork(code) {
         unexpected(code);
     }
 }
@@ -311,8 +337,9 @@ impl<P: Payload + ?Sized> DomainBuilder<P> {
         self
     }
 
-    /// How many of its last messages a publisher keeps for subscribers that come later, which get them at
-    /// its next send or update. Without overflow keep it below the buffer's size, or that send may block.
+    /// How many of its last messages a publisher keeps for subscribers that come later. These get them when they are
+    /// made, where threads share the domain; else at the publisher's next send or update. Without overflow keep it below
+    /// the buffer's size, or the next send may block.
     pub fn history_size(mut self, value: usize) -> Self {
         self.config.history_size = value;
         self
@@ -376,7 +403,7 @@ impl<P: Payload + ?Sized> DomainBuilder<P> {
     pub fn create(self) -> Result<Domain<P>, DomainCreateError> {
         let shared = self.shared()?;
         Ok(Domain {
-            hold: Rc::new(Single::new(shared)),
+            hold: Single::new(shared),
             messages: PhantomData,
         })
     }

@@ -7,8 +7,22 @@ use std::ptr;
 use std::slice;
 use std::str;
 
-/// The text of a code of the C header.
+/// What calls of a domain that threads share return in a child after a fork, as those of C++ do.
+pub(crate) const AFTER_FORK: u32 = 0xffff_fffd;
+
+/// Whether a call found itself in a child after a fork, where a domain of one thread has none.
+pub(crate) fn is_after_fork(code: u32) -> bool {
+    matches!(code, AFTER_FORK | sys::NO_DOMAIN)
+}
+
+const AFTER_FORK_TEXT: &str =
+    "AfterFork: the domain belongs to the process that was forked: make one in this process";
+
+/// The text of a code of the C header, or of that which this crate adds.
 pub(crate) fn text(code: u32) -> &'static str {
+    if is_after_fork(code) {
+        return AFTER_FORK_TEXT;
+    }
     let mut start = ptr::null();
     let mut len = 0;
     // SAFETY: both pointers are of locals. The text is in the archive for good.
@@ -32,21 +46,25 @@ macro_rules! errors {
         #[derive(Clone, Copy, Debug, PartialEq, Eq, Hash)]
         pub enum $name {
             $($(#[$of])* $variant,)*
+            /// This process is a child of the one that made the domain. This library's own.
+            AfterFork,
         }
 
         impl $name {
             pub(crate) fn of(code: u32) -> $name {
                 match code {
                     $(sys::$code => $name::$variant,)*
+                    AFTER_FORK | sys::NO_DOMAIN => $name::AfterFork,
                     _ => unexpected(code),
                 }
             }
 
-            /// The code of the C header.
+            /// The code of the C header, or the same as in C++ for `AfterFork`.
             #[must_use]
             pub fn code(self) -> u32 {
                 match self {
                     $($name::$variant => sys::$code,)*
+                    $name::AfterFork => AFTER_FORK,
                 }
             }
         }
@@ -69,6 +87,8 @@ pub enum DomainCreateError {
     OutOfMemory,
     /// The program is linked to the archive of another version than that of this crate.
     OtherVersion,
+    /// This process is a child of the one that made the domain, whose recording it asks for.
+    AfterFork,
     /// Never returned: it would be `OtherVersion`.
     InvalidStructSize,
     /// Never returned: the size is that of the payload's type.
@@ -83,6 +103,7 @@ impl DomainCreateError {
     pub(crate) fn of(code: u32) -> DomainCreateError {
         match code {
             sys::OUT_OF_MEMORY => DomainCreateError::OutOfMemory,
+            AFTER_FORK | sys::NO_DOMAIN => DomainCreateError::AfterFork,
             sys::INVALID_STRUCT_SIZE => DomainCreateError::InvalidStructSize,
             sys::INVALID_PAYLOAD_SIZE => DomainCreateError::InvalidPayloadSize,
             sys::INVALID_PAYLOAD_ALIGNMENT => DomainCreateError::InvalidPayloadAlignment,
@@ -97,6 +118,7 @@ impl DomainCreateError {
         match self {
             DomainCreateError::OutOfMemory => sys::OUT_OF_MEMORY,
             DomainCreateError::OtherVersion => u32::MAX,
+            DomainCreateError::AfterFork => AFTER_FORK,
             DomainCreateError::InvalidStructSize => sys::INVALID_STRUCT_SIZE,
             DomainCreateError::InvalidPayloadSize => sys::INVALID_PAYLOAD_SIZE,
             DomainCreateError::InvalidPayloadAlignment => sys::INVALID_PAYLOAD_ALIGNMENT,
@@ -226,6 +248,8 @@ pub enum SendError {
     PublisherIsBlocked,
     /// A connection has no channel with this number. This library's own.
     NoSuchChannel,
+    /// This process is a child of the one that made the domain. This library's own.
+    AfterFork,
 }
 
 impl SendError {
@@ -239,6 +263,7 @@ impl SendError {
             sys::SEND_ERROR_INTERNAL_ERROR => SendError::InternalError,
             sys::PUBLISHER_IS_BLOCKED => SendError::PublisherIsBlocked,
             sys::NO_SUCH_CHANNEL => SendError::NoSuchChannel,
+            AFTER_FORK | sys::NO_DOMAIN => SendError::AfterFork,
             sys::SEND_ERROR_CONNECTION_INCOMPATIBLE_BUFFER_SIZE
             | sys::SEND_ERROR_CONNECTION_OUT_OF_MEMORY
             | sys::SEND_ERROR_CONNECTION_EXPIRED_BUFFER_FULL
@@ -263,6 +288,7 @@ impl SendError {
             SendError::InternalError => sys::SEND_ERROR_INTERNAL_ERROR,
             SendError::PublisherIsBlocked => sys::PUBLISHER_IS_BLOCKED,
             SendError::NoSuchChannel => sys::NO_SUCH_CHANNEL,
+            SendError::AfterFork => AFTER_FORK,
         }
     }
 }
@@ -287,6 +313,7 @@ impl From<LoanError> for SendError {
     fn from(error: LoanError) -> SendError {
         match error {
             LoanError::PublisherIsBlocked => SendError::PublisherIsBlocked,
+            LoanError::AfterFork => SendError::AfterFork,
             error => SendError::LoanError(error),
         }
     }
@@ -301,12 +328,15 @@ pub enum ReceiveError {
     ExceedsMaxBorrows,
     /// The update of the connections before the receive failed.
     ConnectionFailure(ConnectionFailure),
+    /// This process is a child of the one that made the domain. This library's own.
+    AfterFork,
 }
 
 impl ReceiveError {
     pub(crate) fn of(code: u32) -> ReceiveError {
         match code {
             sys::RECEIVE_ERROR_EXCEEDS_MAX_BORROWS => ReceiveError::ExceedsMaxBorrows,
+            AFTER_FORK | sys::NO_DOMAIN => ReceiveError::AfterFork,
             _ => ReceiveError::ConnectionFailure(ConnectionFailure::of(code + FROM_RECEIVE)),
         }
     }
@@ -317,6 +347,7 @@ impl ReceiveError {
         match self {
             ReceiveError::ExceedsMaxBorrows => sys::RECEIVE_ERROR_EXCEEDS_MAX_BORROWS,
             ReceiveError::ConnectionFailure(failure) => failure.code() - FROM_RECEIVE,
+            ReceiveError::AfterFork => AFTER_FORK,
         }
     }
 }
@@ -330,7 +361,7 @@ impl fmt::Display for ReceiveError {
 impl Error for ReceiveError {
     fn source(&self) -> Option<&(dyn Error + 'static)> {
         match self {
-            ReceiveError::ExceedsMaxBorrows => None,
+            ReceiveError::ExceedsMaxBorrows | ReceiveError::AfterFork => None,
             ReceiveError::ConnectionFailure(failure) => Some(failure),
         }
     }

@@ -1,19 +1,21 @@
 //! A domain under its lock, and those who wait in it.
 
 use crate::desk::Desk;
+use crate::errors::AFTER_FORK;
+use crate::fork::Process;
 use crate::listeners::{is_listening, Listener, Listeners};
 use crate::lock::DomainLock;
 use crate::shared::Shared;
 use crate::sys::{self, Wide};
 use crate::threads::{Brings, Place, Polls, Wait, WaitingPlace, Waits};
-use crate::waiting::{FutureNumber, Sleeper, WaitingList, Wake};
+use crate::waiting::{FutureNumber, Listed, WaitingList, Wake, Woken};
 use std::cell::UnsafeCell;
 use std::hint::spin_loop;
 use std::mem::take;
 use std::sync::atomic::{AtomicUsize, Ordering};
 use std::sync::Arc;
 use std::task::Waker;
-use std::thread::yield_now;
+use std::thread::{self, yield_now};
 use std::time::Instant;
 
 /// A domain that threads share.
@@ -23,6 +25,7 @@ pub struct Guarded<L> {
     lock: L,
     state: UnsafeCell<State>,
     changes: Changes,
+    process: Process,
 }
 
 // What came so far: messages, and all else. These are read without the lock too, and so lie apart from it.
@@ -49,6 +52,7 @@ unsafe impl<L: DomainLock> Send for Guarded<L> {}
 impl<L: DomainLock> Guarded<L> {
     pub(crate) fn new(shared: Shared) -> Self {
         Guarded {
+            process: shared.process(),
             lock: L::new(),
             state: UnsafeCell::new(State {
                 shared,
@@ -60,11 +64,19 @@ impl<L: DomainLock> Guarded<L> {
         }
     }
 
-    // What runs here is this crate's alone, and drops nothing of a user's.
+    // What runs here is this crate's alone, and drops nothing of a user's. `None` in a child after a fork, which may not have
+    // the lock, since nobody may be there to give it back.
     #[inline]
-    fn with<R>(&self, run: impl FnOnce(&mut State) -> R) -> R {
+    fn with<R>(&self, run: impl FnOnce(&mut State) -> R) -> Option<R> {
+        if !self.process.is_this() {
+            return None;
+        }
         // SAFETY: one thread at a time is here, and what runs doesn't come back here.
-        self.lock.hold(|| run(unsafe { &mut *self.state.get() }))
+        Some(self.lock.hold(|| run(unsafe { &mut *self.state.get() })))
+    }
+
+    fn wake(&self, wake: Wake) {
+        wake.wake(|| self.with(|state| state.waiting.next_task()).flatten());
     }
 
     #[inline]
@@ -121,25 +133,24 @@ impl<L: DomainLock> Guarded<L> {
         false
     }
 
-    // Sleeps, unless something came since then. Returns whether it did, by whose name in the list.
-    fn sleep(&self, wait: &Wait, seen: usize) -> Option<Arc<Sleeper>> {
-        let sleeper = Sleeper::own();
-        let listed = sleeper.clone();
-        let sleeps = self.with(|state| {
-            let sleeps = self.changes(wait.what).load(Ordering::Relaxed) == seen;
-            if sleeps {
-                state.waiting.add(wait.what, wait.port, listed);
+    // Sleeps, unless something came since then. Then it is in the list of those who wait.
+    fn sleep(&self, wait: &Wait, seen: usize, woken: &Woken, listed: &mut Listed) {
+        let thread = thread::current();
+        self.with(|state| {
+            if self.changes(wait.what).load(Ordering::Relaxed) == seen {
+                state.waiting.add(wait.what, wait.port, thread, woken);
+                listed.0 = true;
             }
-            sleeps
         });
-        sleeps.then(|| {
-            sleeper.sleep(wait.until);
-            sleeper
-        })
+        if listed.0 {
+            woken.sleep(wait.until);
+        }
     }
 }
 
 impl<L: DomainLock> Place for Guarded<L> {
+    const IS_SHARED: bool = true;
+
     #[inline]
     fn call(&self, brings: Brings, calls: impl FnOnce(&mut Shared) -> u32) -> u32 {
         let mut wake = None;
@@ -149,17 +160,17 @@ impl<L: DomainLock> Place for Guarded<L> {
             code
         });
         if let Some(wake) = wake {
-            wake.wake();
+            self.wake(wake);
         }
-        code
+        code.unwrap_or(AFTER_FORK)
     }
 
     fn wait(&self, wait: Wait, mut calls: impl FnMut(&mut Shared) -> u32) -> u32 {
-        let mut listed = None;
+        let (woken, mut listed) = (Woken::default(), Listed(false));
         loop {
-            let (code, is_over, seen, wake) = self.with(|state| {
-                if let Some(sleeper) = listed.take() {
-                    state.waiting.remove(&sleeper);
+            let tried = self.with(|state| {
+                if take(&mut listed.0) {
+                    state.waiting.remove(&woken);
                 }
                 let code = calls(&mut state.shared);
                 if code == sys::NO_SAMPLE {
@@ -171,16 +182,23 @@ impl<L: DomainLock> Place for Guarded<L> {
                 let is_over = !wait.what.goes_on(code) || state.is_stopped || is_past(wait.until);
                 (code, is_over, seen, wake)
             });
+            let (code, is_over, seen, wake) = match tried {
+                Some(tried) => tried,
+                None => break,
+            };
             if let Some(wake) = wake {
-                wake.wake();
+                self.wake(wake);
             }
             if is_over || is_listening() {
                 return code;
             }
             if !self.looks_out(wait.what, seen) {
-                listed = self.sleep(&wait, seen);
+                self.sleep(&wait, seen, &woken, &mut listed);
             }
         }
+        // This process has no thread that could look into the list.
+        listed.0 = false;
+        AFTER_FORK
     }
 
     fn close(&self, desk: &Arc<Desk>) {
@@ -213,7 +231,7 @@ impl<L: DomainLock> Place for Guarded<L> {
 impl<L: DomainLock> WaitingPlace for Guarded<L> {
     fn poll(&self, polls: Polls<'_>, calls: impl FnOnce(&mut Shared) -> u32) -> Option<u32> {
         let (port, waker) = (polls.port, polls.waker.clone());
-        let (code, waits, wake, gone) = self.with(|state| {
+        let polled = self.with(|state| {
             let code = calls(&mut state.shared);
             let wake = self.brought(state, polls.brings, code);
             let waits = code == sys::NO_SAMPLE && !state.is_stopped;
@@ -229,9 +247,13 @@ impl<L: DomainLock> WaitingPlace for Guarded<L> {
             };
             (code, waits, wake, gone)
         });
+        let (code, waits, wake, gone) = match polled {
+            Some(polled) => polled,
+            None => return Some(AFTER_FORK),
+        };
         drop(gone);
         if let Some(wake) = wake {
-            wake.wake();
+            self.wake(wake);
         }
         (!waits).then_some(code)
     }
@@ -262,7 +284,7 @@ impl<L: DomainLock> WaitingPlace for Guarded<L> {
     }
 
     fn is_served(&self, desk: &Desk) -> bool {
-        if L::LOOKS == 0 {
+        if L::LOOKS == 0 || !self.process.is_this() {
             return false;
         }
         // Where more may wait already, not for long: perhaps nobody sends.
@@ -281,11 +303,13 @@ impl<L: DomainLock> WaitingPlace for Guarded<L> {
             state.waiting.bring(Brings::ALL);
             state.waiting.next(true)
         });
-        wake.wake();
+        if let Some(wake) = wake {
+            self.wake(wake);
+        }
     }
 
     fn waits_are_stopped(&self) -> bool {
-        self.with(|state| state.is_stopped)
+        self.with(|state| state.is_stopped).unwrap_or(true)
     }
 }
 

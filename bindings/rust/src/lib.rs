@@ -71,6 +71,9 @@
 //!   ```compile_fail
 //!   iox2_pubsub::Domain::<*const u8>::builder(1).create_shared();
 //!   ```
+//! - A child of a `fork` has a copy of its parent's domains, in which another thread may have been at work. Its calls on them
+//!   touch neither the archive nor the lock: they return the error `AfterFork`, and those that return none panic. Handles that
+//!   it drops give nothing back. A domain that it makes itself is its own.
 //! - No function of a program runs under the lock, so that none can come back to it. A panic leaves nothing
 //!   half done, so that the lock isn't poisoned: the handles of a thread that panics give back what they have.
 //! - A handle is live in the domain while it exists, and the library tests that too: a wrong one would
@@ -85,6 +88,7 @@ mod desk;
 mod domain;
 mod errors;
 mod events;
+mod fork;
 mod guarded;
 mod header;
 mod ids;

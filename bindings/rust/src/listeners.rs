@@ -1,7 +1,7 @@
 //! What is called when a message may have come.
 
 use crate::sys::Wide;
-use std::cell::RefCell;
+use std::cell::{Cell, RefCell};
 use std::panic::{catch_unwind, AssertUnwindSafe};
 use std::sync::Arc;
 
@@ -11,16 +11,55 @@ pub(crate) type Listener = Arc<dyn Fn() + Send + Sync>;
 #[derive(Clone, Default)]
 pub(crate) struct Listeners(Vec<(Wide, Listener)>);
 
+// The listeners of so many domains may be put off without taking memory.
+const ROOM: usize = 8;
+
+const NONE: Option<Arc<Listeners>> = None;
+
+// What a thread has to do with listeners.
+struct Calling {
+    // Whether it calls some.
+    is_on: Cell<bool>,
+    // Those that are to be called after them.
+    later: RefCell<[Option<Arc<Listeners>>; ROOM]>,
+    // Those for which there is no room.
+    last: RefCell<Vec<Arc<Listeners>>>,
+}
+
 thread_local! {
-    // While this thread calls listeners: those that are to be called after them.
-    static LATER: RefCell<Option<Vec<Arc<Listeners>>>> = const { RefCell::new(None) };
+    static CALLING: Calling = const {
+        Calling {
+            is_on: Cell::new(false),
+            later: RefCell::new([NONE; ROOM]),
+            last: RefCell::new(Vec::new()),
+        }
+    };
 }
 
 /// Whether a listener runs on this thread.
 pub(crate) fn is_listening() -> bool {
-    LATER
-        .try_with(|later| later.borrow().is_some())
+    CALLING
+        .try_with(|calling| calling.is_on.get())
         .unwrap_or(false)
+}
+
+impl Calling {
+    fn put_off(&self, listeners: &Arc<Listeners>) {
+        let is_it = |one: &Arc<Listeners>| Arc::ptr_eq(one, listeners);
+        let (mut later, mut last) = (self.later.borrow_mut(), self.last.borrow_mut());
+        if later.iter().flatten().chain(last.iter()).any(is_it) {
+            return;
+        }
+        match later.iter_mut().find(|place| place.is_none()) {
+            Some(place) => *place = Some(listeners.clone()),
+            None => last.push(listeners.clone()),
+        }
+    }
+
+    fn next(&self) -> Option<Arc<Listeners>> {
+        let next = self.later.borrow_mut().iter_mut().find_map(Option::take);
+        next.or_else(|| self.last.borrow_mut().pop())
+    }
 }
 
 impl Listeners {
@@ -51,17 +90,12 @@ impl Listeners {
 
 // Where listeners run on this thread already, these are called after them.
 fn put_off(listeners: &Arc<Listeners>) -> bool {
-    let put_off = LATER.try_with(|later| match &mut *later.borrow_mut() {
-        Some(later) => {
-            if !later.iter().any(|one| Arc::ptr_eq(one, listeners)) {
-                later.push(listeners.clone());
-            }
-            true
+    let put_off = CALLING.try_with(|calling| {
+        let is_on = calling.is_on.replace(true);
+        if is_on {
+            calling.put_off(listeners);
         }
-        none => {
-            *none = Some(Vec::new());
-            false
-        }
+        is_on
     });
     // A thread that is about to end has no such list, and calls none.
     put_off.unwrap_or(true)
@@ -69,12 +103,9 @@ fn put_off(listeners: &Arc<Listeners>) -> bool {
 
 // The next that are to be called, or the end of all.
 fn take_later() -> Option<Arc<Listeners>> {
-    LATER.with(|later| {
-        let mut later = later.borrow_mut();
-        let next = later.as_mut().and_then(Vec::pop);
-        if next.is_none() {
-            *later = None;
-        }
+    CALLING.with(|calling| {
+        let next = calling.next();
+        calling.is_on.set(next.is_some());
         next
     })
 }

@@ -1,6 +1,6 @@
 //! A message that a publisher has lent.
 
-use crate::domain::expect;
+use crate::domain::expect_here;
 use crate::errors::SendError;
 use crate::ids::{number, ChannelId, ConnectionId, UniquePublisherId};
 use crate::in_place::{Unwritten, Written};
@@ -28,7 +28,7 @@ struct Lent<M: Threads> {
 impl<M: Threads> Drop for Lent<M> {
     fn drop(&mut self) {
         let discard = |shared: &mut Shared| discard(shared, &self.loan);
-        expect(self.hold.call(Brings::LOAN, discard));
+        expect_here(self.hold.call(Brings::LOAN, discard));
     }
 }
 

@@ -1,5 +1,7 @@
 //! A file descriptor that is readable when a message may have come, for `poll`, `epoll` and event loops of Linux.
 
+use crate::errors::{text, AFTER_FORK};
+use crate::fork::Process;
 use crate::payload::Payload;
 use crate::subscriber::Subscriber;
 use crate::threads::MayWait;
@@ -24,10 +26,12 @@ pub struct MessageFd(Arc<Raised>);
 struct Raised {
     file: File,
     is_raised: AtomicBool,
+    process: Process,
 }
 
 impl MessageFd {
     fn new() -> io::Result<MessageFd> {
+        let process = Process::this().ok_or(ErrorKind::OutOfMemory)?;
         // SAFETY: it takes no pointer.
         let descriptor = unsafe { eventfd(1, CLOEXEC_AND_NONBLOCK) };
         if descriptor < 0 {
@@ -37,6 +41,7 @@ impl MessageFd {
             // SAFETY: it was made here, and is nobody else's.
             file: unsafe { File::from_raw_fd(descriptor) },
             is_raised: AtomicBool::new(true),
+            process,
         })))
     }
 
@@ -53,8 +58,12 @@ impl MessageFd {
     ///
     /// # Errors
     ///
-    /// What the system says of the read, except that there is nothing to read.
+    /// What the system says of the read, except that there is nothing to read. In a child after a fork nothing is read, since
+    /// what there is to read is the parent's.
     pub fn reset(&self) -> io::Result<()> {
+        if !self.0.process.is_this() {
+            return Err(io::Error::new(ErrorKind::Other, text(AFTER_FORK)));
+        }
         let read = match (&self.0.file).read(&mut [0; 8]) {
             Err(error) if error.kind() == ErrorKind::WouldBlock => Ok(()),
             read => read.map(drop),

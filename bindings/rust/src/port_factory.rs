@@ -1,6 +1,6 @@
 //! The settings of ports.
 
-use crate::domain::Domain;
+use crate::domain::{config_or_zeros, Domain};
 use crate::errors::{PublisherCreateError, SubscriberCreateError};
 use crate::payload::Payload;
 use crate::publisher::{BackpressureAction, BackpressureStrategy, Publisher};
@@ -45,7 +45,7 @@ impl<'d, P: Payload + ?Sized, M: Threads> PortFactoryPublisher<'d, P, M> {
     pub(crate) fn new(domain: &'d Domain<P, M>) -> Self {
         let mut options = sys::PublisherOptions::default();
         // SAFETY: the pointers are of locals.
-        unsafe { sys::iox2ps_publisher_options_of(&domain.config(), &mut options) };
+        unsafe { sys::iox2ps_publisher_options_of(&config_or_zeros(&*domain.hold), &mut options) };
         PortFactoryPublisher {
             domain,
             options,
@@ -102,7 +102,8 @@ impl<'d, P: Payload + ?Sized, M: Threads> PortFactoryPublisher<'d, P, M> {
             None => return 0,
         };
         let mut worst = 0;
-        let (config, loans) = (self.domain.config(), self.options.max_loaned_samples);
+        let config = config_or_zeros(&*self.domain.hold);
+        let loans = self.options.max_loaned_samples;
         // SAFETY: the pointers are of locals.
         match unsafe { sys::iox2ps_worst_case_slots(&config, loans, &mut worst) } {
             sys::OK => callback(worst).max(1),
@@ -125,7 +126,11 @@ impl<'d, P: Payload + ?Sized, M: Threads> PortFactoryPublisher<'d, P, M> {
         let hold = &self.domain.hold;
         // SAFETY: see `Shared::at`.
         let code = hold.call(Brings::MESSAGE, |shared| unsafe {
-            sys::iox2ps_publisher_create_with(shared.at(), &self.options, &mut port)
+            let code = sys::iox2ps_publisher_create_with(shared.at(), &self.options, &mut port);
+            if code == sys::OK && M::Place::IS_SHARED {
+                shared.keep_publisher(&port);
+            }
+            code
         });
         match code {
             sys::OK => Ok(Publisher::new(hold.of_port(), port)),
@@ -153,7 +158,7 @@ impl<'d, P: Payload + ?Sized, M: Threads> PortFactorySubscriber<'d, P, M> {
     pub(crate) fn new(domain: &'d Domain<P, M>) -> Self {
         let mut options = sys::SubscriberOptions::default();
         // SAFETY: the pointers are of locals.
-        unsafe { sys::iox2ps_subscriber_options_of(&domain.config(), &mut options) };
+        unsafe { sys::iox2ps_subscriber_options_of(&config_or_zeros(&*domain.hold), &mut options) };
         PortFactorySubscriber { domain, options }
     }
 
@@ -169,7 +174,8 @@ impl<'d, P: Payload + ?Sized, M: Threads> PortFactorySubscriber<'d, P, M> {
         self
     }
 
-    /// Makes the subscriber.
+    /// Makes the subscriber. Where threads share the domain, its open publishers connect to it at once, so that it gets their
+    /// histories; one whose send is blocked, or whose update is refused, at its next send or update.
     ///
     /// # Errors
     ///
@@ -178,8 +184,12 @@ impl<'d, P: Payload + ?Sized, M: Threads> PortFactorySubscriber<'d, P, M> {
         let mut port = sys::Subscriber::default();
         let hold = &self.domain.hold;
         // SAFETY: see `Shared::at`.
-        let code = hold.call(Brings::NOTHING, |shared| unsafe {
-            sys::iox2ps_subscriber_create_with(shared.at(), &self.options, &mut port)
+        let code = hold.call(Brings::SEND, |shared| unsafe {
+            let code = sys::iox2ps_subscriber_create_with(shared.at(), &self.options, &mut port);
+            if code == sys::OK && M::Place::IS_SHARED {
+                shared.update_publishers();
+            }
+            code
         });
         match code {
             sys::OK => Ok(Subscriber::new(hold.of_port(), port)),

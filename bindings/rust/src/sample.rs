@@ -1,6 +1,6 @@
 //! A message that was received.
 
-use crate::domain::expect;
+use crate::domain::{expect, expect_here};
 use crate::header::Header;
 use crate::ids::{number, UniquePublisherId, UniqueSubscriberId};
 use crate::payload::Payload;
@@ -88,7 +88,7 @@ impl<P: Payload + ?Sized, M: Threads> Drop for Sample<P, M> {
     #[inline(always)]
     fn drop(&mut self) {
         let release = |shared: &mut Shared| release(shared, &self.sample);
-        expect(self.hold.call(Brings::LOAN, release));
+        expect_here(self.hold.call(Brings::LOAN, release));
     }
 }
 

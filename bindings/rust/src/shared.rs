@@ -1,16 +1,20 @@
 //! The domain that its ports, loans and samples share.
 
+use crate::fork::Process;
 use crate::recording::Room;
 use crate::sys;
 use crate::threads::Brings;
-use std::ptr::null_mut;
+use std::ptr::{addr_of_mut, null_mut};
 
 /// The one owner of the library's domain. Its pointer is never copied out of it.
 #[allow(missing_debug_implementations)]
 pub struct Shared {
     domain: sys::Domain,
+    process: Process,
     // Publishers that were dropped while a send of theirs was blocked. They close with it.
     orphans: Vec<sys::Publisher>,
+    // Those that are open and aren't dropped, where threads share the domain.
+    publishers: Vec<sys::Publisher>,
     // What the calls under way have brought beside what their last one says.
     pub(crate) brings_too: Brings,
 }
@@ -22,6 +26,7 @@ unsafe impl Send for Shared {}
 impl Shared {
     // The code of a domain that isn't made.
     pub(crate) fn new(config: &sys::Config, recorded: Option<Room>) -> Result<Shared, u32> {
+        let process = Process::this().ok_or(sys::OUT_OF_MEMORY)?;
         let mut domain = sys::Domain { domain: null_mut() };
         // SAFETY: as below.
         let code = unsafe {
@@ -35,11 +40,24 @@ impl Shared {
         match code {
             sys::OK => Ok(Shared {
                 domain,
+                process,
                 orphans: Vec::new(),
+                publishers: Vec::new(),
                 brings_too: Brings::NOTHING,
             }),
             code => Err(code),
         }
+    }
+
+    // Where its domain is, without a reference to the rest.
+    pub(crate) fn place(shared: *mut Shared) -> *mut sys::Domain {
+        // SAFETY: it is there, and nothing is read.
+        unsafe { addr_of_mut!((*shared).domain) }
+    }
+
+    // The process that made it, whose calls alone may reach it.
+    pub(crate) fn process(&self) -> Process {
+        self.process
     }
 
     // SAFETY of every call that takes this: its pointers are of locals or of fields that live through
@@ -50,8 +68,22 @@ impl Shared {
         &mut self.domain
     }
 
+    // Its connections are updated from now on when a subscriber is made.
+    pub(crate) fn keep_publisher(&mut self, publisher: &sys::Publisher) {
+        self.publishers.push(*publisher);
+    }
+
+    // A subscriber came. Where an update is refused, that publisher's next send makes it.
+    pub(crate) fn update_publishers(&mut self) {
+        for publisher in &self.publishers {
+            // SAFETY: see `at`.
+            unsafe { sys::iox2ps_publisher_update_connections(&mut self.domain, publisher) };
+        }
+    }
+
     // OK, or PUBLISHER_IS_BLOCKED where it closes later.
     pub(crate) fn close_publisher(&mut self, publisher: &sys::Publisher) -> u32 {
+        self.publishers.retain(|one| one.id != publisher.id);
         // SAFETY: see `at`.
         let code = unsafe { sys::iox2ps_publisher_close(self.at(), publisher) };
         if code == sys::PUBLISHER_IS_BLOCKED {
@@ -72,7 +104,9 @@ impl Shared {
 
 impl Drop for Shared {
     fn drop(&mut self) {
-        // SAFETY: see `at`.
-        unsafe { sys::iox2ps_domain_destroy(self.at()) };
+        if self.process.is_this() {
+            // SAFETY: see `at`.
+            unsafe { sys::iox2ps_domain_destroy(self.at()) };
+        }
     }
 }

@@ -1,6 +1,6 @@
 //! Receives messages.
 
-use crate::domain::expect;
+use crate::domain::expect_here;
 use crate::errors::{ConnectionFailure, ReceiveError};
 use crate::ids::UniqueSubscriberId;
 use crate::payload::Payload;
@@ -303,7 +303,7 @@ impl<P: Payload + ?Sized, M: Threads> fmt::Debug for Subscriber<P, M> {
 impl<P: Payload + ?Sized, M: Threads> Drop for Subscriber<P, M> {
     fn drop(&mut self) {
         // SAFETY: see `Shared::at`. A send may wait for this subscriber, and slots come back.
-        expect(self.hold.call(Brings::COPY, |shared| unsafe {
+        expect_here(self.hold.call(Brings::COPY, |shared| unsafe {
             sys::iox2ps_subscriber_close(shared.at(), &self.port)
         }));
         self.hold.forget(self.port.id);

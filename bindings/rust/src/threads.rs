@@ -1,6 +1,7 @@
 //! For which threads the handles of a domain are, and how they hold it.
 
 use crate::desk::Desk;
+use crate::fork;
 use crate::guarded::Guarded;
 use crate::listeners::Listener;
 use crate::lock::{DomainLock, StdLock};
@@ -250,6 +251,9 @@ impl<L> Hold for Part<L> {
 /// Where a domain is.
 #[doc(hidden)]
 pub trait Place {
+    /// Whether threads share it.
+    const IS_SHARED: bool;
+
     /// Makes calls of the library, with no other between them, and returns the code of the last. What runs
     /// here is this crate's alone: no function of a user, which could call again.
     fn call(&self, brings: Brings, calls: impl FnOnce(&mut Shared) -> u32) -> u32;
@@ -299,12 +303,22 @@ pub trait WaitingPlace: Place {
 pub struct Single(UnsafeCell<Shared>);
 
 impl Single {
-    pub(crate) fn new(shared: Shared) -> Self {
-        Single(UnsafeCell::new(shared))
+    pub(crate) fn new(shared: Shared) -> Rc<Self> {
+        let single = Rc::new(Single(UnsafeCell::new(shared)));
+        fork::remember(Shared::place(single.0.get()));
+        single
+    }
+}
+
+impl Drop for Single {
+    fn drop(&mut self) {
+        fork::forget(Shared::place(self.0.get()));
     }
 }
 
 impl Place for Single {
+    const IS_SHARED: bool = false;
+
     #[inline(always)]
     fn call(&self, _: Brings, calls: impl FnOnce(&mut Shared) -> u32) -> u32 {
         // SAFETY: this is the only reference: `calls` don't come back here, and no other thread has

@@ -3,40 +3,36 @@
 use crate::listeners::Listeners;
 use crate::sys::Wide;
 use crate::threads::{Brings, Waits};
+use std::iter;
 use std::mem::{replace, take};
+use std::process::abort;
+use std::ptr;
 use std::sync::atomic::{AtomicBool, Ordering};
 use std::sync::Arc;
 use std::task::Waker;
 use std::thread::{self, Thread};
 use std::time::Instant;
 
-/// Where a thread sleeps until it is woken.
-pub(crate) struct Sleeper {
-    thread: Thread,
-    is_woken: AtomicBool,
+/// Whether a thread that waits was woken. It lies in the frame of the call that waits, so that a wait takes no memory.
+#[derive(Default)]
+pub(crate) struct Woken(AtomicBool);
+
+/// Whether it is in the list of those who wait, where its frame may not go.
+pub(crate) struct Listed(pub(crate) bool);
+
+impl Drop for Listed {
+    fn drop(&mut self) {
+        // A lock of the user's has panicked, and not run what takes it out.
+        if self.0 {
+            abort();
+        }
+    }
 }
 
-thread_local! {
-    // Shared with whoever wakes it, since a thread whose time is up doesn't wait for that.
-    static OWN: Arc<Sleeper> = Sleeper::new();
-}
-
-impl Sleeper {
-    fn new() -> Arc<Sleeper> {
-        Arc::new(Sleeper {
-            thread: thread::current(),
-            is_woken: AtomicBool::new(false),
-        })
-    }
-
-    /// This thread's; one of its own where the thread is about to end.
-    pub(crate) fn own() -> Arc<Sleeper> {
-        OWN.try_with(Arc::clone).unwrap_or_else(|_| Sleeper::new())
-    }
-
-    /// Returns when it was woken or this moment has come, or for no reason at all.
+impl Woken {
+    /// Returns when it was woken or this moment has come.
     pub(crate) fn sleep(&self, until: Option<Instant>) {
-        while !self.is_woken.swap(false, Ordering::Acquire) {
+        while !self.0.load(Ordering::Acquire) {
             match until {
                 None => thread::park(),
                 Some(until) => match until.checked_duration_since(Instant::now()) {
@@ -45,11 +41,6 @@ impl Sleeper {
                 },
             }
         }
-    }
-
-    pub(crate) fn wake(&self) {
-        self.is_woken.store(true, Ordering::Release);
-        self.thread.unpark();
     }
 }
 
@@ -61,16 +52,32 @@ struct Task {
     waker: Waker,
     // `None` where it polls the subscriber itself.
     future: Option<FutureNumber>,
+    // A message may have come.
+    is_due: bool,
 }
 
 struct Waiting {
     what: Waits,
     port: Wide,
-    sleeper: Arc<Sleeper>,
+    thread: Thread,
+    // In the frame of the call that waits, which doesn't return before it has taken this out of the list.
+    woken: *const Woken,
     // Something came that may help.
     is_due: bool,
     // It was woken, and isn't back yet.
     is_awake: bool,
+}
+
+// SAFETY: what it points to is an atomic, which any thread may change while this is in the list.
+unsafe impl Send for Waiting {}
+
+impl Waiting {
+    fn wakes(&mut self) {
+        self.is_due = false;
+        self.is_awake = true;
+        // SAFETY: this is in the list, so the frame is there.
+        unsafe { &*self.woken }.0.store(true, Ordering::Release);
+    }
 }
 
 impl Task {
@@ -80,8 +87,10 @@ impl Task {
     }
 }
 
+// So many threads and tasks may wait at a time in a domain that has taken no more memory since it was made.
+const ROOM: usize = 32;
+
 /// All of it is used under the lock, except what is to be done afterwards.
-#[derive(Default)]
 pub(crate) struct WaitingList {
     threads: Vec<Waiting>,
     awake: usize,
@@ -92,6 +101,20 @@ pub(crate) struct WaitingList {
     messages_came: bool,
     // Whether any of these is there. It is looked at in each call.
     is_used: bool,
+}
+
+impl Default for WaitingList {
+    fn default() -> Self {
+        WaitingList {
+            threads: Vec::with_capacity(ROOM),
+            awake: 0,
+            tasks: Vec::with_capacity(ROOM),
+            futures: 0,
+            listeners: None,
+            messages_came: false,
+            is_used: false,
+        }
+    }
 }
 
 impl WaitingList {
@@ -113,21 +136,23 @@ impl WaitingList {
         before
     }
 
-    /// A thread begins to wait.
-    pub(crate) fn add(&mut self, what: Waits, port: Wide, sleeper: Arc<Sleeper>) {
+    /// A thread begins to wait, and is to take this out of the list before it goes.
+    pub(crate) fn add(&mut self, what: Waits, port: Wide, thread: Thread, woken: &Woken) {
+        woken.0.store(false, Ordering::Relaxed);
         self.threads.push(Waiting {
             what,
             port,
-            sleeper,
+            thread,
+            woken,
             is_due: false,
             is_awake: false,
         });
         self.is_used = true;
     }
 
-    /// It is back: by a wake-up, because its time is up, or for no reason.
-    pub(crate) fn remove(&mut self, sleeper: &Arc<Sleeper>) {
-        let is_it = |one: &Waiting| Arc::ptr_eq(&one.sleeper, sleeper);
+    /// It is back: by a wake-up, or because its time is up.
+    pub(crate) fn remove(&mut self, woken: &Woken) {
+        let is_it = |one: &Waiting| ptr::eq(one.woken, woken);
         if let Some(at) = self.threads.iter().position(is_it) {
             self.awake -= usize::from(self.threads.remove(at).is_awake);
             self.look();
@@ -183,6 +208,7 @@ impl WaitingList {
             port,
             waker,
             future,
+            is_due: false,
         });
         self.is_used = true;
     }
@@ -197,6 +223,11 @@ impl WaitingList {
         self.remove_where(|task| task.future == Some(number))
     }
 
+    /// The next task to which a message may have come. It waits no longer.
+    pub(crate) fn next_task(&mut self) -> Option<Waker> {
+        self.remove_where(|task| task.is_due)
+    }
+
     fn remove_where(&mut self, is_it: impl Fn(&Task) -> bool) -> Option<Waker> {
         let at = self.tasks.iter().position(is_it)?;
         let gone = self.tasks.swap_remove(at);
@@ -206,39 +237,33 @@ impl WaitingList {
 
     /// Its subscriber goes. Returns what is to be dropped without the lock.
     pub(crate) fn remove_tasks(&mut self, port: Wide) -> Vec<Waker> {
-        let (gone, stay) = take(&mut self.tasks)
-            .into_iter()
-            .partition::<Vec<_>, _>(|task| task.port == port);
-        self.tasks = stay;
-        self.look();
-        gone.into_iter().map(|task| task.waker).collect()
+        let mut gone = Vec::new();
+        while let Some(waker) = self.remove_where(|task| task.port == port) {
+            gone.push(waker);
+        }
+        gone
     }
 
     /// Whom to wake once the lock was given back: of the threads the first whom something may help. None of them,
     /// where another is awake that will come here, and so wake the next.
     pub(crate) fn next(&mut self, all: bool) -> Wake {
-        if all {
-            self.threads
-                .iter()
-                .filter(|one| one.is_due)
-                .for_each(|one| one.sleeper.wake());
-        }
         let mut wake = Wake::default();
         for one in self.threads.iter_mut().filter(|one| one.is_due) {
             if !all && self.awake > 0 {
                 break;
             }
-            one.is_due = false;
-            one.is_awake = true;
+            one.wakes();
             self.awake += 1;
-            if !all {
-                wake.sleeper = Some(one.sleeper.clone());
+            match all {
+                true => one.thread.unpark(),
+                false => wake.thread = Some(one.thread.clone()),
             }
         }
         if take(&mut self.messages_came) {
-            wake.tasks = take(&mut self.tasks);
+            self.tasks.iter_mut().for_each(|task| task.is_due = true);
+            wake.task = self.next_task();
+            wake.has_tasks = self.tasks.iter().any(|task| task.is_due);
             wake.listeners = self.listeners.clone();
-            self.look();
         }
         wake
     }
@@ -248,19 +273,25 @@ impl WaitingList {
 #[must_use]
 #[derive(Default)]
 pub(crate) struct Wake {
-    sleeper: Option<Arc<Sleeper>>,
-    tasks: Vec<Task>,
+    thread: Option<Thread>,
+    task: Option<Waker>,
+    // Whether it isn't the only one.
+    has_tasks: bool,
     listeners: Option<Arc<Listeners>>,
 }
 
 impl Wake {
+    /// The function gives each task after the first.
     #[inline]
-    pub(crate) fn wake(self) {
-        if let Some(sleeper) = self.sleeper {
-            sleeper.wake();
+    pub(crate) fn wake(self, next_task: impl FnMut() -> Option<Waker>) {
+        if let Some(thread) = self.thread {
+            thread.unpark();
         }
-        for task in self.tasks {
-            task.waker.wake();
+        if let Some(task) = self.task {
+            task.wake();
+        }
+        if self.has_tasks {
+            iter::from_fn(next_task).for_each(Waker::wake);
         }
         if let Some(listeners) = self.listeners {
             listeners.call();

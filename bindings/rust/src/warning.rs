@@ -1,6 +1,6 @@
 //! What a domain did or left undone without failing a call.
 
-use crate::errors::{text, ConnectionFailure};
+use crate::errors::{is_after_fork, text, unexpected, ConnectionFailure};
 use crate::ids::{UniquePublisherId, UniqueSubscriberId};
 use crate::sys::{self, Wide};
 use crate::threads::{Brings, Place};
@@ -55,8 +55,10 @@ impl Warning {
         let code = place.call(Brings::NOTHING, |shared| unsafe {
             sys::iox2ps_domain_warning(shared.at(), index, &mut warning)
         });
-        if code != sys::OK {
-            return None;
+        match code {
+            sys::OK => {}
+            _ if is_after_fork(code) => unexpected(code),
+            _ => return None,
         }
         let named = |id| Some(id).filter(|id| *id != Wide::default());
         Some(Warning {

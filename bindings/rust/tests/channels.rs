@@ -34,13 +34,9 @@ macro_rules! by_each_kind {
     }};
 }
 
-// A port has its connections after its own update alone, which its creation makes too.
 fn a_connection_is_named_by_the_place<M: Threads>(domain: &Domain<u64, M>) {
     let publisher = domain.publisher().unwrap();
     let subscribers = [domain.subscriber().unwrap(), domain.subscriber().unwrap()];
-    for subscriber in &subscribers {
-        assert_eq!(publisher.get_connection_id_of(subscriber.id()), None);
-    }
     publisher.update_connections().unwrap();
     for (place, subscriber) in subscribers.iter().enumerate() {
         assert_eq!(
@@ -57,6 +53,21 @@ fn a_connection_is_named_by_the_place<M: Threads>(domain: &Domain<u64, M>) {
 #[test]
 fn connections_are_named_by_places() {
     by_each_kind!(a_connection_is_named_by_the_place);
+}
+
+// A publisher has its connections after its own update, which its creation makes too, and the creation of a subscriber
+// where threads share the domain.
+#[test]
+fn a_connection_is_there_when_its_publisher_made_it() {
+    let domain = Domain::<u64>::builder(1).create().unwrap();
+    let (publisher, subscriber) = (domain.publisher().unwrap(), domain.subscriber().unwrap());
+    assert_eq!(publisher.get_connection_id_of(subscriber.id()), None);
+    let domain = Domain::<u64>::builder(1).create_shared().unwrap();
+    let (publisher, subscriber) = (domain.publisher().unwrap(), domain.subscriber().unwrap());
+    assert_eq!(
+        publisher.get_connection_id_of(subscriber.id()),
+        Some(connection(0))
+    );
 }
 
 fn a_new_channel_has_no_hint<M: Threads>(domain: &Domain<u64, M>) {

@@ -81,7 +81,9 @@ impl BlockedSend {
         requires live { IsBlockedSend domain.now self.now }
         ensures { (m : Messages T U) (s : State T U) → Shows domain.now m s → waits_for s (blocked_sender self.now) ≡ Some result }
     {
-        let place = domain.state.find_live_publisher(self.loan.publisher, self.loan.place);
+        let place = domain
+            .state
+            .find_live_publisher(self.loan.publisher, self.loan.place);
         blocking_subscriber(&domain.state, place)
     }
 }

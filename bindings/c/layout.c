@@ -1,0 +1,112 @@
+/* How the archive has the structs of the header in memory, on each of its processors. `tools/bindings layouts` makes this file. */
+#include "iox2_pubsub.h"
+
+#ifdef __cplusplus
+#define HAS(what, number) static_assert((what) == (number), #what)
+#define ALIGNMENT(type) alignof(type)
+#else
+#define HAS(what, number) _Static_assert((what) == (number), #what)
+#define ALIGNMENT(type) _Alignof(type)
+#endif
+
+HAS(sizeof(void *), 8);
+HAS(sizeof(size_t), 8);
+
+HAS(sizeof(iox2ps_domain_t), 8);
+HAS(ALIGNMENT(iox2ps_domain_t), 8);
+HAS(offsetof(iox2ps_domain_t, domain_), 0);
+
+HAS(sizeof(iox2ps_wide_t), 16);
+HAS(ALIGNMENT(iox2ps_wide_t), 8);
+HAS(offsetof(iox2ps_wide_t, low), 0);
+HAS(offsetof(iox2ps_wide_t, high), 8);
+
+HAS(sizeof(iox2ps_config_t), 120);
+HAS(ALIGNMENT(iox2ps_config_t), 8);
+HAS(offsetof(iox2ps_config_t, service_id), 0);
+HAS(offsetof(iox2ps_config_t, node_id), 16);
+HAS(offsetof(iox2ps_config_t, payload_size), 32);
+HAS(offsetof(iox2ps_config_t, payload_alignment), 40);
+HAS(offsetof(iox2ps_config_t, max_publishers), 48);
+HAS(offsetof(iox2ps_config_t, max_subscribers), 56);
+HAS(offsetof(iox2ps_config_t, subscriber_max_buffer_size), 64);
+HAS(offsetof(iox2ps_config_t, subscriber_max_borrowed_samples), 72);
+HAS(offsetof(iox2ps_config_t, history_size), 80);
+HAS(offsetof(iox2ps_config_t, number_of_channels), 88);
+HAS(offsetof(iox2ps_config_t, subscriber_expired_connection_buffer), 96);
+HAS(offsetof(iox2ps_config_t, publisher_max_loaned_samples), 104);
+HAS(offsetof(iox2ps_config_t, enable_safe_overflow), 112);
+HAS(offsetof(iox2ps_config_t, backpressure_strategy), 116);
+
+HAS(sizeof(iox2ps_publisher_options_t), 40);
+HAS(ALIGNMENT(iox2ps_publisher_options_t), 8);
+HAS(offsetof(iox2ps_publisher_options_t, max_loaned_samples), 0);
+HAS(offsetof(iox2ps_publisher_options_t, initial_max_slice_len), 8);
+HAS(offsetof(iox2ps_publisher_options_t, preallocated_samples), 16);
+HAS(offsetof(iox2ps_publisher_options_t, backpressure_strategy), 24);
+HAS(offsetof(iox2ps_publisher_options_t, backpressure_handler), 28);
+HAS(offsetof(iox2ps_publisher_options_t, degradation), 32);
+HAS(offsetof(iox2ps_publisher_options_t, allocation_strategy), 36);
+
+HAS(sizeof(iox2ps_subscriber_options_t), 16);
+HAS(ALIGNMENT(iox2ps_subscriber_options_t), 8);
+HAS(offsetof(iox2ps_subscriber_options_t, buffer_size), 0);
+HAS(offsetof(iox2ps_subscriber_options_t, degradation), 8);
+HAS(offsetof(iox2ps_subscriber_options_t, reserved_), 12);
+
+HAS(sizeof(iox2ps_publisher_t), 56);
+HAS(ALIGNMENT(iox2ps_publisher_t), 8);
+HAS(offsetof(iox2ps_publisher_t, service_id), 0);
+HAS(offsetof(iox2ps_publisher_t, id), 16);
+HAS(offsetof(iox2ps_publisher_t, place_), 32);
+HAS(offsetof(iox2ps_publisher_t, initial_max_slice_len), 40);
+HAS(offsetof(iox2ps_publisher_t, backpressure_strategy), 48);
+HAS(offsetof(iox2ps_publisher_t, reserved_), 52);
+
+HAS(sizeof(iox2ps_subscriber_t), 48);
+HAS(ALIGNMENT(iox2ps_subscriber_t), 8);
+HAS(offsetof(iox2ps_subscriber_t, service_id), 0);
+HAS(offsetof(iox2ps_subscriber_t, id), 16);
+HAS(offsetof(iox2ps_subscriber_t, place_), 32);
+HAS(offsetof(iox2ps_subscriber_t, buffer_size), 40);
+
+HAS(sizeof(iox2ps_loan_t), 72);
+HAS(ALIGNMENT(iox2ps_loan_t), 8);
+HAS(offsetof(iox2ps_loan_t, service_id), 0);
+HAS(offsetof(iox2ps_loan_t, publisher), 16);
+HAS(offsetof(iox2ps_loan_t, number), 32);
+HAS(offsetof(iox2ps_loan_t, place_), 48);
+HAS(offsetof(iox2ps_loan_t, book_), 56);
+HAS(offsetof(iox2ps_loan_t, slot_), 64);
+
+HAS(sizeof(iox2ps_blocked_t), 72);
+HAS(ALIGNMENT(iox2ps_blocked_t), 8);
+HAS(offsetof(iox2ps_blocked_t, service_id), 0);
+HAS(offsetof(iox2ps_blocked_t, publisher), 16);
+HAS(offsetof(iox2ps_blocked_t, number), 32);
+HAS(offsetof(iox2ps_blocked_t, place_), 48);
+HAS(offsetof(iox2ps_blocked_t, book_), 56);
+HAS(offsetof(iox2ps_blocked_t, slot_), 64);
+
+HAS(sizeof(iox2ps_sample_t), 88);
+HAS(ALIGNMENT(iox2ps_sample_t), 8);
+HAS(offsetof(iox2ps_sample_t, service_id), 0);
+HAS(offsetof(iox2ps_sample_t, origin), 16);
+HAS(offsetof(iox2ps_sample_t, subscriber), 32);
+HAS(offsetof(iox2ps_sample_t, number), 48);
+HAS(offsetof(iox2ps_sample_t, connection_), 64);
+HAS(offsetof(iox2ps_sample_t, book_), 72);
+HAS(offsetof(iox2ps_sample_t, slot_), 80);
+
+HAS(sizeof(iox2ps_header_t), 40);
+HAS(ALIGNMENT(iox2ps_header_t), 8);
+HAS(offsetof(iox2ps_header_t, node_id), 0);
+HAS(offsetof(iox2ps_header_t, publisher), 16);
+HAS(offsetof(iox2ps_header_t, number_of_elements), 32);
+
+HAS(sizeof(iox2ps_warning_t), 40);
+HAS(ALIGNMENT(iox2ps_warning_t), 8);
+HAS(offsetof(iox2ps_warning_t, publisher), 0);
+HAS(offsetof(iox2ps_warning_t, subscriber), 16);
+HAS(offsetof(iox2ps_warning_t, kind), 32);
+HAS(offsetof(iox2ps_warning_t, failure), 36);

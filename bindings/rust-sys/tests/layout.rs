@@ -1,0 +1,120 @@
+//! How the archive has the structs of the header in memory, on each of its processors. `tools/bindings layouts` makes this file.
+use std::mem::{align_of, size_of, MaybeUninit};
+use std::ptr::addr_of;
+
+use iox2_pubsub_sys::*;
+
+/// Holds a struct to its size and alignment, when it is compiled, and its fields to their offsets.
+macro_rules! lies_so {
+    ($test:ident, $type:ident, $size:literal, $alignment:literal, $($field:ident $offset:literal)*) => {
+        const _: () = assert!(size_of::<$type>() == $size && align_of::<$type>() == $alignment);
+
+        #[test]
+        fn $test() {
+            let value = MaybeUninit::<$type>::uninit();
+            let start = value.as_ptr();
+            // SAFETY: an address inside of the value is taken, and nothing is read.
+            $(assert_eq!(unsafe { addr_of!((*start).$field) } as usize - start as usize, $offset, stringify!($field));)*
+        }
+    };
+}
+
+lies_so! {
+    domain, Domain, 8, 8,
+    domain 0
+}
+lies_so! {
+    wide, Wide, 16, 8,
+    low 0
+    high 8
+}
+lies_so! {
+    config, Config, 120, 8,
+    service_id 0
+    node_id 16
+    payload_size 32
+    payload_alignment 40
+    max_publishers 48
+    max_subscribers 56
+    subscriber_max_buffer_size 64
+    subscriber_max_borrowed_samples 72
+    history_size 80
+    number_of_channels 88
+    subscriber_expired_connection_buffer 96
+    publisher_max_loaned_samples 104
+    enable_safe_overflow 112
+    backpressure_strategy 116
+}
+lies_so! {
+    publisher_options, PublisherOptions, 40, 8,
+    max_loaned_samples 0
+    initial_max_slice_len 8
+    preallocated_samples 16
+    backpressure_strategy 24
+    backpressure_handler 28
+    degradation 32
+    allocation_strategy 36
+}
+lies_so! {
+    subscriber_options, SubscriberOptions, 16, 8,
+    buffer_size 0
+    degradation 8
+    reserved 12
+}
+lies_so! {
+    publisher, Publisher, 56, 8,
+    service_id 0
+    id 16
+    place 32
+    initial_max_slice_len 40
+    backpressure_strategy 48
+    reserved 52
+}
+lies_so! {
+    subscriber, Subscriber, 48, 8,
+    service_id 0
+    id 16
+    place 32
+    buffer_size 40
+}
+lies_so! {
+    loan, Loan, 72, 8,
+    service_id 0
+    publisher 16
+    number 32
+    place 48
+    book 56
+    slot 64
+}
+lies_so! {
+    blocked, Blocked, 72, 8,
+    service_id 0
+    publisher 16
+    number 32
+    place 48
+    book 56
+    slot 64
+}
+lies_so! {
+    sample, Sample, 88, 8,
+    service_id 0
+    origin 16
+    subscriber 32
+    number 48
+    connection 64
+    book 72
+    slot 80
+}
+lies_so! {
+    header, Header, 40, 8,
+    node_id 0
+    publisher 16
+    number_of_elements 32
+}
+lies_so! {
+    warning, Warning, 40, 8,
+    publisher 0
+    subscriber 16
+    kind 32
+    failure 36
+}

@@ -1,0 +1,318 @@
+//! What a child of a fork can do with its parent's domains: nothing, and each call says so.
+#![cfg(unix)]
+
+use iox2_pubsub::{
+    BlockedSend, ChannelError, ChannelId, ConnectionFailure, Domain, DomainBuilder,
+    DomainCreateError, DomainLock, Loan, LoanError, Publisher, PublisherCreateError, ReceiveError,
+    Sample, SendError, Subscriber, SubscriberCreateError, Threads, CHANNEL_STATE_OPEN,
+};
+use std::future::Future;
+use std::panic::{catch_unwind, set_hook, AssertUnwindSafe};
+use std::pin::Pin;
+use std::sync::atomic::{AtomicBool, Ordering};
+use std::sync::{Arc, Mutex};
+use std::task::{Context, Poll, Wake, Waker};
+use std::thread::{scope, yield_now};
+use std::time::Duration;
+
+extern "C" {
+    fn fork() -> i32;
+    fn waitpid(process: i32, status: *mut i32, options: i32) -> i32;
+    fn alarm(seconds: u32) -> u32;
+    fn _exit(status: i32) -> !;
+}
+
+// Runs this in a child, which ends within some seconds, and whose panic is a failure here.
+#[track_caller]
+fn in_child(run: impl FnOnce()) {
+    let mut status = -1;
+    // SAFETY: the child has this thread alone, and ends without what a program does at its end. The pointer is of a local.
+    unsafe {
+        let child = fork();
+        assert!(child >= 0, "a child");
+        if child == 0 {
+            alarm(30);
+            // The others may have the lock of what is printed to.
+            set_hook(Box::new(|_| {}));
+            _exit(i32::from(catch_unwind(AssertUnwindSafe(run)).is_err()));
+        }
+        assert_eq!(waitpid(child, &mut status, 0), child);
+    }
+    assert_eq!(status, 0, "the child failed, or waited for good");
+}
+
+fn keeping() -> DomainBuilder<u64> {
+    Domain::<u64>::builder(1)
+        .subscriber_max_buffer_size(2)
+        .enable_safe_overflow(false)
+}
+
+// One of each.
+struct World<M: Threads> {
+    domain: Domain<u64, M>,
+    publisher: Publisher<u64, M>,
+    subscriber: Subscriber<u64, M>,
+    loan: Loan<u64, M>,
+    sample: Sample<u64, M>,
+    waits: Publisher<u64, M>,
+    blocked: BlockedSend<u64, M>,
+}
+
+impl<M: Threads> World<M> {
+    fn of(domain: Domain<u64, M>) -> Self {
+        let (publisher, waits) = (domain.publisher().unwrap(), domain.publisher().unwrap());
+        let subscriber = domain.subscriber().unwrap();
+        publisher.send_copy(1).unwrap().delivered();
+        let sample = subscriber.receive().unwrap().unwrap();
+        let loan = publisher.loan_uninit().unwrap().write_payload(2);
+        for number in 3..5 {
+            waits.send_copy(number).unwrap().delivered();
+        }
+        let blocked = waits.send_copy(5).unwrap().blocked().unwrap();
+        World {
+            domain,
+            publisher,
+            subscriber,
+            loan,
+            sample,
+            waits,
+            blocked,
+        }
+    }
+
+    // What a child has of it. The bytes of messages are its own copies.
+    fn all_is_refused(self) {
+        let World { subscriber, .. } = &self;
+        let lent = self.publisher.loan_uninit().map(drop);
+        assert_eq!(lent, Err(LoanError::AfterFork));
+        let sent = self.publisher.send_copy(7).map(|sent| sent.delivered());
+        assert_eq!(sent, Err(SendError::AfterFork));
+        let sent = self.publisher.writer().send(7).map(|sent| sent.delivered());
+        assert_eq!(sent, Err(SendError::AfterFork));
+        let updated = self.publisher.update_connections();
+        assert_eq!(updated, Err(ConnectionFailure::AfterFork));
+        assert_eq!(subscriber.receive_copy(), Err(ReceiveError::AfterFork));
+        let received = subscriber.receive().map(drop);
+        assert_eq!(received, Err(ReceiveError::AfterFork));
+        assert_eq!(subscriber.iter().count(), 1);
+        let waits = subscriber.has_samples();
+        assert_eq!(waits, Err(ConnectionFailure::AfterFork));
+        let closed = subscriber.close_channel(ChannelId::default(), CHANNEL_STATE_OPEN);
+        assert_eq!(closed, Err(ChannelError::AfterFork));
+        let (domain, made) = (&self.domain, self.domain.publisher().map(drop));
+        assert_eq!(made, Err(PublisherCreateError::AfterFork));
+        let made = domain.subscriber().map(drop);
+        assert_eq!(made, Err(SubscriberCreateError::AfterFork));
+        let recorded = domain.recording().map(drop);
+        assert_eq!(recorded, Err(DomainCreateError::AfterFork));
+        assert!(catch_unwind(AssertUnwindSafe(|| domain.connection_count())).is_err());
+        assert!(catch_unwind(AssertUnwindSafe(|| self.waits.is_blocked())).is_err());
+        let mut reader = subscriber.reader_with_capacity(1);
+        assert_eq!(reader.receive(), Err(ReceiveError::AfterFork));
+        drop(reader);
+        assert_eq!((*self.sample, *self.loan), (1, 2));
+        let sent = self.loan.send().map(|sent| sent.delivered());
+        assert_eq!(sent, Err(SendError::AfterFork));
+        let sent = self.blocked.retry(Duration::ZERO);
+        assert_eq!(sent.map(|_| ()), Err(SendError::AfterFork));
+        // All else is dropped here.
+    }
+
+    // All is as it was.
+    fn goes_on(self) {
+        assert_eq!((*self.sample, *self.loan), (1, 2));
+        drop(self.sample);
+        let received = |number| assert_eq!(self.subscriber.receive_copy(), Ok(Some(number)));
+        received(3);
+        let retried = self.blocked.retry(Duration::ZERO).unwrap();
+        assert_eq!(retried.delivered(), Some(1));
+        received(4);
+        received(5);
+        assert_eq!(self.loan.send().unwrap().delivered(), Some(1));
+        received(2);
+        assert!(!self.waits.is_blocked());
+    }
+}
+
+#[test]
+fn a_child_is_refused_by_a_domain_of_one_thread() {
+    let world = World::of(keeping().create().unwrap());
+    // SAFETY: the child has a copy of it, as it is.
+    in_child(|| unsafe { std::ptr::read(&world) }.all_is_refused());
+    world.goes_on();
+}
+
+#[test]
+fn a_child_is_refused_by_a_shared_domain() {
+    let world = World::of(keeping().create_shared().unwrap());
+    // SAFETY: as above.
+    in_child(|| unsafe { std::ptr::read(&world) }.all_is_refused());
+    world.goes_on();
+}
+
+struct Task;
+
+impl Wake for Task {
+    fn wake(self: Arc<Self>) {}
+}
+
+#[test]
+fn a_child_does_not_wait() {
+    let domain = keeping().create_shared().unwrap();
+    let (publisher, subscriber) = (domain.publisher().unwrap(), domain.subscriber().unwrap());
+    in_child(|| {
+        let refused = Err(ReceiveError::AfterFork);
+        assert_eq!(subscriber.blocking_receive_copy(), refused);
+        let timed = subscriber.timed_receive_copy(Duration::from_secs(60));
+        assert_eq!(timed, refused);
+        assert_eq!(subscriber.blocking_iter().count(), 1);
+        let lent = publisher.blocking_loan_uninit().map(drop);
+        assert_eq!(lent, Err(LoanError::AfterFork));
+        let waker = Waker::from(Arc::new(Task));
+        let mut future = subscriber.receive_async();
+        let polled = Pin::new(&mut future).poll(&mut Context::from_waker(&waker));
+        assert!(matches!(polled, Poll::Ready(Err(ReceiveError::AfterFork))));
+        assert!(domain.waits_are_stopped());
+        domain.stop_waits(false);
+        subscriber.set_listener(|| ());
+    });
+    publisher.send_copy(1).unwrap().delivered();
+    assert_eq!(subscriber.blocking_receive_copy(), Ok(Some(1)));
+}
+
+// A lock that stays with who has it, as long as this is said.
+struct Kept(Mutex<()>);
+
+static IS_KEPT: AtomicBool = AtomicBool::new(false);
+static HAS_IT: AtomicBool = AtomicBool::new(false);
+
+// SAFETY: it is a mutex.
+unsafe impl DomainLock for Kept {
+    fn new() -> Self {
+        Kept(Mutex::new(()))
+    }
+
+    fn hold<R>(&self, run: impl FnOnce() -> R) -> R {
+        let _guard = self.0.lock().unwrap();
+        while IS_KEPT.load(Ordering::SeqCst) {
+            HAS_IT.store(true, Ordering::SeqCst);
+            yield_now();
+        }
+        run()
+    }
+}
+
+// Nobody is there in the child to give the lock back.
+#[test]
+fn a_child_does_not_wait_for_the_lock_of_a_thread_that_it_lacks() {
+    let domain = keeping().create_with_lock::<Kept>().unwrap();
+    let subscriber = domain.subscriber().unwrap();
+    IS_KEPT.store(true, Ordering::SeqCst);
+    scope(|scope| {
+        scope.spawn(|| subscriber.receive_copy().unwrap());
+        while !HAS_IT.load(Ordering::SeqCst) {
+            yield_now();
+        }
+        in_child(|| {
+            assert_eq!(subscriber.receive_copy(), Err(ReceiveError::AfterFork));
+            // SAFETY: the child has copies of them, as they are.
+            drop(unsafe { (std::ptr::read(&subscriber), std::ptr::read(&domain)) });
+        });
+        IS_KEPT.store(false, Ordering::SeqCst);
+    });
+}
+
+#[test]
+fn a_child_has_domains_of_its_own_and_its_child_has_not() {
+    let works = |domain: &Domain<u64>| {
+        let (publisher, subscriber) = (domain.publisher().unwrap(), domain.subscriber().unwrap());
+        publisher.send_copy(1).unwrap().delivered();
+        assert_eq!(subscriber.receive_copy(), Ok(Some(1)));
+    };
+    let domain = keeping().create().unwrap();
+    works(&domain);
+    in_child(|| {
+        let own = keeping().create().unwrap();
+        works(&own);
+        in_child(|| {
+            let refused = Err(PublisherCreateError::AfterFork);
+            assert_eq!(own.publisher().map(drop), refused);
+            assert_eq!(domain.publisher().map(drop), refused);
+            works(&keeping().create().unwrap());
+        });
+        works(&own);
+    });
+    works(&domain);
+}
+
+#[test]
+fn it_has_one_code_and_one_text_in_all_errors() {
+    let codes = [
+        DomainCreateError::AfterFork.code(),
+        PublisherCreateError::AfterFork.code(),
+        SubscriberCreateError::AfterFork.code(),
+        LoanError::AfterFork.code(),
+        ConnectionFailure::AfterFork.code(),
+        ChannelError::AfterFork.code(),
+        ReceiveError::AfterFork.code(),
+        SendError::from(LoanError::AfterFork).code(),
+    ];
+    assert_eq!(codes, [SendError::AfterFork.code(); 8]);
+    let text = SendError::AfterFork.to_string();
+    assert!(text.starts_with("AfterFork: "), "{text}");
+    assert_eq!(DomainCreateError::AfterFork.to_string(), text);
+}
+
+#[cfg(target_os = "linux")]
+mod descriptor {
+    use super::{in_child, keeping};
+    use std::os::unix::io::AsRawFd;
+
+    #[repr(C)]
+    struct PollFd {
+        fd: i32,
+        events: i16,
+        revents: i16,
+    }
+
+    extern "C" {
+        fn poll(descriptors: *mut PollFd, count: u64, milliseconds: i32) -> i32;
+    }
+
+    // A child that takes the signal would take it from its parent.
+    #[test]
+    fn a_child_takes_nothing_from_its_parents_descriptor() {
+        let domain = keeping().create_shared().unwrap();
+        let (publisher, subscriber) = (domain.publisher().unwrap(), domain.subscriber().unwrap());
+        let descriptor = subscriber.message_fd().unwrap();
+        let is_readable = || {
+            let (fd, events) = (descriptor.as_raw_fd(), 1);
+            let mut one = PollFd {
+                fd,
+                events,
+                revents: 0,
+            };
+            // SAFETY: the pointer is of a local.
+            unsafe { poll(&mut one, 1, 0) == 1 }
+        };
+        descriptor.reset().unwrap();
+        publisher.send_copy(1).unwrap().delivered();
+        in_child(|| {
+            assert!(descriptor
+                .reset()
+                .unwrap_err()
+                .to_string()
+                .contains("AfterFork"));
+            // SAFETY: the child has a copy of it, as it is.
+            drop(unsafe { std::ptr::read(&descriptor) });
+        });
+        assert!(is_readable());
+        publisher.send_copy(2).unwrap().delivered();
+        assert!(is_readable());
+        descriptor.reset().unwrap();
+        assert!(!is_readable());
+        assert_eq!(subscriber.receive_copy(), Ok(Some(1)));
+        publisher.send_copy(3).unwrap().delivered();
+        assert!(is_readable());
+    }
+}

@@ -1,0 +1,235 @@
+"""What is compiled here for another processor, and run by an emulator: all programs of C and C++, projects of CMake and cargo, the crates."""
+import os
+import re
+import shutil
+import subprocess
+from pathlib import Path
+
+from . import layouts, recordings
+from .headers import same_functions
+from .places import BINDINGS, is_here
+from .programs import OWN_MALLOC, ROWS, WRAPS, check_example, compile_program
+from .random_calls import compare_with_run
+from .steps import Failed, said
+from .targets import X86_64
+
+SEEDS = range(1, 4)
+READING = "aarch64: 12 readings, the last is 11\n"
+# Where Debian's own Rust has the standard library for other targets, and its programs.
+NO_RUST = "Rust for {} (Debian's cargo, rustc and libstd-rust-dev:arm64, or rustup's)"
+STANDARD_LIBRARIES, DEBIANS = Path("/usr/lib/rustlib"), Path("/usr/bin")
+
+
+class Emulated:
+    """A target, where its programs are made."""
+
+    def __init__(self, target, work):
+        self.target, self.work = target, work
+
+    def compile(self, source, standard, *flags, name=None):
+        """A file of bindings as a program that can be called here: a line of shell that has the emulator run what was compiled."""
+        compiler = self.target.compilers[standard.startswith("c++")]
+        program = self.work / (name or f"{source}_{standard}".replace("/", "_").replace(".", "_"))
+        compile_program(compiler, source, standard, program.with_suffix(".elf"), *flags, out=self.target.out)
+        program.write_text(f'#!/bin/sh\nexec {" ".join(self.target.emulator)} "$0.elf" "$@"\n')
+        program.chmod(0o755)
+        return program
+
+    def run(self, source, standard, *flags):
+        """Compiles a program and runs it."""
+        program = self.compile(source, standard, *flags)
+        return check_example(program, work=self.work) if "thermometer" in source else said(program)
+
+
+# ---- C and C++
+
+
+def run_programs(steps, emulated):
+    """The rows that this machine's compilers run too, and the heap, which is another than that of x86-64."""
+    c, cpp = emulated.target.compilers
+    nm = c.removesuffix("gcc") + "nm"
+    steps.run("the archive has the functions of the header", same_functions, emulated.target.out / "lib/libiox2_pubsub.a", nm)
+    steps.run(f"how structs lie in memory, {c}", layouts.holds, (c, cpp), emulated.target.out / "include")
+    for source, standard, _ in ROWS:
+        steps.run(f"{source}, {emulated.target.name} {standard}", emulated.run, source, standard, "-O2")
+    for source in ("c/heap.c", *OWN_MALLOC):
+        steps.run(f"{source}, {emulated.target.name} c11", emulated.run, source, "c11", "-O2", *WRAPS)
+
+
+def run_random(steps, emulated, script_of_run):
+    """Random calls beside a model of their own, and beside `run`, which runs on this machine."""
+    channels = emulated.compile("c/random_channels.c", "c11", "-O2")
+    for seed in SEEDS:
+        steps.run(f"c/random_channels.c, {emulated.target.name}, seed {seed}", said, channels, seed, 20000)
+    if script_of_run is None:
+        steps.skip(f"random calls on {emulated.target.name} beside run", "pubsub_script (--script)")
+        return
+    calls = emulated.compile("c/random_calls.c", "c11", "-O2")
+    for seed in SEEDS:
+        steps.run(f"c/random_calls.c, {emulated.target.name}, seed {seed}", compare_with_run, emulated.work, script_of_run, calls, seed)
+
+
+# ---- recordings
+
+
+def same_recording(emulated, source, standard):
+    """The same calls on both processors give the same bytes of a recording."""
+    here = compile_program(X86_64.compilers[standard.startswith("c++")], source, standard, emulated.work / "here", "-O2")
+    mine, theirs = said(here, both=False), said(emulated.compile(source, standard, "-O2"), both=False)
+    if mine != theirs:
+        raise Failed(f"{X86_64.name} records\n{mine[:2000]}\nand {emulated.target.name}\n{theirs[:2000]}")
+    return f"{len(mine)} bytes on both"
+
+
+def same_random_recording(emulated, seed):
+    """So do random calls."""
+    made = []
+    here = compile_program("gcc", "c/random_calls.c", "c11", emulated.work / "random_here", "-O2")
+    for program in (here, emulated.compile("c/random_calls.c", "c11", "-O2")):
+        said(program, seed, 2000, emulated.work / "script", emulated.work / "replies", emulated.work / "recording")
+        made.append((emulated.work / "recording").read_bytes())
+    if made[0] != made[1]:
+        raise Failed(f"those of {X86_64.name} and {emulated.target.name} aren't the same")
+    return f"{len(made[0])} bytes on both"
+
+
+def run_recordings(steps, emulated, replayer):
+    """What was recorded by the emulator is replayed on this machine, and is what this machine records."""
+    if (X86_64.out / "lib/libiox2_pubsub.a").exists():
+        for source, standard in (("c/recorded.c", "c11"), ("cpp/recorded.cpp", "c++17")):
+            steps.run(f"{source}, recorded on both processors", same_recording, emulated, source, standard)
+        for seed in SEEDS:
+            steps.run(f"c/random_calls.c, recorded on both processors, seed {seed}", same_random_recording, emulated, seed)
+    else:
+        steps.skip("recordings on both processors", f"{X86_64.out} (tools/bindings build)")
+    if replayer is None:
+        steps.skip(f"recordings of {emulated.target.name}", "recording_replay (--replay)")
+        return
+    for source, standard, received in (
+        ("c/recorded.c", "c11", recordings.RECEIVED_IN_C),
+        ("cpp/recorded.cpp", "c++17", recordings.RECEIVED_IN_CPP),
+    ):
+        program = emulated.compile(source, standard, "-O2")
+        steps.run(f"{source}, {emulated.target.name}, replayed here", recordings.record_and_replay, emulated.work, replayer, received, program)
+    emulated.compile("c/random_calls.c", "c11", "-O2", name="random_recorded")
+    for seed in SEEDS:
+        steps.run(f"c/random_calls.c, {emulated.target.name}, replayed here, seed {seed}", recordings.record_random_calls, emulated.work, replayer, seed)
+
+
+# ---- projects
+
+
+def project(emulated):
+    """The folder, and the project for a board in it, at another place."""
+    to = emulated.work / "moved folder"
+    if not to.exists():
+        shutil.copytree(emulated.target.out, to)
+    return to
+
+
+def by_cmake(emulated):
+    """The project is configured by its toolchain file, and CTest runs what it builds by the emulator."""
+    folder, build = project(emulated), emulated.work / "board"
+    toolchain = folder / "cross" / f"{emulated.target.triple.replace('-unknown', '')}.cmake"
+    said("cmake", "-S", folder / "cross", "-B", build, f"-DCMAKE_TOOLCHAIN_FILE={toolchain}", f"-DCMAKE_PREFIX_PATH={folder}")
+    said("cmake", "--build", build)
+    return re.search(r"100% tests passed.*", said("ctest", "--test-dir", build))[0]
+
+
+def other_cmake(emulated):
+    """A project for this machine doesn't take the folder, and is told what it is for."""
+    folder = project(emulated)
+    written = said("cmake", "-S", folder / "cross", "-B", emulated.work / "other", f"-DCMAKE_PREFIX_PATH={folder}", fails=True)
+    words = f"for Linux on {emulated.target.name} of 64 bits, not for Linux on {X86_64.name}"
+    if words not in " ".join(written.split()):
+        raise Failed(written)
+    return words
+
+
+def rust_for(target):
+    """Where the compiler and cargo are that have a standard library for a target: Debian's, or those on the path. None where none has."""
+    if (STANDARD_LIBRARIES / target.triple).exists() and (DEBIANS / "cargo").exists():
+        return DEBIANS
+    if is_here("rustc") and is_here("cargo"):
+        root = subprocess.run(["rustc", "--print", "sysroot"], capture_output=True, text=True).stdout.strip()
+        if Path(root, "lib/rustlib", target.triple).exists():
+            return Path(shutil.which("cargo")).parent
+    return None
+
+
+def cargo(emulated, folder, rust, *words, fails=False):
+    """What a cargo writes that has the target's standard library. The project's own configuration names linker and emulator."""
+    places = {"CARGO_TARGET_DIR": str(emulated.work / "target"), "PATH": f"{rust}:{os.environ['PATH']}"}
+    environment = {**os.environ, **places}
+    environment.pop("IOX2_PUBSUB_LIB_DIR", None)
+    configuration = ("--config", emulated.target.out / "cross/.cargo/config.toml")
+    return said("cargo", *configuration, *words, cwd=folder, env=environment, fails=fails)
+
+
+def by_cargo(emulated, rust):
+    """The project of cargo for a board."""
+    printed = cargo(emulated, project(emulated) / "cross", rust, "run", "--offline", "--quiet", "--target", emulated.target.triple)
+    if printed != READING:
+        raise Failed(printed)
+    return printed
+
+
+def other_cargo(emulated, rust):
+    """For this machine it is refused, with what there is."""
+    printed = cargo(emulated, project(emulated) / "cross", rust, "build", "--offline", fails=True)
+    if f"has no archive for {X86_64.triple}" not in printed or f"for Linux on {emulated.target.name}" not in printed:
+        raise Failed(printed)
+    return f"no archive for {X86_64.triple}"
+
+
+def tests_of_cargo(emulated, rust, crate):
+    """The tests of a crate."""
+    written = cargo(emulated, project(emulated) / crate, rust, "test", "--offline", "--tests", "--target", emulated.target.triple)
+    results = re.findall(r"^test result: .* (\d+) passed; (\d+) failed", written, re.M)
+    return f"{sum(int(passed) for passed, _ in results)} passed, {sum(int(failed) for _, failed in results)} failed"
+
+
+def other_linker(emulated):
+    """This machine's linker says of the archive that it is another's: the page has its words."""
+    folder, page = emulated.target.out, (BINDINGS / "AARCH64.md").read_text()
+    first = ("gcc", "-I", folder / "include", BINDINGS / "c/first.c", "-o", emulated.work / "other_first")
+    for library, words in (
+        ([folder / "lib/libiox2_pubsub.a"], (f"Relocations in generic ELF (EM: {emulated.target.machine})", "error adding symbols: file in wrong format")),
+        (["-L", folder / "lib", "-liox2_pubsub"], ("skipping incompatible", "cannot find -liox2_pubsub")),
+    ):
+        written = said(*first, *library, fails=True)
+        for line in words:
+            if line not in written or line not in page:
+                raise Failed(f"AARCH64.md or the linker doesn't say {line!r}:\n{written}")
+    return "as AARCH64.md says"
+
+
+def run_projects(steps, emulated):
+    """All of these."""
+    name = emulated.target.name
+    steps.run(f"an archive for {name} by this machine's linker", other_linker, emulated)
+    if is_here("cmake"):
+        steps.run(f"cross, cmake for {name}", by_cmake, emulated)
+        steps.run(f"cross, cmake for another processor than {name}", other_cmake, emulated)
+    else:
+        steps.skip(f"cross, cmake for {name}", "cmake")
+    rust = rust_for(emulated.target)
+    if rust is None:
+        steps.skip(f"cross, cargo for {name}", NO_RUST.format(emulated.target.triple))
+        return
+    steps.run(f"cross, cargo for {name}", by_cargo, emulated, rust)
+    steps.run(f"cross, cargo for another processor than {name}", other_cargo, emulated, rust)
+    for crate in ("rust-sys", "rust"):
+        steps.run(f"{crate}, cargo test for {name}", tests_of_cargo, emulated, rust, crate)
+
+
+def run_emulated(steps, work, target, script_of_run, replayer):
+    """All of these."""
+    if lacking := target.lacking():
+        steps.skip(f"what is for {target.name}", f"{', '.join(lacking)}")
+        return
+    emulated = Emulated(target, work)
+    run_programs(steps, emulated)
+    run_random(steps, emulated, script_of_run)
+    run_recordings(steps, emulated, replayer)
+    run_projects(steps, emulated)

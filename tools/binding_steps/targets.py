@@ -1,0 +1,83 @@
+"""The processors that the archive is made for, and what each file of an archive says of its own."""
+from dataclasses import dataclass
+from pathlib import Path
+
+from .places import BINDINGS, OUT, is_here
+from .steps import Failed
+
+MAGIC, HEAD = b"!<arch>\n", 60
+# What an ELF file has at its byte 18 in the order of its bytes, which all of these have least first.
+ELF, MACHINE_AT = b"\x7fELF", 18
+
+
+@dataclass(frozen=True)
+class Target:
+    """A processor, with Linux and glibc."""
+
+    # As a release and `--target` name it, which is as CMake and `uname -m` do.
+    name: str
+    # As the kit, rustc and compilers name it.
+    triple: str
+    # The number that ELF files have for it.
+    machine: int
+    # Debian's compilers of C and C++.
+    compilers: tuple[str, str]
+    # Debian's emulator, where this machine's processor isn't such a one.
+    emulator: tuple[str, ...]
+    out: Path
+
+    @property
+    def is_crossed(self):
+        return bool(self.emulator)
+
+    def lacking(self):
+        """The programs that aren't here, of those that compile for it and run that."""
+        return [program for program in (*self.compilers, *self.emulator[:1]) if not is_here(program)]
+
+
+X86_64 = Target("x86_64", "x86_64-unknown-linux-gnu", 62, ("gcc", "g++"), (), OUT)
+AARCH64 = Target(
+    "aarch64",
+    "aarch64-unknown-linux-gnu",
+    183,
+    ("aarch64-linux-gnu-gcc", "aarch64-linux-gnu-g++"),
+    ("qemu-aarch64-static", "-L", "/usr/aarch64-linux-gnu"),
+    BINDINGS / "out-aarch64",
+)
+TARGETS = {target.name: target for target in (X86_64, AARCH64)}
+NAMES = {target.machine: target.name for target in TARGETS.values()}
+
+
+def stand_in(machine):
+    """The bytes of an archive of one object, which says for which processor it is and nothing else."""
+    member = ELF.ljust(MACHINE_AT, b"\0") + machine.to_bytes(2, "little")
+    return MAGIC + f"{'one.o/':<48}{len(member):<10}`\n".encode() + member
+
+
+def members(archive):
+    """The files of an archive."""
+    data = Path(archive).read_bytes()
+    if not data.startswith(MAGIC):
+        raise Failed(f"{archive} is no archive")
+    at = len(MAGIC)
+    while at + HEAD <= len(data):
+        size = int(data[at + 48 : at + 58])
+        yield data[at + HEAD : at + HEAD + size]
+        at += HEAD + size + size % 2
+
+
+def processor_of(archive):
+    """The name of the processor that an archive is for, or of ELF's number for it where this library isn't made for it."""
+    machines = {int.from_bytes(file[MACHINE_AT : MACHINE_AT + 2], "little") for file in members(archive) if file.startswith(ELF)}
+    if len(machines) != 1:
+        raise Failed(f"{archive} is for {len(machines)} processors")
+    machine = machines.pop()
+    return NAMES.get(machine, f"ELF's machine {machine}")
+
+
+def is_for(archive, target):
+    """Refuses an archive for another processor."""
+    found = processor_of(archive)
+    if found != target.name:
+        raise Failed(f"{archive} is for {found}, not for {target.name}")
+    return found
