@@ -116,7 +116,8 @@ def mutants_table(mutants):
     rows = ""
     for (where, clauses), ones in by_clause(mutants):
         names = "<br>".join(code(one.path) + (f" at {code(one.goal)}" if one.goal else "") for one in ones)
-        rows += f"<tr><td>{code(where)}</td><td>{', '.join(clause if ' ' in clause else code(clause) for clause in clauses if clause) or 'its only clause'}</td><td>{names}</td></tr>"
+        said = ", ".join(clause if " " in clause else code(clause) for clause in clauses if clause) or "its only clause"
+        rows += f"<tr><td class=name>{code(where)}</td><td>{said}</td><td>{names}</td></tr>"
     refused = f"<table><tr><th>Contract of</th><th>Clause</th><th>Mutants that it refuses</th></tr>{rows}</table>" if rows else ""
     killed = "".join(f"<li>{code(one.path)}, in {code(one.where)}</li>" for one in mutants if not one.is_for_prover)
     return refused + (f"<p>Killed by tests:</p><ul>{killed}</ul>" if killed else "")
@@ -131,6 +132,12 @@ def page(model):
     return "\n".join(rows) + "\n"
 
 
+def shortened(text, most=60):
+    """The first words of a text, without code spans."""
+    text = text.replace("`", "")
+    return text if len(text) <= most else text[:most].rsplit(" ", 1)[0] + " …"
+
+
 def html(model, link):
     """The same with everything, as HTML."""
     parts = ["<h1>Requirements</h1>"]
@@ -143,5 +150,5 @@ def html(model, link):
             f"<details><summary>{len(one.tests)} tests and programs</summary><ul>{tests}</ul></details>"
             f"<details><summary>{len(one.mutants)} mutants, by the clause that refuses them</summary>{mutants}</details>"
         )
-    links = "".join(f'<a class=to href="#R{one.number}">R{one.number}: {escaped(one.says[:60])}</a>' for one in requirements(model))
+    links = "".join(f'<a class=to href="#R{one.number}">R{one.number}: {escaped(shortened(one.says))}</a>' for one in requirements(model))
     return "".join(parts), links

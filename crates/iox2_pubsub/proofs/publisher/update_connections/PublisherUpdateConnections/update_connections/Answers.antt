@@ -32,7 +32,7 @@ returns-clause-updates g c =
 pub returns-clause-rest : goal.returns-clause-rest
 returns-clause-rest g c =
     publisher-update-left {T = g.row.T.Denot} {U = g.row.U.Denot} c.domain.inside.state c.args.domain.now (keeping _ c.catch_up.new.state) c.domain.invariant c.domain.view_is
-    (same-boxes c.domain.inside.state c.catch_up.new.state c.args.domain.now c.domain.view_is c.domain.invariant (caught-up-reaches _ c.domain.inside.state c.catch_up.new.state c.args.self.now.place _ c.catch_up.result (publisher-at-place {T = g.row.T.Denot} {U = g.row.U.Denot} c.domain.inside.state c.domain.invariant c.args.domain.now c.domain.view_is c.args.self.now c.requires.live).0 (c.catch_up.ensures (publisher-at-place {T = g.row.T.Denot} {U = g.row.U.Denot} c.domain.inside.state c.domain.invariant c.args.domain.now c.domain.view_is c.args.self.now c.requires.live).0 (publisher-at-place {T = g.row.T.Denot} {U = g.row.U.Denot} c.domain.inside.state c.domain.invariant c.args.domain.now c.domain.view_is c.args.self.now c.requires.live).1)).places) (answers_of g.F.BackpressureFn.allows g.G.DegradationFn.allows c.args.domain.now.boxes.publishers) c.args.self.now.id (returned_failure c.outcome_of.result) (returns-clause-updates g c)
+    (same-boxes c.domain.inside.state c.catch_up.new.state c.args.domain.now c.domain.view_is c.domain.invariant (caught-up-reaches _ c.domain.inside.state c.catch_up.new.state c.args.self.now.place _ c.catch_up.result (c.catch_up.ensures (publisher-at-place {T = g.row.T.Denot} {U = g.row.U.Denot} c.domain.inside.state c.domain.invariant c.args.domain.now c.domain.view_is c.args.self.now c.requires.live).0 (publisher-at-place {T = g.row.T.Denot} {U = g.row.U.Denot} c.domain.inside.state c.domain.invariant c.args.domain.now c.domain.view_is c.args.self.now c.requires.live).1)).places) (answers_of g.F.BackpressureFn.allows g.G.DegradationFn.allows c.args.domain.now.boxes.publishers) c.args.self.now.id (returned_failure c.outcome_of.result) (returns-clause-updates g c)
 
 pub catch_up-requires-clause-stands : goal.catch_up-requires-clause-stands
 catch_up-requires-clause-stands g c = ((publisher-at-place {T = g.row.T.Denot} {U = g.row.U.Denot} c.domain.inside.state c.domain.invariant c.args.domain.now c.domain.view_is c.args.self.now c.requires.live).0, (publisher-at-place {T = g.row.T.Denot} {U = g.row.U.Denot} c.domain.inside.state c.domain.invariant c.args.domain.now c.domain.view_is c.args.self.now c.requires.live).1)
