@@ -28,7 +28,7 @@ mod sealed {
 /// }
 /// ```
 ///
-/// A type whose alignment is above 16 isn't built:
+/// A type whose alignment is above 16 isn't built. `cargo check`, which builds nothing, doesn't see it:
 ///
 /// ```compile_fail
 /// #[derive(Clone, Copy)]
