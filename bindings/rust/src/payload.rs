@@ -1,3 +1,4 @@
+// SPDX-License-Identifier: Apache-2.0 OR MIT
 //! What a message may be: a value, or a slice of values.
 
 use crate::sys::PAYLOAD_ALIGNMENT;
