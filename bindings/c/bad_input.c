@@ -1,3 +1,4 @@
+// SPDX-License-Identifier: Apache-2.0 OR MIT
 /* What a caller may get wrong: numbers that are copied, used twice, kept too long, made up or of another
  * domain; no domain, or a destroyed one; lengths and settings at their limits. Each call has to return its code
  * and to leave what its pointers point to; nothing may be lost or leak. It compiles as C and as C++. */

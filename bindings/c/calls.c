@@ -1,3 +1,4 @@
+// SPDX-License-Identifier: Apache-2.0 OR MIT
 /* Each function of the header where all is well: messages in place and copied, blocked sends, options,
  * warnings, texts. It compiles as C and as C++. */
 #include "checks.h"

@@ -1,3 +1,4 @@
+// SPDX-License-Identifier: Apache-2.0 OR MIT
 /* Passes messages of 64 bytes to subscribers that read each at once, as bindings/rust/examples/compare.rs does:
  * `compare SUBSCRIBERS MESSAGES`. Prints the nanoseconds that a message took. */
 #define _POSIX_C_SOURCE 200809L

@@ -1,3 +1,4 @@
+// SPDX-License-Identifier: Apache-2.0 OR MIT
 /* Records what it calls, and prints the recording, which tools/replay runs again. Its status is 0 where each call returns what it is to
    return. With an argument there is room for only that many commands, which are too few. */
 #include "checks.h"

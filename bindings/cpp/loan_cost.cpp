@@ -1,3 +1,4 @@
+// SPDX-License-Identifier: Apache-2.0 OR MIT
 /* Lends messages of 64 KB as often as the first word says: tools/bindings counts that each is set to its default value once, where it
  * lies. */
 #include "iox2_pubsub.hpp"

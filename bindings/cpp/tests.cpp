@@ -1,3 +1,4 @@
+// SPDX-License-Identifier: Apache-2.0 OR MIT
 // The C++ header: values and slices in place, handles that are moved, blocked sends, refusals and limits. Prints
 // each check that fails, and then "N passed, M failed".
 #include "iox2_pubsub.hpp"

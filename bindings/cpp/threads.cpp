@@ -1,3 +1,4 @@
+// SPDX-License-Identifier: Apache-2.0 OR MIT
 /* Domains that several threads use, by the C++ handles. */
 #include "iox2_pubsub_shared.hpp"
 #include "turns.hpp"

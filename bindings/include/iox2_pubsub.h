@@ -1,3 +1,4 @@
+// SPDX-License-Identifier: Apache-2.0 OR MIT
 /** @file
  * Publish-subscribe inside one program: the calls of the proved library iox2_pubsub for C11 and C++11 or later.
  * Messages are bytes, as many as each loan says, up to a limit that the domain is made with.

@@ -1,3 +1,4 @@
+// SPDX-License-Identifier: Apache-2.0 OR MIT
 /** @file
  * Publish-subscribe inside one program, for C++17: the calls of iox2_pubsub.h with types, and with handles
  * that give back what they have.

@@ -1,3 +1,4 @@
+// SPDX-License-Identifier: Apache-2.0 OR MIT
 /** @file
  * What calls of iox2_pubsub.hpp return: a value, or why there is none. It is included there. */
 #ifndef IOX2_PUBSUB_RESULTS_HPP

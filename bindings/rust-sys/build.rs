@@ -1,3 +1,4 @@
+// SPDX-License-Identifier: Apache-2.0 OR MIT
 //! Says where the archive `libiox2_pubsub.a` for the target is: in the folder that `IOX2_PUBSUB_LIB_DIR` names, or else in `lib` beside
 //! this crate's folder, in a release for the target beside this one, or where `tools/bindings` makes it. An archive for another target is
 //! refused. Without one programs are checked and documented, but not linked.

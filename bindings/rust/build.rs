@@ -1,3 +1,4 @@
+// SPDX-License-Identifier: Apache-2.0 OR MIT
 //! Tells the crate whether its compiler has attributes that name the way out of an error: Rust 1.78 and later.
 
 use std::env;

@@ -1,3 +1,4 @@
+// SPDX-License-Identifier: Apache-2.0 OR MIT
 /* Stands between a program and the archive (-Wl,--wrap=..), and writes down each call on the domain in the order in
  * which the calls are made, as a script of `pubsub_script`, and what each returned as the replies. So what several
  * threads got by whatever lock becomes one list of calls, which `run` can be asked about.

@@ -1,3 +1,4 @@
+# SPDX-License-Identifier: Apache-2.0 OR MIT
 """Compares what a message costs with the C calls, and with channels and queues of the standard library."""
 import datetime
 import os

@@ -1,3 +1,4 @@
+# SPDX-License-Identifier: Apache-2.0 OR MIT
 """The crates of Rust for others: by the oldest Rust that they say they want, and as packages."""
 import os
 import re

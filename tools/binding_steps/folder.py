@@ -1,3 +1,4 @@
+# SPDX-License-Identifier: Apache-2.0 OR MIT
 """Builds bindings/out, the folder that programs are compiled against."""
 import shutil
 import subprocess

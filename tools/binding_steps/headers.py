@@ -1,3 +1,4 @@
+# SPDX-License-Identifier: Apache-2.0 OR MIT
 """What the headers say: the archive's functions, each standard, what a compiler has to refuse, Doxygen, other libraries beside."""
 import re
 import subprocess

@@ -1,3 +1,4 @@
+# SPDX-License-Identifier: Apache-2.0 OR MIT
 """The folder as others take it: CMake, pkg-config, installed, the page's programs, the crates of Rust, the gateway to DDS."""
 import json
 import os

@@ -1,3 +1,4 @@
+# SPDX-License-Identifier: Apache-2.0 OR MIT
 """The crates of Rust over a model of the archive in Rust, which Miri can run: by Miri where that is there, and else by tests alone."""
 import os
 import re

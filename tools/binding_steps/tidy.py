@@ -1,3 +1,4 @@
+# SPDX-License-Identifier: Apache-2.0 OR MIT
 """What clang-tidy says of the headers and programs of C and C++, by bindings/.clang-tidy."""
 from .places import BINDINGS, is_here
 from .steps import said

@@ -1,3 +1,4 @@
+# SPDX-License-Identifier: Apache-2.0 OR MIT
 """What the headers of C and C++ declare: functions, their comments, and which functions of C a method calls."""
 import re
 from collections import defaultdict

@@ -1,3 +1,4 @@
+# SPDX-License-Identifier: Apache-2.0 OR MIT
 """The names of calls in C, C++ and Rust: which functions of C call them, and who calls these."""
 import re
 from collections import defaultdict

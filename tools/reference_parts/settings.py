@@ -1,3 +1,4 @@
+# SPDX-License-Identifier: Apache-2.0 OR MIT
 """The settings and answers of the bindings, each with a test that shows its effect: bindings/settings.toml names it."""
 import re
 import tomllib

@@ -1,3 +1,4 @@
+// SPDX-License-Identifier: Apache-2.0 OR MIT
 /* Gateways between domains of iox2_pubsub and topics of DDS, by Eclipse Cyclone DDS 0.10, for C and C++.
  *
  * What publishers of a domain send goes to the topic. What comes from the topic is lent, written in place and sent in the

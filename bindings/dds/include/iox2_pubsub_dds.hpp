@@ -1,3 +1,4 @@
+// SPDX-License-Identifier: Apache-2.0 OR MIT
 /* Gateways between domains of iox2_pubsub and topics of DDS, for C++17: the calls of iox2_pubsub_dds.h with types.
  *
  * A gateway is used on its domain's thread, which polls it: forward() never waits, wait() waits for the topic alone. With

@@ -1,3 +1,4 @@
+// SPDX-License-Identifier: Apache-2.0 OR MIT
 /* The calls of iox2_pubsub_dds.h. */
 #include "gateway.hpp"
 

@@ -1,3 +1,4 @@
+// SPDX-License-Identifier: Apache-2.0 OR MIT
 /* One domain joined to one topic, and the gateways of a thread together. */
 #ifndef IOX2_PUBSUB_DDS_GATEWAY_HPP
 #define IOX2_PUBSUB_DDS_GATEWAY_HPP

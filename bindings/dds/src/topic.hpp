@@ -1,3 +1,4 @@
+// SPDX-License-Identifier: Apache-2.0 OR MIT
 /* The side of DDS: a writer and a reader of one topic. */
 #ifndef IOX2_PUBSUB_DDS_TOPIC_HPP
 #define IOX2_PUBSUB_DDS_TOPIC_HPP

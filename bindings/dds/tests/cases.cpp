@@ -1,3 +1,4 @@
+// SPDX-License-Identifier: Apache-2.0 OR MIT
 /* One process of a test: what isn't traffic alone.
  *   cases look|wake|values|voltages|twice|many|churn|threads|fork NAME VALUE .. */
 #include "gateway_peer.hpp"

@@ -1,4 +1,5 @@
 #!/usr/bin/env python3
+# SPDX-License-Identifier: Apache-2.0 OR MIT
 """Builds the gateway to DDS beside the library, and runs all its tests: everything.py BINDINGS_OUT [plain|checked].
 
 BINDINGS_OUT is the folder that tools/bindings makes; the gateway is built into a copy of it, which is then moved. Each step is

@@ -1,3 +1,4 @@
+// SPDX-License-Identifier: Apache-2.0 OR MIT
 /* Gateways that were moved from hand nothing to the calls of C, each of which would read through it. Needs no DDS: the calls of C here
  * are for this test. */
 #include "iox2_pubsub_dds.hpp"

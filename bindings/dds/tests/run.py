@@ -1,4 +1,5 @@
 #!/usr/bin/env python3
+# SPDX-License-Identifier: Apache-2.0 OR MIT
 """Runs the tests of the gateway between processes on loopback: run.py FOLDER [NAME..]. FOLDER has their programs, as CMake
 builds them. The last line is `N passed, M failed`. Each process has a time limit, and only what this started is ended.
 

@@ -1,3 +1,4 @@
+// SPDX-License-Identifier: Apache-2.0 OR MIT
 //! The declarations of the C header `iox2_pubsub_dds.h`, which says what each is.
 #![allow(missing_docs)]
 

@@ -1,3 +1,4 @@
+// SPDX-License-Identifier: Apache-2.0 OR MIT
 //! The declarations of the C header `iox2_pubsub.h`, with bytes where it has `void` and `char`. The header says what each is,
 //! what each call returns, and what its caller has to do.
 #![allow(missing_docs)]

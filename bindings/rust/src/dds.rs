@@ -1,3 +1,4 @@
+// SPDX-License-Identifier: Apache-2.0 OR MIT
 //! Other processes and machines: gateways between domains and topics of DDS, by Eclipse Cyclone DDS.
 //!
 //! This is there with the feature `dds`, where the gateway was built beside the archive. What publishers of a

@@ -1,3 +1,4 @@
+// SPDX-License-Identifier: Apache-2.0 OR MIT
 //! A domain: a service and what is in it.
 
 use crate::errors::{is_after_fork, unexpected, DomainCreateError};

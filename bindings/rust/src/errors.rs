@@ -1,3 +1,4 @@
+// SPDX-License-Identifier: Apache-2.0 OR MIT
 //! Why a call was refused. The names are iceoryx2's, except those that say otherwise.
 
 use crate::sys;

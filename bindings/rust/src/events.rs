@@ -1,3 +1,4 @@
+// SPDX-License-Identifier: Apache-2.0 OR MIT
 //! How a receive fits into a task or an event loop.
 
 use crate::errors::ReceiveError;

@@ -1,3 +1,4 @@
+// SPDX-License-Identifier: Apache-2.0 OR MIT
 //! Publish-subscribe messaging inside one program, in the style of iceoryx2: safe Rust over a static
 //! library that is proved.
 //!

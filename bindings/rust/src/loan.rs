@@ -1,3 +1,4 @@
+// SPDX-License-Identifier: Apache-2.0 OR MIT
 //! A message that a publisher has lent.
 
 use crate::domain::expect_here;

@@ -1,3 +1,4 @@
+// SPDX-License-Identifier: Apache-2.0 OR MIT
 //! A file descriptor that is readable when a message may have come, for `poll`, `epoll` and event loops of Linux.
 
 use crate::errors::{text, AFTER_FORK};

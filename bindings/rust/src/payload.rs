@@ -1,3 +1,4 @@
+// SPDX-License-Identifier: Apache-2.0 OR MIT
 //! What a message may be: a value, or a slice of values.
 
 use crate::sys::PAYLOAD_ALIGNMENT;
@@ -28,7 +29,7 @@ mod sealed {
 /// }
 /// ```
 ///
-/// A type whose alignment is above 16 isn't built:
+/// A type whose alignment is above 16 isn't built. `cargo check`, which builds nothing, doesn't see it:
 ///
 /// ```compile_fail
 /// #[derive(Clone, Copy)]

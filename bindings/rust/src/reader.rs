@@ -1,3 +1,4 @@
+// SPDX-License-Identifier: Apache-2.0 OR MIT
 //! Reads one message after the other, and receives several in one hold of the lock.
 
 use crate::desk::{Batch, Desk};

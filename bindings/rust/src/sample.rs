@@ -1,3 +1,4 @@
+// SPDX-License-Identifier: Apache-2.0 OR MIT
 //! A message that was received.
 
 use crate::domain::{expect, expect_here};

@@ -1,3 +1,4 @@
+// SPDX-License-Identifier: Apache-2.0 OR MIT
 //! The outcome of a send.
 
 use crate::errors::{unexpected, SendError};

@@ -1,3 +1,4 @@
+// SPDX-License-Identifier: Apache-2.0 OR MIT
 //! For which threads the handles of a domain are, and how they hold it.
 
 use crate::desk::Desk;

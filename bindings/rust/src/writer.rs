@@ -1,3 +1,4 @@
+// SPDX-License-Identifier: Apache-2.0 OR MIT
 //! Sends one message after the other, and takes the lock once for each.
 
 use crate::errors::SendError;

@@ -1,3 +1,4 @@
+// SPDX-License-Identifier: Apache-2.0 OR MIT
 //! A gateway to DDS between two processes over loopback: this one, and the same executable once more.
 #![cfg(feature = "dds")]
 

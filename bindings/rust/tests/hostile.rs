@@ -1,3 +1,4 @@
+// SPDX-License-Identifier: Apache-2.0 OR MIT
 //! What a program does that leaks, panics, asks for too much or waits in vain: safe code stays safe, and the domain goes on.
 
 use iox2_pubsub::{Domain, DomainBuilder, LoanError, PublisherCreateError};

@@ -1,3 +1,4 @@
+// SPDX-License-Identifier: Apache-2.0 OR MIT
 //! What a caller of the C calls may get wrong, tried from Rust by the calls themselves: numbers that are
 //! copied, used twice, kept too long, made up or of another domain; no domain, or a destroyed one; lengths
 //! and settings at their limits. Each call returns its code and leaves what its pointers point to, and

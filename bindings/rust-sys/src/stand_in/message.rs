@@ -1,3 +1,4 @@
+// SPDX-License-Identifier: Apache-2.0 OR MIT
 //! A message and its bytes.
 
 use std::alloc::{alloc, alloc_zeroed, dealloc, Layout};

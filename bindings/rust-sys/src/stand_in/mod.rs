@@ -1,3 +1,4 @@
+// SPDX-License-Identifier: Apache-2.0 OR MIT
 //! What stands in for the archive where Miri runs a program, which can't call it, and in tests of this: a small model of a domain
 //! under the C calls. Each message is memory of its own, so that Miri sees who uses its bytes too long.
 //!

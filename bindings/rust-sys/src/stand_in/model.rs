@@ -1,3 +1,4 @@
+// SPDX-License-Identifier: Apache-2.0 OR MIT
 //! A domain as simply as it can be said: lists of ports, of what two ports share, and of messages in their hands.
 
 use super::message::Message;

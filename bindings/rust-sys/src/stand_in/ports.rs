@@ -1,3 +1,4 @@
+// SPDX-License-Identifier: Apache-2.0 OR MIT
 //! Publishers and subscribers, and the channels of their connections.
 
 use super::domains::worst_case;

@@ -1,3 +1,4 @@
+// SPDX-License-Identifier: Apache-2.0 OR MIT
 //! Domains to try numbers in, and calls that have to be refused.
 
 use iox2_pubsub_sys::*;
