@@ -22,7 +22,7 @@ static void make(size_t commands) {
   options.preallocated_samples = 5;
   IS(iox2ps_publisher_create_with(&domain, &options, &publisher), IOX2PS_OK);
   options.backpressure_strategy = 7;
-  IS(iox2ps_publisher_create_with(&domain, &options, &publisher), IOX2PS_INVALID_SETTINGS);
+  IS(iox2ps_publisher_create_with(&domain, &options, &publisher), IOX2PS_INVALID_BACKPRESSURE_STRATEGY);
   IS(iox2ps_subscriber_create(&domain, &first), IOX2PS_OK);
   IS(iox2ps_subscriber_create(&domain, &second), IOX2PS_OK);
   IS(iox2ps_subscriber_create(&domain, &second), IOX2PS_SUBSCRIBER_CREATE_ERROR_EXCEEDS_MAX_SUPPORTED_SUBSCRIBERS);

@@ -169,9 +169,9 @@ static void lengths_of_none_of_the_limit_and_beyond() {
   PublisherOptions<std::uint64_t[]> options;
   CHECK(domain.publisher(options.initial_max_slice_len(SIZE_MAX)).error() == Error::PublisherUnableToCreateDataSegment);
   options.initial_max_slice_len(1).degradation_handler(static_cast<iox2ps::DegradationAction>(77));
-  CHECK(domain.publisher(options).error() == Error::InvalidSettings);
+  CHECK(domain.publisher(options).error() == Error::InvalidDegradation);
   CHECK(domain.subscriber(iox2ps::SubscriberOptions().degradation_handler(static_cast<iox2ps::DegradationAction>(77))).error()
-        == Error::InvalidSettings);
+        == Error::InvalidDegradation);
 }
 
 static void alignments_are_kept() {
@@ -348,8 +348,8 @@ static void results_are_read_in_several_ways() {
   CHECK(there.value() == 3 && *there == 3 && constant.value() == 4 && *constant == 4);
   CHECK(there.value_or(9) == 3 && none.value_or(9) == 9 && Result<int>(Error::NotLive).value_or(8) == 8);
   CHECK(Result<std::string>(std::string("text")).value_or("none") == "text");
-  auto half = [](int value) { return value % 2 == 0 ? Result<int>(value / 2) : Result<int>(Error::InvalidSettings); };
-  CHECK(constant.and_then(half).value() == 2 && there.and_then(half).error() == Error::InvalidSettings);
+  auto half = [](int value) { return value % 2 == 0 ? Result<int>(value / 2) : Result<int>(Error::NotLive); };
+  CHECK(constant.and_then(half).value() == 2 && there.and_then(half).error() == Error::NotLive);
   CHECK(none.and_then(half).error() == Error::NotLive && *Result<int>(8).and_then(half).and_then(half) == 2);
   there.value() = 6;
   CHECK(*there.and_then([](int &value) { return Result<std::string>(std::to_string(value)); }) == "6");

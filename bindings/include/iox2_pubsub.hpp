@@ -1143,7 +1143,7 @@ private:
  * nothing, and has no settings, no warnings and nothing to count. */
 template <typename P, typename M> class Domain {
 public:
-  /** Makes a domain. Error::InvalidSettings, Error::OutOfMemory, Error::OtherVersion. */
+  /** Makes a domain. Error::InvalidBackpressureStrategy, Error::OutOfMemory, Error::OtherVersion. */
   static Result<Domain> create(const Config<P> &config) {
     if (iox2ps_version() != IOX2PS_VERSION) return Error::OtherVersion;
     if (!detail::count_forks()) return Error::OutOfMemory;
