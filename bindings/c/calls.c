@@ -276,7 +276,7 @@ static void each_message_has_bytes_of_its_own(void) {
   create(&domain, &config);
   for (int i = 0; i < 2; i++) IS(iox2ps_publisher_create(&domain, &publishers[i]), IOX2PS_OK);
   IS(iox2ps_subscriber_create(&domain, &subscriber), IOX2PS_OK);
-  for (uint8_t letter = 'a'; letter < 'a' + 3 * MESSAGES; letter += MESSAGES) {
+  for (int letter = 'a'; letter < 'a' + 3 * MESSAGES; letter += MESSAGES) {
     for (int i = 0; i < MESSAGES; i++) IS(iox2ps_publisher_loan(&domain, &publishers[i % 2], LEN, &loans[i], &written[i]), IOX2PS_OK);
     for (int i = 0; i < MESSAGES; i++) memset(written[i], letter + i, LEN);
     for (int i = 0; i < MESSAGES; i++) {

@@ -14,6 +14,9 @@
 #include <system_error>
 #include <type_traits>
 #include <unordered_map>
+#if __cplusplus >= 202002L
+#include <span>
+#endif
 
 static int passed = 0, failed = 0;
 #define CHECK(...)                                                 \
@@ -477,6 +480,34 @@ static void a_late_subscriber_gets_the_history() {
   CHECK(**subscriber.receive().expect("a receive") == 2);
 }
 
+/* Without overflow a history is to be less than a buffer. */
+static void a_history_that_fills_a_buffer_blocks_the_next_send() {
+  for (std::size_t kept : {1, 2}) {
+    auto domain = made(Config<int>(11).history_size(kept).subscriber_max_buffer_size(2).enable_safe_overflow(false));
+    auto publisher = domain.publisher().expect("a publisher");
+    for (int n : {1, 2}) CHECK(publisher.send_copy(n)->delivered() == std::size_t(0));
+    auto subscriber = domain.subscriber().expect("a subscriber");
+    auto sent = publisher.send_copy(3).expect("a send");
+    CHECK(sent.blocked().has_value() == (kept == 2));
+    CHECK(subscriber.receive_copy().expect("a receive") == (kept == 2 ? 1 : 2));
+  }
+}
+
+#if __cplusplus >= 202002L
+static void slices_are_spans() {
+  auto domain = made(Config<int[]>(1, 5));
+  auto publisher = domain.publisher().expect("a publisher");
+  auto subscriber = domain.subscriber().expect("a subscriber");
+  auto loan = publisher.loan_slice(3).expect("a loan");
+  std::span<int> written(loan);
+  for (int &value : written) value = 7;
+  CHECK(loan.send().expect("a send").delivered() == std::size_t(1));
+  auto sample = *std::move(subscriber.receive().expect("a receive"));
+  std::span<const int> read(sample);
+  CHECK(read.size() == 3 && read.data() == written.data() && read[2] == 7);
+}
+#endif
+
 static void a_header_says_where_a_message_comes_from() {
   Config<std::uint16_t[]> config(13, 3);
   config.node_id(Id{6, 5});
@@ -731,6 +762,10 @@ int main() {
   a_publisher_asks_for_fewer_slots();
   a_publisher_grows();
   a_late_subscriber_gets_the_history();
+  a_history_that_fills_a_buffer_blocks_the_next_send();
+#if __cplusplus >= 202002L
+  slices_are_spans();
+#endif
   a_header_says_where_a_message_comes_from();
   connections_and_books_are_counted();
   channels_are_asked_about();

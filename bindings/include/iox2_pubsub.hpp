@@ -325,10 +325,7 @@ protected:
   View() = default; /**< of nothing */
   View(View &&other) noexcept : data_(std::exchange(other.data_, nullptr)) {} /**< leaves the other without a value */
   /** The same. */
-  View &operator=(View &&other) noexcept {
-    data_ = std::exchange(other.data_, nullptr);
-    return *this;
-  }
+  void take(View &other) noexcept { data_ = std::exchange(other.data_, nullptr); }
 
   /** What it is of. */
   void see(T *data, std::size_t) { data_ = data; }
@@ -363,10 +360,9 @@ protected:
   /** Leaves the other without values. */
   View(View &&other) noexcept : data_(std::exchange(other.data_, nullptr)), size_(std::exchange(other.size_, 0)) {}
   /** The same. */
-  View &operator=(View &&other) noexcept {
+  void take(View &other) noexcept {
     data_ = std::exchange(other.data_, nullptr);
     size_ = std::exchange(other.size_, 0);
-    return *this;
   }
 
   /** What it is of. */
@@ -515,7 +511,7 @@ public:
   Loan &operator=(Loan &&other) noexcept {
     if (this != &other) {
       discard();
-      View<P, Element>::operator=(std::move(other));
+      this->take(other);
       hold_ = std::move(other.hold_);
       loan_ = other.loan_;
     }
@@ -605,7 +601,7 @@ public:
   Sample &operator=(Sample &&other) noexcept {
     if (this != &other) {
       release();
-      View<P, const Element>::operator=(std::move(other));
+      this->take(other);
       hold_ = std::move(other.hold_);
       sample_ = other.sample_;
     }
@@ -843,6 +839,8 @@ private:
     return [&value](std::uint8_t *bytes) { return new (bytes) Element(value); };
   }
   static auto begin_values(std::size_t len) {
+    static_assert(std::is_default_constructible_v<Element>, "a message without a default value is lent with a value, by loan(value), or by "
+                                                            "loan_uninit(), blocking_loan_uninit() or loan_slice_uninit()");
     return [len](std::uint8_t *bytes) {
       for (std::size_t at = 0; at < len; at++) new (bytes + at * sizeof(Element)) Element();
       return reinterpret_cast<Element *>(bytes);

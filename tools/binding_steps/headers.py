@@ -74,6 +74,7 @@ int main(void) {{ {} return 0; }}
 CPP = """#include "iox2_pubsub.hpp"
 #include <string>
 struct alignas(32) Wide {{ int x; }};
+struct Sized {{ explicit Sized(int given) : size(given) {{}} int size; }};
 using namespace iox2ps;
 int main() {{ auto domain = Domain<int>::create(Config<int>(1)).expect("a domain"); {} return 0; }}
 """
@@ -104,6 +105,8 @@ REFUSED = (
     ("c++17", CPP, "auto copy = *domain.publisher(); auto again = copy;", "deleted"),
     ("c++17", CPP, "auto named = domain.publisher(); named.expect(\"one\");", "std::move(result).expect(..)"),
     ("c++17", CPP, "domain.connection_count();", "nodiscard"),
+    ("c++17", CPP, "(void)Domain<Sized>::create(Config<Sized>(1))->publisher()->loan();", "loan_uninit()"),
+    ("c++17", CPP, "for (auto &sample : *domain.subscriber()) return *sample;", "begin"),
     ("c++17", CPP, "iox2ps::text(Error::NotLive);", "nodiscard"),
     ("c++17", CPP, "domain.stop_waits();", "SharedDomain"),
     ("c++17", CPP, "return domain.waits_are_stopped();", "SharedDomain"),
