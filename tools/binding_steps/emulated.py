@@ -187,7 +187,8 @@ def cargo(emulated, folder, rust, *words, fails=False):
     places = {"CARGO_TARGET_DIR": str(emulated.work / "target"), "PATH": f"{rust}:{os.environ['PATH']}"}
     environment = {**os.environ, **places}
     environment.pop("IOX2_PUBSUB_LIB_DIR", None)
-    configuration = ("--config", emulated.target.out / "cross/.cargo/config.toml")
+    # Cargo joins the lists of two such files, so that the project's own isn't named again.
+    configuration = () if (folder / ".cargo").exists() else ("--config", emulated.target.out / "cross/.cargo/config.toml")
     return said("cargo", *configuration, *words, cwd=folder, env=environment, fails=fails)
 
 
