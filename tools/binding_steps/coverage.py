@@ -1,3 +1,4 @@
+# SPDX-License-Identifier: Apache-2.0 OR MIT
 """Counts which branches of the C++ headers the tests of C++ take, by gcov."""
 import gzip
 import json

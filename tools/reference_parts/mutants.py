@@ -1,3 +1,4 @@
+# SPDX-License-Identifier: Apache-2.0 OR MIT
 """Wrong bodies that the prover has to refuse, and faults that a test has to find, with the functions and clauses that they break."""
 import re
 from dataclasses import dataclass, field
@@ -8,6 +9,7 @@ FOLDERS = (
     "tools/bodies_that_proofs_refuse",
     "tools/bodies_that_give_up",
     "tools/calls_too_often",
+    "tools/faults_in_requests",
     "tools/faults_in_runs",
     "tools/faults_in_scripts",
     "tools/faults_in_the_model",
