@@ -1,3 +1,4 @@
+// SPDX-License-Identifier: Apache-2.0 OR MIT
 /* Makes calls that take no memory, on a domain that is recorded and on one that isn't, and compares how many allocations each of
  * them makes; for tools/memory_of_messages.
  *
