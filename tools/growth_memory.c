@@ -1,11 +1,11 @@
 /* Has the memory of a publisher of slices of 8-byte elements grow, and prints how many bytes the archive has then.
  *
- *   growth_memory STRATEGY SLOTS GROWTHS LONGEST held|released [KEPT..]
+ *   growth_memory STRATEGY SLOTS GROWTHS LONGEST held|loan|send|update [KEPT..]
  *
  * STRATEGY is bestfit or poweroftwo. Each segment has this number of slots. The first growth is for 2 elements, each later one for
  * one more, and the last one for LONGEST. Each KEPT is the length of a message, by rising length, that a subscriber keeps. With
- * `released` it lets all of them go in the end, the publisher lends once more, and only then the bytes are counted. Its status is 0
- * where each call succeeds.
+ * `held` the bytes are counted then. Else it lets all of them go in the end, the publisher makes this one call more, and only then
+ * the bytes are counted; the loan that is sent was made before. Its status is 0 where each call succeeds.
  *
  * It is linked with -Wl,--wrap=malloc -Wl,--wrap=realloc -Wl,--wrap=free. */
 #include "iox2_pubsub.h"
@@ -73,13 +73,22 @@ static int is_kept(iox2ps_domain_t *domain, const iox2ps_publisher_t *publisher,
          && !iox2ps_subscriber_receive(domain, subscriber, sample, &in, &len) && len == elements * ELEMENT;
 }
 
+/* The call that this word says, of a publisher whose loan waits to be sent. */
+static int makes(iox2ps_domain_t *domain, const iox2ps_publisher_t *publisher, iox2ps_loan_t *loan, const char *word) {
+  iox2ps_blocked_t blocked;
+  size_t receivers;
+  if (!strcmp(word, "loan")) return lends(domain, publisher, 1);
+  if (!strcmp(word, "send")) return !iox2ps_loan_send(domain, loan, &receivers, &blocked);
+  return !strcmp(word, "update") && !iox2ps_publisher_update_connections(domain, publisher);
+}
+
 int main(int count, char **words) {
   if (count < 6 || count > 6 + MOST_KEPT) {
-    fputs("usage: growth_memory STRATEGY SLOTS GROWTHS LONGEST held|released [KEPT..]\n", stderr);
+    fputs("usage: growth_memory STRATEGY SLOTS GROWTHS LONGEST held|loan|send|update [KEPT..]\n", stderr);
     return 2;
   }
   const size_t slots = number(words[2]), growths = number(words[3]), longest = number(words[4]);
-  const int releases = !strcmp(words[5], "released");
+  const int releases = strcmp(words[5], "held");
   iox2ps_sample_t samples[MOST_KEPT];
   int kept = 0;
   iox2ps_domain_t domain = IOX2PS_DOMAIN_INIT;
@@ -107,10 +116,13 @@ int main(int count, char **words) {
   }
   if (growths && !lends(&domain, &publisher, longest)) return 1;
   if (6 + kept != count) return 1;
+  iox2ps_loan_t loan;
+  void *payload;
+  if (iox2ps_publisher_loan_uninit(&domain, &publisher, ELEMENT, &loan, &payload)) return 1;
   if (releases) {
     for (int each = 0; each < kept; each++)
       if (iox2ps_sample_release(&domain, &samples[each])) return 1;
-    if (!lends(&domain, &publisher, 1)) return 1;
+    if (!makes(&domain, &publisher, &loan, words[5])) return 1;
   }
   printf("%zu\n", held);
   return iox2ps_domain_destroy(&domain) != 0 || held != 0;

@@ -1,5 +1,6 @@
 pub mod Boxes
 pub mod ChannelChanges
+pub mod Due
 pub mod Handlers
 pub mod Ports
 pub mod Kept

@@ -9,6 +9,7 @@
 
 mod boxes;
 mod degradations;
+mod due;
 mod handlers;
 mod left_books;
 mod loan_slots;
@@ -26,6 +27,7 @@ mod warnings;
 
 pub use boxes::{Boxes, PortBoxes};
 pub use degradations::degradation_answer;
+pub use due::Due;
 pub use handlers::{AskedBox, HandlerMark};
 pub use loan_slots::{LoanAt, is_loan_slot};
 pub use message_slots::MessageSlot;

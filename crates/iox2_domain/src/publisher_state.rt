@@ -2,6 +2,7 @@
 ghost use Rattle.std.specs.Prelude.{◌≡◌, [], IfOk};
 
 use crate::boxes::Boxes;
+use crate::due::Due;
 use crate::handlers::{AskedBox, HandlerMark};
 use crate::options::PublisherOptions;
 use crate::places::{clear_in, put_at_place, reserve_place};
@@ -64,10 +65,12 @@ pub struct PublisherState {
     pub history: HeapCircularBuffer<usize>,
     // At each subscriber's place the key of the connection with it.
     pub keys: Vec<Option<usize>>,
-    pub is_due: bool,
+    // What it does before its next message. The view has whether it updates its connections.
+    pub due: Due,
     // How many of its older slots, those before the current segment, had a holder when it last looked, and
     // how many slots were free then. No view has these two, and any numbers will do. They lie beside a flag,
-    // so that a publisher takes no byte more (docs/decisions/slots.md, "Older slots go at the next loan").
+    // so that a publisher takes no byte more (docs/decisions/slots.md, "Older slots go at the next loan, send
+    // or update").
     pub held_older: u16,
     pub known_free: u32,
     // The delivery that waits for a receiver.
@@ -76,6 +79,7 @@ pub struct PublisherState {
 
 impl Model for PublisherState {
     ghost use Rattle.std.specs.Prelude.{vec_capacity};
+    ghost use Rattle.iox2_domain.specs.Due.{is_to_connect};
     ghost use Rattle.iox2_domain.specs.Handlers.{handler_if_any, handler_of};
     ghost use Rattle.iox2_domain.specs.Ports.{PublisherFields};
 
@@ -101,7 +105,7 @@ impl Model for PublisherState {
       history = x.history;
       keys = x.keys.items;
       key_room = vec_capacity x.keys;
-      is_due = x.is_due;
+      is_due = is_to_connect x.due;
       blocked = x.blocked;
     } };
 }
@@ -152,7 +156,7 @@ impl PublisherState {
             loans,
             history,
             keys: Vec::new(alloc),
-            is_due: true,
+            due: Due::Connecting,
             held_older: 0,
             known_free: 0,
             blocked: None,
@@ -225,11 +229,11 @@ impl Port for PublisherState {
     }
 
     fn is_due(&self) -> bool {
-        self.is_due
+        self.due.is_to_connect()
     }
 
     fn set_due(&mut self, due: bool) {
-        self.is_due = due;
+        self.due = self.due.with_connecting(due);
     }
 
     fn degradation(&self) -> HandlerMark<DegradationAction> {

@@ -16,6 +16,8 @@ mod ReadyPass
 mod GrowthPass
 mod GrowingPass
 pub mod SentEnds
+mod ClearedSends
 mod ToConnection
 mod WaitingChannels
 mod TakenUp
+mod BlockingReceivers

@@ -5,3 +5,4 @@ pub mod KeyChannels
 pub mod SendEnds
 pub mod ReadySlots
 pub mod OlderSlots
+pub mod CatchingUp

@@ -1,6 +1,7 @@
 //! A blocked send is tried again, or given up.
 ghost use Rattle.std.specs.Prelude.{◌≡◌, ◌≤◌, ◌<◌, ◌+◌, ◌↔◌, IsTrue, None, Some, length, slice_index_or, is_some};
 ghost use Rattle.iox2_slots.specs.SlotBook.{IsInUse};
+ghost use Rattle.iox2_machine.specs.machine.ChannelCalls.{receiver_at};
 ghost use Rattle.iox2_machine.specs.machine.Sends.{more_retries};
 ghost use Rattle.iox2_machine.specs.machine.SingleCalls.{HoldsBlocked};
 ghost use Rattle.iox2_machine.specs.machine.State.{is_blocked};
@@ -15,11 +16,12 @@ ghost use Rattle.iox2_domain.specs.BlockedSends.{with_outcome, counters_after, H
 ghost use Rattle.iox2_messages.specs.BlockedPublishers.{CanTakeUp, HasPublisherAt};
 ghost use Rattle.iox2_messages.specs.SendEnds.{IsKept, end_result};
 
+use crate::channels::receiver_at;
 use crate::loans::remove_loan;
 use crate::send_end::SendEnd;
 use iox2_connections::sender::{Delivery, DeliveryOutcome, Progress, deliver};
 use iox2_domain::{BlockedDelivery, Boxes, DomainState, PublisherState};
-use iox2_machine::{BackpressureFn, DegradationFn, UniquePublisherId};
+use iox2_machine::{BackpressureFn, DegradationFn, UniquePublisherId, UniqueSubscriberId};
 use iox2_slots::SlotBook;
 use iox2_updates::reclaim;
 use std::time::Duration;
@@ -197,6 +199,23 @@ pub fn give_up_send<T: Drop, U: Default + Drop, F: BackpressureFn, G: Degradatio
     let start = progress_behind(state, place);
     let elapsed = Duration::ZERO;
     SendEnd::of(go_on(state, boxes, place, Resumption { start, elapsed }))
+}
+
+/// The subscriber that the blocked send of the publisher at a place waits for.
+pub fn blocking_subscriber<T: Drop, U: Default + Drop>(
+    state: &DomainState<T, U>,
+    place: usize,
+) -> UniqueSubscriberId
+    requires agrees { IsDomain state.now }
+    requires waits { HasBlocked state.now place }
+    ensures { (x : PublisherFields) (b : BlockedDelivery) → slice_index_or state.now.publishers place None ≡ Some x → x.blocked ≡ Some b
+        → receiver_at (state_of (kept_of state.now)) x.id (b.progress).place ≡ Some result }
+{
+    let progress = progress_at(state, place);
+    let Some(subscriber) = receiver_at(state, place, progress.place) else {
+        unreachable!();
+    };
+    UniqueSubscriberId::new(subscriber)
 }
 
 // Whether the publisher that is at a place waits for a receiver.

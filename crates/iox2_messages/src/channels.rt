@@ -2,7 +2,7 @@
 ghost use Rattle.std.specs.Prelude.{◌≡◌, None, Some, map, slice_index_or};
 ghost use Rattle.std.specs.List.{list_all};
 ghost use Rattle.iox2_machine.specs.machine.Channel.{is_in_state as is_channel_in};
-ghost use Rattle.iox2_machine.specs.machine.ChannelCalls.{connection_place, has_channel_state, has_disconnect_hint, place_from, senders_of, some_channel_has_state};
+ghost use Rattle.iox2_machine.specs.machine.ChannelCalls.{connection_place, has_channel_state, has_disconnect_hint, place_from, receiver_at, senders_of, some_channel_has_state};
 ghost use Rattle.iox2_machine.specs.machine.Places.{is_port};
 ghost use Rattle.iox2_connections.specs.Mailboxes.{sender_ends, subscriber_of_key};
 ghost use Rattle.iox2_domain.specs.Fields.{kept_of};
@@ -183,6 +183,33 @@ pub fn place_of_receiver<T: Drop, U: Default + Drop>(
         unreachable!()
     };
     place_in(&state.connections, &publisher.keys, subscriber)
+}
+
+// The subscriber whose connection a key leads to.
+fn subscriber_at_key(connections: &Slab<Connection>, key: Option<usize>) -> Option<u128>
+    ensures { result ≡ subscriber_of_key connections.now key }
+{
+    let Some(key) = key else {
+        return None;
+    };
+    match connections.get(key) {
+        Some(connection) => Some(connection.home().subscriber),
+        None => None,
+    }
+}
+
+/// The subscriber to which the publisher at a place has its connection at another.
+pub fn receiver_at<T: Drop, U: Default + Drop>(
+    state: &DomainState<T, U>,
+    place: usize,
+    connection: usize,
+) -> Option<u128>
+    requires agrees { IsDomain state.now }
+    ensures { (x : PublisherFields) → slice_index_or state.now.publishers place None ≡ Some x
+        → result ≡ receiver_at (state_of (kept_of state.now)) x.id connection }
+{
+    let key = key_at(&state.publishers, place, connection);
+    subscriber_at_key(&state.connections, key)
 }
 
 /// Whether the publisher at a place has a connection at another, at which a channel is in that state.

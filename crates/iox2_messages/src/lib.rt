@@ -5,6 +5,7 @@
 #![tactic(auto)]
 
 mod blocked_sends;
+mod catching_up;
 mod changed_channels;
 mod channels;
 mod connection_sends;
@@ -26,10 +27,13 @@ mod sample_reads;
 mod send_end;
 mod sends;
 
-pub use blocked_sends::{give_up_send, has_blocked_send, is_waiting, retry_send};
+pub use blocked_sends::{
+    blocking_subscriber, give_up_send, has_blocked_send, is_waiting, retry_send,
+};
+pub use catching_up::catch_up;
 pub use changed_channels::{ChannelChange, change_received, close_sent};
 pub use channels::{
-    all_received_in, is_sent_hinted, is_sent_in, place_of_receiver, some_received_in,
+    all_received_in, is_sent_hinted, is_sent_in, place_of_receiver, receiver_at, some_received_in,
 };
 pub use connection_sends::send_to_connection;
 pub use contents::{cell_at_mut, cells_at_mut, user_header_at_mut, value_at_mut, values_at_mut};

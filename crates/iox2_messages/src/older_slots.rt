@@ -53,6 +53,14 @@ pub(crate) fn count_older(publisher: &mut PublisherState, book: &SlotBook)
     let free = book.free_count();
     publisher.held_older = u16::try_from(book.len().saturating_sub(free)).unwrap_or(u16::MAX);
     publisher.known_free = u32::try_from(free).unwrap_or(u32::MAX);
+    mark_older(publisher);
+}
+
+// The publisher is due to look at its older slots while one of them may have a holder.
+fn mark_older(publisher: &mut PublisherState)
+    ensures { publisher.new ≡ publisher.old }
+{
+    publisher.due = publisher.due.with_clearing(publisher.held_older > 0);
 }
 
 // Whether an older slot of the publisher at a place may have a holder.
@@ -84,6 +92,7 @@ fn clear_older<T: Drop, U: Default + Drop>(state: &mut DomainState<T, U>, place:
     let cleared = clear_before(state.alloc, freed, publisher.segment_start, contents);
     publisher.held_older = count_fewer(publisher.held_older, cleared);
     publisher.known_free = u32::try_from(book.free_count()).unwrap_or(u32::MAX);
+    mark_older(publisher);
 }
 
 // What is in those of the slots that are before this one is dropped, with its memory. Returns how many

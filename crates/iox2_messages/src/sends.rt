@@ -10,17 +10,18 @@ ghost use Rattle.iox2_domain.specs.LoanCalls.{HoldsWritten};
 ghost use Rattle.iox2_domain.specs.LoanSlots.{LiesInSlot};
 ghost use Rattle.iox2_domain.specs.SentLoans.{IsLeftLoan, IsNotUpdated, IsReadyToSend, SendsLoan};
 ghost use Rattle.iox2_machine.specs.machine.State.{is_blocked};
+ghost use Rattle.iox2_messages.specs.CatchingUp.{BehindClearing};
 ghost use Rattle.iox2_messages.specs.SendEnds.{IsNotLost, end_result};
 ghost use Rattle.iox2_messages.specs.declared.send_end.SendEnd.{SendEnd};
 
+use crate::catching_up::catch_up;
 use crate::deliveries::{has_handler_at, send_ready, send_unasked};
 use crate::discards::discard_loan;
 use crate::send_end::SendEnd;
 use iox2_domain::{Boxes, DomainState, LoanAt};
 use iox2_machine::{BackpressureFn, ConnectionFailure, DegradationFn, UniquePublisherId};
-use iox2_updates::update_publisher;
 
-// Whether the publisher of a loan that lies where its handle says is there, and due for no update: so the
+// Whether the publisher of a loan that lies where its handle says is there, and due for nothing: so the
 // loan may be sent at once, if its publisher has no handler. It returns at each test that fails
 // (docs/decisions/cost.md, "A call goes on where its look-up ended").
 #[inline(always)]
@@ -32,7 +33,7 @@ fn is_ready<T: Drop, U: Default + Drop>(state: &DomainState<T, U>, loan: &LoanAt
     let Some(Some(publisher)) = state.publishers.get(loan.place) else {
         return false;
     };
-    if publisher.is_due {
+    if !publisher.due.is_nothing() {
         return false;
     }
     if publisher.book != loan.book {
@@ -48,9 +49,9 @@ struct ReadyLoan {
     slot: usize,
 }
 
-// Updates the publisher of a loan, if it is due, and finds where both are. `None` if the
-// publisher is gone. Fails if the update does.
-fn update_and_find<T: Drop, U: Default + Drop, F: BackpressureFn, G: DegradationFn>(
+// The publisher of a loan does what it is due for, and both are found. `None` if the publisher is gone.
+// Fails if the update of its connections does.
+fn catch_up_and_find<T: Drop, U: Default + Drop, F: BackpressureFn, G: DegradationFn>(
     state: &mut DomainState<T, U>,
     boxes: &Boxes<F, G>,
     publisher: UniquePublisherId,
@@ -60,13 +61,14 @@ fn update_and_find<T: Drop, U: Default + Drop, F: BackpressureFn, G: Degradation
     requires live { HoldsWritten (state_of (kept_of state.old)) publisher number }
     requires unblocked { is_blocked (state_of (kept_of state.old)) publisher ≡ false }
     ensures { MatchResult result
-        (λ found. MatchOption found (IsLeftLoan state.old state.new publisher) (λ ready. IsReadyToSend (answers_of F.allows G.allows (boxes.now).boxes) state.old state.new publisher number ready.place ready.slot))
-        (λ failure. (place : ℕ) × IsNotUpdated (answers_of F.allows G.allows (boxes.now).boxes) state.old state.new publisher place failure) }
+        (λ found. MatchOption found (IsLeftLoan state.old state.new publisher)
+        (λ ready. BehindClearing state.old (λ middle. IsReadyToSend (answers_of F.allows G.allows (boxes.now).boxes) middle state.new publisher number ready.place ready.slot)))
+        (λ failure. (place : ℕ) × BehindClearing state.old (λ middle. IsNotUpdated (answers_of F.allows G.allows (boxes.now).boxes) middle state.new publisher place failure)) }
 {
     let Some(place) = state.find_publisher(publisher, 0) else {
         return Ok(None);
     };
-    if let Some(failure) = update_publisher(state, boxes, place) {
+    if let Some(failure) = catch_up(state, boxes, place) {
         return Err(failure);
     }
     let Some(at) = state.find_loan(publisher, number) else {
@@ -78,12 +80,12 @@ fn update_and_find<T: Drop, U: Default + Drop, F: BackpressureFn, G: Degradation
     }))
 }
 
-// Updates the publisher of a loan, if it is due, and sends the loan, wherever both are. If the
-// update fails, the loan is given back. Of a publisher that is gone the loan is lost.
+// The publisher of a loan does what it is due for, and sends the loan, wherever both are. If the
+// update of its connections fails, the loan is given back. Of a publisher that is gone the loan is lost.
 // (docs/decisions/cost.md, "What a usual message asks about departed ports")
 #[cold]
 #[inline(never)]
-fn update_and_send<T: Drop, U: Default + Drop, F: BackpressureFn, G: DegradationFn>(
+fn catch_up_and_send<T: Drop, U: Default + Drop, F: BackpressureFn, G: DegradationFn>(
     state: &mut DomainState<T, U>,
     boxes: &Boxes<F, G>,
     publisher: UniquePublisherId,
@@ -95,7 +97,7 @@ fn update_and_send<T: Drop, U: Default + Drop, F: BackpressureFn, G: Degradation
     ensures sends { SendsLoan (answers_of F.allows G.allows (boxes.now).boxes) state.old state.new number (end_result result) }
     ensures kept { HoldsPublisher (state_of (kept_of state.old)) publisher → IsNotLost result }
 {
-    match update_and_find(state, boxes, publisher, number) {
+    match catch_up_and_find(state, boxes, publisher, number) {
         Ok(found) => match found {
             Some(ready) => send_ready(state, boxes, ready.place, ready.slot),
             None => {
@@ -140,12 +142,12 @@ fn send_unready<T: Drop, U: Default + Drop, F: BackpressureFn, G: DegradationFn>
     ensures sends { SendsLoan (answers_of F.allows G.allows (boxes.now).boxes) state.old state.new number (end_result result) }
     ensures kept { HoldsPublisher (state_of (kept_of state.old)) publisher → IsNotLost result }
 {
-    update_and_send(state, boxes, publisher, number)
+    catch_up_and_send(state, boxes, publisher, number)
 }
 
-/// Sends a publisher's written loan, and returns what `outcome` makes of how that ended. If the
-/// publisher is due, its connections are updated first; if that fails, the loan is given back, and
-/// no message was sent. Of a publisher that is gone the loan is lost. The loan is out no more
+/// Sends a publisher's written loan, and returns what `outcome` makes of how that ended. What the
+/// publisher is due for is done first: older slots that nobody holds are cleared, and its connections
+/// updated. If the update fails, the loan is given back, and no message was sent. Of a publisher that is gone the loan is lost. The loan is out no more
 /// afterwards, unless the send is blocked. A publisher that has a box for a handler asks the one that
 /// it has among these boxes.
 ///

@@ -9,7 +9,6 @@ use Rattle.iox2_machine.specs.declared.degradation.DegradationInfo.{DegradationI
 use Rattle.iox2_machine.specs.declared.errors.ConnectionFailure.{ConnectionFailure}
 use Rattle.iox2_machine.specs.declared.errors.ReceiveError.{ReceiveError}
 use Rattle.iox2_domain.specs.Boxes.{DomainBoxes, answers_of}
-use Rattle.iox2_domain.specs.Connects.{UpdatesPublisher}
 use Rattle.iox2_domain.specs.Fields.{Fields, keeping}
 use Rattle.iox2_domain.specs.Kept.{Kept}
 use Rattle.iox2_domain.specs.Ports.{PublisherFields, SubscriberFields}
@@ -17,6 +16,7 @@ use Rattle.iox2_domain.specs.Questions.{AnswersAs}
 use Rattle.iox2_domain.specs.Receipts.{ReceivesAs}
 use Rattle.iox2_domain.specs.ReceiverSteps.{UpdatesReceiver}
 use Rattle.iox2_domain.specs.declared.sample_slots.Receipt.{Receipt}
+use Rattle.iox2_messages.specs.CatchingUp.{CatchesUp}
 
 module _ {T U F G : Type 0} (allows : F → BackpressureInfo → BackpressureAction → Type 0) (degrades : G → DegradationCause → DegradationInfo → DegradationAction → Type 0)
     {boxes : DomainBoxes F G} (f g : Fields T U) (kept : Kept T U F G) (view : keeping boxes f ≡ kept) (place : ℕ) where
@@ -34,10 +34,10 @@ module _ {T U F G : Type 0} (allows : F → BackpressureInfo → BackpressureAct
   abbrev pub subscribers_answer : Environment
   subscribers_answer = answers_of allows degrades (kept.boxes).subscribers
 
-  pub publisher-updated : (failure : Option ConnectionFailure) → ((x : PublisherFields) → get_or f.publishers place None ≡ Some x → UpdatesPublisher had f place x g failure)
-      → (x : PublisherFields) → get_or f.publishers place None ≡ Some x → UpdatesPublisher publishers_answer f place x g failure
-  publisher-updated failure updates x at =
-      subst (λ all. UpdatesPublisher (answers_of allows degrades all) f place x g failure) (ap (λ (k : Kept T U F G). (k.boxes).publishers) view) (updates x at)
+  pub publisher-caught-up : (failure : Option ConnectionFailure) → ((x : PublisherFields) → get_or f.publishers place None ≡ Some x → CatchesUp had f place x g failure)
+      → (x : PublisherFields) → get_or f.publishers place None ≡ Some x → CatchesUp publishers_answer f place x g failure
+  publisher-caught-up failure updates x at =
+      subst (λ all. CatchesUp (answers_of allows degrades all) f place x g failure) (ap (λ (k : Kept T U F G). (k.boxes).publishers) view) (updates x at)
 
   pub subscriber-updated : (failure : Option ConnectionFailure) → ((y : SubscriberFields) → get_or f.subscribers place None ≡ Some y → UpdatesReceiver subscribers_had f place y g failure)
       → (y : SubscriberFields) → get_or f.subscribers place None ≡ Some y → UpdatesReceiver subscribers_answer f place y g failure

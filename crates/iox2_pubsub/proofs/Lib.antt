@@ -85,3 +85,4 @@ mod WaitingSends
 pub mod BoxesAlike
 pub mod ReceiversAhead
 pub mod KeptAnswers
+mod WaitedFor

@@ -1,7 +1,9 @@
 -- How far a blocked send still has to go, and what there is when it has ended.
 use Rattle.std.specs.Prelude.{ℕ, length, ◌≡◌, IfErr, IfOk, IsOk}
-use Rattle.std.specs.Option.{option_map_or}
+use Rattle.std.specs.Option.{option_and_then, option_map_or}
+use Rattle.std.specs.declared.option.Option.{Option}
 use Rattle.std.specs.declared.result.Result.{Result}
+use Rattle.iox2_machine.specs.machine.Places.{occupant}
 use Rattle.iox2_machine.specs.machine.Records.{Publisher as MachinePublisher, BlockedSend as MachineBlocked}
 use Rattle.iox2_machine.specs.machine.State.{State}
 use Rattle.iox2_machine.specs.declared.errors.SendError.{SendError}
@@ -21,6 +23,10 @@ module _ {T U : Type 0} where
   -- if no send of it is blocked.
   abbrev pub places_ahead : State T U → (p : ℕ) → ℕ
   places_ahead s p = option_map_or (λ (x : MachinePublisher). option_map_or (λ (b : MachineBlocked). length b.ends) x.blocked 0) (s.publishers p) 0
+
+  -- The subscriber that the blocked send of the publisher p waits for; none if no send of it is blocked.
+  abbrev pub waits_for : State T U → (p : ℕ) → Option ℕ
+  waits_for s p = option_and_then (λ (x : MachinePublisher). option_and_then (λ (b : MachineBlocked). occupant x.ends b.place) x.blocked) (s.publishers p)
 
 module _ {T U F G : Type 0} where
   -- At how many places the blocked send may meet a receiver yet, the one that it waits for among them; at none if it

@@ -4,9 +4,11 @@ ghost use Rattle.iox2_pubsub.specs.Live.{blocked_key};
 
 mod retry;
 
+use crate::domain::Domain;
 use crate::keys::loan_key;
 use iox2_domain::LoanAt;
-use iox2_machine::Key;
+use iox2_machine::{BackpressureFn, DegradationFn, Key, UniqueSubscriberId};
+use iox2_messages::blocking_subscriber;
 
 /// A send that waits for a subscriber whose buffer is full. Must be consumed by `retry` or
 /// `give_up`; until then its publisher lends, sends and updates nothing and can't be closed.
@@ -55,5 +57,33 @@ impl BlockedSend {
     /// told, and keeps the send.
     pub fn disown(self) {
         self.into_parts();
+    }
+}
+
+impl BlockedSend {
+    ghost use Rattle.std.specs.Prelude.{Some};
+    ghost use Rattle.iox2_machine.specs.machine.State.{State, Messages};
+    ghost use Rattle.iox2_domain.specs.Shows.{Shows};
+    ghost use Rattle.iox2_pubsub.specs.BlockedSends.{waits_for};
+    ghost use Rattle.iox2_pubsub.specs.Handles.{blocked_sender};
+    ghost use Rattle.iox2_pubsub.specs.Live.{IsBlockedSend};
+
+    /// Names the subscriber whose full buffer the send waits for: the one that `retry` tries again, and that
+    /// `give_up` passes over. So a program can say who holds a publisher up, or give up one subscriber and
+    /// wait for another. If that subscriber was closed meanwhile, this still names it, and a retry goes
+    /// past it. Nothing changes, and no memory is taken.
+    ///
+    /// This library's own: iceoryx2's `SampleMut::send` waits by itself, and names nobody.
+    pub fn subscriber<T: Drop, U: Default + Drop, F: BackpressureFn, G: DegradationFn>(
+        &self,
+        domain: &Domain<T, U, F, G>,
+    ) -> UniqueSubscriberId
+        requires live { IsBlockedSend domain.now self.now }
+        ensures { (m : Messages T U) (s : State T U) → Shows domain.now m s → waits_for s (blocked_sender self.now) ≡ Some result }
+    {
+        let place = domain
+            .state
+            .find_live_publisher(self.loan.publisher, self.loan.place);
+        blocking_subscriber(&domain.state, place)
     }
 }

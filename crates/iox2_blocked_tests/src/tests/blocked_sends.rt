@@ -1,9 +1,10 @@
 //! Sends that wait for a full subscriber are tried again and given up.
 use crate::tests::waiting_publishers::{
-    blocked, blocked_ports, deliver, delivered, delivered_at_last, given_up, has_blocked_send,
-    message_of, next_reading, subscriber_of, waiting_domain, waiting_ports, waiting_publisher,
+    assert_blocked, block, blocked, blocked_again, blocked_ports, deliver, delivered,
+    delivered_at_last, given_up, has_blocked_send, message_of, next_reading, subscriber_of,
+    waiting_domain, waiting_ports, waiting_publisher,
 };
-use iox2_fixtures::{Reading, Weather, elsewhere};
+use iox2_fixtures::{Reading, Weather, close_subscriber, elsewhere};
 use iox2_machine::{BackpressureStrategy, Key};
 use iox2_pubsub::{BlockedSend, LoanParts, Publisher};
 use std::process::Abort;
@@ -86,6 +87,41 @@ fn a_blocked_send_is_held_until_it_has_ended(rt: HostRuntime) {
     assert!(rt; count == 0);
     assert!(rt; before == [true, false, false, false]);
     assert!(rt; !after);
+}
+
+// The id of the subscriber that a blocked send waits for.
+fn blocker(rt: &impl Abort, domain: &Weather, waiting: &BlockedSend) -> u128 {
+    assert_blocked(rt, domain, waiting);
+    waiting.subscriber(domain).value()
+}
+
+// Of three subscribers the first has room. The send waits for the second, also once that is closed, and
+// then for the third.
+#[test]
+fn a_blocked_send_names_the_subscriber_that_it_waits_for(rt: HostRuntime) {
+    let mut domain = waiting_domain(&rt, rt.alloc());
+    let first = subscriber_of(&rt, &mut domain, 2);
+    let second = subscriber_of(&rt, &mut domain, 1);
+    let third = subscriber_of(&rt, &mut domain, 1);
+    let publisher = waiting_publisher(&rt, &mut domain);
+    let [second_id, third_id] = [second.id().value(), third.id().value()];
+    let all = deliver(&rt, &mut domain, &publisher, 20);
+    let waiting = block(&rt, &mut domain, &publisher, 21);
+    let before = blocker(&rt, &domain, &waiting);
+    let waiting = blocked_again(&rt, &mut domain, waiting);
+    let again = blocker(&rt, &domain, &waiting);
+    assert!(rt; close_subscriber(&mut domain, second));
+    let closed = blocker(&rt, &domain, &waiting);
+    let waiting = blocked_again(&rt, &mut domain, waiting);
+    let last = blocker(&rt, &domain, &waiting);
+    let count = given_up(&rt, &mut domain, waiting);
+    first.disown();
+    third.disown();
+    publisher.disown();
+    drop(domain);
+    assert!(rt; [all, count] == [3, 1]);
+    assert!(rt; [before, again, closed] == [second_id, second_id, second_id]);
+    assert!(rt; last == third_id);
 }
 
 // Whether a send with the numbers waits.

@@ -88,7 +88,7 @@ pub(crate) fn is_lent_at_hint<T: Drop, U: Default + Drop>(
     }
 }
 
-/// Whether the publisher at the place may send at once: it is due for no update, has no handler for
+/// Whether the publisher at the place may send at once: it is due for nothing, has no handler for
 /// full buffers, and no send of it waits. It returns at each test that fails, as `is_ready` does.
 pub(crate) fn sends_at_once<T, U>(state: &DomainState<T, U>, place: usize) -> bool
     ensures { IsTrue result → (x : PublisherFields) → slice_index_or state.now.publishers place None ≡ Some x
@@ -100,7 +100,7 @@ pub(crate) fn sends_at_once<T, U>(state: &DomainState<T, U>, place: usize) -> bo
     if publisher.blocked.is_some() {
         return false;
     }
-    if publisher.is_due {
+    if !publisher.due.is_nothing() {
         return false;
     }
     if publisher.backpressure_handler.is_some() {

@@ -4,9 +4,10 @@ use crate::domain::Domain;
 use crate::publisher::Publisher;
 use crate::update_connections::{UpdateConnections, outcome_of};
 use iox2_machine::{BackpressureFn, ConnectionFailure, DegradationFn};
-use iox2_updates::update_publisher;
+use iox2_messages::catch_up;
 
-/// A publisher gets its connections with new subscribers, which a send does too.
+/// A publisher gets its connections with new subscribers, which a send does too. If its memory grew, it
+/// drops what lies in older slots that nobody holds any more.
 ///
 /// iceoryx2's `UpdateConnections` of `Publisher` (`src/port/publisher.rs`).
 impl<T: Drop, U: Default + Drop, F: BackpressureFn, G: DegradationFn> UpdateConnections<T, U, F, G>
@@ -30,6 +31,6 @@ impl<T: Drop, U: Default + Drop, F: BackpressureFn, G: DegradationFn> UpdateConn
     ghost adds = { λ domain. (domain.config).history_size };
 
     fn update_connections(&self, domain: &mut Domain<T, U, F, G>) -> Result<(), ConnectionFailure> {
-        outcome_of(update_publisher(&mut domain.state, &domain.boxes, self.place))
+        outcome_of(catch_up(&mut domain.state, &domain.boxes, self.place))
     }
 }

@@ -1,4 +1,4 @@
-use Rattle.std.proofs.Common.{◌<◌, arith}
+use Rattle.std.proofs.Common.{arith}
 use Rattle.iox2_messages.proofs.OlderSlots.{cleared-next, cleared-passed, given_up-all}
 use Rattle.iox2_messages.proofs.older_slots.clear_before.Goals as goal
 use Rattle.iox2_messages.proofs.older_slots.clear_before.Goals.{then-slot-start, else-slot-start}

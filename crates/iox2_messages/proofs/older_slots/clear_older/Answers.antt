@@ -1,4 +1,4 @@
-use Rattle.std.proofs.Common.{rules, ◌≡◌, ◌<◌, vec_len, length, slice_index_or, None, Some, refl, sym, subst, ap, ◌∙◌, arith}
+use Rattle.std.proofs.Common.{rules, ◌≡◌, vec_len, length, slice_index_or, None, Some, refl, sym, subst, ap, ◌∙◌, arith}
 use Rattle.iox2_domain.specs.Fields.{Fields}
 use Rattle.iox2_domain.specs.Invariant.{IsDomain}
 use Rattle.iox2_domain.proofs.lemmas.slots.PublisherBooks.{read-there, book-there}
@@ -24,5 +24,6 @@ clear_before-cleared-requires g c = λ k d lt.
 
 pub returns : goal.returns
 returns g c = λ x at.
-    gave-up {T = g.row.T.Denot} {U = g.row.U.Denot} _ _ c.state.view_is c.requires.agrees c.args.place _ (read-there _ c.args.place _ _ (ap (λ (f : Fields g.row.T.Denot g.row.U.Denot). slice_index_or f.publishers c.args.place None) c.state.view_is ∙ c.requires.stands.1) c.index_mut.ensures.value ∙ c.in-Some.is ∙ ap Some (sym c.publisher.view_is)) _ refl x at _ _ _ _ c.index-book.ensures _ c.index_mut-2.ensures.value c.in-Some-index_mut.is
-    c.freed_since-freed.ensures.free c.clear_before-cleared.ensures.clears c.clear_before-cleared.ensures.given_up
+    rw c.mark_older.ensures
+    (gave-up {T = g.row.T.Denot} {U = g.row.U.Denot} _ _ c.state.view_is c.requires.agrees c.args.place _ (read-there _ c.args.place _ _ (ap (λ (f : Fields g.row.T.Denot g.row.U.Denot). slice_index_or f.publishers c.args.place None) c.state.view_is ∙ c.requires.stands.1) c.index_mut.ensures.value ∙ c.in-Some.is ∙ ap Some (sym c.publisher.view_is)) _ refl x at _ _ _ _ c.index-book.ensures _ c.index_mut-2.ensures.value c.in-Some-index_mut.is
+    c.freed_since-freed.ensures.free c.clear_before-cleared.ensures.clears c.clear_before-cleared.ensures.given_up)
