@@ -1,3 +1,4 @@
+// SPDX-License-Identifier: Apache-2.0 OR MIT
 /* Passes messages of 8 bytes from a publisher to a subscriber by the calls for C: as many as the one argument says. Its
    status is 0 where each arrives. */
 #include "iox2_pubsub.h"

@@ -1,3 +1,4 @@
+// SPDX-License-Identifier: Apache-2.0 OR MIT
 /* Makes one call from C in a state in which it has much to do, and prints how many bytes of stack it took.
  *   call_limits                          names the calls
  *   call_limits CALL PORTS DEPTH         makes the call with so many ports of the other side; DEPTH messages wait in each buffer, or

@@ -1,3 +1,4 @@
+// SPDX-License-Identifier: Apache-2.0 OR MIT
 /* Makes the calls of iox2_c that take no memory, in as many rounds as its argument says, and then closes its ports, or with -1 does
  * neither; for tools/memory_of_messages, which counts the allocations. A call with another result than it must have ends the
  * program. */

@@ -1,3 +1,4 @@
+// SPDX-License-Identifier: Apache-2.0 OR MIT
 // Makes, connects, updates and closes the ports of a domain, by the library `message_cost`: fails unless all of them are closed.
 #include <stdbool.h>
 #include <stddef.h>

@@ -1,3 +1,4 @@
+# SPDX-License-Identifier: Apache-2.0 OR MIT
 """What stands in a file of an edit: lines 'file:', 'old:' and 'new:', and whom it is for ('proof: CRATE', 'tests: CRATE')."""
 
 

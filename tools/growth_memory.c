@@ -1,3 +1,4 @@
+// SPDX-License-Identifier: Apache-2.0 OR MIT
 /* Has the memory of a publisher of slices of 8-byte elements grow, and prints how many bytes the archive has then.
  *
  *   growth_memory STRATEGY SLOTS GROWTHS LONGEST held|loan|send|update [KEPT..]

@@ -1,3 +1,4 @@
+// SPDX-License-Identifier: Apache-2.0 OR MIT
 // Passes messages of 8 bytes through a domain by handles, by the library `handle_cost`: fails unless all of them arrive.
 #include <inttypes.h>
 #include <stddef.h>

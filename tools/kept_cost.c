@@ -1,3 +1,4 @@
+// SPDX-License-Identifier: Apache-2.0 OR MIT
 // Passes messages through a domain that keeps many loans and samples, by the library `kept_cost`: fails unless as many samples are
 // released as there are messages.
 #include <inttypes.h>

@@ -1,3 +1,4 @@
+// SPDX-License-Identifier: Apache-2.0 OR MIT
 /* Passes messages from a publisher to a subscriber by the calls for C: as many as the first argument says, each of as many
    bytes as the second says, which are lent by the call that the third names. Beside each it fills and copies as many bytes
    without a domain. Its status is 0 where each arrives. */

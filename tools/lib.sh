@@ -1,3 +1,4 @@
+# SPDX-License-Identifier: Apache-2.0 OR MIT
 # shellcheck shell=bash
 # What the shell tools share. A tool sources it first:
 #
@@ -16,6 +17,8 @@ quietly() { quietly_or 1 "$@"; }
 # Makes the static library or the program of the crate $1, of what the gate proved or anew. Where it can't, the tool ends with the
 # status $2, or 1.
 proved() { quietly_or "${2:-1}" "$top/tools/proved" "$1"; }
+# The same, for a tool whose user waits: it says meanwhile what is done.
+proved_aloud() { "$top/tools/proved" "$1" >&2 || exit "${2:-1}"; }
 
 passed=0 failed=0
 # Counts whether the arithmetic expression $1 holds.

@@ -1,3 +1,4 @@
+// SPDX-License-Identifier: Apache-2.0 OR MIT
 // Passes messages through a domain, by the library `message_cost`: fails unless all of them arrive.
 #include <inttypes.h>
 #include <stddef.h>

@@ -1,3 +1,4 @@
+// SPDX-License-Identifier: Apache-2.0 OR MIT
 /* Refuses the allocation with the number in REFUSED, counted from 1, of a program that it is preloaded to. Where COUNTED names a
    file, the number of allocations that were asked for is written there as the program ends. */
 #define _GNU_SOURCE

@@ -1,3 +1,4 @@
+// SPDX-License-Identifier: Apache-2.0 OR MIT
 // Passes slices through a domain, by the library `slice_cost`: fails unless all of them arrive.
 #include <inttypes.h>
 #include <stddef.h>

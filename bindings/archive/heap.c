@@ -1,3 +1,4 @@
+// SPDX-License-Identifier: Apache-2.0 OR MIT
 /* The heap of an archive whose processor the kit has none for: three functions that the proved code calls, over those of the C library.
  *
  * The kit's compiler, which brings no headers, compiles this file, so that the archive's bytes are made by the kit alone. */

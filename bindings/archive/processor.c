@@ -1,3 +1,4 @@
+// SPDX-License-Identifier: Apache-2.0 OR MIT
 /* Ends a program on an older processor than the archive is compiled for with a line that says so, before any call of the library would
  * end it by an illegal instruction. It is one object with the heap, which each program takes that calls the library.
  *

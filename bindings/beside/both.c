@@ -1,3 +1,4 @@
+// SPDX-License-Identifier: Apache-2.0 OR MIT
 /* One program that uses this library, the stand-in for iceoryx2, and iceoryx's C binding where that is there. */
 #include "iceoryx2.h"
 #include "iox2_pubsub.h"

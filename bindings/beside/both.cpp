@@ -1,3 +1,4 @@
+// SPDX-License-Identifier: Apache-2.0 OR MIT
 // One program that uses the classes of this library, those of the stand-in for iceoryx2, and iceoryx's C binding where
 // that is there.
 #include "iceoryx2.h"

@@ -1,3 +1,4 @@
+// SPDX-License-Identifier: Apache-2.0 OR MIT
 /* The stand-in's functions: each says that it was called. */
 #include "iceoryx2.h"
 

@@ -1,3 +1,4 @@
+// SPDX-License-Identifier: Apache-2.0 OR MIT
 /* A stand-in for iceoryx2's own C binding: the six of its functions that this library has too, by the same
  * names except for the prefix, and some types. What each takes is simplified; only that the names are there,
  * beside those of iox2_pubsub.h, matters to the programs in this folder. */

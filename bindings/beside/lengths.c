@@ -1,3 +1,4 @@
+// SPDX-License-Identifier: Apache-2.0 OR MIT
 /* The program of lengths.h, around the library that it is linked with. */
 #define _POSIX_C_SOURCE 200809L
 #include "lengths.h"

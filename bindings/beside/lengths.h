@@ -1,3 +1,4 @@
+// SPDX-License-Identifier: Apache-2.0 OR MIT
 /* Messages by their length, through one library: each is lent, one word of it written, sent, received, read and released.
  *   PROGRAM LEN count        passes some hundred messages, the last ones by `counted`
  *   PROGRAM LEN time         prints how many nanoseconds a message took, of many

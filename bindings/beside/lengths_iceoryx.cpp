@@ -1,3 +1,4 @@
+// SPDX-License-Identifier: Apache-2.0 OR MIT
 /* lengths.h by iceoryx 2.0.3 and its C binding, with its broker RouDi in the same process. */
 #include "lengths.h"
 

@@ -1,3 +1,4 @@
+// SPDX-License-Identifier: Apache-2.0 OR MIT
 /* lengths.h by this library: a loan whose bytes nobody chose. */
 #include "iox2_pubsub.h"
 #include "lengths.h"

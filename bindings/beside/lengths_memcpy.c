@@ -1,3 +1,4 @@
+// SPDX-License-Identifier: Apache-2.0 OR MIT
 /* lengths.h by one `memcpy` of the message from a place to another one, which is the least that a copy takes. */
 #include "lengths.h"
 #include <stdlib.h>

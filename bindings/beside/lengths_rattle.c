@@ -1,3 +1,4 @@
+// SPDX-License-Identifier: Apache-2.0 OR MIT
 /* Messages of 8 bytes by this library in Rattle, as single values: what crates/message_cost passes.
  *   PROGRAM MESSAGES         passes so many
  *   PROGRAM MESSAGES time    prints how many nanoseconds each took */

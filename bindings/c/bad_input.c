@@ -1,3 +1,4 @@
+// SPDX-License-Identifier: Apache-2.0 OR MIT
 /* What a caller may get wrong: numbers that are copied, used twice, kept too long, made up or of another
  * domain; no domain, or a destroyed one; lengths and settings at their limits. Each call has to return its code
  * and to leave what its pointers point to; nothing may be lost or leak. It compiles as C and as C++. */
@@ -13,7 +14,10 @@ typedef struct outs_t {
   iox2ps_sample_t sample;
   iox2ps_header_t header;
   iox2ps_config_t config;
+  iox2ps_publisher_options_t publisher_options;
+  iox2ps_subscriber_options_t subscriber_options;
   iox2ps_warning_t warning;
+  iox2ps_wide_t id;
   void *written;
   const void *read;
   size_t count, len;
@@ -79,6 +83,7 @@ static void loan_is_refused(iox2ps_domain_t *domain, const iox2ps_loan_t *loan, 
 }
 
 static void blocked_is_refused(iox2ps_domain_t *domain, const iox2ps_blocked_t *blocked, iox2ps_status_t code) {
+  REFUSED(iox2ps_blocked_subscriber(domain, blocked, &outs.id), code);
   REFUSED(iox2ps_blocked_retry(domain, blocked, 1, &outs.count), code);
   REFUSED(iox2ps_blocked_give_up(domain, blocked, &outs.count), code);
 }
@@ -474,50 +479,153 @@ static void lengths_are_at_their_limits(void) {
 
 /* ---- settings */
 
-static void settings_have_none_of_their_values(void) {
-  iox2ps_domain_t domain = IOX2PS_DOMAIN_INIT;
-  iox2ps_config_t config, wrong;
-  const size_t no_alignments[] = {0, 3, 5, 15, 17, 32, SIZE_MAX};
-  iox2ps_config_defaults(&config, 1, 16, 16);
-  for (int i = 0; i < 7; i++) {
-    wrong = config;
-    wrong.payload_alignment = no_alignments[i];
-    REFUSED(iox2ps_domain_create(&domain, &wrong), IOX2PS_INVALID_SETTINGS);
-  }
-  wrong = config;
-  wrong.payload_size = 17;
-  REFUSED(iox2ps_domain_create(&domain, &wrong), IOX2PS_INVALID_SETTINGS);
-  wrong = config;
-  wrong.backpressure_strategy = 2;
-  REFUSED(iox2ps_domain_create(&domain, &wrong), IOX2PS_INVALID_SETTINGS);
-  CHECK(domain.domain_ == NULL);
+/* Settings of which some have none of their values, and the code that says which one is the first. */
+typedef struct wrong_t {
+  size_t size, length, alignment;
+  uint32_t strategy, handler, degradation, allocation, reserved;
+  iox2ps_status_t code;
+} wrong_t;
 
-  iox2ps_publisher_options_t publisher_options, other;
-  iox2ps_subscriber_options_t subscriber_options;
+/* Each wrong value by itself, and then two or more wrong ones, of which the first in the order of the fields counts. */
+static void settings_have_none_of_their_values(void) {
+  const size_t known = sizeof(iox2ps_config_t);
+  const wrong_t all[] = {
+      {0, 16, 16, 0, 0, 0, 0, 0, IOX2PS_INVALID_STRUCT_SIZE},
+      {known - 8, 16, 16, 0, 0, 0, 0, 0, IOX2PS_INVALID_STRUCT_SIZE},
+      {known + 8, 16, 16, 0, 0, 0, 0, 0, IOX2PS_INVALID_STRUCT_SIZE},
+      {known, 17, 16, 0, 0, 0, 0, 0, IOX2PS_INVALID_PAYLOAD_SIZE},
+      {known, 24, 16, 0, 0, 0, 0, 0, IOX2PS_INVALID_PAYLOAD_SIZE},
+      {known, SIZE_MAX, 2, 0, 0, 0, 0, 0, IOX2PS_INVALID_PAYLOAD_SIZE},
+      {known, 16, 0, 0, 0, 0, 0, 0, IOX2PS_INVALID_PAYLOAD_ALIGNMENT},
+      {known, 15, 3, 0, 0, 0, 0, 0, IOX2PS_INVALID_PAYLOAD_ALIGNMENT},
+      {known, 16, 5, 0, 0, 0, 0, 0, IOX2PS_INVALID_PAYLOAD_ALIGNMENT},
+      {known, 16, 17, 0, 0, 0, 0, 0, IOX2PS_INVALID_PAYLOAD_ALIGNMENT},
+      {known, 32, 32, 0, 0, 0, 0, 0, IOX2PS_INVALID_PAYLOAD_ALIGNMENT},
+      {known, 0, SIZE_MAX, 0, 0, 0, 0, 0, IOX2PS_INVALID_PAYLOAD_ALIGNMENT},
+      {known, 16, 16, 2, 0, 0, 0, 0, IOX2PS_INVALID_BACKPRESSURE_STRATEGY},
+      {known, 16, 16, UINT32_MAX, 0, 0, 0, 0, IOX2PS_INVALID_BACKPRESSURE_STRATEGY},
+      {1, 3, 3, 2, 0, 0, 0, 0, IOX2PS_INVALID_STRUCT_SIZE},
+      {known, 3, 9, 2, 0, 0, 0, 0, IOX2PS_INVALID_PAYLOAD_ALIGNMENT},
+      {known, 3, 2, 2, 0, 0, 0, 0, IOX2PS_INVALID_PAYLOAD_SIZE},
+  };
+  for (size_t i = 0; i < sizeof all / sizeof all[0]; i++) {
+    iox2ps_domain_t domain = IOX2PS_DOMAIN_INIT;
+    iox2ps_config_t config;
+    iox2ps_config_defaults(&config, 1, all[i].length, all[i].alignment);
+    config.struct_size = all[i].size;
+    config.backpressure_strategy = all[i].strategy;
+    REFUSED(iox2ps_domain_create(&domain, &config), all[i].code);
+    REFUSED(iox2ps_domain_create_recorded(&domain, &config, 1, 1), all[i].code);
+    REFUSED(iox2ps_worst_case_slots(&config, 2, &outs.count), all[i].code);
+    config.max_subscribers = SIZE_MAX;
+    REFUSED(iox2ps_worst_case_slots(&config, 2, &outs.count), all[i].code);
+    CHECK(domain.domain_ == NULL);
+  }
+  iox2ps_config_t config;
+  iox2ps_config_defaults(&config, 1, 16, 16);
+  config.max_subscribers = SIZE_MAX;
+  REFUSED(iox2ps_worst_case_slots(&config, 2, &outs.count), IOX2PS_WORST_CASE_TOO_LARGE);
+  config.max_subscribers = 1;
+  REFUSED(iox2ps_worst_case_slots(&config, SIZE_MAX, &outs.count), IOX2PS_WORST_CASE_TOO_LARGE);
+}
+
+static void options_have_none_of_their_values(void) {
+  const size_t known = sizeof(iox2ps_publisher_options_t), known_too = sizeof(iox2ps_subscriber_options_t);
+  const wrong_t of_publishers[] = {
+      {0, 16, 0, 0, 0, 0, 0, 0, IOX2PS_INVALID_STRUCT_SIZE},
+      {known + 8, 16, 0, 0, 0, 0, 0, 0, IOX2PS_INVALID_STRUCT_SIZE},
+      {known, 8, 0, 0, 0, 0, 0, 0, IOX2PS_INVALID_INITIAL_MAX_SLICE_LEN},
+      {known, 17, 0, 0, 0, 0, 0, 0, IOX2PS_INVALID_INITIAL_MAX_SLICE_LEN},
+      {known, 0, 0, 0, 0, 0, 1, 0, IOX2PS_INVALID_INITIAL_MAX_SLICE_LEN},
+      {known, 0, 0, 0, 0, 0, 2, 0, IOX2PS_INVALID_INITIAL_MAX_SLICE_LEN},
+      {known, 16, 0, 2, 0, 0, 0, 0, IOX2PS_INVALID_BACKPRESSURE_STRATEGY},
+      {known, 16, 0, UINT32_MAX, 0, 0, 0, 0, IOX2PS_INVALID_BACKPRESSURE_STRATEGY},
+      {known, 16, 0, 0, 5, 0, 0, 0, IOX2PS_INVALID_BACKPRESSURE_HANDLER},
+      {known, 16, 0, 0, UINT32_MAX, 0, 0, 0, IOX2PS_INVALID_BACKPRESSURE_HANDLER},
+      {known, 16, 0, 0, 0, 3, 0, 0, IOX2PS_INVALID_DEGRADATION},
+      {known, 16, 0, 0, 0, UINT32_MAX, 0, 0, IOX2PS_INVALID_DEGRADATION},
+      {known, 16, 0, 0, 0, 0, 3, 0, IOX2PS_INVALID_ALLOCATION_STRATEGY},
+      {known, 0, 0, 0, 0, 0, UINT32_MAX, 0, IOX2PS_INVALID_ALLOCATION_STRATEGY},
+      {8, 8, 0, 2, 5, 3, 3, 0, IOX2PS_INVALID_STRUCT_SIZE},
+      {known, 8, 0, 2, 5, 3, 3, 0, IOX2PS_INVALID_INITIAL_MAX_SLICE_LEN},
+      {known, 16, 0, 2, 5, 3, 3, 0, IOX2PS_INVALID_BACKPRESSURE_STRATEGY},
+      {known, 16, 0, 0, 5, 3, 3, 0, IOX2PS_INVALID_BACKPRESSURE_HANDLER},
+      {known, 16, 0, 0, 0, 3, 3, 0, IOX2PS_INVALID_DEGRADATION},
+  };
+  const wrong_t of_subscribers[] = {
+      {known_too - 8, 0, 0, 0, 0, 0, 0, 0, IOX2PS_INVALID_STRUCT_SIZE},
+      {SIZE_MAX, 0, 0, 0, 0, 0, 0, 0, IOX2PS_INVALID_STRUCT_SIZE},
+      {known_too, 0, 0, 0, 0, 3, 0, 0, IOX2PS_INVALID_DEGRADATION},
+      {known_too, 0, 0, 0, 0, UINT32_MAX, 0, 0, IOX2PS_INVALID_DEGRADATION},
+      {known_too, 0, 0, 0, 0, 0, 0, 1, IOX2PS_INVALID_RESERVED},
+      {known_too, 0, 0, 0, 0, 0, 0, UINT32_MAX, IOX2PS_INVALID_RESERVED},
+      {0, 0, 0, 0, 0, 3, 0, 1, IOX2PS_INVALID_STRUCT_SIZE},
+      {known_too, 0, 0, 0, 0, 3, 0, 1, IOX2PS_INVALID_DEGRADATION},
+  };
+  iox2ps_domain_t domain = IOX2PS_DOMAIN_INIT;
+  iox2ps_config_t config;
+  iox2ps_config_defaults(&config, 1, 16, 16);
   IS(iox2ps_domain_create(&domain, &config), IOX2PS_OK);
+  for (size_t i = 0; i < sizeof of_publishers / sizeof of_publishers[0]; i++) {
+    iox2ps_publisher_options_t options;
+    iox2ps_publisher_options_of(&config, &options);
+    options.struct_size = of_publishers[i].size;
+    options.initial_max_slice_len = of_publishers[i].length;
+    options.backpressure_strategy = of_publishers[i].strategy;
+    options.backpressure_handler = of_publishers[i].handler;
+    options.degradation = of_publishers[i].degradation;
+    options.allocation_strategy = of_publishers[i].allocation;
+    REFUSED(iox2ps_publisher_create_with(&domain, &options, &outs.publisher), of_publishers[i].code);
+  }
+  for (size_t i = 0; i < sizeof of_subscribers / sizeof of_subscribers[0]; i++) {
+    iox2ps_subscriber_options_t options;
+    iox2ps_subscriber_options_of(&config, &options);
+    options.struct_size = of_subscribers[i].size;
+    options.degradation = of_subscribers[i].degradation;
+    options.reserved_ = of_subscribers[i].reserved;
+    REFUSED(iox2ps_subscriber_create_with(&domain, &options, &outs.subscriber), of_subscribers[i].code);
+  }
+  IS(iox2ps_domain_destroy(&domain), IOX2PS_OK);
+}
+
+/* A program that was compiled with another header's structs: of a size that the archive doesn't know nothing is written but
+ * struct_size, and what was filled so is refused. */
+static void structs_have_other_sizes(void) {
+  const size_t others[] = {0, 8, 120, 136, SIZE_MAX};
+  iox2ps_domain_t domain = IOX2PS_DOMAIN_INIT;
+  iox2ps_config_t config, other;
+  iox2ps_publisher_options_t publisher_options;
+  iox2ps_subscriber_options_t subscriber_options;
+  iox2ps_config_defaults(&config, 1, 16, 16);
+  CHECK(config.struct_size == sizeof config);
+  IS(iox2ps_domain_create(&domain, &config), IOX2PS_OK);
+  fill();
+  IS(iox2ps_domain_config(&domain, &outs.config), IOX2PS_OK);
+  CHECK(outs.config.struct_size == sizeof config && memcmp(&outs.config, &config, sizeof config) == 0);
   iox2ps_publisher_options_of(&config, &publisher_options);
   iox2ps_subscriber_options_of(&config, &subscriber_options);
-  other = publisher_options;
-  other.backpressure_strategy = UINT32_MAX;
-  REFUSED(iox2ps_publisher_create_with(&domain, &other, &outs.publisher), IOX2PS_INVALID_SETTINGS);
-  other = publisher_options;
-  other.backpressure_handler = 5;
-  REFUSED(iox2ps_publisher_create_with(&domain, &other, &outs.publisher), IOX2PS_INVALID_SETTINGS);
-  other = publisher_options;
-  other.degradation = 3;
-  REFUSED(iox2ps_publisher_create_with(&domain, &other, &outs.publisher), IOX2PS_INVALID_SETTINGS);
-  other = publisher_options;
-  other.initial_max_slice_len = 8;
-  REFUSED(iox2ps_publisher_create_with(&domain, &other, &outs.publisher), IOX2PS_INVALID_SETTINGS);
-  other = publisher_options;
-  other.allocation_strategy = 3;
-  REFUSED(iox2ps_publisher_create_with(&domain, &other, &outs.publisher), IOX2PS_INVALID_SETTINGS);
-  other.allocation_strategy = IOX2PS_ALLOCATION_BEST_FIT;
-  other.initial_max_slice_len = 0;
-  REFUSED(iox2ps_publisher_create_with(&domain, &other, &outs.publisher), IOX2PS_INVALID_SETTINGS);
-  subscriber_options.degradation = 3;
-  REFUSED(iox2ps_subscriber_create_with(&domain, &subscriber_options, &outs.subscriber), IOX2PS_INVALID_SETTINGS);
+  CHECK(publisher_options.struct_size == sizeof publisher_options && subscriber_options.struct_size == sizeof subscriber_options);
+  for (size_t i = 0; i < sizeof others / sizeof others[0]; i++) {
+    REFUSED(iox2ps_domain_config_sized(&domain, &outs.config, others[i]), IOX2PS_INVALID_STRUCT_SIZE);
+    fill();
+    iox2ps_config_defaults_sized(&outs.config, others[i], 1, 16, 16);
+    iox2ps_publisher_options_of_sized(&config, &outs.publisher_options, others[i]);
+    iox2ps_subscriber_options_of_sized(&config, &outs.subscriber_options, others[i]);
+    CHECK(outs.config.struct_size == 0 && outs.publisher_options.struct_size == 0 && outs.subscriber_options.struct_size == 0);
+    outs.config.struct_size = untouched.config.struct_size;
+    outs.publisher_options.struct_size = outs.subscriber_options.struct_size = untouched.config.struct_size;
+    CHECK(memcmp(&outs, &untouched, sizeof outs) == 0);
+
+    other = config;
+    other.struct_size = others[i];
+    iox2ps_publisher_options_of(&other, &outs.publisher_options);
+    iox2ps_subscriber_options_of(&other, &outs.subscriber_options);
+    CHECK(outs.publisher_options.struct_size == 0 && outs.subscriber_options.struct_size == 0);
+    IS(iox2ps_publisher_create_with(&domain, &outs.publisher_options, &outs.publisher), IOX2PS_INVALID_STRUCT_SIZE);
+    IS(iox2ps_subscriber_create_with(&domain, &outs.subscriber_options, &outs.subscriber), IOX2PS_INVALID_STRUCT_SIZE);
+  }
   IS(iox2ps_domain_destroy(&domain), IOX2PS_OK);
+  REFUSED(iox2ps_domain_config_sized(&domain, &outs.config, 8), IOX2PS_NO_DOMAIN);
 }
 
 /* Numbers that no memory has room for are refused to the port or to the domain; nothing ends the program. */
@@ -572,6 +680,8 @@ int main(void) {
   a_domain_is_made_twice();
   lengths_are_at_their_limits();
   settings_have_none_of_their_values();
+  options_have_none_of_their_values();
+  structs_have_other_sizes();
   settings_are_as_great_as_can_be();
   return checked();
 }

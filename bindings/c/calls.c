@@ -1,3 +1,4 @@
+// SPDX-License-Identifier: Apache-2.0 OR MIT
 /* Each function of the header where all is well: messages in place and copied, blocked sends, options,
  * warnings, texts. It compiles as C and as C++. */
 #include "checks.h"
@@ -10,9 +11,9 @@
 
 /* No struct has room between its fields; the Rust crate's tests have the same numbers. */
 SAME_SIZE(iox2ps_domain_t, 8);
-SAME_SIZE(iox2ps_config_t, 120);
-SAME_SIZE(iox2ps_publisher_options_t, 40);
-SAME_SIZE(iox2ps_subscriber_options_t, 16);
+SAME_SIZE(iox2ps_config_t, 128);
+SAME_SIZE(iox2ps_publisher_options_t, 48);
+SAME_SIZE(iox2ps_subscriber_options_t, 24);
 SAME_SIZE(iox2ps_publisher_t, 56);
 SAME_SIZE(iox2ps_subscriber_t, 48);
 SAME_SIZE(iox2ps_loan_t, 72);
@@ -82,7 +83,7 @@ static void a_domain_is_recorded(void) {
   IS(iox2ps_domain_create_recorded(&domain, &config, 1, 0), IOX2PS_HAS_DOMAIN);
   IS(iox2ps_domain_destroy(&domain), IOX2PS_OK);
   config.payload_alignment = 7;
-  IS(iox2ps_domain_create_recorded(&domain, &config, 1, 0), IOX2PS_INVALID_SETTINGS);
+  IS(iox2ps_domain_create_recorded(&domain, &config, 1, 0), IOX2PS_INVALID_PAYLOAD_ALIGNMENT);
   config.payload_alignment = 8;
   IS(iox2ps_domain_create_recorded(&domain, &config, SIZE_MAX, 0), IOX2PS_OUT_OF_MEMORY);
   IS(iox2ps_domain_create_recorded(&domain, &config, 1, 0), IOX2PS_OK);
@@ -275,7 +276,7 @@ static void each_message_has_bytes_of_its_own(void) {
   create(&domain, &config);
   for (int i = 0; i < 2; i++) IS(iox2ps_publisher_create(&domain, &publishers[i]), IOX2PS_OK);
   IS(iox2ps_subscriber_create(&domain, &subscriber), IOX2PS_OK);
-  for (uint8_t letter = 'a'; letter < 'a' + 3 * MESSAGES; letter += MESSAGES) {
+  for (int letter = 'a'; letter < 'a' + 3 * MESSAGES; letter += MESSAGES) {
     for (int i = 0; i < MESSAGES; i++) IS(iox2ps_publisher_loan(&domain, &publishers[i % 2], LEN, &loans[i], &written[i]), IOX2PS_OK);
     for (int i = 0; i < MESSAGES; i++) memset(written[i], letter + i, LEN);
     for (int i = 0; i < MESSAGES; i++) {
@@ -374,6 +375,118 @@ static void a_blocked_send_is_tried_again_and_given_up(void) {
   CHECK(byte == 2);
   IS(iox2ps_subscriber_receive_copy(&domain, &subscriber, &byte, 1, &len, &sample), IOX2PS_NO_SAMPLE);
   IS(iox2ps_domain_destroy(&domain), IOX2PS_OK);
+}
+
+/* A program that doesn't ask how many took a message passes no place for the number. */
+static void receivers_may_be_null(void) {
+  iox2ps_domain_t domain;
+  iox2ps_config_t config;
+  iox2ps_publisher_t publisher;
+  iox2ps_subscriber_t subscriber;
+  iox2ps_sample_t sample;
+  iox2ps_loan_t loan;
+  iox2ps_blocked_t blocked;
+  uint8_t byte = 1;
+  void *written;
+  size_t len;
+  iox2ps_config_defaults(&config, 7, 1, 1);
+  config.enable_safe_overflow = 0;
+  config.subscriber_max_buffer_size = 1;
+  create(&domain, &config);
+  IS(iox2ps_subscriber_create(&domain, &subscriber), IOX2PS_OK);
+  IS(iox2ps_publisher_create(&domain, &publisher), IOX2PS_OK);
+  for (uint8_t wanted = 1; wanted <= 2; wanted++) {
+    IS(iox2ps_publisher_loan(&domain, &publisher, 1, &loan, &written), IOX2PS_OK);
+    memset(written, wanted, 1);
+    if (wanted == 1) IS(iox2ps_loan_send(&domain, &loan, NULL, &blocked), IOX2PS_OK);
+    else IS(iox2ps_loan_deliver_offset_to_connection(&domain, &loan, 0, 0, NULL, &blocked), IOX2PS_OK);
+    IS(iox2ps_publisher_send_copy(&domain, &publisher, &byte, 1, NULL, &blocked), IOX2PS_BLOCKED);
+    IS(iox2ps_blocked_retry(&domain, &blocked, 0, NULL), IOX2PS_BLOCKED);
+    IS(iox2ps_blocked_give_up(&domain, &blocked, NULL), IOX2PS_OK);
+    IS(iox2ps_subscriber_receive_copy(&domain, &subscriber, &byte, 1, &len, &sample), IOX2PS_OK);
+    CHECK(byte == wanted);
+  }
+  IS(iox2ps_domain_destroy(&domain), IOX2PS_OK);
+}
+
+/* Whom the send waits for; 0 where that isn't said. */
+static uint64_t waits_for(iox2ps_domain_t *domain, const iox2ps_blocked_t *blocked) {
+  iox2ps_wide_t subscriber = {0, 1};
+  IS(iox2ps_blocked_subscriber(domain, blocked, &subscriber), IOX2PS_OK);
+  CHECK(subscriber.high == 0);
+  return subscriber.low;
+}
+
+/* Three subscribers with a buffer for one message: the send waits for the first that is full, also once it is closed, and
+ * then for the next. */
+static void a_blocked_send_says_who_blocks_it(void) {
+  iox2ps_domain_t domain;
+  iox2ps_config_t config;
+  iox2ps_publisher_t publisher;
+  iox2ps_subscriber_t subscribers[3];
+  iox2ps_sample_t sample;
+  iox2ps_blocked_t blocked;
+  iox2ps_wide_t unchanged = {5, 6};
+  uint8_t byte = 1;
+  size_t receivers = 99, len;
+  uint32_t is_blocked = 9;
+  iox2ps_config_defaults(&config, 7, 1, 1);
+  config.enable_safe_overflow = 0;
+  config.subscriber_max_buffer_size = 1;
+  create(&domain, &config);
+  for (int i = 0; i < 3; i++) IS(iox2ps_subscriber_create(&domain, &subscribers[i]), IOX2PS_OK);
+  IS(iox2ps_publisher_create(&domain, &publisher), IOX2PS_OK);
+  IS(iox2ps_publisher_send_copy(&domain, &publisher, &byte, 1, &receivers, &blocked), IOX2PS_OK);
+  CHECK(receivers == 3);
+  IS(iox2ps_subscriber_receive_copy(&domain, &subscribers[0], &byte, 1, &len, &sample), IOX2PS_OK);
+  IS(iox2ps_publisher_send_copy(&domain, &publisher, &byte, 1, &receivers, &blocked), IOX2PS_BLOCKED);
+  CHECK(waits_for(&domain, &blocked) == subscribers[1].id.low);
+  IS(iox2ps_blocked_retry(&domain, &blocked, 0, &receivers), IOX2PS_BLOCKED);
+  CHECK(waits_for(&domain, &blocked) == subscribers[1].id.low);
+  IS(iox2ps_publisher_is_blocked(&domain, &publisher, &is_blocked), IOX2PS_OK);
+  CHECK(is_blocked == 1);
+  IS(iox2ps_subscriber_close(&domain, &subscribers[1]), IOX2PS_OK);
+  CHECK(waits_for(&domain, &blocked) == subscribers[1].id.low);
+  IS(iox2ps_blocked_retry(&domain, &blocked, 0, &receivers), IOX2PS_BLOCKED);
+  CHECK(waits_for(&domain, &blocked) == subscribers[2].id.low);
+  IS(iox2ps_subscriber_receive_copy(&domain, &subscribers[2], &byte, 1, &len, &sample), IOX2PS_OK);
+  IS(iox2ps_blocked_retry(&domain, &blocked, 0, &receivers), IOX2PS_OK);
+  CHECK(receivers == 2);
+  IS(iox2ps_blocked_subscriber(&domain, &blocked, &unchanged), IOX2PS_NOT_LIVE);
+  CHECK(unchanged.low == 5 && unchanged.high == 6);
+  IS(iox2ps_domain_destroy(&domain), IOX2PS_OK);
+}
+
+/* Where a cleanup has nobody to tell, the code of a call that gives back is dropped without a warning, as the tests of warnings
+ * compile this. */
+static void what_gives_back_may_be_dropped(void) {
+  iox2ps_domain_t domain;
+  iox2ps_config_t config;
+  iox2ps_publisher_t publisher;
+  iox2ps_subscriber_t subscriber;
+  iox2ps_sample_t sample;
+  iox2ps_loan_t loan;
+  iox2ps_blocked_t blocked;
+  void *written;
+  const void *read;
+  size_t len;
+  iox2ps_config_defaults(&config, 7, 1, 1);
+  create(&domain, &config);
+  IS(iox2ps_publisher_create(&domain, &publisher), IOX2PS_OK);
+  IS(iox2ps_subscriber_create(&domain, &subscriber), IOX2PS_OK);
+  IS(iox2ps_publisher_send_copy(&domain, &publisher, "x", 1, NULL, &blocked), IOX2PS_OK);
+  IS(iox2ps_subscriber_receive(&domain, &subscriber, &sample, &read, &len), IOX2PS_OK);
+  (void)iox2ps_sample_release(&domain, &sample);
+  IS(iox2ps_sample_payload(&domain, &sample, &read, &len), IOX2PS_NOT_LIVE);
+  IS(iox2ps_publisher_loan(&domain, &publisher, 1, &loan, &written), IOX2PS_OK);
+  (void)iox2ps_loan_discard(&domain, &loan);
+  IS(iox2ps_loan_payload(&domain, &loan, &written, &len), IOX2PS_NOT_LIVE);
+  (void)iox2ps_publisher_close(&domain, &publisher);
+  (void)iox2ps_subscriber_close(&domain, &subscriber);
+  IS(iox2ps_publisher_update_connections(&domain, &publisher), IOX2PS_NOT_LIVE);
+  IS(iox2ps_subscriber_update_connections(&domain, &subscriber), IOX2PS_NOT_LIVE);
+  (void)iox2ps_domain_destroy(&domain);
+  CHECK(domain.domain_ == NULL);
 }
 
 static void ports_are_made_with_options(void) {
@@ -818,7 +931,7 @@ static void a_recording_ends_before_a_channel_changes(void) {
 /* All codes, and the kinds of warnings. */
 static const uint32_t codes[] = {
     IOX2PS_OK, IOX2PS_NO_DOMAIN, IOX2PS_NOT_LIVE, IOX2PS_NO_SAMPLE, IOX2PS_OUT_OF_MEMORY, IOX2PS_HAS_DOMAIN, IOX2PS_BLOCKED,
-    IOX2PS_PUBLISHER_IS_BLOCKED, IOX2PS_INVALID_SETTINGS, IOX2PS_TOO_SMALL, IOX2PS_LOAN_ERROR_OUT_OF_MEMORY,
+    IOX2PS_PUBLISHER_IS_BLOCKED, IOX2PS_TOO_SMALL, IOX2PS_LOAN_ERROR_OUT_OF_MEMORY,
     IOX2PS_LOAN_ERROR_EXCEEDS_MAX_LOANS, IOX2PS_LOAN_ERROR_EXCEEDS_MAX_LOAN_SIZE, IOX2PS_LOAN_ERROR_INTERNAL_FAILURE,
     IOX2PS_SEND_ERROR_CONNECTION_BROKEN_SINCE_SENDER_NO_LONGER_EXISTS, IOX2PS_SEND_ERROR_CONNECTION_CORRUPTED,
     IOX2PS_SEND_ERROR_UNABLE_TO_DELIVER, IOX2PS_SEND_ERROR_INTERNAL_ERROR,
@@ -836,7 +949,10 @@ static const uint32_t codes[] = {
     IOX2PS_SUBSCRIBER_CREATE_ERROR_BUFFER_SIZE_EXCEEDS_MAX,
     IOX2PS_SUBSCRIBER_CREATE_ERROR_FAILED_TO_DEPLOY_THREADSAFETY_POLICY,
     IOX2PS_SUBSCRIBER_CREATE_ERROR_UNABLE_TO_CREATE_PORT_TAG, IOX2PS_NO_SUCH_CHANNEL, IOX2PS_NO_CONNECTION,
-    IOX2PS_WARNING_EXPIRED_BUFFER_RAISED,
+    IOX2PS_INVALID_STRUCT_SIZE, IOX2PS_INVALID_PAYLOAD_SIZE, IOX2PS_INVALID_PAYLOAD_ALIGNMENT,
+    IOX2PS_INVALID_BACKPRESSURE_STRATEGY, IOX2PS_INVALID_BACKPRESSURE_HANDLER, IOX2PS_INVALID_DEGRADATION,
+    IOX2PS_INVALID_ALLOCATION_STRATEGY, IOX2PS_INVALID_INITIAL_MAX_SLICE_LEN, IOX2PS_INVALID_RESERVED,
+    IOX2PS_WORST_CASE_TOO_LARGE, IOX2PS_WARNING_EXPIRED_BUFFER_RAISED,
     IOX2PS_WARNING_PUBLISHER_PARTLY_CONNECTED, IOX2PS_WARNING_SUBSCRIBER_PARTLY_CONNECTED,
     IOX2PS_WARNING_CONNECTION_NOT_MADE, IOX2PS_WARNING_EXPIRED_DATA_DISCARDED};
 
@@ -865,6 +981,29 @@ static void texts_are_iceoryx2s(void) {
   CHECK(iox2ps_error_text(UINT32_MAX)[0] != 0);
 }
 
+/* The text of a setting's code names the field and says what it has to be. */
+static void a_text_names_the_setting(void) {
+  const struct {
+    uint32_t code;
+    const char *field, *rule;
+  } texts[] = {
+      {IOX2PS_INVALID_STRUCT_SIZE, "struct_size", "header"},
+      {IOX2PS_INVALID_PAYLOAD_SIZE, "payload_size", "multiple of payload_alignment"},
+      {IOX2PS_INVALID_PAYLOAD_ALIGNMENT, "payload_alignment", "1, 2, 4, 8 or 16"},
+      {IOX2PS_INVALID_BACKPRESSURE_STRATEGY, "backpressure_strategy", "iox2ps_backpressure_strategy_e"},
+      {IOX2PS_INVALID_BACKPRESSURE_HANDLER, "backpressure_handler", "iox2ps_backpressure_handler_e"},
+      {IOX2PS_INVALID_DEGRADATION, "degradation", "iox2ps_degradation_e"},
+      {IOX2PS_INVALID_ALLOCATION_STRATEGY, "allocation_strategy", "iox2ps_allocation_strategy_e"},
+      {IOX2PS_INVALID_INITIAL_MAX_SLICE_LEN, "initial_max_slice_len", "multiple of payload_alignment"},
+      {IOX2PS_INVALID_RESERVED, "reserved_", "0"},
+      {IOX2PS_WORST_CASE_TOO_LARGE, "worst case", "lower"},
+  };
+  for (size_t i = 0; i < sizeof texts / sizeof texts[0]; i++) {
+    CHECK(strstr(iox2ps_error_text(texts[i].code), texts[i].field) != NULL);
+    CHECK(strstr(iox2ps_error_text(texts[i].code), texts[i].rule) != NULL);
+  }
+}
+
 static void slots_are_counted(void) {
   iox2ps_config_t config;
   size_t slots = 99;
@@ -876,7 +1015,7 @@ static void slots_are_counted(void) {
   IS(iox2ps_worst_case_slots(&config, 6, &slots), IOX2PS_OK);
   CHECK(slots == 2 * (3 + 4) + 5 + 6);
   config.max_subscribers = SIZE_MAX;
-  IS(iox2ps_worst_case_slots(&config, 6, &slots), IOX2PS_INVALID_SETTINGS);
+  IS(iox2ps_worst_case_slots(&config, 6, &slots), IOX2PS_WORST_CASE_TOO_LARGE);
   CHECK(slots == 2 * (3 + 4) + 5 + 6);
 }
 
@@ -892,6 +1031,9 @@ int main(void) {
   each_message_has_bytes_of_its_own();
   payloads_are_aligned_as_the_settings_say();
   a_blocked_send_is_tried_again_and_given_up();
+  receivers_may_be_null();
+  a_blocked_send_says_who_blocks_it();
+  what_gives_back_may_be_dropped();
   ports_are_made_with_options();
   a_publisher_asks_for_fewer_slots();
   a_publisher_grows();
@@ -904,6 +1046,7 @@ int main(void) {
   closed_channels_end_waits_and_get_no_history();
   a_recording_ends_before_a_channel_changes();
   texts_are_iceoryx2s();
+  a_text_names_the_setting();
   each_code_has_a_text_that_no_other_has();
   slots_are_counted();
   return checked();

@@ -1,3 +1,4 @@
+// SPDX-License-Identifier: Apache-2.0 OR MIT
 /* For the programs of checks: CHECK counts what holds and prints what doesn't; `checked` prints the counts. */
 #ifndef IOX2PS_CHECKS_H
 #define IOX2PS_CHECKS_H

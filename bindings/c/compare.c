@@ -1,3 +1,4 @@
+// SPDX-License-Identifier: Apache-2.0 OR MIT
 /* Passes messages of 64 bytes to subscribers that read each at once, as bindings/rust/examples/compare.rs does:
  * `compare SUBSCRIBERS MESSAGES`. Prints the nanoseconds that a message took. */
 #define _POSIX_C_SOURCE 200809L
@@ -31,7 +32,7 @@ static int send(uint64_t number) {
   void *payload;
   size_t receivers;
   if (iox2ps_publisher_loan(&domain, &publisher, 64, &loan, &payload)) return 0;
-  for (int i = 0; i < 8; i++) memcpy((uint8_t *)payload + 8 * i, &number, sizeof number);
+  for (size_t i = 0; i < 8; i++) memcpy((uint8_t *)payload + 8 * i, &number, sizeof number);
   return iox2ps_loan_send(&domain, &loan, &receivers, &blocked) == IOX2PS_OK;
 }
 

@@ -1,3 +1,4 @@
+// SPDX-License-Identifier: Apache-2.0 OR MIT
 #include "iox2_pubsub.h"
 #include <stdio.h>
 typedef struct { double celsius; } reading_t;

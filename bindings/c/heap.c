@@ -1,3 +1,4 @@
+// SPDX-License-Identifier: Apache-2.0 OR MIT
 /* The heap of the archive, by the calls that the proved code makes of it, on each processor: the kit's and that of bindings/archive do the
  * same. It is linked with -Wl,--wrap=malloc -Wl,--wrap=realloc. */
 #include "checks.h"

@@ -1,3 +1,4 @@
+// SPDX-License-Identifier: Apache-2.0 OR MIT
 /* How the archive has the structs of the header in memory, on each of its processors. `tools/bindings layouts` makes this file. */
 #include "iox2_pubsub.h"
 

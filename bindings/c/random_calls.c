@@ -1,3 +1,4 @@
+// SPDX-License-Identifier: Apache-2.0 OR MIT
 /* Makes random calls with random numbers: `random_calls SEED CALLS SCRIPT REPLIES`.
  *
  * Most numbers are of things that are live, some of things that are spent, of another kind or domain, or with

@@ -1,3 +1,4 @@
+// SPDX-License-Identifier: Apache-2.0 OR MIT
 /* Makes random calls, most of them on channels, and holds each to a small model: `random_channels SEED CALLS`.
  *
  * The model knows of each connection what waits and is borrowed there, and the state of its one to three

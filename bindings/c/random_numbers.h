@@ -1,3 +1,4 @@
+// SPDX-License-Identifier: Apache-2.0 OR MIT
 /* Random numbers, the same for each seed: random_state at the start. */
 #ifndef RANDOM_NUMBERS_H
 #define RANDOM_NUMBERS_H

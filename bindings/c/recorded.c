@@ -1,3 +1,4 @@
+// SPDX-License-Identifier: Apache-2.0 OR MIT
 /* Records what it calls, and prints the recording, which tools/replay runs again. Its status is 0 where each call returns what it is to
    return. With an argument there is room for only that many commands, which are too few. */
 #include "checks.h"
@@ -21,7 +22,7 @@ static void make(size_t commands) {
   options.preallocated_samples = 5;
   IS(iox2ps_publisher_create_with(&domain, &options, &publisher), IOX2PS_OK);
   options.backpressure_strategy = 7;
-  IS(iox2ps_publisher_create_with(&domain, &options, &publisher), IOX2PS_INVALID_SETTINGS);
+  IS(iox2ps_publisher_create_with(&domain, &options, &publisher), IOX2PS_INVALID_BACKPRESSURE_STRATEGY);
   IS(iox2ps_subscriber_create(&domain, &first), IOX2PS_OK);
   IS(iox2ps_subscriber_create(&domain, &second), IOX2PS_OK);
   IS(iox2ps_subscriber_create(&domain, &second), IOX2PS_SUBSCRIBER_CREATE_ERROR_EXCEEDS_MAX_SUPPORTED_SUBSCRIBERS);

@@ -1,3 +1,4 @@
+// SPDX-License-Identifier: Apache-2.0 OR MIT
 /* What a recorded domain keeps of its calls, and what they take. A call is kept whole or not at all, whatever room there is; a loan's
  * bytes are written once in the recording, also if a send of it is refused before; and no call takes memory that it doesn't take in a
  * domain without a recording.

@@ -1,3 +1,4 @@
+// SPDX-License-Identifier: Apache-2.0 OR MIT
 /* Refuses the first allocation of the archive, then the second, and so on, each in a run of its own: ports are made,
  * messages go from two publishers to a subscriber, the memory of a third one grows, and all is closed. Each call returns
  * what it says of an allocation that fails, and a second try succeeds. With the ports made no call on a message takes memory but

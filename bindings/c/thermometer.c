@@ -1,3 +1,4 @@
+// SPDX-License-Identifier: Apache-2.0 OR MIT
 /* Sends readings to two subscribers, and prints what each reads. */
 #include "iox2_pubsub.h"
 #include <stdio.h>

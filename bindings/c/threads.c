@@ -1,3 +1,4 @@
+// SPDX-License-Identifier: Apache-2.0 OR MIT
 /* Two threads send by one publisher, which has one loan at a time, and two receive, under a lock that this program brings: what
  * iox2_pubsub.h says of threads, in the smallest form. Messages are written and read without the lock. Nothing is lost,
  * since a send waits where a buffer is full, and a loan while there is none: at a condition variable. */

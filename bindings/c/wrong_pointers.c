@@ -1,3 +1,4 @@
+// SPDX-License-Identifier: Apache-2.0 OR MIT
 /* Pointers that lead elsewhere, which no contract of the archive refuses: the tests have to. Each fault is put between
  * the archive and a test, which sees no more of the archive than these calls.
  *

@@ -1,3 +1,4 @@
+// SPDX-License-Identifier: Apache-2.0 OR MIT
 /* No call on a message takes memory, also where a thread makes its first, waits, is told or tells others. Connections do, which are
  * made when a port is, or by an update. The functions of the C library are this program's here: each counts for the thread that asks
  * for it. */

@@ -1,3 +1,4 @@
+// SPDX-License-Identifier: Apache-2.0 OR MIT
 /* Waits in destructors at the end of a thread and of the program, after what a thread keeps for its waits is gone. */
 #include "iox2_pubsub_shared.hpp"
 #include <cstdio>

@@ -1,3 +1,4 @@
+// SPDX-License-Identifier: Apache-2.0 OR MIT
 /* What has to end a program, tried in a child of it. */
 #ifndef ENDINGS_HPP
 #define ENDINGS_HPP

@@ -1,3 +1,4 @@
+// SPDX-License-Identifier: Apache-2.0 OR MIT
 #include "iox2_pubsub.hpp"
 #include <cstdio>
 struct Reading { double celsius; };

@@ -1,3 +1,4 @@
+// SPDX-License-Identifier: Apache-2.0 OR MIT
 /* A child of a process that has domains: each call on one of them is refused there, also where another thread had the lock when the
  * process was forked, and what the child drops touches neither the archive nor the descriptors. The parent goes on as if no child
  * were there, and the child has domains of its own. */

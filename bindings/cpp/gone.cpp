@@ -1,3 +1,4 @@
+// SPDX-License-Identifier: Apache-2.0 OR MIT
 /* A loan that was sent, discarded or moved from, and a sample that was released or moved from, point nowhere: a program that writes
  * or reads there ends. */
 #include "iox2_pubsub.hpp"

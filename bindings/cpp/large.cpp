@@ -1,3 +1,4 @@
+// SPDX-License-Identifier: Apache-2.0 OR MIT
 /* Messages that are larger than the stack of the thread that lends them: each loan makes its value where the message lies. */
 #include "iox2_pubsub_shared.hpp"
 #include <cstdio>

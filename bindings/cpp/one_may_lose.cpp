@@ -1,3 +1,4 @@
+// SPDX-License-Identifier: Apache-2.0 OR MIT
 /** One subscriber may lose messages, another may not. The domain has no overflow, and a display closes its channel while it is
  * busy, so that sends pass it over. Fails if a recorder misses a frame. */
 #include "iox2_pubsub_shared.hpp"

@@ -1,3 +1,4 @@
+// SPDX-License-Identifier: Apache-2.0 OR MIT
 /* Where IOX2PS_CHECK_THREADS is defined, a second thread that uses a domain for one ends the program. One that uses a domain for several
  * doesn't. */
 #define IOX2PS_CHECK_THREADS

@@ -1,3 +1,4 @@
+// SPDX-License-Identifier: Apache-2.0 OR MIT
 // Records what it calls, and prints the recording, which tools/replay runs again.
 #include "iox2_pubsub.hpp"
 #include <cstdint>

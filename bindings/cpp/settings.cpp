@@ -1,3 +1,4 @@
+// SPDX-License-Identifier: Apache-2.0 OR MIT
 // Each setting and each answer of the C++ header by what it changes, so that one which is dropped, or exchanged with another of
 // its type, fails a check. bindings/settings.toml names the test of each. Prints each check that fails, and then
 // "N passed, M failed".

@@ -1,3 +1,4 @@
+// SPDX-License-Identifier: Apache-2.0 OR MIT
 // The C++ header: values and slices in place, handles that are moved, blocked sends, refusals and limits. Prints
 // each check that fails, and then "N passed, M failed".
 #include "iox2_pubsub.hpp"
@@ -13,6 +14,9 @@
 #include <system_error>
 #include <type_traits>
 #include <unordered_map>
+#if __cplusplus >= 202002L
+#include <span>
+#endif
 
 static int passed = 0, failed = 0;
 #define CHECK(...)                                                 \
@@ -168,9 +172,9 @@ static void lengths_of_none_of_the_limit_and_beyond() {
   PublisherOptions<std::uint64_t[]> options;
   CHECK(domain.publisher(options.initial_max_slice_len(SIZE_MAX)).error() == Error::PublisherUnableToCreateDataSegment);
   options.initial_max_slice_len(1).degradation_handler(static_cast<iox2ps::DegradationAction>(77));
-  CHECK(domain.publisher(options).error() == Error::InvalidSettings);
+  CHECK(domain.publisher(options).error() == Error::InvalidDegradation);
   CHECK(domain.subscriber(iox2ps::SubscriberOptions().degradation_handler(static_cast<iox2ps::DegradationAction>(77))).error()
-        == Error::InvalidSettings);
+        == Error::InvalidDegradation);
 }
 
 static void alignments_are_kept() {
@@ -347,8 +351,8 @@ static void results_are_read_in_several_ways() {
   CHECK(there.value() == 3 && *there == 3 && constant.value() == 4 && *constant == 4);
   CHECK(there.value_or(9) == 3 && none.value_or(9) == 9 && Result<int>(Error::NotLive).value_or(8) == 8);
   CHECK(Result<std::string>(std::string("text")).value_or("none") == "text");
-  auto half = [](int value) { return value % 2 == 0 ? Result<int>(value / 2) : Result<int>(Error::InvalidSettings); };
-  CHECK(constant.and_then(half).value() == 2 && there.and_then(half).error() == Error::InvalidSettings);
+  auto half = [](int value) { return value % 2 == 0 ? Result<int>(value / 2) : Result<int>(Error::NotLive); };
+  CHECK(constant.and_then(half).value() == 2 && there.and_then(half).error() == Error::NotLive);
   CHECK(none.and_then(half).error() == Error::NotLive && *Result<int>(8).and_then(half).and_then(half) == 2);
   there.value() = 6;
   CHECK(*there.and_then([](int &value) { return Result<std::string>(std::to_string(value)); }) == "6");
@@ -475,6 +479,34 @@ static void a_late_subscriber_gets_the_history() {
   CHECK(publisher.update_connections().has_value() && subscriber.update_connections().has_value());
   CHECK(**subscriber.receive().expect("a receive") == 2);
 }
+
+/* Without overflow a history is to be less than a buffer. */
+static void a_history_that_fills_a_buffer_blocks_the_next_send() {
+  for (std::size_t kept : {1, 2}) {
+    auto domain = made(Config<int>(11).history_size(kept).subscriber_max_buffer_size(2).enable_safe_overflow(false));
+    auto publisher = domain.publisher().expect("a publisher");
+    for (int n : {1, 2}) CHECK(publisher.send_copy(n)->delivered() == std::size_t(0));
+    auto subscriber = domain.subscriber().expect("a subscriber");
+    auto sent = publisher.send_copy(3).expect("a send");
+    CHECK(sent.blocked().has_value() == (kept == 2));
+    CHECK(subscriber.receive_copy().expect("a receive") == (kept == 2 ? 1 : 2));
+  }
+}
+
+#if __cplusplus >= 202002L
+static void slices_are_spans() {
+  auto domain = made(Config<int[]>(1, 5));
+  auto publisher = domain.publisher().expect("a publisher");
+  auto subscriber = domain.subscriber().expect("a subscriber");
+  auto loan = publisher.loan_slice(3).expect("a loan");
+  std::span<int> written(loan);
+  for (int &value : written) value = 7;
+  CHECK(loan.send().expect("a send").delivered() == std::size_t(1));
+  auto sample = *std::move(subscriber.receive().expect("a receive"));
+  std::span<const int> read(sample);
+  CHECK(read.size() == 3 && read.data() == written.data() && read[2] == 7);
+}
+#endif
 
 static void a_header_says_where_a_message_comes_from() {
   Config<std::uint16_t[]> config(13, 3);
@@ -730,6 +762,10 @@ int main() {
   a_publisher_asks_for_fewer_slots();
   a_publisher_grows();
   a_late_subscriber_gets_the_history();
+  a_history_that_fills_a_buffer_blocks_the_next_send();
+#if __cplusplus >= 202002L
+  slices_are_spans();
+#endif
   a_header_says_where_a_message_comes_from();
   connections_and_books_are_counted();
   channels_are_asked_about();

@@ -1,3 +1,4 @@
+// SPDX-License-Identifier: Apache-2.0 OR MIT
 /* Domains that several threads use, by the C++ handles. */
 #include "iox2_pubsub_shared.hpp"
 #include "turns.hpp"
@@ -452,7 +453,52 @@ void a_thread_that_throws_gives_back_what_it_has() {
   publisher.close();
   CHECK(domain.book_count() == 0);
 }
+
+/* A message whose reading throws is given back: so more may be read so than may be borrowed. */
+void a_reading_that_throws_gives_its_message_back() {
+  constexpr unsigned messages = 20;
+  auto domain = keeping(messages);
+  auto publisher = domain.publisher().expect("a publisher");
+  auto subscriber = domain.subscriber().expect("a subscriber");
+  for (unsigned number = 0; number < messages; number++) CHECK(publisher.send_copy(message(number)).expect("a send").delivered() == 1u);
+  auto throws = [](const iox2ps::Sample<Message, M> &sample) -> bool { throw (*sample)[0]; };
+  for (unsigned number = 0; number < messages; number++) {
+    try {
+      static_cast<void>(subscriber.blocking_for_each(throws));
+      CHECK(false);
+    } catch (std::uint64_t read) {
+      CHECK(read == number);
+    }
+  }
+  CHECK(!subscriber.receive().expect("a receive"));
+  CHECK(publisher.send_copy(message(7)).expect("a send").delivered() == 1u && first_of(subscriber.receive()) == 7);
+}
 #endif
+
+/* A domain goes while threads wait in it, and a listener receives and takes itself away. */
+void domains_go_while_threads_wait_and_listeners_go() {
+  for (int round = 0; round < 100; round++) {
+    std::thread waits;
+    {
+      auto domain = keeping(8);
+      auto subscriber = std::make_shared<iox2ps::Subscriber<Message, M>>(domain.subscriber().expect("a subscriber"));
+      auto publisher = domain.publisher().expect("a publisher");
+      CHECK(subscriber->set_listener([weak = std::weak_ptr(subscriber)] {
+        auto there = weak.lock();
+        if (!there) return;
+        static_cast<void>(there->receive());
+        there->clear_listener();
+      }).has_value());
+      waits = std::thread([subscriber, domain] {
+        static_cast<void>(subscriber->timed_receive(1ms));
+        CHECK(domain.subscriber().expect("a subscriber").timed_receive(1ms).has_value());
+      });
+      for (std::uint64_t number = 0; number < 2; number++) CHECK(publisher.send_copy(message(number)).has_value());
+      if (round % 2 != 0) domain.stop_waits();
+    }
+    waits.join();
+  }
+}
 
 void a_domain_that_goes_while_others_wait_stays_for_them() {
   std::optional<iox2ps::SharedDomain<Message, Watched>> domain = keeping<Watched>(1);
@@ -789,7 +835,9 @@ int main() {
       ports_are_closed_while_messages_cross,
 #ifdef __cpp_exceptions
       a_thread_that_throws_gives_back_what_it_has,
+      a_reading_that_throws_gives_its_message_back,
 #endif
+      domains_go_while_threads_wait_and_listeners_go,
       a_domain_that_goes_while_others_wait_stays_for_them,
       a_slot_comes_back_while_the_next_message_is_waited_for,
       a_listener_is_called_without_the_lock,

@@ -1,3 +1,4 @@
+// SPDX-License-Identifier: Apache-2.0 OR MIT
 /* A lock that counts each thread's turns, so that a test knows when a thread sleeps, and can stop it between two turns. No test
  * has to give a thread time, and hope that it was enough. */
 #ifndef TURNS_HPP

@@ -1,3 +1,4 @@
+// SPDX-License-Identifier: Apache-2.0 OR MIT
 /* What becomes of a program that is linked to the archive of another version: the linker takes the function below for the archive's
  * (-Wl,--wrap=iox2ps_version). */
 #include "iox2_pubsub_shared.hpp"

@@ -1,3 +1,4 @@
+# SPDX-License-Identifier: Apache-2.0 OR MIT
 # Debian's cross compiler (gcc-aarch64-linux-gnu, g++-aarch64-linux-gnu), and its emulator for what CTest runs (qemu-user-static).
 set(CMAKE_SYSTEM_NAME Linux)
 set(CMAKE_SYSTEM_PROCESSOR aarch64)

@@ -1,10 +1,11 @@
+// SPDX-License-Identifier: Apache-2.0 OR MIT
 /** @file
  * Publish-subscribe inside one program: the calls of the proved library iox2_pubsub for C11 and C++11 or later.
  * Messages are bytes, as many as each loan says, up to a limit that the domain is made with.
  *
  * The caller's obligations, all of them:
- *  - each pointer is valid for the call, aligned, not null and of its type; one that isn't const must not
- *    alias memory that anything else uses during the call; bytes that are read are initialised;
+ *  - each pointer is valid for the call, aligned, not null (except where a call says so) and of its type; one that isn't
+ *    const must not alias memory that anything else uses during the call; bytes that are read are initialised;
  *  - an iox2ps_domain_t starts as IOX2PS_DOMAIN_INIT, is changed by these functions alone, and isn't copied
  *    while it has a domain;
  *  - one call at a time works on a domain; threads that share one bring a lock, as is said below;
@@ -45,10 +46,15 @@
  *
  * Each call returns IOX2PS_OK, which is 0, or one of the codes listed at it. Where it says nothing
  * else, a call that doesn't return IOX2PS_OK changes neither the domain nor what its pointers point to,
- * and IOX2PS_NO_DOMAIN says that the iox2ps_domain_t has no domain. A compiler that can, warns where the code is dropped.
+ * and IOX2PS_NO_DOMAIN says that the iox2ps_domain_t has no domain. A compiler that can, warns where the code is dropped,
+ * except that of calls that give something back.
  *
- * A field whose name is reserved_ has to be 0, as the calls that fill its struct leave it. Today nothing reads it; a later
- * version may refuse or use what isn't 0. Fields whose names end in _ are otherwise for the library alone. */
+ * Settings. A struct of settings begins with struct_size, how many bytes it has in the header that the program was compiled
+ * with. The call that fills the struct sets it, and a call that takes the struct refuses a size that the archive doesn't
+ * know: so a later version may add fields at the end. A setting that is invalid has a code of its own, and where several
+ * are invalid the first one is named, in the order of the fields.
+ *
+ * Fields whose names end in _ are for the library alone. */
 #ifndef IOX2_PUBSUB_H
 #define IOX2_PUBSUB_H
 
@@ -60,7 +66,7 @@ extern "C" {
 #endif
 
 #define IOX2PS_VERSION_MAJOR 0 /**< the first number of this header's version; that of the archive is iox2ps_version() */
-#define IOX2PS_VERSION_MINOR 1 /**< the second number */
+#define IOX2PS_VERSION_MINOR 2 /**< the second number */
 #define IOX2PS_VERSION_PATCH 0 /**< the third number */
 
 /** The version as one number, which grows with each version. */
@@ -95,7 +101,6 @@ typedef enum iox2ps_status_e {
   IOX2PS_HAS_DOMAIN = 5, /**< there is one already */
   IOX2PS_BLOCKED = 6, /**< the send waits for a subscriber whose buffer is full */
   IOX2PS_PUBLISHER_IS_BLOCKED = 7, /**< an earlier send of the publisher waits, and nothing was done */
-  IOX2PS_INVALID_SETTINGS = 8, /**< invalid value in the settings */
   IOX2PS_TOO_SMALL = 9, /**< the message is longer than the room for it */
   IOX2PS_LOAN_ERROR_OUT_OF_MEMORY = 10, /**< each slot is in use, or memory may not grow further */
   IOX2PS_LOAN_ERROR_EXCEEDS_MAX_LOANS = 11, /**< as many loans are out as the publisher may have */
@@ -136,7 +141,18 @@ typedef enum iox2ps_status_e {
   IOX2PS_SUBSCRIBER_CREATE_ERROR_FAILED_TO_DEPLOY_THREADSAFETY_POLICY = 62, /**< memory was refused */
   IOX2PS_SUBSCRIBER_CREATE_ERROR_UNABLE_TO_CREATE_PORT_TAG = 63, /**< no id is left for a port */
   IOX2PS_NO_SUCH_CHANNEL = 70, /**< a connection has no channel with this number */
-  IOX2PS_NO_CONNECTION = 71 /**< the publisher has no connection to that subscriber */
+  IOX2PS_NO_CONNECTION = 71, /**< the publisher has no connection to that subscriber */
+  /** The struct wasn't filled by its call, or is of a header whose structs the archive doesn't know. */
+  IOX2PS_INVALID_STRUCT_SIZE = 80,
+  IOX2PS_INVALID_PAYLOAD_SIZE = 81,          /**< no multiple of payload_alignment */
+  IOX2PS_INVALID_PAYLOAD_ALIGNMENT = 82,     /**< not 1, 2, 4, 8 or 16 */
+  IOX2PS_INVALID_BACKPRESSURE_STRATEGY = 83, /**< no iox2ps_backpressure_strategy_e */
+  IOX2PS_INVALID_BACKPRESSURE_HANDLER = 84,  /**< no iox2ps_backpressure_handler_e */
+  IOX2PS_INVALID_DEGRADATION = 85,           /**< no iox2ps_degradation_e */
+  IOX2PS_INVALID_ALLOCATION_STRATEGY = 86,   /**< no iox2ps_allocation_strategy_e */
+  IOX2PS_INVALID_INITIAL_MAX_SLICE_LEN = 87, /**< no multiple of the domain's alignment, or 0 where memory may grow */
+  IOX2PS_INVALID_RESERVED = 88,              /**< a field that is reserved isn't 0 */
+  IOX2PS_WORST_CASE_TOO_LARGE = 89           /**< the number of slots doesn't fit size_t */
 } iox2ps_status_e;
 
 /** What a publisher does where a subscriber's buffer is full and the domain doesn't overflow. */
@@ -201,8 +217,9 @@ typedef struct iox2ps_wide_t {
  *         + its loans
  *
  * So no loan of up to payload_size bytes is ever refused because no slot is free, unless its options ask for fewer. By
- * default these are 8 * 1 * (2 + 2) + 0 + 2 = 34. */
+ * default these are 8 * 1 * (2 + 2) + 0 + 2 = 34. iox2ps_config_defaults() fills it. */
 typedef struct iox2ps_config_t {
+  size_t struct_size;       /**< sizeof(iox2ps_config_t), as the call that fills it says */
   iox2ps_wide_t service_id; /**< names the domain */
   iox2ps_wide_t node_id;    /**< what the header of each message names */
   size_t payload_size;      /**< how many bytes a message of a publisher may have, where its options say nothing else;
@@ -225,6 +242,7 @@ typedef struct iox2ps_config_t {
 
 /** What one publisher has other than the domain's settings say. iox2ps_publisher_options_of() fills it. */
 typedef struct iox2ps_publisher_options_t {
+  size_t struct_size;             /**< sizeof(iox2ps_publisher_options_t), as the call that fills it says */
   size_t max_loaned_samples;      /**< loans that may be out at a time */
   size_t initial_max_slice_len;   /**< how many bytes a message may have, as long as memory isn't to grow; a multiple
                                        of the domain's alignment, and not 0 where memory may grow */
@@ -239,9 +257,10 @@ typedef struct iox2ps_publisher_options_t {
 
 /** What one subscriber has other than the domain's settings say. iox2ps_subscriber_options_of() fills it. */
 typedef struct iox2ps_subscriber_options_t {
+  size_t struct_size;   /**< sizeof(iox2ps_subscriber_options_t), as the call that fills it says */
   size_t buffer_size;   /**< messages of one publisher that may wait; 0 counts as 1 */
   uint32_t degradation; /**< an iox2ps_degradation_e */
-  uint32_t reserved_;   /**< 0 */
+  uint32_t reserved_;   /**< 0, and refused else */
 } iox2ps_subscriber_options_t;
 
 /** The numbers of a publisher. As of each struct of numbers below, only equality of service_id, id, publisher,
@@ -252,7 +271,7 @@ typedef struct iox2ps_publisher_t {
   size_t place_;                  /**< where it is looked for first */
   size_t initial_max_slice_len;   /**< how many bytes a message may have, as long as memory isn't to grow */
   uint32_t backpressure_strategy; /**< an iox2ps_backpressure_strategy_e */
-  uint32_t reserved_;             /**< 0 */
+  uint32_t reserved_;             /**< 0; no call reads it */
 } iox2ps_publisher_t;
 
 /** The numbers of a subscriber. */
@@ -318,19 +337,41 @@ typedef struct iox2ps_warning_t {
  * domain is made. */
 IOX2PS_NODISCARD uint32_t iox2ps_version(void);
 
+/** As iox2ps_config_defaults(), for a struct of this size. Of another size than the archive knows it writes struct_size alone,
+ * as 0, so that the calls that take the struct refuse it. */
+void iox2ps_config_defaults_sized(iox2ps_config_t *config, size_t struct_size, uint64_t service_id, size_t payload_size,
+                                  size_t payload_alignment);
+
 /** The defaults of a domain for messages of one type, as iox2ps_config_defaults(&config, 7, sizeof(T),
  * _Alignof(T)): 2 publishers with 2 loans each, 8 subscribers with buffers of 2 and 2 borrowed samples, no
  * history, overflow. */
-void iox2ps_config_defaults(iox2ps_config_t *config, uint64_t service_id, size_t payload_size, size_t payload_alignment);
+static inline void iox2ps_config_defaults(iox2ps_config_t *config, uint64_t service_id, size_t payload_size,
+                                          size_t payload_alignment) {
+  iox2ps_config_defaults_sized(config, sizeof *config, service_id, payload_size, payload_alignment);
+}
+
+/** As iox2ps_publisher_options_of(), for a struct of this size. Of another size than the archive knows, and from settings of
+ * such a size, it writes struct_size alone, as 0. */
+void iox2ps_publisher_options_of_sized(const iox2ps_config_t *config, iox2ps_publisher_options_t *options,
+                                       size_t struct_size);
 
 /** What a publisher has that is made without options in a domain with these settings. */
-void iox2ps_publisher_options_of(const iox2ps_config_t *config, iox2ps_publisher_options_t *options);
+static inline void iox2ps_publisher_options_of(const iox2ps_config_t *config, iox2ps_publisher_options_t *options) {
+  iox2ps_publisher_options_of_sized(config, options, sizeof *options);
+}
+
+/** As iox2ps_subscriber_options_of(), for a struct of this size. Of another size than the archive knows, and from settings of
+ * such a size, it writes struct_size alone, as 0. */
+void iox2ps_subscriber_options_of_sized(const iox2ps_config_t *config, iox2ps_subscriber_options_t *options,
+                                        size_t struct_size);
 
 /** What a subscriber has that is made without options in a domain with these settings. */
-void iox2ps_subscriber_options_of(const iox2ps_config_t *config, iox2ps_subscriber_options_t *options);
+static inline void iox2ps_subscriber_options_of(const iox2ps_config_t *config, iox2ps_subscriber_options_t *options) {
+  iox2ps_subscriber_options_of_sized(config, options, sizeof *options);
+}
 
-/** How many slots a publisher with this number of loans has, unless its options ask for fewer. IOX2PS_INVALID_SETTINGS
- * if that doesn't fit size_t. */
+/** How many slots a publisher with this number of loans has, unless its options ask for fewer. IOX2PS_INVALID_..., as
+ * iox2ps_domain_create() returns it; IOX2PS_WORST_CASE_TOO_LARGE. */
 IOX2PS_NODISCARD iox2ps_status_t iox2ps_worst_case_slots(const iox2ps_config_t *config, size_t loans, size_t *slots);
 
 /** The text of a code or of the kind of a warning, which ends in a zero byte and stays there for good; len
@@ -349,8 +390,9 @@ static inline const char *iox2ps_error_text(uint32_t code) {
  * @name Domains
  * @{ */
 
-/** Makes a domain. IOX2PS_HAS_DOMAIN where there is one; IOX2PS_INVALID_SETTINGS for an alignment that is
- * none, a payload_size that is no multiple of it, or an unknown strategy; IOX2PS_OUT_OF_MEMORY. */
+/** Makes a domain. IOX2PS_HAS_DOMAIN where there is one; for the first setting that is invalid
+ * IOX2PS_INVALID_STRUCT_SIZE, IOX2PS_INVALID_PAYLOAD_ALIGNMENT, IOX2PS_INVALID_PAYLOAD_SIZE or
+ * IOX2PS_INVALID_BACKPRESSURE_STRATEGY, in this order; IOX2PS_OUT_OF_MEMORY. */
 IOX2PS_NODISCARD iox2ps_status_t iox2ps_domain_create(iox2ps_domain_t *domain, const iox2ps_config_t *config);
 
 /** The same, and keeps a recording of the first calls, as many as give this number of commands, with this number of
@@ -370,10 +412,16 @@ IOX2PS_NODISCARD iox2ps_status_t iox2ps_domain_recording(iox2ps_domain_t *domain
 
 /** Frees the domain with all that is in it. Its owner calls this once; a second call returns
  * IOX2PS_NO_DOMAIN. */
-IOX2PS_NODISCARD iox2ps_status_t iox2ps_domain_destroy(iox2ps_domain_t *domain);
+iox2ps_status_t iox2ps_domain_destroy(iox2ps_domain_t *domain);
 
-/** Reads the settings back. */
-IOX2PS_NODISCARD iox2ps_status_t iox2ps_domain_config(iox2ps_domain_t *domain, iox2ps_config_t *config);
+/** As iox2ps_domain_config(), into a struct of this size. IOX2PS_INVALID_STRUCT_SIZE where the archive doesn't know it. */
+IOX2PS_NODISCARD iox2ps_status_t iox2ps_domain_config_sized(iox2ps_domain_t *domain, iox2ps_config_t *config,
+                                                            size_t struct_size);
+
+/** Reads the settings back. IOX2PS_INVALID_STRUCT_SIZE where the archive doesn't know this header's struct. */
+IOX2PS_NODISCARD static inline iox2ps_status_t iox2ps_domain_config(iox2ps_domain_t *domain, iox2ps_config_t *config) {
+  return iox2ps_domain_config_sized(domain, config, sizeof *config);
+}
 
 /** How many connections the domain keeps. */
 IOX2PS_NODISCARD iox2ps_status_t iox2ps_domain_connection_count(iox2ps_domain_t *domain, size_t *count);
@@ -399,14 +447,15 @@ IOX2PS_NODISCARD iox2ps_status_t iox2ps_domain_warning(iox2ps_domain_t *domain, 
 /** Makes a publisher, as the settings say. IOX2PS_PUBLISHER_CREATE_ERROR_... */
 IOX2PS_NODISCARD iox2ps_status_t iox2ps_publisher_create(iox2ps_domain_t *domain, iox2ps_publisher_t *publisher);
 
-/** The same with options. Also IOX2PS_INVALID_SETTINGS, for an unknown number or a length that is no multiple of the
- * alignment. */
+/** The same with options. Also, for the first one that is invalid, IOX2PS_INVALID_STRUCT_SIZE,
+ * IOX2PS_INVALID_INITIAL_MAX_SLICE_LEN, IOX2PS_INVALID_BACKPRESSURE_STRATEGY, IOX2PS_INVALID_BACKPRESSURE_HANDLER,
+ * IOX2PS_INVALID_DEGRADATION or IOX2PS_INVALID_ALLOCATION_STRATEGY, in this order. */
 IOX2PS_NODISCARD iox2ps_status_t iox2ps_publisher_create_with(iox2ps_domain_t *domain,
                                                               const iox2ps_publisher_options_t *options,
                                                               iox2ps_publisher_t *publisher);
 
 /** Closes a publisher. IOX2PS_NOT_LIVE, IOX2PS_PUBLISHER_IS_BLOCKED. */
-IOX2PS_NODISCARD iox2ps_status_t iox2ps_publisher_close(iox2ps_domain_t *domain, const iox2ps_publisher_t *publisher);
+iox2ps_status_t iox2ps_publisher_close(iox2ps_domain_t *domain, const iox2ps_publisher_t *publisher);
 
 /** Whether a send of the publisher waits: 1 or 0. IOX2PS_NOT_LIVE. */
 IOX2PS_NODISCARD iox2ps_status_t iox2ps_publisher_is_blocked(iox2ps_domain_t *domain, const iox2ps_publisher_t *publisher,
@@ -430,25 +479,42 @@ IOX2PS_NODISCARD iox2ps_status_t iox2ps_publisher_loan(iox2ps_domain_t *domain, 
 IOX2PS_NODISCARD iox2ps_status_t iox2ps_publisher_loan_uninit(iox2ps_domain_t *domain, const iox2ps_publisher_t *publisher,
                                                               size_t len, iox2ps_loan_t *loan, void **payload);
 
+/** As iox2ps_publisher_send_copy(), with a receivers that isn't null. */
+IOX2PS_NODISCARD iox2ps_status_t iox2ps_publisher_send_copy_counted(iox2ps_domain_t *domain,
+                                                                    const iox2ps_publisher_t *publisher,
+                                                                    const void *bytes, size_t len, size_t *receivers,
+                                                                    iox2ps_blocked_t *blocked);
+
 /** Sends a copy of the bytes: a loan and its send in one call, which returns what either returns, and has
- * no loan left. */
-IOX2PS_NODISCARD iox2ps_status_t iox2ps_publisher_send_copy(iox2ps_domain_t *domain, const iox2ps_publisher_t *publisher,
-                                                            const void *bytes, size_t len, size_t *receivers,
-                                                            iox2ps_blocked_t *blocked);
+ * no loan left. receivers may be null. */
+IOX2PS_NODISCARD static inline iox2ps_status_t iox2ps_publisher_send_copy(iox2ps_domain_t *domain,
+                                                                          const iox2ps_publisher_t *publisher,
+                                                                          const void *bytes, size_t len,
+                                                                          size_t *receivers, iox2ps_blocked_t *blocked) {
+  size_t unwanted;
+  return iox2ps_publisher_send_copy_counted(domain, publisher, bytes, len, receivers ? receivers : &unwanted, blocked);
+}
 
 /** @}
  * @name Loans
  * @{ */
 
-/** Sends a message, and says how many subscribers took it. With IOX2PS_BLOCKED it waits for one whose buffer
- * is full, and blocked names the send. The loan is consumed with IOX2PS_OK, IOX2PS_BLOCKED and each
+/** As iox2ps_loan_send(), with a receivers that isn't null. */
+IOX2PS_NODISCARD iox2ps_status_t iox2ps_loan_send_counted(iox2ps_domain_t *domain, const iox2ps_loan_t *loan,
+                                                          size_t *receivers, iox2ps_blocked_t *blocked);
+
+/** Sends a message, and says how many subscribers took it; receivers may be null. With IOX2PS_BLOCKED it waits for one
+ * whose buffer is full, and blocked names the send. The loan is consumed with IOX2PS_OK, IOX2PS_BLOCKED and each
  * IOX2PS_SEND_ERROR_..., and stays with IOX2PS_NOT_LIVE and IOX2PS_PUBLISHER_IS_BLOCKED. Where
  * a connection can't be made, the publisher's others are made all the same. */
-IOX2PS_NODISCARD iox2ps_status_t iox2ps_loan_send(iox2ps_domain_t *domain, const iox2ps_loan_t *loan, size_t *receivers,
-                                                  iox2ps_blocked_t *blocked);
+IOX2PS_NODISCARD static inline iox2ps_status_t iox2ps_loan_send(iox2ps_domain_t *domain, const iox2ps_loan_t *loan,
+                                                                size_t *receivers, iox2ps_blocked_t *blocked) {
+  size_t unwanted;
+  return iox2ps_loan_send_counted(domain, loan, receivers ? receivers : &unwanted, blocked);
+}
 
 /** Gives a loan back unsent. IOX2PS_NOT_LIVE. */
-IOX2PS_NODISCARD iox2ps_status_t iox2ps_loan_discard(iox2ps_domain_t *domain, const iox2ps_loan_t *loan);
+iox2ps_status_t iox2ps_loan_discard(iox2ps_domain_t *domain, const iox2ps_loan_t *loan);
 
 /** Where the bytes of a loan lie, as iox2ps_publisher_loan() says it. IOX2PS_NOT_LIVE. */
 IOX2PS_NODISCARD iox2ps_status_t iox2ps_loan_payload(iox2ps_domain_t *domain, const iox2ps_loan_t *loan, void **payload,
@@ -458,18 +524,41 @@ IOX2PS_NODISCARD iox2ps_status_t iox2ps_loan_payload(iox2ps_domain_t *domain, co
  * @name Sends that wait
  * @{ */
 
+/** Names the subscriber whose full buffer the send waits for: the one that a retry tries again and a giving up passes over.
+ * It may have been closed meanwhile; a retry goes past it then. Nothing changes. IOX2PS_NOT_LIVE. */
+IOX2PS_NODISCARD iox2ps_status_t iox2ps_blocked_subscriber(iox2ps_domain_t *domain, const iox2ps_blocked_t *blocked,
+                                                           iox2ps_wide_t *subscriber);
+
+/** As iox2ps_blocked_retry(), with a receivers that isn't null. */
+IOX2PS_NODISCARD iox2ps_status_t iox2ps_blocked_retry_counted(iox2ps_domain_t *domain, const iox2ps_blocked_t *blocked,
+                                                              uint64_t elapsed, size_t *receivers);
+
 /** Tries the send again at the subscriber that it waits for, and goes on to the others. With IOX2PS_BLOCKED it waits
- * on, by the same numbers; with IOX2PS_OK and IOX2PS_SEND_ERROR_UNABLE_TO_DELIVER it has ended. IOX2PS_NOT_LIVE.
+ * on, by the same numbers; with IOX2PS_OK and IOX2PS_SEND_ERROR_UNABLE_TO_DELIVER it has ended. receivers may be null.
+ * IOX2PS_NOT_LIVE.
  *
  * elapsed is how many nanoseconds ago the send was first blocked there. A handler of full buffers is told it, so that it
  * may let a send go that waits too long. The handlers of this header always answer the same, so that here each number does
  * the same: a program that measures no time says 0. */
-IOX2PS_NODISCARD iox2ps_status_t iox2ps_blocked_retry(iox2ps_domain_t *domain, const iox2ps_blocked_t *blocked,
-                                                      uint64_t elapsed, size_t *receivers);
+IOX2PS_NODISCARD static inline iox2ps_status_t iox2ps_blocked_retry(iox2ps_domain_t *domain,
+                                                                    const iox2ps_blocked_t *blocked, uint64_t elapsed,
+                                                                    size_t *receivers) {
+  size_t unwanted;
+  return iox2ps_blocked_retry_counted(domain, blocked, elapsed, receivers ? receivers : &unwanted);
+}
 
-/** Gives up the subscriber that the send waits for, and goes on to the others. Returns as a retry does. */
-IOX2PS_NODISCARD iox2ps_status_t iox2ps_blocked_give_up(iox2ps_domain_t *domain, const iox2ps_blocked_t *blocked,
-                                                        size_t *receivers);
+/** As iox2ps_blocked_give_up(), with a receivers that isn't null. */
+IOX2PS_NODISCARD iox2ps_status_t iox2ps_blocked_give_up_counted(iox2ps_domain_t *domain, const iox2ps_blocked_t *blocked,
+                                                                size_t *receivers);
+
+/** Gives up the subscriber that the send waits for, and goes on to the others. Returns as a retry does, and receivers may
+ * be null. */
+IOX2PS_NODISCARD static inline iox2ps_status_t iox2ps_blocked_give_up(iox2ps_domain_t *domain,
+                                                                      const iox2ps_blocked_t *blocked,
+                                                                      size_t *receivers) {
+  size_t unwanted;
+  return iox2ps_blocked_give_up_counted(domain, blocked, receivers ? receivers : &unwanted);
+}
 
 /** @}
  * @name Subscribers
@@ -478,13 +567,14 @@ IOX2PS_NODISCARD iox2ps_status_t iox2ps_blocked_give_up(iox2ps_domain_t *domain,
 /** Makes a subscriber, as the settings say. IOX2PS_SUBSCRIBER_CREATE_ERROR_... */
 IOX2PS_NODISCARD iox2ps_status_t iox2ps_subscriber_create(iox2ps_domain_t *domain, iox2ps_subscriber_t *subscriber);
 
-/** The same with options. Also IOX2PS_INVALID_SETTINGS, for an unknown number. */
+/** The same with options. Also, for the first one that is invalid, IOX2PS_INVALID_STRUCT_SIZE, IOX2PS_INVALID_DEGRADATION
+ * or IOX2PS_INVALID_RESERVED, in this order. */
 IOX2PS_NODISCARD iox2ps_status_t iox2ps_subscriber_create_with(iox2ps_domain_t *domain,
                                                                const iox2ps_subscriber_options_t *options,
                                                                iox2ps_subscriber_t *subscriber);
 
 /** Closes a subscriber. Its samples stay. IOX2PS_NOT_LIVE. */
-IOX2PS_NODISCARD iox2ps_status_t iox2ps_subscriber_close(iox2ps_domain_t *domain, const iox2ps_subscriber_t *subscriber);
+iox2ps_status_t iox2ps_subscriber_close(iox2ps_domain_t *domain, const iox2ps_subscriber_t *subscriber);
 
 /** Updates the subscriber's connections, and says whether a message waits: 1 or 0. IOX2PS_NOT_LIVE,
  * IOX2PS_CONNECTION_FAILURE_..., after which the other connections are made all the same. */
@@ -530,7 +620,7 @@ IOX2PS_NODISCARD iox2ps_status_t iox2ps_sample_header(iox2ps_domain_t *domain, c
                                                       iox2ps_header_t *header);
 
 /** Gives a message back. IOX2PS_NOT_LIVE. */
-IOX2PS_NODISCARD iox2ps_status_t iox2ps_sample_release(iox2ps_domain_t *domain, const iox2ps_sample_t *sample);
+iox2ps_status_t iox2ps_sample_release(iox2ps_domain_t *domain, const iox2ps_sample_t *sample);
 
 /** @}
  * @name Channels
@@ -608,16 +698,29 @@ IOX2PS_NODISCARD iox2ps_status_t iox2ps_publisher_close_channel(iox2ps_domain_t 
                                                                 const iox2ps_publisher_t *publisher, size_t channel,
                                                                 size_t connection, uint64_t expected);
 
+/** As iox2ps_loan_deliver_offset_to_connection(), with a receivers that isn't null. */
+IOX2PS_NODISCARD iox2ps_status_t iox2ps_loan_deliver_offset_to_connection_counted(iox2ps_domain_t *domain,
+                                                                                  const iox2ps_loan_t *loan,
+                                                                                  size_t channel, size_t connection,
+                                                                                  size_t *receivers,
+                                                                                  iox2ps_blocked_t *blocked);
+
 /** Sends a message into one channel of one connection of its publisher, and to nobody else, and says how many
- * subscribers took it: 1 or 0. It is 0 where there is no such connection, and where its subscriber or the channel is
+ * subscribers took it: 1 or 0; receivers may be null. It is 0 where there is no such connection, and where its subscriber or the channel is
  * closed. Connections aren't updated, and the message enters no history. With IOX2PS_BLOCKED it waits for room in that
  * channel, and blocked names the send. A message in another channel than 0 can't be received. The loan is consumed with
  * IOX2PS_OK, IOX2PS_BLOCKED and each IOX2PS_SEND_ERROR_..., and stays with IOX2PS_NOT_LIVE, IOX2PS_PUBLISHER_IS_BLOCKED
  * and IOX2PS_NO_SUCH_CHANNEL. */
-IOX2PS_NODISCARD iox2ps_status_t iox2ps_loan_deliver_offset_to_connection(iox2ps_domain_t *domain,
-                                                                          const iox2ps_loan_t *loan, size_t channel,
-                                                                          size_t connection, size_t *receivers,
-                                                                          iox2ps_blocked_t *blocked);
+IOX2PS_NODISCARD static inline iox2ps_status_t iox2ps_loan_deliver_offset_to_connection(iox2ps_domain_t *domain,
+                                                                                        const iox2ps_loan_t *loan,
+                                                                                        size_t channel,
+                                                                                        size_t connection,
+                                                                                        size_t *receivers,
+                                                                                        iox2ps_blocked_t *blocked) {
+  size_t unwanted;
+  return iox2ps_loan_deliver_offset_to_connection_counted(domain, loan, channel, connection,
+                                                          receivers ? receivers : &unwanted, blocked);
+}
 
 /** @} */
 

@@ -1,3 +1,4 @@
+// SPDX-License-Identifier: Apache-2.0 OR MIT
 /** @file
  * Publish-subscribe inside one program, for C++17: the calls of iox2_pubsub.h with types, and with handles
  * that give back what they have.
@@ -324,10 +325,7 @@ protected:
   View() = default; /**< of nothing */
   View(View &&other) noexcept : data_(std::exchange(other.data_, nullptr)) {} /**< leaves the other without a value */
   /** The same. */
-  View &operator=(View &&other) noexcept {
-    data_ = std::exchange(other.data_, nullptr);
-    return *this;
-  }
+  void take(View &other) noexcept { data_ = std::exchange(other.data_, nullptr); }
 
   /** What it is of. */
   void see(T *data, std::size_t) { data_ = data; }
@@ -362,10 +360,9 @@ protected:
   /** Leaves the other without values. */
   View(View &&other) noexcept : data_(std::exchange(other.data_, nullptr)), size_(std::exchange(other.size_, 0)) {}
   /** The same. */
-  View &operator=(View &&other) noexcept {
+  void take(View &other) noexcept {
     data_ = std::exchange(other.data_, nullptr);
     size_ = std::exchange(other.size_, 0);
-    return *this;
   }
 
   /** What it is of. */
@@ -514,7 +511,7 @@ public:
   Loan &operator=(Loan &&other) noexcept {
     if (this != &other) {
       discard();
-      View<P, Element>::operator=(std::move(other));
+      this->take(other);
       hold_ = std::move(other.hold_);
       loan_ = other.loan_;
     }
@@ -604,7 +601,7 @@ public:
   Sample &operator=(Sample &&other) noexcept {
     if (this != &other) {
       release();
-      View<P, const Element>::operator=(std::move(other));
+      this->take(other);
       hold_ = std::move(other.hold_);
       sample_ = other.sample_;
     }
@@ -842,6 +839,8 @@ private:
     return [&value](std::uint8_t *bytes) { return new (bytes) Element(value); };
   }
   static auto begin_values(std::size_t len) {
+    static_assert(std::is_default_constructible_v<Element>, "a message without a default value is lent with a value, by loan(value), or by "
+                                                            "loan_uninit(), blocking_loan_uninit() or loan_slice_uninit()");
     return [len](std::uint8_t *bytes) {
       for (std::size_t at = 0; at < len; at++) new (bytes + at * sizeof(Element)) Element();
       return reinterpret_cast<Element *>(bytes);
@@ -1142,7 +1141,7 @@ private:
  * nothing, and has no settings, no warnings and nothing to count. */
 template <typename P, typename M> class Domain {
 public:
-  /** Makes a domain. Error::InvalidSettings, Error::OutOfMemory, Error::OtherVersion. */
+  /** Makes a domain. Error::InvalidBackpressureStrategy, Error::OutOfMemory, Error::OtherVersion. */
   static Result<Domain> create(const Config<P> &config) {
     if (iox2ps_version() != IOX2PS_VERSION) return Error::OtherVersion;
     if (!detail::count_forks()) return Error::OutOfMemory;

@@ -1,3 +1,4 @@
+// SPDX-License-Identifier: Apache-2.0 OR MIT
 /** @file
  * What tells that a message may have come in a domain that several threads use: listeners, and on Linux a file descriptor.
  * It is included by iox2_pubsub_shared.hpp. */

@@ -1,3 +1,4 @@
+// SPDX-License-Identifier: Apache-2.0 OR MIT
 /** @file
  * What calls of iox2_pubsub.hpp return: a value, or why there is none. It is included there. */
 #ifndef IOX2_PUBSUB_RESULTS_HPP
@@ -24,7 +25,6 @@ enum class Error : std::uint32_t {
   NotLive = IOX2PS_NOT_LIVE,                        /**< the handle is empty: it was moved from, sent or ended */
   OutOfMemory = IOX2PS_OUT_OF_MEMORY,               /**< there is no memory for the domain or the handle */
   PublisherIsBlocked = IOX2PS_PUBLISHER_IS_BLOCKED, /**< an earlier send of the publisher waits, and nothing was done */
-  InvalidSettings = IOX2PS_INVALID_SETTINGS,        /**< a setting has none of its values */
 
   LoanOutOfMemory = IOX2PS_LOAN_ERROR_OUT_OF_MEMORY,                   /**< each slot is in use, or memory may not grow further */
   LoanExceedsMaxLoans = IOX2PS_LOAN_ERROR_EXCEEDS_MAX_LOANS,           /**< as many loans are out as may be */
@@ -78,6 +78,17 @@ enum class Error : std::uint32_t {
   SubscriberUnableToCreatePortTag = IOX2PS_SUBSCRIBER_CREATE_ERROR_UNABLE_TO_CREATE_PORT_TAG,
 
   NoSuchChannel = IOX2PS_NO_SUCH_CHANNEL, /**< a connection has no channel with this number */
+
+  InvalidStructSize = IOX2PS_INVALID_STRUCT_SIZE,                     /**< the archive isn't of these headers */
+  InvalidPayloadSize = IOX2PS_INVALID_PAYLOAD_SIZE,                   /**< no multiple of the alignment */
+  InvalidPayloadAlignment = IOX2PS_INVALID_PAYLOAD_ALIGNMENT,         /**< not 1, 2, 4, 8 or 16 */
+  InvalidBackpressureStrategy = IOX2PS_INVALID_BACKPRESSURE_STRATEGY, /**< no BackpressureStrategy */
+  InvalidBackpressureHandler = IOX2PS_INVALID_BACKPRESSURE_HANDLER,   /**< no BackpressureAction */
+  InvalidDegradation = IOX2PS_INVALID_DEGRADATION,                    /**< no DegradationAction */
+  InvalidAllocationStrategy = IOX2PS_INVALID_ALLOCATION_STRATEGY,     /**< no AllocationStrategy */
+  InvalidInitialMaxSliceLen = IOX2PS_INVALID_INITIAL_MAX_SLICE_LEN,   /**< never returned */
+  InvalidReserved = IOX2PS_INVALID_RESERVED,                          /**< never returned */
+  WorstCaseTooLarge = IOX2PS_WORST_CASE_TOO_LARGE,                    /**< never returned */
 
   /** The domain is that of the process that was forked, and this is its child. A domain of its own is made here. */
   AfterFork = 0xfffffffdu,

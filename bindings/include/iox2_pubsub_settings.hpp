@@ -1,3 +1,4 @@
+// SPDX-License-Identifier: Apache-2.0 OR MIT
 /** @file
  * The settings of domains and ports, and what a domain says of itself, for iox2_pubsub.hpp. It is included there.
  *

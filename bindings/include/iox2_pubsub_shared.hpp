@@ -1,3 +1,4 @@
+// SPDX-License-Identifier: Apache-2.0 OR MIT
 /** @file
  * Domains that several threads use at a time, for C++17: the classes of iox2_pubsub.hpp over a lock.
  *

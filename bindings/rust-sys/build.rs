@@ -1,3 +1,4 @@
+// SPDX-License-Identifier: Apache-2.0 OR MIT
 //! Says where the archive `libiox2_pubsub.a` for the target is: in the folder that `IOX2_PUBSUB_LIB_DIR` names, or else in `lib` beside
 //! this crate's folder, in a release for the target beside this one, or where `tools/bindings` makes it. An archive for another target is
 //! refused. Without one programs are checked and documented, but not linked.
@@ -81,6 +82,12 @@ fn refuse(others: &[&PathBuf]) -> ! {
 }
 
 fn main() {
+    println!("cargo:rerun-if-env-changed=IOX2_PUBSUB_STAND_IN");
+    // Miri can't call the archive; tests ask for what stands in.
+    if env::var_os("CARGO_CFG_MIRI").is_some() || env::var_os("IOX2_PUBSUB_STAND_IN").is_some() {
+        println!("cargo:rustc-cfg=iox2ps_stand_in");
+        return;
+    }
     println!("cargo:rerun-if-env-changed=IOX2_PUBSUB_LIB_DIR");
     let folders = folders();
     let (fitting, others): (Vec<_>, Vec<_>) = folders

@@ -1,3 +1,4 @@
+// SPDX-License-Identifier: Apache-2.0 OR MIT
 //! Puts lock_order.c between the program `random` and the archive.
 
 use std::env;

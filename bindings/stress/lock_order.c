@@ -1,3 +1,4 @@
+// SPDX-License-Identifier: Apache-2.0 OR MIT
 /* Stands between a program and the archive (-Wl,--wrap=..), and writes down each call on the domain in the order in
  * which the calls are made, as a script of `pubsub_script`, and what each returned as the replies. So what several
  * threads got by whatever lock becomes one list of calls, which `run` can be asked about.
@@ -148,9 +149,9 @@ REAL(uint32_t, iox2ps_domain_create, iox2ps_domain_t *domain, const iox2ps_confi
       config->subscriber_expired_connection_buffer, config->enable_safe_overflow ? "overflow" : "keep");
   return __real_iox2ps_domain_create(domain, config);
 }
-REAL(uint32_t, iox2ps_domain_config, iox2ps_domain_t *domain, iox2ps_config_t *config) {
+REAL(uint32_t, iox2ps_domain_config_sized, iox2ps_domain_t *domain, iox2ps_config_t *config, size_t struct_size) {
   uint32_t code;
-  CALL(__real_iox2ps_domain_config(domain, config));
+  CALL(__real_iox2ps_domain_config_sized(domain, config, struct_size));
   return code;
 }
 REAL(uint32_t, iox2ps_publisher_is_blocked, iox2ps_domain_t *domain, const iox2ps_publisher_t *it, uint32_t *is) {
@@ -250,7 +251,7 @@ static void sent(uint32_t code, uint64_t number, size_t receivers) {
   else if (code == IOX2PS_BLOCKED) { reply("blocked"); add(BLOCKED, 0, number, NULL); }
   else reply_error(code);
 }
-REAL(uint32_t, iox2ps_loan_send, iox2ps_domain_t *domain, const iox2ps_loan_t *it, size_t *receivers, iox2ps_blocked_t *blocked) {
+REAL(uint32_t, iox2ps_loan_send_counted, iox2ps_domain_t *domain, const iox2ps_loan_t *it, size_t *receivers, iox2ps_blocked_t *blocked) {
   uint32_t code;
   thing_t *loan = find(LOAN, 0, it->number.low);
   if (!loan->is_written) {
@@ -258,18 +259,18 @@ REAL(uint32_t, iox2ps_loan_send, iox2ps_domain_t *domain, const iox2ps_loan_t *i
     reply("ok");
     loan->is_written = 1;
   }
-  CALL(__real_iox2ps_loan_send(domain, it, receivers, blocked));
+  CALL(__real_iox2ps_loan_send_counted(domain, it, receivers, blocked));
   line("send", loan->command);
   if (code == IOX2PS_PUBLISHER_IS_BLOCKED) { reply("skipped"); return code; }
   spend(LOAN, loan);
   sent(code, it->number.low, *receivers);
   return code;
 }
-REAL(uint32_t, iox2ps_publisher_send_copy, iox2ps_domain_t *domain, const iox2ps_publisher_t *it, const void *bytes, size_t len, size_t *receivers, iox2ps_blocked_t *blocked) {
+REAL(uint32_t, iox2ps_publisher_send_copy_counted, iox2ps_domain_t *domain, const iox2ps_publisher_t *it, const void *bytes, size_t len, size_t *receivers, iox2ps_blocked_t *blocked) {
   uint32_t code;
   size_t of = find(PUBLISHER, 0, it->id.low)->command;
   if (len != BYTES) fail("a message has another length");
-  CALL(__real_iox2ps_publisher_send_copy(domain, it, bytes, len, receivers, blocked));
+  CALL(__real_iox2ps_publisher_send_copy_counted(domain, it, bytes, len, receivers, blocked));
   put(&script, "copy %zu %" PRIu64 "\n", of, number_at(bytes));
   if (code == IOX2PS_PUBLISHER_IS_BLOCKED) reply("skipped");
   else if (code >= IOX2PS_LOAN_ERROR_OUT_OF_MEMORY && code <= IOX2PS_LOAN_ERROR_INTERNAL_FAILURE) {
@@ -291,17 +292,17 @@ static void went_on(const char *word, thing_t *thing, uint32_t code, size_t rece
   spend(BLOCKED, thing);
   sent(code, 0, receivers);
 }
-REAL(uint32_t, iox2ps_blocked_retry, iox2ps_domain_t *domain, const iox2ps_blocked_t *it, uint64_t elapsed, size_t *receivers) {
+REAL(uint32_t, iox2ps_blocked_retry_counted, iox2ps_domain_t *domain, const iox2ps_blocked_t *it, uint64_t elapsed, size_t *receivers) {
   uint32_t code;
   thing_t *thing = find(BLOCKED, 0, it->number.low);
-  CALL(__real_iox2ps_blocked_retry(domain, it, elapsed, receivers));
+  CALL(__real_iox2ps_blocked_retry_counted(domain, it, elapsed, receivers));
   went_on("retry", thing, code, *receivers);
   return code;
 }
-REAL(uint32_t, iox2ps_blocked_give_up, iox2ps_domain_t *domain, const iox2ps_blocked_t *it, size_t *receivers) {
+REAL(uint32_t, iox2ps_blocked_give_up_counted, iox2ps_domain_t *domain, const iox2ps_blocked_t *it, size_t *receivers) {
   uint32_t code;
   thing_t *thing = find(BLOCKED, 0, it->number.low);
-  CALL(__real_iox2ps_blocked_give_up(domain, it, receivers));
+  CALL(__real_iox2ps_blocked_give_up_counted(domain, it, receivers));
   went_on("giveup", thing, code, *receivers);
   return code;
 }

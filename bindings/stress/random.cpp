@@ -1,3 +1,4 @@
+// SPDX-License-Identifier: Apache-2.0 OR MIT
 /* Makes random calls on one domain from several threads, by the C++ handles: `random SEED CALLS THREADS SCRIPT REPLIES`, as
  * src/random.rs does by those of Rust. FAULT plants a fault that the race detectors have to see. */
 #include "iox2_pubsub_shared.hpp"

@@ -1,3 +1,4 @@
+# SPDX-License-Identifier: Apache-2.0 OR MIT
 """Compares the binary interface of two headers: that of the last release, and this one's."""
 import re
 import subprocess

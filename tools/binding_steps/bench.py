@@ -1,3 +1,4 @@
+# SPDX-License-Identifier: Apache-2.0 OR MIT
 """Compares what a message costs with the C calls, and with channels and queues of the standard library."""
 import datetime
 import os
@@ -15,6 +16,8 @@ SUBSCRIBERS = (1, 4, 16)
 # By how many percent a message to one subscriber may take more instructions in Rust than by the C calls, and by how many instructions
 # for each subscriber where there are more: a sample's numbers are copied, and its length and place looked at.
 MORE, MORE_EACH = 5, 35
+# The instructions that a loan of 64 KB may take in C++: one for each byte that is set, and a quarter of that.
+MOST_OF_A_LOAN = 65536 * 5 // 4
 
 
 def counted(words):
@@ -80,8 +83,28 @@ def not_above_c(compare, in_c, what):
     return f"instructions with 1, 4 and 16 subscribers: {', '.join(rows)}"
 
 
+def lent_in_place(program):
+    """The default value of a message of 64 KB is set once for each loan, and copied by none."""
+    few, many = (counted([program, loans]) for loans in (1, 11))
+    each = (many - few) // 10
+    if each > MOST_OF_A_LOAN:
+        raise Failed(f"{each} instructions for a loan, more than {MOST_OF_A_LOAN}")
+    return f"{each} instructions"
+
+
+def run_cost_of_a_loan(steps, work):
+    """Holds the instructions of a loan in C++ to those that set its bytes."""
+    for compiler in ("g++", "clang++"):
+        if not is_here(compiler) or not is_here("valgrind"):
+            steps.skip(f"what a loan of 64 KB costs by {compiler}", "valgrind" if is_here(compiler) else compiler)
+            continue
+        program = compile_program(compiler, "cpp/loan_cost.cpp", "c++17", work / "loan_cost", "-O2")
+        steps.run(f"a loan of 64 KB by {compiler}", lent_in_place, program)
+
+
 def run_cost(steps, work):
-    """Holds the instructions of a message in Rust to those of the C calls."""
+    """Holds the instructions of a message in Rust to those of the C calls, and of a loan in C++."""
+    run_cost_of_a_loan(steps, work)
     if not is_here("cargo") or not is_here("valgrind"):
         steps.skip("what a message costs in Rust", "cargo" if not is_here("cargo") else "valgrind")
         return

@@ -1,3 +1,4 @@
+# SPDX-License-Identifier: Apache-2.0 OR MIT
 """Packs the library for programs in Rattle: its crates, each with the folder that `rt check` takes over in place of a proof."""
 import importlib.machinery
 import importlib.util

@@ -1,3 +1,4 @@
+# SPDX-License-Identifier: Apache-2.0 OR MIT
 """Counts which lines and branches the tests run: of the C++ headers and the gateway by gcov, of the Rust crate by LLVM."""
 import gzip
 import json

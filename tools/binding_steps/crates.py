@@ -1,3 +1,4 @@
+# SPDX-License-Identifier: Apache-2.0 OR MIT
 """The crates of Rust for others: by the oldest Rust that they say they want, and as packages."""
 import os
 import re
@@ -71,6 +72,33 @@ def run_oldest(steps, work):
         steps.run(f"rust-stream, cargo check by Rust {version}", streams_by_oldest, work, compiler)
 
 
+# ---- what is refused
+
+# Lines that a compiler refuses, and what it has to say of each.
+REFUSED = (
+    ("domain.subscriber().unwrap().blocking_receive().unwrap();", "make it by `create_shared`"),
+    ("domain.publisher().unwrap().blocking_send_copy(1).unwrap();", "one of a domain that threads share"),
+    ("Domain::<[u8]>::builder(7);", "made by `Domain::slice_builder`"),
+)
+
+
+def ways_out(work):
+    """An error of the compiler names the way out: what to call in place of what was called."""
+    folder = work / "refused"
+    (folder / "src").mkdir(parents=True, exist_ok=True)
+    lines = "".join(f"    {line}\n" for line, _ in REFUSED)
+    before = "use iox2_pubsub::Domain;\nfn main() {\n    let domain = Domain::<u64>::builder(7).create().unwrap();\n"
+    (folder / "src/main.rs").write_text(f"{before}{lines}}}\n")
+    dependency = f'iox2_pubsub = {{ path = "{OUT}/rust" }}'
+    (folder / "Cargo.toml").write_text(f'[package]\nname = "refused"\nedition = "2021"\n[dependencies]\n{dependency}\n')
+    places = {**os.environ, "CARGO_TARGET_DIR": str(work / "target_refused")}
+    written = said("cargo", "check", "--offline", "--quiet", cwd=folder, env=places, fails=True)
+    lacking = [words for _, words in REFUSED if words not in written]
+    if lacking:
+        raise Failed(f"it doesn't say {lacking}:\n{written[-3000:]}")
+    return f"{len(REFUSED)} lines"
+
+
 # ---- packages
 
 def packed(work, crate, *words):
@@ -110,5 +138,6 @@ def run_crates(steps, work):
     """All of these."""
     if not is_here("cargo"):
         return
+    steps.run("rust, errors of the compiler", ways_out, work)
     steps.run("rust, cargo package", build_packages, work)
     run_oldest(steps, work)

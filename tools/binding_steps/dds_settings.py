@@ -1,3 +1,4 @@
+# SPDX-License-Identifier: Apache-2.0 OR MIT
 """The settings of the gateway to DDS in C++ and Rust: that each reaches C, also where Cyclone DDS isn't there."""
 import os
 import re

@@ -1,3 +1,4 @@
+# SPDX-License-Identifier: Apache-2.0 OR MIT
 """What is compiled here for another processor, and run by an emulator: all programs of C and C++, projects of CMake and cargo, the crates."""
 import os
 import re

@@ -1,3 +1,4 @@
+# SPDX-License-Identifier: Apache-2.0 OR MIT
 """Settings and answers that are exchanged with another of their type, or left out, one at a time, which a test has to see."""
 import os
 import re

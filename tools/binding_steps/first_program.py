@@ -1,3 +1,4 @@
+# SPDX-License-Identifier: Apache-2.0 OR MIT
 """Runs the first program as the first page says it: in a new clone, by its two commands, without the kit."""
 import os
 import re

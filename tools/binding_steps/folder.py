@@ -1,3 +1,4 @@
+# SPDX-License-Identifier: Apache-2.0 OR MIT
 """Builds bindings/out, the folder that programs are compiled against."""
 import shutil
 import subprocess
@@ -52,7 +53,7 @@ class Progress:
                 self.open.discard(crate)
                 self.say(f"{crate} is proved ({len(self.crates) - len(self.open)} of {len(self.crates)})")
         if time.time() - self.said_at >= 60:
-            self.say("goes on")
+            self.say(f"goes on, {len(self.crates) - len(self.open)} of {len(self.crates)} crates are proved")
 
     def say(self, words):
         self.said_at = time.time()

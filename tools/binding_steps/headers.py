@@ -1,3 +1,4 @@
+# SPDX-License-Identifier: Apache-2.0 OR MIT
 """What the headers say: the archive's functions, each standard, what a compiler has to refuse, Doxygen, other libraries beside."""
 import re
 import subprocess
@@ -23,7 +24,7 @@ def same_functions(archive=ARCHIVE, nm="nm"):
     symbols = said(nm, "-g", "--defined-only", archive, both=False)
     defined = set(re.findall(r" T (iox2\w*)", symbols))
     text = (INCLUDE / "iox2_pubsub.h").read_text()
-    declared = set(re.findall(r"^(?:IOX2PS_NODISCARD \w+|void) (iox2ps_\w+)\(", text, re.M))
+    declared = set(re.findall(r"^(?:IOX2PS_NODISCARD iox2ps_status_t|IOX2PS_NODISCARD uint32_t|iox2ps_status_t|void) (iox2ps_\w+)\(", text, re.M))
     if defined != declared:
         raise Failed(f"in the archive alone: {sorted(defined - declared)}; in the header alone: {sorted(declared - defined)}")
     return f"{len(defined)} functions"
@@ -73,15 +74,17 @@ int main(void) {{ {} return 0; }}
 CPP = """#include "iox2_pubsub.hpp"
 #include <string>
 struct alignas(32) Wide {{ int x; }};
+struct Sized {{ explicit Sized(int given) : size(given) {{}} int size; }};
 using namespace iox2ps;
 int main() {{ auto domain = Domain<int>::create(Config<int>(1)).expect("a domain"); {} return 0; }}
 """
 # What a compiler has to warn about or refuse, and a part of what it says.
 REFUSED = (
-    ("c11", C, "iox2ps_sample_t sample = {0}; iox2ps_sample_release(&domain, &sample);", "unused"),
-    ("c11", C, "iox2ps_domain_destroy(&domain);", "unused"),
-    ("c++11", C, "iox2ps_domain_destroy(&domain);", "unused"),
-    ("c++17", C, "iox2ps_domain_destroy(&domain);", "unused"),
+    ("c11", C, "iox2ps_subscriber_t subscriber; iox2ps_subscriber_create(&domain, &subscriber);", "unused"),
+    ("c11", C, "iox2ps_config_t config; iox2ps_domain_config(&domain, &config);", "unused"),
+    ("c++11", C, "iox2ps_subscriber_t subscriber; iox2ps_subscriber_create(&domain, &subscriber);", "unused"),
+    ("c++17", C, "iox2ps_subscriber_t subscriber; iox2ps_subscriber_create(&domain, &subscriber);", ""),
+    ("c++17", C, "iox2ps_config_t config; iox2ps_domain_config(&domain, &config);", ""),
     ("c++17", CPP, 'domain.publisher().expect("one").send_copy(1).expect("sent");', "nodiscard"),
     ("c++17", CPP, 'std::move(*domain.publisher()->send_copy(1)->blocked());', ""),
     ("c++17", CPP, "domain.publisher();", "nodiscard"),
@@ -102,6 +105,8 @@ REFUSED = (
     ("c++17", CPP, "auto copy = *domain.publisher(); auto again = copy;", "deleted"),
     ("c++17", CPP, "auto named = domain.publisher(); named.expect(\"one\");", "std::move(result).expect(..)"),
     ("c++17", CPP, "domain.connection_count();", "nodiscard"),
+    ("c++17", CPP, "(void)Domain<Sized>::create(Config<Sized>(1))->publisher()->loan();", "loan_uninit()"),
+    ("c++17", CPP, "for (auto &sample : *domain.subscriber()) return *sample;", "begin"),
     ("c++17", CPP, "iox2ps::text(Error::NotLive);", "nodiscard"),
     ("c++17", CPP, "domain.stop_waits();", "SharedDomain"),
     ("c++17", CPP, "return domain.waits_are_stopped();", "SharedDomain"),
@@ -113,6 +118,27 @@ REFUSED = (
     ("c++17", CPP, "iox2ps::Waits::Message;", ""),
     ("c++14", '#include "iox2_pubsub.hpp"\n{}', "int x;", "iox2_pubsub.hpp is for C++17"),
 )
+# What has to compile without a warning: the code of a call that gives back may be dropped.
+TAKEN = tuple(
+    (standard, f"{cast}{call}")
+    for standard in ("c11", "c++11", "c++17")
+    for cast in ("", "(void)")
+    for call in (
+        "iox2ps_loan_discard(&domain, &loan);",
+        "iox2ps_sample_release(&domain, &sample);",
+        "iox2ps_publisher_close(&domain, &publisher);",
+        "iox2ps_subscriber_close(&domain, &subscriber);",
+        "iox2ps_domain_destroy(&domain);",
+    )
+)
+GIVING_BACK = """#include "iox2_pubsub.h"
+static iox2ps_domain_t domain = IOX2PS_DOMAIN_INIT;
+static iox2ps_publisher_t publisher;
+static iox2ps_subscriber_t subscriber;
+static iox2ps_loan_t loan;
+static iox2ps_sample_t sample;
+int main(void) {{ (void)publisher; (void)subscriber; (void)loan; (void)sample; {} return 0; }}
+"""
 
 
 def compiled(compiler_of, standard, text):
@@ -132,6 +158,15 @@ def refuses(compiler_of):
         if ran.returncode == 0 or words not in ran.stderr:
             raise Failed(f"{standard}: {line}\n{ran.stderr[-1500:] or 'is taken'}")
     return f"{len(REFUSED)} lines"
+
+
+def takes(compiler_of):
+    """Each compiles without a warning."""
+    for standard, line in TAKEN:
+        ran = compiled(compiler_of, standard, GIVING_BACK.format(line))
+        if ran.returncode:
+            raise Failed(f"{standard}: {line}\n{ran.stderr[-1500:]}")
+    return f"{len(TAKEN)} lines"
 
 
 def beside_others(work, compilers):
@@ -171,6 +206,7 @@ def run_headers(steps, work):
         steps.run(f"how structs lie in memory, {c}", layouts.holds, (c, cpp), INCLUDE)
         steps.run(f"the headers behind macros, {cpp}", beside_macros, compiler_of)
         steps.run(f"what has to be refused, {c}", refuses, compiler_of)
+        steps.run(f"what has to be taken, {c}", takes, compiler_of)
         steps.run(f"beside iceoryx, {c}", beside_others, work, (c, cpp))
     if is_here("doxygen"):
         steps.run("doxygen", doxygen, work)

@@ -1,3 +1,4 @@
+# SPDX-License-Identifier: Apache-2.0 OR MIT
 """The folder as packagers take it: installed, moved, as a shared library, as a part of another project, for another processor."""
 import os
 import re

@@ -1,3 +1,4 @@
+# SPDX-License-Identifier: Apache-2.0 OR MIT
 """How structs lie in memory: a table of sizes and offsets, made of the header, which each compiler and each target is held to.
 
 The archive was compiled by one compiler, and programs by others. bindings/c/layout.c says what all have to find, and
@@ -36,6 +37,7 @@ def numbers(work):
 
 
 C_HEAD = """\
+// SPDX-License-Identifier: Apache-2.0 OR MIT
 /* How the archive has the structs of the header in memory, on each of its processors. `tools/bindings layouts` makes this file. */
 #include "iox2_pubsub.h"
 
@@ -52,6 +54,7 @@ HAS(sizeof(size_t), 8);
 """
 
 RUST_HEAD = """\
+// SPDX-License-Identifier: Apache-2.0 OR MIT
 //! How the archive has the structs of the header in memory, on each of its processors. `tools/bindings layouts` makes this file.
 use std::mem::{align_of, size_of, MaybeUninit};
 use std::ptr::addr_of;

@@ -1,3 +1,4 @@
+# SPDX-License-Identifier: Apache-2.0 OR MIT
 """Compares what a message takes by its length: this library, queues of Rust that copy nothing, iceoryx and a copy, one after the other."""
 import os
 import re

@@ -1,3 +1,4 @@
+# SPDX-License-Identifier: Apache-2.0 OR MIT
 """Where figures are measured: the processor, the load, the compilers."""
 import os
 import platform

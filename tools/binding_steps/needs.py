@@ -1,3 +1,4 @@
+# SPDX-License-Identifier: Apache-2.0 OR MIT
 """What the archive needs of the C library and of the processor, which docs/FOR-YOUR-PRODUCT.md says."""
 import re
 

@@ -1,3 +1,4 @@
+# SPDX-License-Identifier: Apache-2.0 OR MIT
 """The folder as others take it: CMake, pkg-config, installed, the page's programs, the crates of Rust, the gateway to DDS."""
 import json
 import os
@@ -42,7 +43,7 @@ target_link_libraries(one PRIVATE iox2_pubsub::iox2_pubsub)
 """
 
 
-def project_of(work, languages, extension, version="0.1", fails=False):
+def project_of(work, languages, extension, version="0.2", fails=False):
     """A project of one language that says no standard."""
     folder = work / f"project_{languages}_{version}"
     folder.mkdir(exist_ok=True)

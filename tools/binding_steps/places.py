@@ -1,3 +1,4 @@
+# SPDX-License-Identifier: Apache-2.0 OR MIT
 """Where things lie, and which version they have."""
 import re
 import shutil

@@ -1,3 +1,4 @@
+# SPDX-License-Identifier: Apache-2.0 OR MIT
 """The programs of C and C++: compiled and run by gcc and clang, with sanitizers and valgrind."""
 import filecmp
 import subprocess

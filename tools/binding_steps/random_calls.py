@@ -1,3 +1,4 @@
+# SPDX-License-Identifier: Apache-2.0 OR MIT
 """100,000 random calls beside `run`, as many on channels beside a model, and pointers that lead elsewhere, which the tests have to see."""
 import subprocess
 

@@ -1,3 +1,4 @@
+# SPDX-License-Identifier: Apache-2.0 OR MIT
 """Programs of each language record what they call, and a replay of what they print has the recorded replies. Each byte that they received is
 in the recording."""
 import re

@@ -1,3 +1,4 @@
+# SPDX-License-Identifier: Apache-2.0 OR MIT
 """Debian's crates of Rust, which cargo takes in place of crates.io without a network."""
 import os
 from pathlib import Path

@@ -1,3 +1,4 @@
+# SPDX-License-Identifier: Apache-2.0 OR MIT
 """Packs a release of a commit, and compares a release with its commit and with the proofs."""
 import gzip
 import hashlib

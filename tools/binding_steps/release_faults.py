@@ -1,3 +1,4 @@
+# SPDX-License-Identifier: Apache-2.0 OR MIT
 """Releases with faults, which have to be refused."""
 import io
 import re

@@ -1,3 +1,4 @@
+# SPDX-License-Identifier: Apache-2.0 OR MIT
 """Counts which regions of the Rust crate its tests run, and which lines of its unsafe code, by LLVM's counters."""
 import json
 import os

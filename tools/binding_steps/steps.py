@@ -1,3 +1,4 @@
+# SPDX-License-Identifier: Apache-2.0 OR MIT
 """Counts what passes and what fails, and says it."""
 import re
 import subprocess

@@ -1,3 +1,4 @@
+# SPDX-License-Identifier: Apache-2.0 OR MIT
 """The processors that the archive is made for, and what each file of an archive says of its own."""
 from dataclasses import dataclass
 from pathlib import Path

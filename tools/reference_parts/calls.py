@@ -1,3 +1,4 @@
+# SPDX-License-Identifier: Apache-2.0 OR MIT
 """Which functions a body calls, by the types of its expressions as far as they are known."""
 from .named import Calls
 from .types import LIST, TUPLE, Type, copy_of

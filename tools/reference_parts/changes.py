@@ -1,3 +1,4 @@
+# SPDX-License-Identifier: Apache-2.0 OR MIT
 """What the reference has to say, and that it follows the sources."""
 import re
 import tempfile

@@ -1,3 +1,4 @@
+# SPDX-License-Identifier: Apache-2.0 OR MIT
 """The definitions that clauses name: the words of specs/, each with its comment."""
 import re
 from dataclasses import dataclass

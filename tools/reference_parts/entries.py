@@ -1,3 +1,4 @@
+# SPDX-License-Identifier: Apache-2.0 OR MIT
 """The public items of a crate, under the names by which users know them."""
 import re
 from dataclasses import dataclass, field

@@ -1,3 +1,4 @@
+# SPDX-License-Identifier: Apache-2.0 OR MIT
 """What the headers of C and C++ declare: functions, their comments, and which functions of C a method calls."""
 import re
 from collections import defaultdict
@@ -7,9 +8,12 @@ from .repository import sentence
 
 C_HEADER = "bindings/include/iox2_pubsub.h"
 C_NAME = re.compile(r"\biox2ps_\w+")
+# What the archive's functions end in that stand behind inline ones, which users call.
+BEHIND = ("_sized", "_counted")
 C_FUNCTION = re.compile(
-    r"(?:/\*\*(?P<doc>(?:(?!\*/).)*)\*/\s*)?(?P<head>(?:IOX2PS_NODISCARD\s+)?(?:const\s+)?\w+\s+\**)(?P<name>iox2ps_\w+)\((?P<inputs>[^;{]*?)\);",
-    re.S,
+    r"(?:/\*\*(?P<doc>(?:(?!\*/).)*)\*/\s*)?(?P<head>(?:IOX2PS_NODISCARD\s+)?(?:static inline\s+)?(?:const\s+)?\w+\s+\**)"
+    r"\b(?P<name>iox2ps_\w+)\((?P<inputs>[^;{]*?)\)(?:;|\s*\{(?P<body>.*?)^\})",
+    re.S | re.M,
 )
 WORDS = re.compile(r"/\*.*?\*/|//[^\n]*|\#(?:\\\n|[^\n])*|\"(?:\\.|[^\"\\])*\"|'(?:\\.|[^'\\])*'|::|->|\w+|\s+|.", re.S)
 
@@ -22,6 +26,8 @@ class CFunction:
     line: int
     doc: str
     signature: str
+    # Itself, or the archive's function that it calls where it is inline.
+    archived: str
 
 
 def plain(comment):
@@ -32,14 +38,15 @@ def plain(comment):
 
 
 def c_functions(repository):
-    """The functions of the header, as they come."""
+    """The functions of the header that users call, as they come."""
     text = repository.text(C_HEADER)
     found = []
     for match in C_FUNCTION.finditer(text):
         doc = plain(match["doc"] or "")
-        signature = sentence(match["head"].replace("IOX2PS_NODISCARD", "") + f"{match['name']}({match['inputs']})")
-        found.append(CFunction(match["name"], text.count("\n", 0, match.start("name")) + 1, doc, signature))
-    return found
+        signature = sentence(re.sub(r"IOX2PS_NODISCARD|static inline", "", match["head"]) + f"{match['name']}({match['inputs']})")
+        archived = C_NAME.search(match["body"])[0] if match["body"] else match["name"]
+        found.append(CFunction(match["name"], text.count("\n", 0, match.start("name")) + 1, doc, signature, archived))
+    return [one for one in found if not one.name.endswith(BEHIND)]
 
 
 @dataclass

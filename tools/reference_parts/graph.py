@@ -1,3 +1,4 @@
+# SPDX-License-Identifier: Apache-2.0 OR MIT
 """What a function calls, directly and by others."""
 from collections import defaultdict
 from functools import cached_property

@@ -1,3 +1,4 @@
+# SPDX-License-Identifier: Apache-2.0 OR MIT
 """The items of a file of Rattle or Rust: types, traits, functions with their clauses."""
 from dataclasses import dataclass, field
 

@@ -1,3 +1,4 @@
+# SPDX-License-Identifier: Apache-2.0 OR MIT
 """The names of calls in C, C++ and Rust: which functions of C call them, and who calls these."""
 import re
 from collections import defaultdict
@@ -44,7 +45,7 @@ class Languages:
         items = [item for file in self.world.crates[EXPORTS].files for item in file.items]
         exports = {item.name: item for item in items if "no_mangle" in " ".join(item.attributes)}
         for function in self.c_functions:
-            function.item = exports.get(function.name)
+            function.item = exports.get(function.archived)
             reached = self.reach(function.item, lambda one: one.file.startswith(f"crates/{EXPORTS}/")) if function.item else []
             calls = [entry for other, _ in reached for entry in self.entries_of(other) if entry.is_call]
             self.c_calls[function.name] = list(dict.fromkeys(calls))

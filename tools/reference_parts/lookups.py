@@ -1,3 +1,4 @@
+# SPDX-License-Identifier: Apache-2.0 OR MIT
 """Which functions a type has, which fields, and what they give: as far as declarations say it."""
 from dataclasses import dataclass
 

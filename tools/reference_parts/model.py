@@ -1,3 +1,4 @@
+# SPDX-License-Identifier: Apache-2.0 OR MIT
 """What the reference says: each public item with its clauses, its original, its tests, its names in other languages, its mutants."""
 from collections import defaultdict
 from functools import cached_property

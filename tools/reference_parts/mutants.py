@@ -1,3 +1,4 @@
+# SPDX-License-Identifier: Apache-2.0 OR MIT
 """Wrong bodies that the prover has to refuse, and faults that a test has to find, with the functions and clauses that they break."""
 import re
 from dataclasses import dataclass, field

@@ -1,3 +1,4 @@
+# SPDX-License-Identifier: Apache-2.0 OR MIT
 """Paths, calls and what follows them by a dot."""
 from .lookups import WRAPPERS, Call
 from .patterns import Patterns

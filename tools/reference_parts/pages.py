@@ -1,3 +1,4 @@
+# SPDX-License-Identifier: Apache-2.0 OR MIT
 """The reference as HTML: a page for each crate, one for C's functions, one for the words of clauses, and an index."""
 import html
 import re

@@ -1,3 +1,4 @@
+# SPDX-License-Identifier: Apache-2.0 OR MIT
 """What the names of patterns are: those of parameters, of `let`, of arms."""
 from .lookups import WRAPPERS, Lookups
 from .types import LIST, TUPLE, Scope, Type, parameters

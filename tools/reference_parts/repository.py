@@ -1,3 +1,4 @@
+# SPDX-License-Identifier: Apache-2.0 OR MIT
 """The files of the repository, and where they lie."""
 import re
 import subprocess

@@ -1,3 +1,4 @@
+# SPDX-License-Identifier: Apache-2.0 OR MIT
 """The requirements: which clauses keep each, and the tests and mutants of the calls that have them."""
 import re
 import tomllib

@@ -1,3 +1,4 @@
+# SPDX-License-Identifier: Apache-2.0 OR MIT
 """The settings and answers of the bindings, each with a test that shows its effect: bindings/settings.toml names it."""
 import re
 import tomllib
@@ -11,7 +12,7 @@ RUST = "bindings/rust/src"
 # How a kind of thing is found in its file, and how each of its parts is: by the kind's name.
 STRUCT = (r"^typedef struct {0} \{{(.*?)^\}} {0};", r"^  [\w *]+?\b(\w+);")
 ENUM = (r"^typedef enum {0} \{{(.*?)^\}} {0};", r"^  (IOX2PS_\w+) =")
-ARGUMENTS = (r"^uint32_t {0}\((.*?)\);", r"\b(dds_domain|max_message_size)\b")
+ARGUMENTS = (r"^uint32_t {0}\((.*?)\) IOX2PS_DDS_NOEXCEPT;", r"\b(dds_domain|max_message_size)\b")
 CLASS = (
     r"^(?:template <[^;]*?> )?class {0} [^;]*?^public:\n(.*?)^(?:protected|private):",
     r"^  (?:\[\[nodiscard\]\] )?(?:template <.*?> )?(?:\w+ &|[\w:<>]+ )(\w+)\([^)]*\)(?: const)? \{{",

@@ -1,3 +1,4 @@
+# SPDX-License-Identifier: Apache-2.0 OR MIT
 """The table of calls, as a page: docs/CALLS.md."""
 import re
 

@@ -1,3 +1,4 @@
+# SPDX-License-Identifier: Apache-2.0 OR MIT
 """Which item a name means where it stands, and of which type an expression is, as far as declarations say it."""
 from dataclasses import dataclass, field
 

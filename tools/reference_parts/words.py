@@ -1,3 +1,4 @@
+# SPDX-License-Identifier: Apache-2.0 OR MIT
 """Reads Rattle and Rust as a list of words, each with its line."""
 import re
 from dataclasses import dataclass

@@ -1,3 +1,4 @@
+# SPDX-License-Identifier: Apache-2.0 OR MIT
 """Where things lie, how commands are run, and what has passed so far."""
 import os
 import shutil

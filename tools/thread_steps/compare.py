@@ -1,3 +1,4 @@
+# SPDX-License-Identifier: Apache-2.0 OR MIT
 """What a message between threads costs beside channels, and the soak."""
 import shutil
 import statistics

@@ -1,3 +1,4 @@
+# SPDX-License-Identifier: Apache-2.0 OR MIT
 """How a program of many threads ends, whatever else the machine does: no clock says that it waits for good."""
 import resource
 import subprocess

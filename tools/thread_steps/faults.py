@@ -1,3 +1,4 @@
+# SPDX-License-Identifier: Apache-2.0 OR MIT
 """Faults that are planted in the crate of Rust and in the headers of C++, and that tests have to see."""
 import json
 import shutil

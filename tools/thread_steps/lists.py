@@ -1,3 +1,4 @@
+# SPDX-License-Identifier: Apache-2.0 OR MIT
 """Random calls of four threads against `run`, and with forbidden bytes."""
 import re
 import subprocess

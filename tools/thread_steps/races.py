@@ -1,3 +1,4 @@
+# SPDX-License-Identifier: Apache-2.0 OR MIT
 """The random programs under the thread sanitizer and helgrind."""
 import re
 import subprocess

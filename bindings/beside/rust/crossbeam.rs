@@ -1,3 +1,4 @@
+// SPDX-License-Identifier: Apache-2.0 OR MIT
 //! `lengths.h` by two bounded channels of crossbeam: one has the messages, eight `Arc<[u8]>`, and the other those that were read.
 use crossbeam::channel::{bounded, Receiver, Sender};
 use lengths::{has, write, BUFFERS};

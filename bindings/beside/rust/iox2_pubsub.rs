@@ -1,3 +1,4 @@
+// SPDX-License-Identifier: Apache-2.0 OR MIT
 //! `lengths.h` by this library's crate: a loan whose bytes nobody chose.
 use iox2_pubsub::{Domain, Publisher, Subscriber};
 use lengths::{has, write};

@@ -1,3 +1,4 @@
+// SPDX-License-Identifier: Apache-2.0 OR MIT
 //! What the programs of `lengths.h` in Rust share: buffers that are made once, and go back when they have been read.
 
 /// How many buffers there are, and how many messages a queue may hold.

@@ -1,3 +1,4 @@
+// SPDX-License-Identifier: Apache-2.0 OR MIT
 //! `lengths.h` by a pool: eight `Rc<[u8]>`, each of which goes back when it has been read.
 use lengths::{has, write, BUFFERS};
 use std::collections::VecDeque;

@@ -1,3 +1,4 @@
+// SPDX-License-Identifier: Apache-2.0 OR MIT
 //! `lengths.h` by tokio's broadcast channel, in which each receiver gets every message: eight `Arc<[u8]>`, each of which goes back when it has been
 //! read.
 use lengths::{has, write, BUFFERS};

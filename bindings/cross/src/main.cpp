@@ -1,3 +1,4 @@
+// SPDX-License-Identifier: Apache-2.0 OR MIT
 // Twelve readings, and the last one is kept: what waits for a subscriber is the newest, since its buffer is 1.
 #include "iox2_pubsub.hpp"
 #include <cstdio>

@@ -1,3 +1,4 @@
+// SPDX-License-Identifier: Apache-2.0 OR MIT
 // A thermometer that other processes and machines hear: run it twice.
 #include "iox2_pubsub_dds.hpp"
 

@@ -1,3 +1,4 @@
+// SPDX-License-Identifier: Apache-2.0 OR MIT
 /* Gateways between domains of iox2_pubsub and topics of DDS, by Eclipse Cyclone DDS 0.10, for C and C++.
  *
  * What publishers of a domain send goes to the topic. What comes from the topic is lent, written in place and sent in the
@@ -16,21 +17,30 @@
  *
  * Each call returns IOX2PS_OK, a code of the domain, or one of those below. Where there is a why, it gets words for a
  * refusal, cut to its room and ended by a zero byte; it may be null with a room of 0. What opens or starts something
- * refuses where memory or a thread isn't had; in other calls that ends the program. */
+ * refuses where memory or a thread isn't had; in other calls that ends the program. No call lets out an exception of C++.
+ *
+ * A child of a fork has none of the threads of DDS. What its parent has opened moves nothing there: calls return
+ * IOX2PS_DDS_AFTER_FORK, or zeros where they return no code, and what is closed is left as it is. A child opens no gateways
+ * unless it runs another program. */
 #ifndef IOX2_PUBSUB_DDS_H
 #define IOX2_PUBSUB_DDS_H
 
 #include "iox2_pubsub.h"
 
 #ifdef __cplusplus
+#define IOX2PS_DDS_NOEXCEPT noexcept
 extern "C" {
+#else
+#define IOX2PS_DDS_NOEXCEPT
 #endif
 
 typedef enum iox2ps_dds_status_e {
   IOX2PS_DDS_REFUSED = 200,      /* by DDS, or settings that don't fit; why says which */
   IOX2PS_DDS_TIMEOUT = 201,      /* the time passed before */
   IOX2PS_DDS_HAS_THREADS = 202,  /* the gateway has threads, which do this */
-  IOX2PS_DDS_UNKNOWN = 203       /* no message of this number came from elsewhere, or it is gone */
+  IOX2PS_DDS_UNKNOWN = 203,      /* no message of this number came from elsewhere, or it is gone */
+  IOX2PS_DDS_NO_PEER = 204,      /* messages were sent, and no reader of their type was met so far */
+  IOX2PS_DDS_AFTER_FORK = 205    /* this process is a child of the one that has the gateways */
 } iox2ps_dds_status_e;
 
 typedef enum iox2ps_dds_reliability_e {
@@ -124,51 +134,58 @@ typedef struct iox2ps_dds_origin_t {
  * memory, if this is the process's first use of that DDS domain; 0 means 1 MiB. Later gateways for longer
  * messages are refused. */
 uint32_t iox2ps_dds_gateways_open(uint32_t dds_domain, size_t max_message_size, iox2ps_dds_gateways_t **gateways,
-                                  char *why, size_t room);
+                                  char *why, size_t room) IOX2PS_DDS_NOEXCEPT;
 
 /* Gives the group up. Gateways that are open in it stay, and keep what they need. */
-void iox2ps_dds_gateways_close(iox2ps_dds_gateways_t *gateways);
+void iox2ps_dds_gateways_close(iox2ps_dds_gateways_t *gateways) IOX2PS_DDS_NOEXCEPT;
 
 /* Moves what is there, for each gateway at most this number of messages each way, and never waits. */
-void iox2ps_dds_forward(iox2ps_dds_gateways_t *gateways, size_t most, iox2ps_dds_forwarded_t *forwarded);
+void iox2ps_dds_forward(iox2ps_dds_gateways_t *gateways, size_t most,
+                        iox2ps_dds_forwarded_t *forwarded) IOX2PS_DDS_NOEXCEPT;
 
 /* The same, and if nothing is there waits for the topics this number of nanoseconds at most. It doesn't wait while a message of
  * a topic waits for a subscriber, which the caller's thread alone can let receive. */
-void iox2ps_dds_wait(iox2ps_dds_gateways_t *gateways, uint64_t nanoseconds, size_t most, iox2ps_dds_forwarded_t *forwarded);
+void iox2ps_dds_wait(iox2ps_dds_gateways_t *gateways, uint64_t nanoseconds, size_t most,
+                     iox2ps_dds_forwarded_t *forwarded) IOX2PS_DDS_NOEXCEPT;
 
 /* Ends the wait that is, or the next one. Any thread may call it. */
-void iox2ps_dds_wake(iox2ps_dds_gateways_t *gateways);
+void iox2ps_dds_wake(iox2ps_dds_gateways_t *gateways) IOX2PS_DDS_NOEXCEPT;
 
-/* Waits until the topics' readers have what was sent, as a program does before it ends. IOX2PS_DDS_TIMEOUT. */
-uint32_t iox2ps_dds_flush(iox2ps_dds_gateways_t *gateways, uint64_t nanoseconds);
+/* Waits until the topics' readers have what was sent, as a program does before it ends. IOX2PS_DDS_TIMEOUT.
+ * IOX2PS_DDS_NO_PEER, without a wait, where a gateway has sent messages and has met no reader that takes them since it was
+ * opened: nobody else has the topic, or only with another type. */
+uint32_t iox2ps_dds_flush(iox2ps_dds_gateways_t *gateways, uint64_t nanoseconds) IOX2PS_DDS_NOEXCEPT;
 
 /* ---- one gateway */
 
 /* The settings for messages of one value of this number of bytes, or of slices of them. */
-void iox2ps_dds_settings_defaults(iox2ps_dds_settings_t *settings, size_t element_size, uint32_t is_slice);
+void iox2ps_dds_settings_defaults(iox2ps_dds_settings_t *settings, size_t element_size,
+                                  uint32_t is_slice) IOX2PS_DDS_NOEXCEPT;
 
 /* Opens a gateway. Where a port is refused the code is the domain's; else IOX2PS_DDS_REFUSED: for settings that don't fit the
  * domain, a domain or a topic that has a gateway of this process, or what DDS refuses. */
 uint32_t iox2ps_dds_gateway_open(iox2ps_dds_gateways_t *gateways, iox2ps_domain_t *domain,
-                                 const iox2ps_dds_settings_t *settings, iox2ps_dds_gateway_t **gateway, char *why, size_t room);
+                                 const iox2ps_dds_settings_t *settings, iox2ps_dds_gateway_t **gateway, char *why,
+                                 size_t room) IOX2PS_DDS_NOEXCEPT;
 
 /* Ends the gateway's threads, gives up what it holds, closes its ports and leaves the topic. */
-void iox2ps_dds_gateway_close(iox2ps_dds_gateway_t *gateway);
+void iox2ps_dds_gateway_close(iox2ps_dds_gateway_t *gateway) IOX2PS_DDS_NOEXCEPT;
 
-void iox2ps_dds_counts(const iox2ps_dds_gateway_t *gateway, iox2ps_dds_counts_t *counts);
-void iox2ps_dds_peers(iox2ps_dds_gateway_t *gateway, iox2ps_dds_peers_t *peers);
+void iox2ps_dds_counts(const iox2ps_dds_gateway_t *gateway, iox2ps_dds_counts_t *counts) IOX2PS_DDS_NOEXCEPT;
+void iox2ps_dds_peers(iox2ps_dds_gateway_t *gateway, iox2ps_dds_peers_t *peers) IOX2PS_DDS_NOEXCEPT;
 
 /* The id of the gateway's publisher, which is the origin of all that came from elsewhere. */
-iox2ps_wide_t iox2ps_dds_publisher(const iox2ps_dds_gateway_t *gateway);
+iox2ps_wide_t iox2ps_dds_publisher(const iox2ps_dds_gateway_t *gateway) IOX2PS_DDS_NOEXCEPT;
 
 /* Which node and publisher sent the message of this number, a sample's number field. It is known as long as somebody has the
  * message. IOX2PS_DDS_UNKNOWN. */
-uint32_t iox2ps_dds_origin(iox2ps_dds_gateway_t *gateway, iox2ps_wide_t number, iox2ps_dds_origin_t *origin);
+uint32_t iox2ps_dds_origin(iox2ps_dds_gateway_t *gateway, iox2ps_wide_t number,
+                           iox2ps_dds_origin_t *origin) IOX2PS_DDS_NOEXCEPT;
 
 /* Gives the gateway two threads, one for each way, until it is stopped or closed. Its settings have a lock with a wait. The
  * group's forward and wait pass it over meanwhile. IOX2PS_DDS_REFUSED, IOX2PS_DDS_HAS_THREADS. */
-uint32_t iox2ps_dds_start(iox2ps_dds_gateway_t *gateway);
-void iox2ps_dds_stop(iox2ps_dds_gateway_t *gateway);
+uint32_t iox2ps_dds_start(iox2ps_dds_gateway_t *gateway) IOX2PS_DDS_NOEXCEPT;
+void iox2ps_dds_stop(iox2ps_dds_gateway_t *gateway) IOX2PS_DDS_NOEXCEPT;
 
 #ifdef __cplusplus
 }

@@ -1,3 +1,4 @@
+// SPDX-License-Identifier: Apache-2.0 OR MIT
 /* Gateways between domains of iox2_pubsub and topics of DDS, for C++17: the calls of iox2_pubsub_dds.h with types.
  *
  * A gateway is used on its domain's thread, which polls it: forward() never waits, wait() waits for the topic alone. With
@@ -129,7 +130,8 @@ public:
     return now;
   }
 
-  /* Waits until the topics' readers have what was sent, as a program does before it ends. */
+  /* Waits until the topics' readers have what was sent, as a program does before it ends. False where the time passed before, and
+   * where messages were sent and no reader of their type was met so far. */
   bool flush(std::chrono::nanoseconds timeout) {
     return group_ && iox2ps_dds_flush(group_.get(), detail::nanoseconds(timeout)) == IOX2PS_OK;
   }

@@ -1,3 +1,4 @@
+// SPDX-License-Identifier: Apache-2.0 OR MIT
 /* Memory for long frames, which is used again.
  *
  * A frame of a megabyte is made by one thread and let go by another, each time. The C library gives such memory back to the

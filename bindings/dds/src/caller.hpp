@@ -1,3 +1,4 @@
+// SPDX-License-Identifier: Apache-2.0 OR MIT
 /* Makes the calls of one domain: at once, or by its lock. */
 #ifndef IOX2_PUBSUB_DDS_CALLER_HPP
 #define IOX2_PUBSUB_DDS_CALLER_HPP

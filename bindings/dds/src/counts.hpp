@@ -1,3 +1,4 @@
+// SPDX-License-Identifier: Apache-2.0 OR MIT
 /* What a gateway has counted. Each number is raised by one thread, and read by any. */
 #ifndef IOX2_PUBSUB_DDS_COUNTS_HPP
 #define IOX2_PUBSUB_DDS_COUNTS_HPP

@@ -1,3 +1,4 @@
+// SPDX-License-Identifier: Apache-2.0 OR MIT
 #include "frame_type.hpp"
 
 #include "blocks.hpp"

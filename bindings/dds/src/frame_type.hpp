@@ -1,3 +1,4 @@
+// SPDX-License-Identifier: Apache-2.0 OR MIT
 /* How a frame lies on the wire, and how Cyclone DDS reads and makes one.
  *
  * The frame is that of idl/iox2_frame.idl: node_id, publisher_id, number, number_of_elements, payload. Its bytes are written

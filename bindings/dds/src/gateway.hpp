@@ -1,3 +1,4 @@
+// SPDX-License-Identifier: Apache-2.0 OR MIT
 /* One domain joined to one topic, and the gateways of a thread together. */
 #ifndef IOX2_PUBSUB_DDS_GATEWAY_HPP
 #define IOX2_PUBSUB_DDS_GATEWAY_HPP
@@ -11,6 +12,9 @@
 namespace iox2ps::dds::detail {
 
 class Gateway;
+
+/* What became of what was sent. */
+enum class Flushed { All, TimedOut, NoPeer };
 
 /* Gateways that one thread polls, and what it waits at for all of them. */
 class Group {
@@ -31,7 +35,7 @@ public:
   /* Of those without threads. */
   iox2ps_dds_forwarded_t forward(std::size_t most);
   iox2ps_dds_forwarded_t wait(Nanoseconds timeout, std::size_t most);
-  bool flush(Nanoseconds timeout);
+  Flushed flush(Nanoseconds timeout);
   void wake() { dds_set_guardcondition(guard_, true); }
 
 private:
@@ -58,6 +62,8 @@ public:
   void forward(iox2ps_dds_forwarded_t &now, std::size_t most);
   std::size_t held() const { return outgoing_->held(); }
   bool has_threads() const { return in_thread_.joinable(); }
+  /* Whether it has sent messages that nobody was there for. */
+  bool lacks_peer() const { return counts_.sent.value() > 0 && !topic_->has_met_reader(); }
   bool is_done() const { return has_threads() ? outgoing_->is_done() : held() == 0; }
   dds_entity_t condition() const { return topic_->condition(); }
   Topic &topic() { return *topic_; }

@@ -1,3 +1,4 @@
+// SPDX-License-Identifier: Apache-2.0 OR MIT
 #include "gateway.hpp"
 
 #include <algorithm>
@@ -68,17 +69,20 @@ iox2ps_dds_forwarded_t Group::wait(Nanoseconds timeout, std::size_t most) {
   return forward(most);
 }
 
-bool Group::flush(Nanoseconds timeout) {
+Flushed Group::flush(Nanoseconds timeout) {
   auto end = std::chrono::steady_clock::now() + timeout;
   auto rest = [&] { return std::max<Nanoseconds>(end - std::chrono::steady_clock::now(), Nanoseconds(0)); };
   auto is_done = [](Gateway *gateway) { return gateway->is_done(); };
   while (forward(1024).sent > 0 || !std::all_of(gateways_.begin(), gateways_.end(), is_done)) {
-    if (rest() == Nanoseconds(0)) return false;
+    if (rest() == Nanoseconds(0)) return Flushed::TimedOut;
     Gateway *held = first_held();
     if (held) held->topic().wait_for_room(std::chrono::milliseconds(1));
     else dds_sleepfor(DDS_MSECS(1));
   }
-  return std::all_of(gateways_.begin(), gateways_.end(), [&](Gateway *gateway) { return gateway->topic().wait_for_room(rest()); });
+  auto has_room = [&](Gateway *gateway) { return gateway->topic().wait_for_room(rest()); };
+  if (!std::all_of(gateways_.begin(), gateways_.end(), has_room)) return Flushed::TimedOut;
+  auto lacks_peer = [](const Gateway *gateway) { return gateway->lacks_peer(); };
+  return std::any_of(gateways_.begin(), gateways_.end(), lacks_peer) ? Flushed::NoPeer : Flushed::All;
 }
 
 } // namespace iox2ps::dds::detail

@@ -1,3 +1,4 @@
+// SPDX-License-Identifier: Apache-2.0 OR MIT
 /* From the topic to the domain. */
 #ifndef IOX2_PUBSUB_DDS_INCOMING_HPP
 #define IOX2_PUBSUB_DDS_INCOMING_HPP

@@ -1,3 +1,4 @@
+// SPDX-License-Identifier: Apache-2.0 OR MIT
 /* Where the messages came from that a gateway has sent in its domain. */
 #ifndef IOX2_PUBSUB_DDS_ORIGINS_HPP
 #define IOX2_PUBSUB_DDS_ORIGINS_HPP

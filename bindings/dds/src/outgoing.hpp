@@ -1,3 +1,4 @@
+// SPDX-License-Identifier: Apache-2.0 OR MIT
 /* From the domain to the topic. */
 #ifndef IOX2_PUBSUB_DDS_OUTGOING_HPP
 #define IOX2_PUBSUB_DDS_OUTGOING_HPP

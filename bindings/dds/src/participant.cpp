@@ -1,3 +1,4 @@
+// SPDX-License-Identifier: Apache-2.0 OR MIT
 #include "participant.hpp"
 
 #include "frame_type.hpp"

@@ -1,3 +1,4 @@
+// SPDX-License-Identifier: Apache-2.0 OR MIT
 /* A process's participant in one DDS domain, which all gateways of that domain share. */
 #ifndef IOX2_PUBSUB_DDS_PARTICIPANT_HPP
 #define IOX2_PUBSUB_DDS_PARTICIPANT_HPP

@@ -1,3 +1,4 @@
+// SPDX-License-Identifier: Apache-2.0 OR MIT
 /* The quality of service that a domain's settings stand for. */
 #ifndef IOX2_PUBSUB_DDS_QUALITY_HPP
 #define IOX2_PUBSUB_DDS_QUALITY_HPP

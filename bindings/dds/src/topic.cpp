@@ -1,3 +1,4 @@
+// SPDX-License-Identifier: Apache-2.0 OR MIT
 #include "topic.hpp"
 
 #include "quality.hpp"
@@ -54,6 +55,13 @@ bool Topic::Ends::meet(dds_entity_t by, dds_instance_handle_t from) {
   return is_of_type[from] = same;
 }
 
+void Topic::Ends::meet_reader(dds_entity_t by, dds_instance_handle_t of) {
+  dds_builtintopic_endpoint_t *endpoint = dds_get_matched_subscription_data(by, of);
+  std::string its = type_of(endpoint);
+  if (endpoint) dds_builtintopic_free_endpoint(endpoint);
+  if (its.empty() || its == type) has_met_reader = true;
+}
+
 bool Topic::made(dds_entity_t entity, dds_entity_t &place, const char *what, std::string &why) {
   place = entity;
   if (entity > 0) return true;
@@ -94,8 +102,11 @@ bool Topic::make_ends(const iox2ps_dds_settings_t &settings, const iox2ps_config
   dds_lset_subscription_matched(listener, [](dds_entity_t reader, dds_subscription_matched_status_t status, void *arg) {
     if (status.current_count_change > 0) static_cast<Ends *>(arg)->meet(reader, status.last_publication_handle);
   });
+  dds_lset_publication_matched(listener, [](dds_entity_t writer, dds_publication_matched_status_t status, void *arg) {
+    if (status.current_count_change > 0) static_cast<Ends *>(arg)->meet_reader(writer, status.last_subscription_handle);
+  });
   bool both = made(dds_create_reader(participant_->entity(), ends_->read_topic, in, listener), ends_->reader, "reader", why) &&
-              made(dds_create_writer(participant_->entity(), ends_->written_topic, out, nullptr), ends_->writer, "writer", why);
+              made(dds_create_writer(participant_->entity(), ends_->written_topic, out, listener), ends_->writer, "writer", why);
   dds_delete_listener(listener);
   dds_delete_qos(out);
   dds_delete_qos(in);

@@ -1,3 +1,4 @@
+// SPDX-License-Identifier: Apache-2.0 OR MIT
 /* The side of DDS: a writer and a reader of one topic. */
 #ifndef IOX2_PUBSUB_DDS_TOPIC_HPP
 #define IOX2_PUBSUB_DDS_TOPIC_HPP
@@ -64,6 +65,8 @@ public:
 
   Take take(Taken &taken);
   bool wait_for_room(Nanoseconds timeout);
+  /* Whether a reader that takes these messages was met: of the same type, or of another program, which says none. */
+  bool has_met_reader() const { return ends_->has_met_reader; }
   iox2ps_dds_peers_t peers();
 
 private:
@@ -75,7 +78,10 @@ private:
     bool only_known = false;
     std::mutex mutex;
     std::map<dds_instance_handle_t, bool> is_of_type; // of each writer that was met
+    std::atomic<bool> has_met_reader{false};
     ~Ends();
+    /* Looks at the type of a reader that the writer meets. */
+    void meet_reader(dds_entity_t by, dds_instance_handle_t of);
     /* Looks at the type of a writer that the reader meets, and says whether it is the same. */
     bool meet(dds_entity_t by, dds_instance_handle_t from);
   };

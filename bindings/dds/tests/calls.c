@@ -1,3 +1,4 @@
+// SPDX-License-Identifier: Apache-2.0 OR MIT
 /* The calls of iox2_pubsub_dds.h in C: sends and receives COUNT messages over TOPIC, polled or with threads, and prints what
  * became of them as JSON.
  *   calls polled|threads COUNT TOPIC */

@@ -1,9 +1,13 @@
+// SPDX-License-Identifier: Apache-2.0 OR MIT
 /* One process of a test: what isn't traffic alone.
- *   cases look|wake|values|voltages|twice|many|churn|threads NAME VALUE .. */
+ *   cases look|wake|values|voltages|twice|many|churn|threads|fork NAME VALUE .. */
 #include "gateway_peer.hpp"
 #include "iox2_pubsub_shared.hpp"
 
+#include <cstring>
+#include <sys/wait.h>
 #include <thread>
+#include <unistd.h>
 
 namespace {
 
@@ -72,6 +76,7 @@ template <typename T> int values_role(const Options &options) {
   auto gateway = gateway_of(domain, options);
   auto subscriber = domain.subscriber().expect("a subscriber");
   std::uint64_t good = 0, wrong = 0;
+  bool flushed = false;
   auto start = Clock::now();
   if (options.number("count", 0) > 0) {
     auto publisher = domain.publisher().expect("a publisher");
@@ -80,7 +85,7 @@ template <typename T> int values_role(const Options &options) {
       (void)publisher.send_copy(T{static_cast<double>(number) / 2, number}).expect("a send");
       while (gateway.forward().held > 0) gateway.wait(1ms);
     }
-    gateway.flush(30s);
+    flushed = gateway.flush(30s);
     options.tell("sent");
     stay(gateway, options);
   }
@@ -97,8 +102,9 @@ template <typename T> int values_role(const Options &options) {
     }
   }
   auto peers = gateway.peers();
-  std::printf("{\"good\": %llu, \"wrong\": %llu, \"other_types\": %u, \"other_type_name\": \"%s\", ",
-              static_cast<unsigned long long>(good), static_cast<unsigned long long>(wrong), peers.other_types, peers.other_type);
+  std::printf("{\"good\": %llu, \"wrong\": %llu, \"flushed\": %d, \"other_types\": %u, \"other_type_name\": \"%s\", ",
+              static_cast<unsigned long long>(good), static_cast<unsigned long long>(wrong), flushed, peers.other_types,
+              peers.other_type);
   print_counts(gateway.counts());
   std::printf("}\n");
   return 0;
@@ -230,6 +236,59 @@ int threads_role(const Options &options) {
   return 0;
 }
 
+/* What a child has of its parent's gateway: nothing moves, and what it closes stays its parent's. */
+int child_of(iox2ps_dds_gateways_t *gateways, iox2ps_dds_gateway_t *gateway) {
+  alarm(30);
+  iox2ps_dds_forwarded_t now{1, 1, 1, 1, 1, 0};
+  iox2ps_dds_forward(gateways, 10, &now);
+  if (now.sent + now.received + now.dropped + now.held + now.blocked > 0) return 1;
+  iox2ps_dds_wait(gateways, UINT64_MAX, 10, &now);
+  iox2ps_dds_wake(gateways);
+  iox2ps_dds_gateways_t *own = nullptr;
+  char why[64] = "";
+  if (iox2ps_dds_flush(gateways, UINT64_MAX) != IOX2PS_DDS_AFTER_FORK || iox2ps_dds_start(gateway) != IOX2PS_DDS_AFTER_FORK) return 2;
+  if (iox2ps_dds_gateways_open(0, 0, &own, why, sizeof why) != IOX2PS_DDS_AFTER_FORK || !std::strstr(why, "child")) return 3;
+  iox2ps_dds_origin_t origin;
+  if (iox2ps_dds_origin(gateway, iox2ps_wide_t{1, 0}, &origin) != IOX2PS_DDS_AFTER_FORK) return 4;
+  iox2ps_dds_stop(gateway);
+  iox2ps_dds_gateway_close(gateway);
+  iox2ps_dds_gateways_close(gateways);
+  return 0;
+}
+
+/* A process that forks goes on sending. */
+int fork_role(const Options &options) {
+  iox2ps_domain_t domain = IOX2PS_DOMAIN_INIT;
+  iox2ps_config_t config;
+  iox2ps_dds_settings_t settings;
+  iox2ps_dds_gateways_t *gateways = nullptr;
+  iox2ps_dds_gateway_t *gateway = nullptr;
+  iox2ps_publisher_t publisher;
+  std::string topic = options.word("topic", "");
+  iox2ps_config_defaults(&config, 7, 8, 8);
+  iox2ps_dds_settings_defaults(&settings, 8, 0);
+  settings.topic = topic.c_str();
+  if (iox2ps_domain_create(&domain, &config) != IOX2PS_OK) return 2;
+  if (iox2ps_dds_gateways_open(0, 0, &gateways, nullptr, 0) != IOX2PS_OK) return 3;
+  if (iox2ps_dds_gateway_open(gateways, &domain, &settings, &gateway, nullptr, 0) != IOX2PS_OK) return 4;
+  if (iox2ps_publisher_create(&domain, &publisher) != IOX2PS_OK) return 5;
+  pid_t child = fork();
+  if (child == 0) _exit(child_of(gateways, gateway));
+  int status = -1;
+  waitpid(child, &status, 0);
+  std::uint64_t number = 1;
+  std::size_t receivers = 0;
+  iox2ps_blocked_t blocked;
+  iox2ps_status_t sent = iox2ps_publisher_send_copy(&domain, &publisher, &number, sizeof number, &receivers, &blocked);
+  iox2ps_dds_forwarded_t now{};
+  iox2ps_dds_forward(gateways, 10, &now);
+  std::uint32_t flushed = iox2ps_dds_flush(gateways, 0);
+  iox2ps_dds_gateway_close(gateway);
+  iox2ps_dds_gateways_close(gateways);
+  std::printf("{\"child\": %d, \"code\": %u, \"sent\": %zu, \"flushed\": %u}\n", status, sent, now.sent, flushed);
+  return iox2ps_domain_destroy(&domain) == IOX2PS_OK ? 0 : 6;
+}
+
 } // namespace
 
 int main(int count, char **words) {
@@ -243,6 +302,7 @@ int main(int count, char **words) {
   if (role == "many") return many_role(options);
   if (role == "churn") return churn_role(options);
   if (role == "threads") return threads_role(options);
+  if (role == "fork") return fork_role(options);
   std::fprintf(stderr, "no such role\n");
   return 2;
 }

@@ -1,4 +1,5 @@
 #!/usr/bin/env python3
+# SPDX-License-Identifier: Apache-2.0 OR MIT
 """Builds the gateway to DDS beside the library, and runs all its tests: everything.py BINDINGS_OUT [plain|checked|counted FOLDER].
 
 BINDINGS_OUT is the folder that tools/bindings makes; the gateway is built into a copy of it, which is then moved. Each step is
@@ -24,7 +25,7 @@ grind = "valgrind --quiet --leak-check=full --error-exitcode=9 --errors-for-leak
 # Tests that look at one thing each, with few messages.
 few = ["small", "several", "large", "overflow", "both_ways", "late_joiner", "receiver_killed", "sender_killed", "typed_values",
        "bad_frames", "other_struct", "same_name_other_structure", "second_gateway", "many_domains", "gateways_come_and_go",
-       "threads", "c_calls", "with_security", "leaves_full"]
+       "threads", "c_calls", "with_security", "leaves_full", "nobody_takes_it", "forked"]
 ground = ["typed_values", "several", "bad_frames", "many_domains", "c_calls"]
 
 def run(words, limit=600, **more):
@@ -54,7 +55,7 @@ def build(name, prefix, *options):
 def programs(name, *options):
     """Where the programs of the tests are, or nothing where they couldn't be built, which is a step that failed."""
     def what():
-        build(name, os.path.join(work, "moved"), "-DIOX2PS_DDS_TESTS=ON", *options)
+        build(name, os.path.join(work, "moved"), "-DIOX2PS_DDS_TESTS=ON", "-DIOX2PS_DDS_WERROR=ON", *options)
         return "as cmake says"
     return os.path.join(work, name) if step("build, " + name, what) else None
 
@@ -78,6 +79,18 @@ def headers_alone():
             run(["g++", "-x", "c++", "-std=" + standard] + flags + [os.path.join(include, name)])
     return "as C11, C17, C++17 and C++20"
 
+def pkg_config():
+    """A program of C++ by what pkg-config says of the gateway, which has a path for the library beside it."""
+    moved, program = os.path.join(work, "moved"), os.path.join(work, "by_pkg_config")
+    path = os.pathsep.join(filter(None, [os.path.join(moved, "lib/pkgconfig"), os.environ.get("PKG_CONFIG_PATH")]))
+    words = ["pkg-config", "--cflags", "--libs", "iox2_pubsub_dds"]
+    flags = subprocess.run(words, stdout=subprocess.PIPE, text=True, check=True, env=dict(os.environ, PKG_CONFIG_PATH=path)).stdout
+    run(["g++", "-std=c++17", os.path.join(source, "example/gateway.cpp"), "-o", program] + flags.split())
+    version = subprocess.run(["pkg-config", "--modversion", "iox2_pubsub_dds", "iox2_pubsub"], stdout=subprocess.PIPE, text=True,
+                             check=True, env=dict(os.environ, PKG_CONFIG_PATH=path)).stdout.split()
+    assert len(set(version)) == 1, version
+    return version[0] + ", " + two(program, "from elsewhere")
+
 def two(program, words):
     """Two processes of a program that ends by itself, each of which has to print these words of the other."""
     both = [subprocess.Popen([program], stdout=subprocess.PIPE, text=True, env=dict(os.environ, CYCLONEDDS_URI=loopback)) for _ in "ab"]
@@ -99,6 +112,7 @@ def page():
     program = re.search(r"^```c\+\+\n(.*?)^```$", text, re.M | re.S).group(1)
     lines = re.search(r"((?:^    cmake .*\n)+)^    (g\+\+ .*first_dds.*) && \./first_dds$", text, re.M)
     os.makedirs(tree + "/bindings/dds")
+    os.symlink(os.path.join(source, "../include"), tree + "/bindings/include")
     shutil.copytree(out, tree + "/bindings/out")
     for name in os.listdir(source):
         if name != "build": os.symlink(os.path.join(source, name), os.path.join(tree, "bindings/dds", name))
@@ -129,6 +143,8 @@ def plain_steps(plain):
     step("headers alone", headers_alone)
     step("frames", lambda: run([os.path.join(plain, "frames")]).strip())
     step("example", example)
+    if shutil.which("pkg-config"): step("pkg-config", pkg_config)
+    else: print("not there, and so not run: pkg-config")
     step("the program of bindings/DDS.md", page)
     step("between processes", tests(plain))
     if shutil.which("cargo"): step("rust", lambda: rust(plain))

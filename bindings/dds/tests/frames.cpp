@@ -1,3 +1,4 @@
+// SPDX-License-Identifier: Apache-2.0 OR MIT
 /* Bytes that are no frame, as anybody on the network may send them: each is refused, and nothing beyond it is read. The
  * sanitizers and valgrind see a read beyond. Prints `N checks`. */
 #include "../src/frame_type.hpp"

@@ -1,3 +1,4 @@
+// SPDX-License-Identifier: Apache-2.0 OR MIT
 /* What the programs with a gateway share: how options become settings, and what they print. */
 #ifndef GATEWAY_PEER_HPP
 #define GATEWAY_PEER_HPP

@@ -1,3 +1,4 @@
+// SPDX-License-Identifier: Apache-2.0 OR MIT
 /* Gateways that were moved from hand nothing to the calls of C, each of which would read through it. Needs no DDS: the calls of C here
  * are for this test. */
 #include "iox2_pubsub_dds.hpp"
@@ -14,26 +15,26 @@ static void call(const void *handle) {
 template <typename T> static void open(T **handle) { *handle = reinterpret_cast<T *>(&something); }
 
 extern "C" {
-uint32_t iox2ps_dds_gateways_open(uint32_t, size_t, iox2ps_dds_gateways_t **group, char *, size_t) { return open(group), IOX2PS_OK; }
-void iox2ps_dds_gateways_close(iox2ps_dds_gateways_t *group) { call(group); }
-void iox2ps_dds_forward(iox2ps_dds_gateways_t *group, size_t, iox2ps_dds_forwarded_t *) { call(group); }
-void iox2ps_dds_wait(iox2ps_dds_gateways_t *group, uint64_t, size_t, iox2ps_dds_forwarded_t *) { call(group); }
-void iox2ps_dds_wake(iox2ps_dds_gateways_t *group) { call(group); }
-uint32_t iox2ps_dds_flush(iox2ps_dds_gateways_t *group, uint64_t) { return call(group), IOX2PS_OK; }
-void iox2ps_dds_settings_defaults(iox2ps_dds_settings_t *settings, size_t, uint32_t) { *settings = iox2ps_dds_settings_t(); }
+uint32_t iox2ps_dds_gateways_open(uint32_t, size_t, iox2ps_dds_gateways_t **group, char *, size_t) noexcept { return open(group), IOX2PS_OK; }
+void iox2ps_dds_gateways_close(iox2ps_dds_gateways_t *group) noexcept { call(group); }
+void iox2ps_dds_forward(iox2ps_dds_gateways_t *group, size_t, iox2ps_dds_forwarded_t *) noexcept { call(group); }
+void iox2ps_dds_wait(iox2ps_dds_gateways_t *group, uint64_t, size_t, iox2ps_dds_forwarded_t *) noexcept { call(group); }
+void iox2ps_dds_wake(iox2ps_dds_gateways_t *group) noexcept { call(group); }
+uint32_t iox2ps_dds_flush(iox2ps_dds_gateways_t *group, uint64_t) noexcept { return call(group), IOX2PS_OK; }
+void iox2ps_dds_settings_defaults(iox2ps_dds_settings_t *settings, size_t, uint32_t) noexcept { *settings = iox2ps_dds_settings_t(); }
 uint32_t iox2ps_dds_gateway_open(iox2ps_dds_gateways_t *group, iox2ps_domain_t *, const iox2ps_dds_settings_t *,
-                                 iox2ps_dds_gateway_t **gateway, char *, size_t) {
+                                 iox2ps_dds_gateway_t **gateway, char *, size_t) noexcept {
   return call(group), open(gateway), IOX2PS_OK;
 }
-void iox2ps_dds_gateway_close(iox2ps_dds_gateway_t *gateway) { call(gateway); }
-void iox2ps_dds_counts(const iox2ps_dds_gateway_t *gateway, iox2ps_dds_counts_t *) { call(gateway); }
-void iox2ps_dds_peers(iox2ps_dds_gateway_t *gateway, iox2ps_dds_peers_t *) { call(gateway); }
-iox2ps_wide_t iox2ps_dds_publisher(const iox2ps_dds_gateway_t *gateway) { return call(gateway), iox2ps_wide_t{7, 0}; }
-uint32_t iox2ps_dds_origin(iox2ps_dds_gateway_t *gateway, iox2ps_wide_t, iox2ps_dds_origin_t *origin) {
+void iox2ps_dds_gateway_close(iox2ps_dds_gateway_t *gateway) noexcept { call(gateway); }
+void iox2ps_dds_counts(const iox2ps_dds_gateway_t *gateway, iox2ps_dds_counts_t *) noexcept { call(gateway); }
+void iox2ps_dds_peers(iox2ps_dds_gateway_t *gateway, iox2ps_dds_peers_t *) noexcept { call(gateway); }
+iox2ps_wide_t iox2ps_dds_publisher(const iox2ps_dds_gateway_t *gateway) noexcept { return call(gateway), iox2ps_wide_t{7, 0}; }
+uint32_t iox2ps_dds_origin(iox2ps_dds_gateway_t *gateway, iox2ps_wide_t, iox2ps_dds_origin_t *origin) noexcept {
   return call(gateway), *origin = iox2ps_dds_origin_t(), IOX2PS_OK;
 }
-uint32_t iox2ps_dds_start(iox2ps_dds_gateway_t *gateway) { return call(gateway), IOX2PS_OK; }
-void iox2ps_dds_stop(iox2ps_dds_gateway_t *gateway) { call(gateway); }
+uint32_t iox2ps_dds_start(iox2ps_dds_gateway_t *gateway) noexcept { return call(gateway), IOX2PS_OK; }
+void iox2ps_dds_stop(iox2ps_dds_gateway_t *gateway) noexcept { call(gateway); }
 }
 
 using Gateway = iox2ps::dds::Gateway<int>;

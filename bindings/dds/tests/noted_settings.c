@@ -1,3 +1,4 @@
+// SPDX-License-Identifier: Apache-2.0 OR MIT
 /* Stands in for the gateway where Cyclone DDS isn't there: it refuses each gateway, and its why says which settings came. So
  * the tests of C++ and Rust see that each of their settings reaches C, and reaches what is meant. */
 #include "iox2_pubsub_dds.h"

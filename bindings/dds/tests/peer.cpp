@@ -1,3 +1,4 @@
+// SPDX-License-Identifier: Apache-2.0 OR MIT
 /* One process of a test: a domain with a gateway, and traffic.
  *   peer send|receive|both|ping|pong NAME VALUE .. */
 #include "gateway_peer.hpp"

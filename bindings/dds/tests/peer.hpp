@@ -1,3 +1,4 @@
+// SPDX-License-Identifier: Apache-2.0 OR MIT
 /* What the test programs share: options, the messages they send, and what they check of each that comes. */
 #ifndef PEER_HPP
 #define PEER_HPP

@@ -1,3 +1,4 @@
+// SPDX-License-Identifier: Apache-2.0 OR MIT
 /* The same traffic by plain Cyclone DDS, to compare with, and what a bad peer sends.
  *   plain send|receive|ping|pong|bad|hostile|participants|other NAME VALUE .. */
 #include "iox2_frame.h"

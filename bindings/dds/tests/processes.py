@@ -1,3 +1,4 @@
+# SPDX-License-Identifier: Apache-2.0 OR MIT
 """Starts the programs of the tests as processes that talk over loopback, and ends them."""
 import atexit, json, os, shutil, signal, subprocess, sys, tempfile, time
 

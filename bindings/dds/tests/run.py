@@ -1,4 +1,5 @@
 #!/usr/bin/env python3
+# SPDX-License-Identifier: Apache-2.0 OR MIT
 """Runs the tests of the gateway between processes on loopback: run.py FOLDER [NAME..]. FOLDER has their programs, as CMake
 builds them. The last line is `N passed, M failed`. Each process has a time limit, and only what this started is ended.
 
@@ -202,6 +203,26 @@ def other_struct():
     assert got["other_types"] == 2 and "name=Reading" in got["other_type_name"], got
     return "50 messages counted, of %s" % got["other_type_name"]
 
+def nobody_takes_it():
+    """A flush says so, at once, where nobody has the topic, or only with another type, and not where somebody takes it."""
+    def flushed(role):
+        name, over, gone = topic(), flag(), flag()
+        to = start("cases", role, topic=name, expect=50, until=over, mode="retry", buffer=64)
+        got = end(start("cases", "values", topic=name, count=50, mode="retry", buffer=64)); put_up(over); end(to)
+        return got["flushed"]
+    begun = time.time()
+    alone = end(start("peer", "send", topic=topic(), count=5, peers=0, flush=60))
+    assert alone["acknowledged"] == 0 and time.time() - begun < 30 * slower, alone
+    same, other = flushed("values"), flushed("voltages")
+    assert (same, other) == (1, 0), (same, other)
+    return "none of 5 messages was sent to anybody, and none of 50 to another struct"
+
+def forked():
+    """A child of a fork moves nothing, waits for nothing and closes nothing of its parent's gateway, which goes on."""
+    got = end(start("cases", "fork", topic=topic()))
+    assert got == {"child": 0, "code": 0, "sent": 1, "flushed": 204}, got
+    return "each call of the child was refused"
+
 def only_known():
     """Frames of a program that says no type: taken by default, and passed over where the settings say so."""
     def count(only):
@@ -351,7 +372,7 @@ def stalled_reader():
 tests = [small, several, large, empty_buffers, slow_reader, overflow, both_ways, late_joiner, without_history,
          volatile_reader, other_dds_domain, receiver_killed, sender_killed, typed_values, bad_frames, bad_frames_for_values,
          hostile_lengths, full_disk, other_payload_size, other_struct, only_known, other_type, same_name_other_structure, other_qos,
-         settings_hold, second_gateway, many_domains, gateways_come_and_go, with_security, woken, best_effort, c_calls, threads,
+         nobody_takes_it, forked, settings_hold, second_gateway, many_domains, gateways_come_and_go, with_security, woken, best_effort, c_calls, threads,
          leaves_full, stalled_reader]
 
 if __name__ == "__main__":

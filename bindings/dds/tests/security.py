@@ -1,3 +1,4 @@
+# SPDX-License-Identifier: Apache-2.0 OR MIT
 """Makes what DDS Security wants, by openssl, in a folder: an authority, and certificates and permissions of two programs. What
 they say is Cyclone's matter alone: the gateway has no part in it."""
 import glob, os, subprocess

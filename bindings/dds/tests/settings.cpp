@@ -1,3 +1,4 @@
+// SPDX-License-Identifier: Apache-2.0 OR MIT
 // The settings of the gateway in C++, each by what reaches C: noted_settings.c stands in for the gateway, and says it. Prints
 // each check that fails, and then "N passed, M failed".
 #include "iox2_pubsub_dds.hpp"

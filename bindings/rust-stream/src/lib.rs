@@ -1,3 +1,4 @@
+// SPDX-License-Identifier: Apache-2.0 OR MIT
 //! The messages of a subscriber of [`iox2_pubsub`] as a [`Stream`], for any runtime.
 //!
 //! It is a crate of its own, so that `iox2_pubsub` depends on nothing that has to be fetched.

@@ -1,3 +1,4 @@
+// SPDX-License-Identifier: Apache-2.0 OR MIT
 //! Streams in a runtime of one task on each thread, which parks and is unparked.
 
 use futures_core::{FusedStream, Stream};

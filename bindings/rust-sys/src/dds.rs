@@ -1,3 +1,4 @@
+// SPDX-License-Identifier: Apache-2.0 OR MIT
 //! The declarations of the C header `iox2_pubsub_dds.h`, which says what each is.
 #![allow(missing_docs)]
 
@@ -9,6 +10,8 @@ pub const REFUSED: u32 = 200;
 pub const TIMEOUT: u32 = 201;
 pub const HAS_THREADS: u32 = 202;
 pub const UNKNOWN: u32 = 203;
+pub const NO_PEER: u32 = 204;
+pub const AFTER_FORK: u32 = 205;
 
 pub const RELIABLE: u32 = 0;
 pub const BEST_EFFORT: u32 = 1;
@@ -57,6 +60,7 @@ pub struct Settings {
     pub lock: Lock,
 }
 
+#[non_exhaustive]
 #[repr(C)]
 #[derive(Clone, Copy, Debug, Default, PartialEq, Eq)]
 pub struct Forwarded {
@@ -68,6 +72,7 @@ pub struct Forwarded {
     pub reserved: u32,
 }
 
+#[non_exhaustive]
 #[repr(C)]
 #[derive(Clone, Copy, Debug, Default, PartialEq, Eq)]
 pub struct Counts {

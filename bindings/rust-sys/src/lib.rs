@@ -1,12 +1,18 @@
+// SPDX-License-Identifier: Apache-2.0 OR MIT
 //! The declarations of the C header `iox2_pubsub.h`, with bytes where it has `void` and `char`. The header says what each is,
 //! what each call returns, and what its caller has to do.
 #![allow(missing_docs)]
 #![deny(missing_debug_implementations)]
+// The build script asks for what stands in; older compilers have no such lint.
+#![allow(unknown_lints, unexpected_cfgs)]
 
 use std::ffi::c_void;
+use std::mem::size_of;
 
 #[cfg(feature = "dds")]
 pub mod dds;
+#[cfg(iox2ps_stand_in)]
+mod stand_in;
 
 /// This crate's version as one number, with which `iox2ps_version` is compared: that of the archive.
 pub const VERSION: u32 = part(env!("CARGO_PKG_VERSION_MAJOR")) << 16
@@ -33,7 +39,6 @@ pub const OUT_OF_MEMORY: u32 = 4;
 pub const HAS_DOMAIN: u32 = 5;
 pub const BLOCKED: u32 = 6;
 pub const PUBLISHER_IS_BLOCKED: u32 = 7;
-pub const INVALID_SETTINGS: u32 = 8;
 pub const TOO_SMALL: u32 = 9;
 pub const LOAN_ERROR_OUT_OF_MEMORY: u32 = 10;
 pub const LOAN_ERROR_EXCEEDS_MAX_LOANS: u32 = 11;
@@ -66,6 +71,16 @@ pub const SUBSCRIBER_CREATE_ERROR_FAILED_TO_DEPLOY_THREADSAFETY_POLICY: u32 = 62
 pub const SUBSCRIBER_CREATE_ERROR_UNABLE_TO_CREATE_PORT_TAG: u32 = 63;
 pub const NO_SUCH_CHANNEL: u32 = 70;
 pub const NO_CONNECTION: u32 = 71;
+pub const INVALID_STRUCT_SIZE: u32 = 80;
+pub const INVALID_PAYLOAD_SIZE: u32 = 81;
+pub const INVALID_PAYLOAD_ALIGNMENT: u32 = 82;
+pub const INVALID_BACKPRESSURE_STRATEGY: u32 = 83;
+pub const INVALID_BACKPRESSURE_HANDLER: u32 = 84;
+pub const INVALID_DEGRADATION: u32 = 85;
+pub const INVALID_ALLOCATION_STRATEGY: u32 = 86;
+pub const INVALID_INITIAL_MAX_SLICE_LEN: u32 = 87;
+pub const INVALID_RESERVED: u32 = 88;
+pub const WORST_CASE_TOO_LARGE: u32 = 89;
 pub const WARNING_EXPIRED_BUFFER_RAISED: u32 = 100;
 pub const WARNING_PUBLISHER_PARTLY_CONNECTED: u32 = 101;
 pub const WARNING_SUBSCRIBER_PARTLY_CONNECTED: u32 = 102;
@@ -91,6 +106,7 @@ pub struct Wide {
 #[repr(C)]
 #[derive(Clone, Copy, Debug, Default, PartialEq, Eq)]
 pub struct Config {
+    pub struct_size: usize,
     pub service_id: Wide,
     pub node_id: Wide,
     pub payload_size: usize,
@@ -110,6 +126,7 @@ pub struct Config {
 #[repr(C)]
 #[derive(Clone, Copy, Debug, Default, PartialEq, Eq)]
 pub struct PublisherOptions {
+    pub struct_size: usize,
     pub max_loaned_samples: usize,
     pub initial_max_slice_len: usize,
     pub preallocated_samples: usize,
@@ -122,6 +139,7 @@ pub struct PublisherOptions {
 #[repr(C)]
 #[derive(Clone, Copy, Debug, Default, PartialEq, Eq)]
 pub struct SubscriberOptions {
+    pub struct_size: usize,
     pub buffer_size: usize,
     pub degradation: u32,
     pub reserved: u32,
@@ -200,14 +218,23 @@ pub struct Warning {
 
 extern "C" {
     pub fn iox2ps_version() -> u32;
-    pub fn iox2ps_config_defaults(
+    pub fn iox2ps_config_defaults_sized(
         config: *mut Config,
+        struct_size: usize,
         service_id: u64,
         payload_size: usize,
         payload_alignment: usize,
     );
-    pub fn iox2ps_publisher_options_of(config: *const Config, options: *mut PublisherOptions);
-    pub fn iox2ps_subscriber_options_of(config: *const Config, options: *mut SubscriberOptions);
+    pub fn iox2ps_publisher_options_of_sized(
+        config: *const Config,
+        options: *mut PublisherOptions,
+        struct_size: usize,
+    );
+    pub fn iox2ps_subscriber_options_of_sized(
+        config: *const Config,
+        options: *mut SubscriberOptions,
+        struct_size: usize,
+    );
     pub fn iox2ps_worst_case_slots(config: *const Config, loans: usize, slots: *mut usize) -> u32;
     pub fn iox2ps_error_text_at(code: u32, text: *mut *const u8, len: *mut usize);
     pub fn iox2ps_domain_create(domain: *mut Domain, config: *const Config) -> u32;
@@ -225,7 +252,11 @@ extern "C" {
         missed: *mut u64,
     ) -> u32;
     pub fn iox2ps_domain_destroy(domain: *mut Domain) -> u32;
-    pub fn iox2ps_domain_config(domain: *mut Domain, config: *mut Config) -> u32;
+    pub fn iox2ps_domain_config_sized(
+        domain: *mut Domain,
+        config: *mut Config,
+        struct_size: usize,
+    ) -> u32;
     pub fn iox2ps_domain_connection_count(domain: *mut Domain, count: *mut usize) -> u32;
     pub fn iox2ps_domain_book_count(domain: *mut Domain, count: *mut usize) -> u32;
     pub fn iox2ps_domain_refused_connections(domain: *mut Domain, count: *mut u64) -> u32;
@@ -261,7 +292,7 @@ extern "C" {
         loan: *mut Loan,
         payload: *mut *mut u8,
     ) -> u32;
-    pub fn iox2ps_publisher_send_copy(
+    pub fn iox2ps_publisher_send_copy_counted(
         domain: *mut Domain,
         publisher: *const Publisher,
         bytes: *const u8,
@@ -269,13 +300,13 @@ extern "C" {
         receivers: *mut usize,
         blocked: *mut Blocked,
     ) -> u32;
-    pub fn iox2ps_loan_send(
+    pub fn iox2ps_loan_send_counted(
         domain: *mut Domain,
         loan: *const Loan,
         receivers: *mut usize,
         blocked: *mut Blocked,
     ) -> u32;
-    pub fn iox2ps_loan_deliver_offset_to_connection(
+    pub fn iox2ps_loan_deliver_offset_to_connection_counted(
         domain: *mut Domain,
         loan: *const Loan,
         channel: usize,
@@ -290,13 +321,18 @@ extern "C" {
         payload: *mut *mut u8,
         len: *mut usize,
     ) -> u32;
-    pub fn iox2ps_blocked_retry(
+    pub fn iox2ps_blocked_subscriber(
+        domain: *mut Domain,
+        blocked: *const Blocked,
+        subscriber: *mut Wide,
+    ) -> u32;
+    pub fn iox2ps_blocked_retry_counted(
         domain: *mut Domain,
         blocked: *const Blocked,
         elapsed: u64,
         receivers: *mut usize,
     ) -> u32;
-    pub fn iox2ps_blocked_give_up(
+    pub fn iox2ps_blocked_give_up_counted(
         domain: *mut Domain,
         blocked: *const Blocked,
         receivers: *mut usize,
@@ -406,4 +442,125 @@ extern "C" {
         channel: usize,
         expected: u64,
     ) -> u32;
+}
+
+// The functions that the header has inline. Those of the archive take the struct's size, or a `receivers` that isn't null.
+
+/// Where a call counts: there, or where nobody looks.
+#[inline]
+fn counted(receivers: *mut usize, unwanted: &mut usize) -> *mut usize {
+    if receivers.is_null() {
+        unwanted
+    } else {
+        receivers
+    }
+}
+
+/// # Safety
+/// As of the header's function.
+#[inline]
+pub unsafe fn iox2ps_config_defaults(
+    config: *mut Config,
+    service_id: u64,
+    payload_size: usize,
+    payload_alignment: usize,
+) {
+    let size = size_of::<Config>();
+    iox2ps_config_defaults_sized(config, size, service_id, payload_size, payload_alignment);
+}
+
+/// # Safety
+/// As of the header's function.
+#[inline]
+pub unsafe fn iox2ps_publisher_options_of(config: *const Config, options: *mut PublisherOptions) {
+    iox2ps_publisher_options_of_sized(config, options, size_of::<PublisherOptions>());
+}
+
+/// # Safety
+/// As of the header's function.
+#[inline]
+pub unsafe fn iox2ps_subscriber_options_of(config: *const Config, options: *mut SubscriberOptions) {
+    iox2ps_subscriber_options_of_sized(config, options, size_of::<SubscriberOptions>());
+}
+
+/// # Safety
+/// As of the header's function.
+#[inline]
+pub unsafe fn iox2ps_domain_config(domain: *mut Domain, config: *mut Config) -> u32 {
+    iox2ps_domain_config_sized(domain, config, size_of::<Config>())
+}
+
+/// # Safety
+/// As of the header's function.
+#[inline]
+pub unsafe fn iox2ps_publisher_send_copy(
+    domain: *mut Domain,
+    publisher: *const Publisher,
+    bytes: *const u8,
+    len: usize,
+    receivers: *mut usize,
+    blocked: *mut Blocked,
+) -> u32 {
+    let mut unwanted = 0;
+    let receivers = counted(receivers, &mut unwanted);
+    iox2ps_publisher_send_copy_counted(domain, publisher, bytes, len, receivers, blocked)
+}
+
+/// # Safety
+/// As of the header's function.
+#[inline]
+pub unsafe fn iox2ps_loan_send(
+    domain: *mut Domain,
+    loan: *const Loan,
+    receivers: *mut usize,
+    blocked: *mut Blocked,
+) -> u32 {
+    let mut unwanted = 0;
+    let receivers = counted(receivers, &mut unwanted);
+    iox2ps_loan_send_counted(domain, loan, receivers, blocked)
+}
+
+/// # Safety
+/// As of the header's function.
+#[inline]
+pub unsafe fn iox2ps_loan_deliver_offset_to_connection(
+    domain: *mut Domain,
+    loan: *const Loan,
+    channel: usize,
+    connection: usize,
+    receivers: *mut usize,
+    blocked: *mut Blocked,
+) -> u32 {
+    let mut unwanted = 0;
+    let receivers = counted(receivers, &mut unwanted);
+    iox2ps_loan_deliver_offset_to_connection_counted(
+        domain, loan, channel, connection, receivers, blocked,
+    )
+}
+
+/// # Safety
+/// As of the header's function.
+#[inline]
+pub unsafe fn iox2ps_blocked_retry(
+    domain: *mut Domain,
+    blocked: *const Blocked,
+    elapsed: u64,
+    receivers: *mut usize,
+) -> u32 {
+    let mut unwanted = 0;
+    let receivers = counted(receivers, &mut unwanted);
+    iox2ps_blocked_retry_counted(domain, blocked, elapsed, receivers)
+}
+
+/// # Safety
+/// As of the header's function.
+#[inline]
+pub unsafe fn iox2ps_blocked_give_up(
+    domain: *mut Domain,
+    blocked: *const Blocked,
+    receivers: *mut usize,
+) -> u32 {
+    let mut unwanted = 0;
+    let receivers = counted(receivers, &mut unwanted);
+    iox2ps_blocked_give_up_counted(domain, blocked, receivers)
 }

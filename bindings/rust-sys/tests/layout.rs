@@ -1,3 +1,4 @@
+// SPDX-License-Identifier: Apache-2.0 OR MIT
 //! How the archive has the structs of the header in memory, on each of its processors. `tools/bindings layouts` makes this file.
 use std::mem::{align_of, size_of, MaybeUninit};
 use std::ptr::addr_of;

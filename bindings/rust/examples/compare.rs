@@ -1,3 +1,4 @@
+// SPDX-License-Identifier: Apache-2.0 OR MIT
 //! Passes messages of 64 bytes to subscribers that read each at once: `compare WHAT SUBSCRIBERS MESSAGES`, where
 //! WHAT is `domain` (this crate), `borrowed` (its handles that borrow their domain), `mpsc` (channels of `Arc`s) or `queues` (`VecDeque`s of `Rc`s). Prints the
 //! nanoseconds that a message took.

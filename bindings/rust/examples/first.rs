@@ -1,3 +1,4 @@
+// SPDX-License-Identifier: Apache-2.0 OR MIT
 use iox2_pubsub::Domain;
 fn main() -> Result<(), Box<dyn std::error::Error>> {
     let domain = Domain::<f64>::builder(7).create()?;

@@ -1,3 +1,4 @@
+// SPDX-License-Identifier: Apache-2.0 OR MIT
 //! Passes messages from a publisher to a subscriber, as tools/length_cost.c does by the calls for C: `length MESSAGES BYTES KIND`, where KIND
 //! is `uninit` (a loan in which one byte is written), `zeros` (a loan of zeros) or `copy` (a copy on both
 //! sides). Beside each it fills and copies as many bytes without a domain.

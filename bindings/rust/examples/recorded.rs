@@ -1,3 +1,4 @@
+// SPDX-License-Identifier: Apache-2.0 OR MIT
 //! Records what it calls, and prints the recording, which `tools/replay` runs again.
 
 use iox2_pubsub::{Domain, Publisher, SendOutcome, Subscriber};

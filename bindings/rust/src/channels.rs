@@ -1,3 +1,4 @@
+// SPDX-License-Identifier: Apache-2.0 OR MIT
 //! What ports ask about the channels of their connections, and how they change them.
 
 use crate::errors::{unexpected, ChannelError};

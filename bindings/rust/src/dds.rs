@@ -1,3 +1,4 @@
+// SPDX-License-Identifier: Apache-2.0 OR MIT
 //! Other processes and machines: gateways between domains and topics of DDS, by Eclipse Cyclone DDS.
 //!
 //! This is there with the feature `dds`, where the gateway was built beside the archive. What publishers of a
@@ -36,6 +37,7 @@
 //! ```
 
 use crate::domain::Domain;
+use crate::errors::{text, PublisherCreateError, SubscriberCreateError, AFTER_FORK};
 use crate::ids::{number, wide, UniquePublisherId};
 use crate::lock::DomainLock;
 use crate::payload::Payload;
@@ -76,16 +78,90 @@ any_bytes!(u8, u16, u32, u64, u128, usize, i8, i16, i32, i64, i128, isize, f32, 
 unsafe impl<T: AnyBytes, const N: usize> AnyBytes for [T; N] {}
 
 /// Why a gateway wasn't opened.
+#[non_exhaustive]
 #[derive(Clone, Debug, PartialEq, Eq)]
-pub struct GatewayError(String);
+pub enum GatewayError {
+    /// The domain made no publisher for it.
+    Publisher(PublisherCreateError),
+    /// The domain made no subscriber for it.
+    Subscriber(SubscriberCreateError),
+    /// A topic's or a type's name has a zero byte.
+    ZeroInName,
+    /// Settings don't fit the domain, the domain or the topic has a gateway of this process, or DDS refused something: the
+    /// words say which.
+    Refused(String),
+    /// This process is a child of the one that made the domain, or that has gateways.
+    AfterFork,
+}
 
-impl fmt::Display for GatewayError {
-    fn fmt(&self, f: &mut fmt::Formatter<'_>) -> fmt::Result {
-        f.write_str(&self.0)
+impl GatewayError {
+    // The words are C's, and a port's code says all of them.
+    fn of(code: u32, why: &[c_char]) -> GatewayError {
+        match code {
+            c::AFTER_FORK | AFTER_FORK => GatewayError::AfterFork,
+            50..=59 => GatewayError::Publisher(PublisherCreateError::of(code)),
+            60..=69 => GatewayError::Subscriber(SubscriberCreateError::of(code)),
+            _ => GatewayError::Refused(words(why)),
+        }
     }
 }
 
-impl Error for GatewayError {}
+impl fmt::Display for GatewayError {
+    fn fmt(&self, f: &mut fmt::Formatter<'_>) -> fmt::Result {
+        match self {
+            GatewayError::Publisher(error) => write!(f, "the gateway's publisher: {error}"),
+            GatewayError::Subscriber(error) => write!(f, "the gateway's subscriber: {error}"),
+            GatewayError::ZeroInName => f.write_str("ZeroInName: a name has a zero byte"),
+            GatewayError::Refused(words) => f.write_str(words),
+            GatewayError::AfterFork => f.write_str(text(AFTER_FORK)),
+        }
+    }
+}
+
+impl Error for GatewayError {
+    fn source(&self) -> Option<&(dyn Error + 'static)> {
+        match self {
+            GatewayError::Publisher(error) => Some(error),
+            GatewayError::Subscriber(error) => Some(error),
+            _ => None,
+        }
+    }
+}
+
+/// Why it isn't known that all that was sent has arrived.
+#[non_exhaustive]
+#[derive(Clone, Copy, Debug, PartialEq, Eq, Hash)]
+pub enum FlushError {
+    /// The time passed before.
+    TimedOut,
+    /// A gateway has sent messages, and has met no reader that takes them since it was opened: nobody else has the topic, or only
+    /// with another type.
+    NoPeer,
+    /// This process is a child of the one that has the gateways.
+    AfterFork,
+}
+
+impl FlushError {
+    fn of(code: u32) -> FlushError {
+        match code {
+            c::NO_PEER => FlushError::NoPeer,
+            c::AFTER_FORK => FlushError::AfterFork,
+            _ => FlushError::TimedOut,
+        }
+    }
+}
+
+impl fmt::Display for FlushError {
+    fn fmt(&self, f: &mut fmt::Formatter<'_>) -> fmt::Result {
+        f.write_str(match self {
+            FlushError::TimedOut => "TimedOut: the time passed before all was there",
+            FlushError::NoPeer => "NoPeer: no reader of the type was met that takes what was sent",
+            FlushError::AfterFork => text(AFTER_FORK),
+        })
+    }
+}
+
+impl Error for FlushError {}
 
 /// How a domain is joined to its topic. The header `iox2_pubsub_dds.h` says what each of them is.
 #[derive(Clone, Debug, Default)]
@@ -110,7 +186,8 @@ impl Settings {
         }
     }
 
-    /// What the type is called in each process, unless its own name without modules is meant.
+    /// What the type is called in each process, unless its own name without modules is meant. Say it where processes are
+    /// built by different compilers, each of which may have a name of its own.
     pub fn type_name(mut self, name: &str) -> Self {
         self.type_name = Some(name.to_owned());
         self
@@ -209,7 +286,7 @@ impl Group {
         };
         match code {
             sys::OK => Ok(Arc::new(Group(group))),
-            _ => Err(GatewayError(words(&why))),
+            code => Err(GatewayError::of(code, &why)),
         }
     }
 
@@ -227,9 +304,12 @@ impl Group {
         now
     }
 
-    fn flush(&self, timeout: Duration) -> bool {
+    fn flush(&self, timeout: Duration) -> Result<(), FlushError> {
         // SAFETY: as above.
-        unsafe { c::iox2ps_dds_flush(self.0, nanoseconds(timeout)) == sys::OK }
+        match unsafe { c::iox2ps_dds_flush(self.0, nanoseconds(timeout)) } {
+            sys::OK => Ok(()),
+            code => Err(FlushError::of(code)),
+        }
     }
 }
 
@@ -318,9 +398,12 @@ impl Gateways {
         self.polled.1.wait(timeout, MOST)
     }
 
-    /// Whether within this time the topics' readers had what was sent.
-    #[must_use]
-    pub fn flush(&self, timeout: Duration) -> bool {
+    /// Waits so long at most until the topics' readers have what was sent.
+    ///
+    /// # Errors
+    ///
+    /// See [`FlushError`].
+    pub fn flush(&self, timeout: Duration) -> Result<(), FlushError> {
         self.polled.1.flush(timeout)
     }
 
@@ -401,10 +484,13 @@ where
             context: place as *const M::Place as *mut c_void,
         };
         let mut key = null_mut();
-        place.call(Brings::NOTHING, |shared| {
+        let code = place.call(Brings::NOTHING, |shared| {
             key = shared.at();
             sys::OK
         });
+        if code != sys::OK {
+            return Err(GatewayError::of(code, &[0]));
+        }
         let mut handle = null_mut();
         let mut why = [0; 256];
         // SAFETY: the pointers are of locals, which are copied, and of the domain's place, which the gateway's
@@ -426,7 +512,7 @@ where
                 _hold: hold,
                 messages: PhantomData,
             }),
-            _ => Err(GatewayError(words(&why))),
+            code => Err(GatewayError::of(code, &why)),
         }
     }
 }
@@ -444,9 +530,12 @@ impl<P: Payload + ?Sized, M: Owning> Gateway<P, M> {
         self.polled.1.wait(timeout, MOST)
     }
 
-    /// Whether within this time the topic's readers had what was sent, as a program asks before it ends.
-    #[must_use]
-    pub fn flush(&self, timeout: Duration) -> bool {
+    /// Waits so long at most until the topic's readers have what was sent, as a program does before it ends.
+    ///
+    /// # Errors
+    ///
+    /// See [`FlushError`].
+    pub fn flush(&self, timeout: Duration) -> Result<(), FlushError> {
         self.polled.1.flush(timeout)
     }
 
@@ -575,7 +664,7 @@ fn nanoseconds(timeout: Duration) -> u64 {
 }
 
 fn c_text(text: &str) -> Result<CString, GatewayError> {
-    CString::new(text).map_err(|_| GatewayError("a name has a zero byte".to_owned()))
+    CString::new(text).map_err(|_| GatewayError::ZeroInName)
 }
 
 fn words(text: &[c_char]) -> String {

@@ -1,3 +1,4 @@
+// SPDX-License-Identifier: Apache-2.0 OR MIT
 //! What a reader asks for, and another thread does for it that has the lock.
 
 use crate::sample::release;

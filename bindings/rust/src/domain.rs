@@ -1,10 +1,11 @@
+// SPDX-License-Identifier: Apache-2.0 OR MIT
 //! A domain: a service and what is in it.
 
 use crate::errors::{is_after_fork, unexpected, DomainCreateError};
 use crate::guarded::Guarded;
 use crate::ids::{number, wide};
 use crate::lock::{DomainLock, StdLock};
-use crate::payload::Payload;
+use crate::payload::{Payload, Value};
 use crate::port_factory::{PortFactoryPublisher, PortFactorySubscriber};
 use crate::publisher::{BackpressureStrategy, Publisher};
 use crate::recording::{Recording, Room};
@@ -42,10 +43,13 @@ impl<P: Payload + ?Sized, M: Threads> Clone for Domain<P, M> {
     }
 }
 
-impl<T: Copy + 'static> Domain<T> {
+impl<P: Payload + ?Sized> Domain<P> {
     /// The settings of a domain of single values. The number names it: two domains with one number
     /// are the same to whoever compares ids.
-    pub fn builder(service_id: u128) -> DomainBuilder<T> {
+    pub fn builder(service_id: u128) -> DomainBuilder<P>
+    where
+        P: Value,
+    {
         DomainBuilder::new(service_id)
     }
 }
@@ -187,12 +191,15 @@ impl<P: Payload + ?Sized, M: Threads> fmt::Debug for Domain<P, M> {
     }
 }
 
-impl<P: Payload + ?Sized, M: MayWait> Domain<P, M> {
+impl<P: Payload + ?Sized, M: Threads> Domain<P, M> {
     /// Lets no call wait any longer, here and on other threads: each tries once, and returns what it
     /// found. So a program ends its threads. With `false` calls wait again.
     ///
     /// A loop of `timed_` calls asks [`waits_are_stopped`](Domain::waits_are_stopped) where one found nothing.
-    pub fn stop_waits(&self, stopped: bool) {
+    pub fn stop_waits(&self, stopped: bool)
+    where
+        M: MayWait,
+    {
         self.hold.stop_waits(stopped);
     }
 
@@ -219,7 +226,10 @@ impl<P: Payload + ?Sized, M: MayWait> Domain<P, M> {
     /// # }
     /// ```
     #[must_use]
-    pub fn waits_are_stopped(&self) -> bool {
+    pub fn waits_are_stopped(&self) -> bool
+    where
+        M: MayWait,
+    {
         self.hold.waits_are_stopped()
     }
 }

@@ -1,3 +1,4 @@
+// SPDX-License-Identifier: Apache-2.0 OR MIT
 //! Why a call was refused. The names are iceoryx2's, except those that say otherwise.
 
 use crate::sys;
@@ -89,6 +90,14 @@ pub enum DomainCreateError {
     OtherVersion,
     /// This process is a child of the one that made the domain, whose recording it asks for.
     AfterFork,
+    /// Never returned: it would be `OtherVersion`.
+    InvalidStructSize,
+    /// Never returned: the size is that of the payload's type.
+    InvalidPayloadSize,
+    /// Never returned: a type with another alignment is refused when it is compiled.
+    InvalidPayloadAlignment,
+    /// Never returned: the builder takes a [`BackpressureStrategy`](crate::BackpressureStrategy).
+    InvalidBackpressureStrategy,
 }
 
 impl DomainCreateError {
@@ -96,6 +105,10 @@ impl DomainCreateError {
         match code {
             sys::OUT_OF_MEMORY => DomainCreateError::OutOfMemory,
             AFTER_FORK | sys::NO_DOMAIN => DomainCreateError::AfterFork,
+            sys::INVALID_STRUCT_SIZE => DomainCreateError::InvalidStructSize,
+            sys::INVALID_PAYLOAD_SIZE => DomainCreateError::InvalidPayloadSize,
+            sys::INVALID_PAYLOAD_ALIGNMENT => DomainCreateError::InvalidPayloadAlignment,
+            sys::INVALID_BACKPRESSURE_STRATEGY => DomainCreateError::InvalidBackpressureStrategy,
             _ => unexpected(code),
         }
     }
@@ -107,6 +120,10 @@ impl DomainCreateError {
             DomainCreateError::OutOfMemory => sys::OUT_OF_MEMORY,
             DomainCreateError::OtherVersion => u32::MAX,
             DomainCreateError::AfterFork => AFTER_FORK,
+            DomainCreateError::InvalidStructSize => sys::INVALID_STRUCT_SIZE,
+            DomainCreateError::InvalidPayloadSize => sys::INVALID_PAYLOAD_SIZE,
+            DomainCreateError::InvalidPayloadAlignment => sys::INVALID_PAYLOAD_ALIGNMENT,
+            DomainCreateError::InvalidBackpressureStrategy => sys::INVALID_BACKPRESSURE_STRATEGY,
         }
     }
 }
@@ -114,12 +131,10 @@ impl DomainCreateError {
 impl fmt::Display for DomainCreateError {
     fn fmt(&self, f: &mut fmt::Formatter<'_>) -> fmt::Result {
         match self {
-            DomainCreateError::OutOfMemory | DomainCreateError::AfterFork => {
-                f.write_str(text(self.code()))
-            }
             DomainCreateError::OtherVersion => {
                 f.write_str("OtherVersion: the archive isn't of the crate's version")
             }
+            _ => f.write_str(text(self.code())),
         }
     }
 }
@@ -137,6 +152,19 @@ errors! {
         FailedToDeployThreadsafetyPolicy = PUBLISHER_CREATE_ERROR_FAILED_TO_DEPLOY_THREADSAFETY_POLICY,
         /// The domain has no port ids left.
         UnableToCreatePortTag = PUBLISHER_CREATE_ERROR_UNABLE_TO_CREATE_PORT_TAG,
+        /// Never returned: a domain isn't made by an archive of another version. This library's own.
+        InvalidStructSize = INVALID_STRUCT_SIZE,
+        /// Never returned: the factory counts in elements, and from one on where memory grows. This
+        /// library's own.
+        InvalidInitialMaxSliceLen = INVALID_INITIAL_MAX_SLICE_LEN,
+        /// Never returned: the factory takes an enum. This library's own.
+        InvalidBackpressureStrategy = INVALID_BACKPRESSURE_STRATEGY,
+        /// Never returned: the factory takes an enum. This library's own.
+        InvalidBackpressureHandler = INVALID_BACKPRESSURE_HANDLER,
+        /// Never returned: the factory takes an enum. This library's own.
+        InvalidDegradation = INVALID_DEGRADATION,
+        /// Never returned: the factory takes an enum. This library's own.
+        InvalidAllocationStrategy = INVALID_ALLOCATION_STRATEGY,
     }
 }
 
@@ -152,6 +180,12 @@ errors! {
         FailedToDeployThreadsafetyPolicy = SUBSCRIBER_CREATE_ERROR_FAILED_TO_DEPLOY_THREADSAFETY_POLICY,
         /// The domain has no port ids left.
         UnableToCreatePortTag = SUBSCRIBER_CREATE_ERROR_UNABLE_TO_CREATE_PORT_TAG,
+        /// Never returned: a domain isn't made by an archive of another version. This library's own.
+        InvalidStructSize = INVALID_STRUCT_SIZE,
+        /// Never returned: the factory takes an enum. This library's own.
+        InvalidDegradation = INVALID_DEGRADATION,
+        /// Never returned: the field is 0. This library's own.
+        InvalidReserved = INVALID_RESERVED,
     }
 }
 

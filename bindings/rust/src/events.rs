@@ -1,10 +1,11 @@
+// SPDX-License-Identifier: Apache-2.0 OR MIT
 //! How a receive fits into a task or an event loop.
 
 use crate::errors::ReceiveError;
 use crate::payload::Payload;
 use crate::sample::Sample;
 use crate::subscriber::{receive_next, Subscriber};
-use crate::threads::{Brings, MayWait, Polls, WaitingPlace};
+use crate::threads::{Brings, MayWait, Polls, Threads, WaitingPlace};
 use crate::waiting::FutureNumber;
 use std::fmt;
 use std::future::Future;
@@ -13,7 +14,7 @@ use std::pin::Pin;
 use std::sync::Arc;
 use std::task::{Context, Poll, Waker};
 
-impl<P: Payload + ?Sized, M: MayWait> Subscriber<P, M> {
+impl<P: Payload + ?Sized, M: Threads> Subscriber<P, M> {
     /// The next message, or `Pending`: then the task is woken when one may have come. `None` where waits are
     /// stopped (`SharedDomain::stop_waits`). The crate `iox2_pubsub-stream` makes a `Stream` of it.
     ///
@@ -23,7 +24,10 @@ impl<P: Payload + ?Sized, M: MayWait> Subscriber<P, M> {
     pub fn poll_receive(
         &self,
         context: &mut Context<'_>,
-    ) -> Poll<Result<Option<Sample<P, M>>, ReceiveError>> {
+    ) -> Poll<Result<Option<Sample<P, M>>, ReceiveError>>
+    where
+        M: MayWait,
+    {
         self.poll_for(None, context)
     }
 
@@ -31,7 +35,10 @@ impl<P: Payload + ?Sized, M: MayWait> Subscriber<P, M> {
         &self,
         future: Option<&mut Option<FutureNumber>>,
         context: &mut Context<'_>,
-    ) -> Poll<Result<Option<Sample<P, M>>, ReceiveError>> {
+    ) -> Poll<Result<Option<Sample<P, M>>, ReceiveError>>
+    where
+        M: MayWait,
+    {
         let mut got = MaybeUninit::uninit();
         let polls = Polls {
             port: self.port.id,
@@ -70,13 +77,19 @@ impl<P: Payload + ?Sized, M: MayWait> Subscriber<P, M> {
     /// # Ok(())
     /// # }
     /// ```
-    pub fn forget_waker(&self, waker: &Waker) {
+    pub fn forget_waker(&self, waker: &Waker)
+    where
+        M: MayWait,
+    {
         self.hold.forget_waker(self.port.id, waker);
     }
 
     /// The next message as a future, for any runtime: `subscriber.receive_async().await`. Where it is dropped
     /// before it is ready, no message is lost, and its task is woken for it no longer.
-    pub fn receive_async(&self) -> Receive<'_, P, M> {
+    pub fn receive_async(&self) -> Receive<'_, P, M>
+    where
+        M: MayWait,
+    {
         Receive {
             subscriber: self,
             waits: None,
@@ -92,12 +105,18 @@ impl<P: Payload + ?Sized, M: MayWait> Subscriber<P, M> {
     /// returned, so one that sends to its own subscriber each time never ends. Where it panics, that is reported
     /// and goes no further. It must not own this subscriber, which would then never be dropped: give it a
     /// [`Weak`](std::sync::Weak).
-    pub fn set_listener(&self, listener: impl Fn() + Send + Sync + 'static) {
+    pub fn set_listener(&self, listener: impl Fn() + Send + Sync + 'static)
+    where
+        M: MayWait,
+    {
         self.hold.listen(self.port.id, Some(Arc::new(listener)));
     }
 
     /// Calls nothing any longer. A call that has begun may still run.
-    pub fn clear_listener(&self) {
+    pub fn clear_listener(&self)
+    where
+        M: MayWait,
+    {
         self.hold.listen(self.port.id, None);
     }
 }

@@ -1,3 +1,4 @@
+// SPDX-License-Identifier: Apache-2.0 OR MIT
 //! What a child of a fork finds. It has a copy of the memory alone: a thread that had a lock isn't there to give it back, and
 //! descriptors are shared with the parent.
 //!

@@ -1,3 +1,4 @@
+// SPDX-License-Identifier: Apache-2.0 OR MIT
 //! A domain under its lock, and those who wait in it.
 
 use crate::desk::Desk;

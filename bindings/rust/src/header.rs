@@ -1,3 +1,4 @@
+// SPDX-License-Identifier: Apache-2.0 OR MIT
 //! Where a message comes from.
 
 use crate::ids::{number, UniquePublisherId};

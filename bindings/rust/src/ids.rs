@@ -1,3 +1,4 @@
+// SPDX-License-Identifier: Apache-2.0 OR MIT
 //! Which port, channel, connection or state is meant. Each is a type of its own, so that none is taken for another.
 
 use crate::sys::{self, Wide};

@@ -1,3 +1,4 @@
+// SPDX-License-Identifier: Apache-2.0 OR MIT
 //! Messages that are written in place, part by part.
 
 use crate::zeroable::Zeroable;

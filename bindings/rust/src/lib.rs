@@ -1,3 +1,4 @@
+// SPDX-License-Identifier: Apache-2.0 OR MIT
 //! Publish-subscribe messaging inside one program, in the style of iceoryx2: safe Rust over a static
 //! library that is proved.
 //!
@@ -80,6 +81,8 @@
 //!   be a panic of this crate.
 #![deny(missing_docs, missing_debug_implementations)]
 #![warn(clippy::undocumented_unsafe_blocks)]
+// The build script knows what it sets; older compilers have no such lint.
+#![allow(unknown_lints, unexpected_cfgs)]
 
 mod channels;
 #[cfg(feature = "dds")]
@@ -134,7 +137,7 @@ pub use loan::{Loan, LoanUninit, Unsent};
 pub use lock::{DomainLock, StdLock};
 #[cfg(target_os = "linux")]
 pub use message_fd::MessageFd;
-pub use payload::Payload;
+pub use payload::{Payload, Value};
 pub use port_factory::{
     AllocationStrategy, DegradationAction, PortFactoryPublisher, PortFactorySubscriber,
 };

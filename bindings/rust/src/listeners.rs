@@ -1,3 +1,4 @@
+// SPDX-License-Identifier: Apache-2.0 OR MIT
 //! What is called when a message may have come.
 
 use crate::sys::Wide;

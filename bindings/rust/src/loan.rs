@@ -1,3 +1,4 @@
+// SPDX-License-Identifier: Apache-2.0 OR MIT
 //! A message that a publisher has lent.
 
 use crate::domain::expect_here;
@@ -315,7 +316,7 @@ pub(crate) fn send(
     unsafe { sys::iox2ps_loan_send(shared.at(), loan, receivers, blocked.as_mut_ptr()) }
 }
 
-impl<P: Payload + ?Sized, M: MayWait> Loan<P, M> {
+impl<P: Payload + ?Sized, M: Threads> Loan<P, M> {
     /// Sends the message as soon as no earlier send of its publisher waits, and tries until it has reached
     /// everybody. Where waits are stopped (`SharedDomain::stop_waits`) it is tried once, and what is still blocked is in
     /// what this returns.
@@ -323,7 +324,10 @@ impl<P: Payload + ?Sized, M: MayWait> Loan<P, M> {
     /// # Errors
     ///
     /// Those of [`send`](Loan::send); `PublisherIsBlocked` only where waits are stopped.
-    pub fn blocking_send(self) -> Result<SendOutcome<P, M>, SendError> {
+    pub fn blocking_send(self) -> Result<SendOutcome<P, M>, SendError>
+    where
+        M: MayWait,
+    {
         Ok(self.send_until(None)?)
     }
 
@@ -332,11 +336,17 @@ impl<P: Payload + ?Sized, M: MayWait> Loan<P, M> {
     /// # Errors
     ///
     /// Those of [`send`](Loan::send). With `PublisherIsBlocked` the loan comes back in [`Unsent`].
-    pub fn timed_send(self, timeout: Duration) -> Result<SendOutcome<P, M>, Unsent<P, M>> {
+    pub fn timed_send(self, timeout: Duration) -> Result<SendOutcome<P, M>, Unsent<P, M>>
+    where
+        M: MayWait,
+    {
         self.send_until(after(timeout))
     }
 
-    fn send_until(self, until: Option<Instant>) -> Result<SendOutcome<P, M>, Unsent<P, M>> {
+    fn send_until(self, until: Option<Instant>) -> Result<SendOutcome<P, M>, Unsent<P, M>>
+    where
+        M: MayWait,
+    {
         let (mut receivers, mut blocked) = (0, MaybeUninit::uninit());
         let wait = Wait {
             what: Waits::Free,
@@ -361,7 +371,10 @@ impl<P: Payload + ?Sized, M: MayWait> Loan<P, M> {
         code: u32,
         blocked: &MaybeUninit<sys::Blocked>,
         until: Option<Instant>,
-    ) -> Result<SendOutcome<P, M>, Unsent<P, M>> {
+    ) -> Result<SendOutcome<P, M>, Unsent<P, M>>
+    where
+        M: MayWait,
+    {
         self.sent_or_kept(code, 0, blocked)?
             .wait_until(until)
             .map_err(|error| Unsent { error, loan: None })

@@ -1,10 +1,11 @@
+// SPDX-License-Identifier: Apache-2.0 OR MIT
 //! A file descriptor that is readable when a message may have come, for `poll`, `epoll` and event loops of Linux.
 
 use crate::errors::{text, AFTER_FORK};
 use crate::fork::Process;
 use crate::payload::Payload;
 use crate::subscriber::Subscriber;
-use crate::threads::MayWait;
+use crate::threads::{MayWait, Threads};
 use std::fs::File;
 use std::io::{self, ErrorKind, Read, Write};
 use std::os::unix::io::{AsFd, AsRawFd, BorrowedFd, FromRawFd, RawFd};
@@ -86,14 +87,17 @@ impl AsFd for MessageFd {
     }
 }
 
-impl<P: Payload + ?Sized, M: MayWait> Subscriber<P, M> {
+impl<P: Payload + ?Sized, M: Threads> Subscriber<P, M> {
     /// A file descriptor for an event loop. It is the subscriber's listener from now on, in place of another
     /// (see [`set_listener`](Subscriber::set_listener)).
     ///
     /// # Errors
     ///
     /// What the system says where it has no descriptor left.
-    pub fn message_fd(&self) -> io::Result<MessageFd> {
+    pub fn message_fd(&self) -> io::Result<MessageFd>
+    where
+        M: MayWait,
+    {
         let descriptor = MessageFd::new()?;
         let raised = descriptor.clone();
         self.set_listener(move || raised.raise());

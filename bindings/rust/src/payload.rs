@@ -1,3 +1,4 @@
+// SPDX-License-Identifier: Apache-2.0 OR MIT
 //! What a message may be: a value, or a slice of values.
 
 use crate::sys::PAYLOAD_ALIGNMENT;
@@ -28,7 +29,7 @@ mod sealed {
 /// }
 /// ```
 ///
-/// A type whose alignment is above 16 isn't built:
+/// A type whose alignment is above 16 isn't built. `cargo check`, which builds nothing, doesn't see it:
 ///
 /// ```compile_fail
 /// #[derive(Clone, Copy)]
@@ -54,6 +55,13 @@ mod sealed {
 /// # Ok(())
 /// # }
 /// ```
+#[cfg_attr(
+    has_diagnostics,
+    diagnostic::on_unimplemented(
+        message = "no message can be of the type `{Self}`",
+        label = "a message is `Copy` and `'static`, or a slice of such values"
+    )
+)]
 pub trait Payload: sealed::Sealed + 'static {
     /// The payload where nothing is written yet.
     type Uninit: ?Sized;
@@ -110,6 +118,19 @@ impl<T: Copy + 'static> Payload for T {
         payload.cast()
     }
 }
+
+/// Of [`Payload`] the single values, which are no slices.
+#[cfg_attr(
+    has_diagnostics,
+    diagnostic::on_unimplemented(
+        message = "`{Self}` is no single value that can be a message",
+        label = "a domain of slices is made by `Domain::slice_builder`",
+        note = "a single value is `Copy` and `'static`"
+    )
+)]
+pub trait Value: Payload {}
+
+impl<T: Copy + 'static> Value for T {}
 
 impl<T: Copy + 'static> Payload for [T] {
     type Uninit = [MaybeUninit<T>];

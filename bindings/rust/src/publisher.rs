@@ -1,3 +1,4 @@
+// SPDX-License-Identifier: Apache-2.0 OR MIT
 //! Sends messages.
 
 use crate::domain::expect;
@@ -110,12 +111,15 @@ impl<P: Payload + ?Sized, M: Threads> Publisher<P, M> {
     }
 }
 
-impl<P: Payload + ?Sized, M: MayWait> Publisher<P, M> {
+impl<P: Payload + ?Sized, M: Threads> Publisher<P, M> {
     fn lend_until(
         &self,
         bytes: usize,
         until: Option<Instant>,
-    ) -> Result<LoanUninit<P, M>, LoanError> {
+    ) -> Result<LoanUninit<P, M>, LoanError>
+    where
+        M: MayWait,
+    {
         let mut lent = MaybeUninit::uninit();
         // The update may bring a history.
         let wait = self.wait_for_loan(until, Brings::MESSAGE);
@@ -258,7 +262,7 @@ fn send_copy<T: Copy + 'static>(
     }
 }
 
-impl<T: Copy + 'static, M: MayWait> Publisher<T, M> {
+impl<T: Copy + 'static, M: Threads> Publisher<T, M> {
     /// Lends a message that isn't written yet. Waits while an earlier send of the publisher does, while as
     /// many loans are out as it may have, or while no slot is free. Where its memory is to grow and can't,
     /// that is refused at once.
@@ -267,7 +271,10 @@ impl<T: Copy + 'static, M: MayWait> Publisher<T, M> {
     ///
     /// Those of [`loan_uninit`](Publisher::loan_uninit), those that are waited for only where waits are
     /// stopped (`SharedDomain::stop_waits`).
-    pub fn blocking_loan_uninit(&self) -> Result<LoanUninit<T, M>, LoanError> {
+    pub fn blocking_loan_uninit(&self) -> Result<LoanUninit<T, M>, LoanError>
+    where
+        M: MayWait,
+    {
         self.lend_until(size_of::<T>(), None)
     }
 
@@ -276,7 +283,10 @@ impl<T: Copy + 'static, M: MayWait> Publisher<T, M> {
     /// # Errors
     ///
     /// Those of [`loan_uninit`](Publisher::loan_uninit), as they are when the time is up.
-    pub fn timed_loan_uninit(&self, timeout: Duration) -> Result<LoanUninit<T, M>, LoanError> {
+    pub fn timed_loan_uninit(&self, timeout: Duration) -> Result<LoanUninit<T, M>, LoanError>
+    where
+        M: MayWait,
+    {
         self.lend_until(size_of::<T>(), after(timeout))
     }
 
@@ -287,7 +297,10 @@ impl<T: Copy + 'static, M: MayWait> Publisher<T, M> {
     /// # Errors
     ///
     /// Those of [`send_copy`](Publisher::send_copy), those that are waited for only where waits are stopped.
-    pub fn blocking_send_copy(&self, value: T) -> Result<SendOutcome<T, M>, SendError> {
+    pub fn blocking_send_copy(&self, value: T) -> Result<SendOutcome<T, M>, SendError>
+    where
+        M: MayWait,
+    {
         self.send_copy_until(value, None)
     }
 
@@ -300,7 +313,10 @@ impl<T: Copy + 'static, M: MayWait> Publisher<T, M> {
         &self,
         value: T,
         timeout: Duration,
-    ) -> Result<SendOutcome<T, M>, SendError> {
+    ) -> Result<SendOutcome<T, M>, SendError>
+    where
+        M: MayWait,
+    {
         self.send_copy_until(value, after(timeout))
     }
 
@@ -308,7 +324,10 @@ impl<T: Copy + 'static, M: MayWait> Publisher<T, M> {
         &self,
         value: T,
         until: Option<Instant>,
-    ) -> Result<SendOutcome<T, M>, SendError> {
+    ) -> Result<SendOutcome<T, M>, SendError>
+    where
+        M: MayWait,
+    {
         let (mut receivers, mut blocked) = (0, MaybeUninit::uninit());
         let wait = self.wait_for_loan(until, Brings::SEND);
         let code = self.hold.wait(wait, |shared| {
@@ -331,7 +350,10 @@ impl<T: Copy + 'static, M: MayWait> Publisher<T, M> {
         code: u32,
         blocked: &MaybeUninit<sys::Blocked>,
         until: Option<Instant>,
-    ) -> Result<SendOutcome<T, M>, SendError> {
+    ) -> Result<SendOutcome<T, M>, SendError>
+    where
+        M: MayWait,
+    {
         outcome(&self.hold, code, 0, blocked)?.wait_until(until)
     }
 }
@@ -391,7 +413,7 @@ impl<T: Copy + 'static, M: Threads> Publisher<[T], M> {
     }
 }
 
-impl<T: Copy + 'static, M: MayWait> Publisher<[T], M> {
+impl<T: Copy + 'static, M: Threads> Publisher<[T], M> {
     /// Lends a message of this number of values, none of them written yet. Waits while an earlier send of the
     /// publisher does, while as many loans are out as it may have, or while no slot is free.
     ///
@@ -399,7 +421,10 @@ impl<T: Copy + 'static, M: MayWait> Publisher<[T], M> {
     ///
     /// Those of [`loan_slice_uninit`](Publisher::loan_slice_uninit), those that are waited for only where
     /// waits are stopped. A message that is too long is refused at once.
-    pub fn blocking_loan_slice_uninit(&self, len: usize) -> Result<LoanUninit<[T], M>, LoanError> {
+    pub fn blocking_loan_slice_uninit(&self, len: usize) -> Result<LoanUninit<[T], M>, LoanError>
+    where
+        M: MayWait,
+    {
         self.lend_until(<[T]>::greatest_size(len), None)
     }
 
@@ -412,7 +437,10 @@ impl<T: Copy + 'static, M: MayWait> Publisher<[T], M> {
         &self,
         len: usize,
         timeout: Duration,
-    ) -> Result<LoanUninit<[T], M>, LoanError> {
+    ) -> Result<LoanUninit<[T], M>, LoanError>
+    where
+        M: MayWait,
+    {
         self.lend_until(<[T]>::greatest_size(len), after(timeout))
     }
 }

@@ -1,3 +1,4 @@
+// SPDX-License-Identifier: Apache-2.0 OR MIT
 //! Reads one message after the other, and receives several in one hold of the lock.
 
 use crate::desk::{Batch, Desk};
@@ -99,13 +100,16 @@ impl<P: Payload + ?Sized, M: Threads> Reader<'_, P, M> {
     }
 }
 
-impl<P: Payload + ?Sized, M: MayWait> Reader<'_, P, M> {
+impl<P: Payload + ?Sized, M: Threads> Reader<'_, P, M> {
     /// Waits for a message. `None` where waits are stopped (`SharedDomain::stop_waits`) and none waits.
     ///
     /// # Errors
     ///
     /// See [`ReceiveError`].
-    pub fn blocking_receive(&mut self) -> Result<Option<&P>, ReceiveError> {
+    pub fn blocking_receive(&mut self) -> Result<Option<&P>, ReceiveError>
+    where
+        M: MayWait,
+    {
         self.receive_until(|| None)
     }
 
@@ -114,7 +118,10 @@ impl<P: Payload + ?Sized, M: MayWait> Reader<'_, P, M> {
     /// # Errors
     ///
     /// See [`ReceiveError`].
-    pub fn timed_receive(&mut self, timeout: Duration) -> Result<Option<&P>, ReceiveError> {
+    pub fn timed_receive(&mut self, timeout: Duration) -> Result<Option<&P>, ReceiveError>
+    where
+        M: MayWait,
+    {
         self.receive_until(|| after(timeout))
     }
 
@@ -122,11 +129,17 @@ impl<P: Payload + ?Sized, M: MayWait> Reader<'_, P, M> {
     fn receive_until(
         &mut self,
         until: impl FnOnce() -> Option<Instant>,
-    ) -> Result<Option<&P>, ReceiveError> {
+    ) -> Result<Option<&P>, ReceiveError>
+    where
+        M: MayWait,
+    {
         self.next(|reader| reader.turn_until(until()))
     }
 
-    fn turn_until(&mut self, until: Option<Instant>) -> u32 {
+    fn turn_until(&mut self, until: Option<Instant>) -> u32
+    where
+        M: MayWait,
+    {
         let (hold, desk) = (&self.subscriber.hold, &self.desk);
         // A message at a time comes sooner by a call of its own.
         let asks = self.batch().capacity > 1;

@@ -1,3 +1,4 @@
+// SPDX-License-Identifier: Apache-2.0 OR MIT
 //! A message that was received.
 
 use crate::domain::{expect, expect_here};
@@ -12,7 +13,8 @@ use std::fmt;
 use std::ops::Deref;
 
 /// A message that was received, which reads as its payload where that lies. It is given back when it
-/// is dropped, and until then it counts against what its subscriber may borrow.
+/// is dropped, and until then it counts against what its subscriber may borrow. A payload's own method of a name that
+/// this has, as `number`, is called by `sample.payload().number()`.
 #[must_use = "a sample that isn't read is given back"]
 #[repr(C)]
 pub struct Sample<P: Payload + ?Sized, M: Threads = OneThread> {

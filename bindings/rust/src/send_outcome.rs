@@ -1,3 +1,4 @@
+// SPDX-License-Identifier: Apache-2.0 OR MIT
 //! The outcome of a send.
 
 use crate::errors::{unexpected, SendError};
@@ -61,14 +62,17 @@ impl<P: Payload + ?Sized, M: Threads> SendOutcome<P, M> {
     }
 }
 
-impl<P: Payload + ?Sized, M: MayWait> SendOutcome<P, M> {
+impl<P: Payload + ?Sized, M: Threads> SendOutcome<P, M> {
     /// Waits until the message has reached everybody, or was refused. Where waits are stopped
     /// (`SharedDomain::stop_waits`) it is tried once, and what is still blocked is in what this returns.
     ///
     /// # Errors
     ///
     /// Those of [`BlockedSend::retry`].
-    pub fn blocking_wait(self) -> Result<Self, SendError> {
+    pub fn blocking_wait(self) -> Result<Self, SendError>
+    where
+        M: MayWait,
+    {
         self.wait_until(None)
     }
 
@@ -77,11 +81,17 @@ impl<P: Payload + ?Sized, M: MayWait> SendOutcome<P, M> {
     /// # Errors
     ///
     /// Those of [`BlockedSend::retry`].
-    pub fn timed_wait(self, timeout: Duration) -> Result<Self, SendError> {
+    pub fn timed_wait(self, timeout: Duration) -> Result<Self, SendError>
+    where
+        M: MayWait,
+    {
         self.wait_until(after(timeout))
     }
 
-    pub(crate) fn wait_until(self, until: Option<Instant>) -> Result<Self, SendError> {
+    pub(crate) fn wait_until(self, until: Option<Instant>) -> Result<Self, SendError>
+    where
+        M: MayWait,
+    {
         match self {
             SendOutcome::Blocked(blocked) => blocked.retry_until(until),
             outcome => Ok(outcome),
@@ -155,14 +165,17 @@ impl<P: Payload + ?Sized, M: Threads> BlockedSend<P, M> {
     }
 }
 
-impl<P: Payload + ?Sized, M: MayWait> BlockedSend<P, M> {
+impl<P: Payload + ?Sized, M: Threads> BlockedSend<P, M> {
     /// Tries the send again whenever there may be room, until it has ended. Where waits are stopped it is tried
     /// once, and what is still blocked is in what this returns.
     ///
     /// # Errors
     ///
     /// Those of [`retry`](BlockedSend::retry).
-    pub fn blocking_retry(self) -> Result<SendOutcome<P, M>, SendError> {
+    pub fn blocking_retry(self) -> Result<SendOutcome<P, M>, SendError>
+    where
+        M: MayWait,
+    {
         self.retry_until(None)
     }
 
@@ -171,11 +184,17 @@ impl<P: Payload + ?Sized, M: MayWait> BlockedSend<P, M> {
     /// # Errors
     ///
     /// Those of [`retry`](BlockedSend::retry).
-    pub fn timed_retry(self, timeout: Duration) -> Result<SendOutcome<P, M>, SendError> {
+    pub fn timed_retry(self, timeout: Duration) -> Result<SendOutcome<P, M>, SendError>
+    where
+        M: MayWait,
+    {
         self.retry_until(after(timeout))
     }
 
-    fn retry_until(self, until: Option<Instant>) -> Result<SendOutcome<P, M>, SendError> {
+    fn retry_until(self, until: Option<Instant>) -> Result<SendOutcome<P, M>, SendError>
+    where
+        M: MayWait,
+    {
         let (started, mut count) = (Instant::now(), 0);
         let wait = Wait {
             what: Waits::Room,

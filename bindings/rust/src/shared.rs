@@ -1,3 +1,4 @@
+// SPDX-License-Identifier: Apache-2.0 OR MIT
 //! The domain that its ports, loans and samples share.
 
 use crate::fork::Process;

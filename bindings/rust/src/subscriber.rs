@@ -1,3 +1,4 @@
+// SPDX-License-Identifier: Apache-2.0 OR MIT
 //! Receives messages.
 
 use crate::domain::expect_here;
@@ -162,13 +163,16 @@ fn copied<T>(code: u32, value: MaybeUninit<T>) -> Result<Option<T>, ReceiveError
     }
 }
 
-impl<T: Copy + 'static, M: MayWait> Subscriber<T, M> {
+impl<T: Copy + 'static, M: Threads> Subscriber<T, M> {
     /// Waits for a message, and gives a copy of it. `None` where waits are stopped.
     ///
     /// # Errors
     ///
     /// See [`ReceiveError`].
-    pub fn blocking_receive_copy(&self) -> Result<Option<T>, ReceiveError> {
+    pub fn blocking_receive_copy(&self) -> Result<Option<T>, ReceiveError>
+    where
+        M: MayWait,
+    {
         self.copy_until(None)
     }
 
@@ -177,11 +181,17 @@ impl<T: Copy + 'static, M: MayWait> Subscriber<T, M> {
     /// # Errors
     ///
     /// See [`ReceiveError`].
-    pub fn timed_receive_copy(&self, timeout: Duration) -> Result<Option<T>, ReceiveError> {
+    pub fn timed_receive_copy(&self, timeout: Duration) -> Result<Option<T>, ReceiveError>
+    where
+        M: MayWait,
+    {
         self.copy_until(after(timeout))
     }
 
-    fn copy_until(&self, until: Option<Instant>) -> Result<Option<T>, ReceiveError> {
+    fn copy_until(&self, until: Option<Instant>) -> Result<Option<T>, ReceiveError>
+    where
+        M: MayWait,
+    {
         let mut value = MaybeUninit::uninit();
         let wait = self.wait_for_message(until, Brings::COPY);
         let code = self
@@ -224,13 +234,16 @@ pub(crate) fn receive_next(
     }
 }
 
-impl<P: Payload + ?Sized, M: MayWait> Subscriber<P, M> {
+impl<P: Payload + ?Sized, M: Threads> Subscriber<P, M> {
     /// Waits for a message. `None` where waits are stopped (`SharedDomain::stop_waits`).
     ///
     /// # Errors
     ///
     /// See [`ReceiveError`].
-    pub fn blocking_receive(&self) -> Result<Option<Sample<P, M>>, ReceiveError> {
+    pub fn blocking_receive(&self) -> Result<Option<Sample<P, M>>, ReceiveError>
+    where
+        M: MayWait,
+    {
         self.receive_until(None)
     }
 
@@ -239,11 +252,17 @@ impl<P: Payload + ?Sized, M: MayWait> Subscriber<P, M> {
     /// # Errors
     ///
     /// See [`ReceiveError`].
-    pub fn timed_receive(&self, timeout: Duration) -> Result<Option<Sample<P, M>>, ReceiveError> {
+    pub fn timed_receive(&self, timeout: Duration) -> Result<Option<Sample<P, M>>, ReceiveError>
+    where
+        M: MayWait,
+    {
         self.receive_until(after(timeout))
     }
 
-    fn receive_until(&self, until: Option<Instant>) -> Result<Option<Sample<P, M>>, ReceiveError> {
+    fn receive_until(&self, until: Option<Instant>) -> Result<Option<Sample<P, M>>, ReceiveError>
+    where
+        M: MayWait,
+    {
         let mut got = MaybeUninit::uninit();
         let wait = self.wait_for_message(until, Brings::ROOM);
         let code = self
@@ -271,7 +290,10 @@ impl<P: Payload + ?Sized, M: MayWait> Subscriber<P, M> {
     pub fn blocking_for_each(
         &self,
         mut read: impl FnMut(&P) -> ControlFlow<()>,
-    ) -> Result<(), ReceiveError> {
+    ) -> Result<(), ReceiveError>
+    where
+        M: MayWait,
+    {
         // What is taken is read, so that none is lost where it breaks off.
         let mut reader = self.reader_with_capacity(1);
         while let Some(message) = reader.blocking_receive()? {
@@ -284,7 +306,10 @@ impl<P: Payload + ?Sized, M: MayWait> Subscriber<P, M> {
 
     /// Waits for one message after the other, and ends where waits are stopped or a call is refused;
     /// the refusal is the last that it gives.
-    pub fn blocking_iter(&self) -> Incoming<'_, P, M> {
+    pub fn blocking_iter(&self) -> Incoming<'_, P, M>
+    where
+        M: MayWait,
+    {
         Incoming {
             subscriber: Some(self),
         }

@@ -1,3 +1,4 @@
+// SPDX-License-Identifier: Apache-2.0 OR MIT
 //! For which threads the handles of a domain are, and how they hold it.
 
 use crate::desk::Desk;
@@ -34,6 +35,13 @@ pub trait Threads: sealed::Sealed {
 }
 
 /// Of [`Threads`] those whose calls may wait: [`ManyThreads`], also [`Borrowed`].
+#[cfg_attr(
+    has_diagnostics,
+    diagnostic::on_unimplemented(
+        message = "this call is one of a domain that threads share",
+        label = "the domain is one thread's: make it by `create_shared`, or make a call that never waits"
+    )
+)]
 pub trait MayWait: Threads<Place = <Self as MayWait>::WaitingPlace> {
     #[doc(hidden)]
     type WaitingPlace: WaitingPlace;

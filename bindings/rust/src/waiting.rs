@@ -1,3 +1,4 @@
+// SPDX-License-Identifier: Apache-2.0 OR MIT
 //! Those who wait in a domain: threads, tasks, and what is called when a message may have come.
 
 use crate::listeners::Listeners;

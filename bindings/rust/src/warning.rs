@@ -1,3 +1,4 @@
+// SPDX-License-Identifier: Apache-2.0 OR MIT
 //! What a domain did or left undone without failing a call.
 
 use crate::errors::{is_after_fork, text, unexpected, ConnectionFailure};

@@ -1,3 +1,4 @@
+// SPDX-License-Identifier: Apache-2.0 OR MIT
 //! Sends one message after the other, and takes the lock once for each.
 
 use crate::errors::SendError;
@@ -109,7 +110,7 @@ impl<T: Copy + 'static, M: Threads> Writer<'_, T, M> {
     }
 }
 
-impl<T: Copy + 'static, M: MayWait> Writer<'_, T, M> {
+impl<T: Copy + 'static, M: Threads> Writer<'_, T, M> {
     /// Sends a message. Waits for its loan as [`Publisher::blocking_loan_uninit`] does, and then until it has reached
     /// everybody. Where waits are stopped (`SharedDomain::stop_waits`) it is tried once, and what is still blocked is in
     /// what this returns.
@@ -117,7 +118,10 @@ impl<T: Copy + 'static, M: MayWait> Writer<'_, T, M> {
     /// # Errors
     ///
     /// Those of [`send`](Writer::send), those that are waited for only where waits are stopped.
-    pub fn blocking_send(&mut self, value: T) -> Result<SendOutcome<T, M>, SendError> {
+    pub fn blocking_send(&mut self, value: T) -> Result<SendOutcome<T, M>, SendError>
+    where
+        M: MayWait,
+    {
         self.send_until(value, None)
     }
 
@@ -130,7 +134,10 @@ impl<T: Copy + 'static, M: MayWait> Writer<'_, T, M> {
         &mut self,
         value: T,
         timeout: Duration,
-    ) -> Result<SendOutcome<T, M>, SendError> {
+    ) -> Result<SendOutcome<T, M>, SendError>
+    where
+        M: MayWait,
+    {
         self.send_until(value, after(timeout))
     }
 
@@ -139,7 +146,10 @@ impl<T: Copy + 'static, M: MayWait> Writer<'_, T, M> {
         &mut self,
         value: T,
         until: Option<Instant>,
-    ) -> Result<SendOutcome<T, M>, SendError> {
+    ) -> Result<SendOutcome<T, M>, SendError>
+    where
+        M: MayWait,
+    {
         if self.ready.is_none() {
             self.lend_until(until)?;
         }
@@ -159,7 +169,10 @@ impl<T: Copy + 'static, M: MayWait> Writer<'_, T, M> {
     }
 
     #[cold]
-    fn lend_until(&mut self, until: Option<Instant>) -> Result<(), SendError> {
+    fn lend_until(&mut self, until: Option<Instant>) -> Result<(), SendError>
+    where
+        M: MayWait,
+    {
         let Publisher { hold, port, .. } = self.publisher;
         let mut lent = MaybeUninit::uninit();
         // The update may bring a history.
@@ -179,7 +192,10 @@ impl<T: Copy + 'static, M: MayWait> Writer<'_, T, M> {
         &mut self,
         until: Option<Instant>,
         blocked: sys::Blocked,
-    ) -> Result<SendOutcome<T, M>, SendError> {
+    ) -> Result<SendOutcome<T, M>, SendError>
+    where
+        M: MayWait,
+    {
         let Publisher { hold, port, .. } = self.publisher;
         let (started, mut receivers) = (Instant::now(), 0);
         let wait = self.wait_for(Waits::Room, until, Brings::RETRY);

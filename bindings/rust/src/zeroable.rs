@@ -1,3 +1,4 @@
+// SPDX-License-Identifier: Apache-2.0 OR MIT
 //! Types of which zeros are a value.
 
 use std::marker::PhantomData;

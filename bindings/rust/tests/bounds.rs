@@ -1,3 +1,4 @@
+// SPDX-License-Identifier: Apache-2.0 OR MIT
 //! What the types ask of a message: no more than that it is one.
 
 use iox2_pubsub::Domain;

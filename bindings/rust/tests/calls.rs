@@ -1,3 +1,4 @@
+// SPDX-License-Identifier: Apache-2.0 OR MIT
 //! Ports, loans, samples and blocked sends, by safe Rust alone.
 
 use iox2_pubsub::{

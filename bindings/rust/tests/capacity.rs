@@ -1,3 +1,4 @@
+// SPDX-License-Identifier: Apache-2.0 OR MIT
 //! How many messages a reader takes at a time, where it is told a number.
 
 use iox2_pubsub::{Domain, DomainBuilder, Subscriber};

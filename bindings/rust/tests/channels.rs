@@ -1,3 +1,4 @@
+// SPDX-License-Identifier: Apache-2.0 OR MIT
 //! Calls on the channels of connections, by handles of one thread and of many, that count or borrow.
 
 use iox2_pubsub::{

@@ -1,3 +1,4 @@
+// SPDX-License-Identifier: Apache-2.0 OR MIT
 //! A gateway to DDS between two processes over loopback: this one, and the same executable once more.
 #![cfg(feature = "dds")]
 
@@ -113,7 +114,7 @@ fn polled(topic: &str) {
             assert_eq!(sample.origin(), gateway.publisher());
         }
     }
-    assert!(gateway.flush(Duration::from_secs(30)));
+    gateway.flush(Duration::from_secs(30)).unwrap();
     assert_eq!(gateway.counts().sent, COUNT);
     assert_eq!(gateway.counts().received, COUNT);
 }
@@ -157,7 +158,7 @@ fn with_threads(topic: &str) {
     }
     drop(subscriber); // its own messages still came
     drop(sender.join().unwrap());
-    assert!(gateway.flush(Duration::from_secs(30)));
+    gateway.flush(Duration::from_secs(30)).unwrap();
     gateway.stop();
     assert_eq!(gateway.counts().sent, COUNT);
 }

@@ -1,3 +1,4 @@
+// SPDX-License-Identifier: Apache-2.0 OR MIT
 //! The settings of the gateway, each by what reaches C: `bindings/dds/tests/noted_settings.c` stands in for the
 //! gateway, and says it.
 #![cfg(feature = "dds")]

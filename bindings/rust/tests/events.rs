@@ -1,3 +1,4 @@
+// SPDX-License-Identifier: Apache-2.0 OR MIT
 //! Receives in tasks and event loops, and what is called when a message may have come.
 
 use iox2_pubsub::{Domain, LoanError, ManyThreads, SharedDomain, Subscriber};

@@ -1,3 +1,4 @@
+// SPDX-License-Identifier: Apache-2.0 OR MIT
 //! What a child of a fork can do with its parent's domains: nothing, and each call says so.
 #![cfg(unix)]
 

@@ -1,3 +1,4 @@
+// SPDX-License-Identifier: Apache-2.0 OR MIT
 //! What stays of futures that were polled.
 
 use iox2_pubsub::{Domain, ManyThreads, Receive, SharedDomain, Subscriber};

@@ -1,3 +1,4 @@
+// SPDX-License-Identifier: Apache-2.0 OR MIT
 //! Messages that are begun without a value on the stack.
 #![forbid(unsafe_code)]
 

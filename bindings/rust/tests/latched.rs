@@ -1,3 +1,4 @@
+// SPDX-License-Identifier: Apache-2.0 OR MIT
 //! Where threads share a domain, a subscriber that comes late gets what its publishers keep at once.
 
 use iox2_pubsub::{DegradationAction, Domain, DomainBuilder};

@@ -1,3 +1,4 @@
+// SPDX-License-Identifier: Apache-2.0 OR MIT
 //! Locks, also one that is brought, and handles that borrow their domain.
 
 mod turns;

@@ -1,3 +1,4 @@
+// SPDX-License-Identifier: Apache-2.0 OR MIT
 //! No call that passes a message takes memory, whether it waits or not. What is counted here is what this crate takes; the
 //! archive's own is counted by `tools/memory_of_messages`.
 

@@ -1,3 +1,4 @@
+// SPDX-License-Identifier: Apache-2.0 OR MIT
 //! A panic that a program causes names its line, and no line of the crate.
 
 use iox2_pubsub::Domain;

@@ -1,3 +1,4 @@
+// SPDX-License-Identifier: Apache-2.0 OR MIT
 //! Readers and writers, which take the lock once for several calls.
 
 mod turns;

@@ -1,3 +1,4 @@
+// SPDX-License-Identifier: Apache-2.0 OR MIT
 //! Each setting and each answer of the crate by what it changes, so that one which is dropped, or exchanged
 //! with another of its type, fails a test. `bindings/settings.toml` names the test of each.
 

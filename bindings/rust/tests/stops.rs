@@ -1,3 +1,4 @@
+// SPDX-License-Identifier: Apache-2.0 OR MIT
 //! Whether waits are stopped, which the result of a call that found nothing doesn't tell.
 
 use iox2_pubsub::{Domain, SendOutcome};

@@ -1,3 +1,4 @@
+// SPDX-License-Identifier: Apache-2.0 OR MIT
 //! Domains that several threads use, by safe Rust alone.
 
 mod turns;

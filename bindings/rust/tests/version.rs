@@ -1,3 +1,4 @@
+// SPDX-License-Identifier: Apache-2.0 OR MIT
 //! What becomes of a program that is linked to the archive of another version. `tools/bindings` runs the ignored test, and has
 //! the linker take this file's version for the archive's.
 

@@ -1,3 +1,4 @@
+// SPDX-License-Identifier: Apache-2.0 OR MIT
 //! Calls that wait for loans, waits that are stopped, times of all lengths, and domains that go meanwhile.
 
 mod turns;

@@ -1,3 +1,4 @@
+// SPDX-License-Identifier: Apache-2.0 OR MIT
 //! Passes messages of 64 bytes between threads: `compare_threads WHAT CONSUMERS MESSAGES BUFFER`. One
 //! producer sends all messages, and each consumer gets them all. Prints the nanoseconds of a message by the
 //! clock and by the processors of all threads.

@@ -1,3 +1,4 @@
+// SPDX-License-Identifier: Apache-2.0 OR MIT
 //! A lock of the C library, which helgrind and the thread sanitizer know; they don't know the standard library's.
 
 use iox2_pubsub::DomainLock;

@@ -1,3 +1,4 @@
+// SPDX-License-Identifier: Apache-2.0 OR MIT
 //! Makes random calls on one domain from several threads: `random SEED CALLS THREADS SCRIPT REPLIES`. What is
 //! between this and the archive (lock_order.c) writes down the calls in the order of the lock.
 //!

@@ -1,3 +1,4 @@
+// SPDX-License-Identifier: Apache-2.0 OR MIT
 //! Sixteen threads make, use, hand over and drop everything, for SECONDS seconds: `soak SECONDS SEED`. Each
 //! message is accounted for: a subscriber gets those of each publisher one after the other from the first
 //! that it gets, and in the end the last of each that was sent while it was connected. Only what was given up

@@ -1,11 +1,13 @@
 -- Calls on the channels of connections: why they are refused, what they answer, and which step of the machine they made.
 use Rattle.std.specs.Prelude.{ℕ, Bool, cond, ◌≡◌, ◌≤◌, ◌⊎◌}
 use Rattle.std.specs.declared.option.Option.{Option}
+use Rattle.std.specs.declared.option.Option.TheVariants.{Some}
 use Rattle.iox2_machine.specs.declared.key.Key.{Key}
 use Rattle.iox2_machine.specs.machine.ChannelCalls.{SetChannelState, connection_place, has_channel_state, has_disconnect_hint, received_closed, received_hinted, sent_closed, some_channel_has_state}
 use Rattle.iox2_machine.specs.machine.Limits.{channel_count}
 use Rattle.iox2_machine.specs.machine.State.{Messages}
 use Rattle.iox2_domain.specs.Shows.{Shows}
+use Rattle.iox2_pubsub.specs.BlockedSends.{waits_for}
 use Rattle.iox2_pubsub.specs.Live.{IsPublisherKey, IsSubscriberKey}
 use Rattle.iox2_c.specs.Serving.{KeptBytes}
 use Rattle.iox2_c.specs.Steps.{BytesState, StepsTo}
@@ -45,6 +47,10 @@ module _ (domain : KeptBytes) where
   -- The answer says whether the channel is in the state at some connection of the subscriber with this id.
   abbrev pub TellsSomeState : (subscriber channel state answer : ℕ) → Type 0
   TellsSomeState subscriber channel state answer = InEachState (λ s. answer ≡ as_number (some_channel_has_state s subscriber channel state))
+
+  -- The blocked send of the publisher with this id waits for the subscriber with that one.
+  abbrev pub TellsBlocker : (publisher subscriber : ℕ) → Type 0
+  TellsBlocker publisher subscriber = InEachState (λ s. waits_for s publisher ≡ Some subscriber)
 
   -- This is where the publisher with this id has its connection to the receiver, if it has one.
   abbrev pub TellsConnection : (publisher receiver : ℕ) → Option ℕ → Type 0

@@ -109,6 +109,51 @@ abbrev pub slots_numbered : ℕ → Option ℕ
 slots_numbered zero = None
 slots_numbered (suc n) = Some (suc n)
 
+-- ---- settings that are invalid: the codes from this one on name one
+
+abbrev pub first_setting_code : ℕ
+first_setting_code = 80
+
+-- The size of a struct of settings.
+abbrev pub invalid_struct_size : ℕ
+invalid_struct_size = 80
+
+-- How many bytes a message may have.
+abbrev pub invalid_payload_size : ℕ
+invalid_payload_size = 81
+
+-- To what it is aligned.
+abbrev pub invalid_payload_alignment : ℕ
+invalid_payload_alignment = 82
+
+-- The strategy for full buffers.
+abbrev pub invalid_backpressure_strategy : ℕ
+invalid_backpressure_strategy = 83
+
+-- The handler of full buffers.
+abbrev pub invalid_backpressure_handler : ℕ
+invalid_backpressure_handler = 84
+
+-- What is done about a refused connection.
+abbrev pub invalid_degradation : ℕ
+invalid_degradation = 85
+
+-- How memory grows.
+abbrev pub invalid_allocation_strategy : ℕ
+invalid_allocation_strategy = 86
+
+-- How long a message may be.
+abbrev pub invalid_initial_max_slice_len : ℕ
+invalid_initial_max_slice_len = 87
+
+-- A field that is reserved.
+abbrev pub invalid_reserved : ℕ
+invalid_reserved = 88
+
+-- All together: the worst case of slots is too large.
+abbrev pub worst_case_too_large : ℕ
+worst_case_too_large = 89
+
 -- ---- sends
 
 -- 0 where every receiver had the message, 6 where the send waits, and else the error's code.

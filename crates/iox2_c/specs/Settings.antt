@@ -1,11 +1,11 @@
 -- The settings that C may choose.
-use Rattle.std.specs.Prelude.{ℕ, false, ◌≡◌, ◌<◌, ◌%◌, ◌⊎◌, not, nat_eq}
+use Rattle.std.specs.Prelude.{ℕ, Bool, false, cond, not, nat_eq, nat_lt, ◌≡◌, ◌%◌, ◌==◌, ◌&&◌, ◌||◌}
 use Rattle.iox2_machine.specs.declared.service_config.ServiceConfig.{ServiceConfig}
 use Rattle.iox2_machine.specs.declared.service_config.TypeVariant.TheVariants.{Dynamic}
 use Rattle.iox2_machine.specs.declared.allocation.AllocationStrategy.TheVariants.{Static}
 use Rattle.iox2_machine.specs.machine.Ports.{default_publisher_settings, default_subscriber_settings}
 use Rattle.iox2_machine.specs.machine.Records.{Fixed, PublisherSettings, SubscriberSettings}
-use Rattle.iox2_c.specs.Codes.{allocation_numbered, degradation_numbered, handler_numbered, slots_numbered, strategy_numbered}
+use Rattle.iox2_c.specs.Codes.{invalid_struct_size, invalid_payload_size, invalid_payload_alignment, invalid_backpressure_strategy, invalid_backpressure_handler, invalid_degradation, invalid_allocation_strategy, invalid_initial_max_slice_len, invalid_reserved, allocation_numbered, degradation_numbered, handler_numbered, slots_numbered, strategy_numbered}
 use Rattle.iox2_c.specs.Numbers.{wide}
 use Rattle.iox2_c.specs.Serving.{KeptBytes, Serving}
 use Rattle.iox2_c.specs.declared.config.Config.{Config}
@@ -13,15 +13,59 @@ use Rattle.iox2_c.specs.declared.numbers.PublisherNumbers.{PublisherNumbers}
 use Rattle.iox2_c.specs.declared.options.PublisherOptions.{PublisherOptions}
 use Rattle.iox2_c.specs.declared.options.SubscriberOptions.{SubscriberOptions}
 
--- Payloads can be aligned so.
-abbrev pub IsAlignment : ℕ → Type 0
-IsAlignment n = (n ≡ 1) ⊎ (n ≡ 2) ⊎ (n ≡ 4) ⊎ (n ≡ 8) ⊎ (n ≡ 16)
+-- ---- sizes of structs
 
--- The settings can be had: the alignment is one, the size a multiple of it, and the strategy has a number that is one.
-pub record AreValid (config : Config) : Type 0 where
-  pub aligned : IsAlignment config.payload_alignment
-  pub whole : config.payload_size % config.payload_alignment ≡ 0
-  pub strategy : config.backpressure_strategy < 2
+-- How many bytes the settings of a domain have.
+abbrev pub config_size : ℕ
+config_size = 128
+
+-- How many the options of a publisher have.
+abbrev pub publisher_options_size : ℕ
+publisher_options_size = 48
+
+-- How many those of a subscriber have.
+abbrev pub subscriber_options_size : ℕ
+subscriber_options_size = 24
+
+-- ---- the first setting that is invalid, by its code, and 0 where each is valid
+
+-- Payloads can be aligned so.
+abbrev pub is_alignment : ℕ → Bool
+is_alignment n = (n == 1) || (n == 2) || (n == 4) || (n == 8) || (n == 16)
+
+-- The length is a multiple of the alignment.
+abbrev pub is_aligned : (length alignment : ℕ) → Bool
+is_aligned length alignment = nat_lt 0 alignment && ((length % alignment) == 0)
+
+-- The first setting of a domain that is invalid, in the order of the fields, except that the alignment comes before the size that
+-- has to be a multiple of it.
+abbrev pub invalid_setting : Config → ℕ
+invalid_setting it =
+    cond (not (it.struct_size == config_size)) invalid_struct_size
+    (cond (not (is_alignment it.payload_alignment)) invalid_payload_alignment
+    (cond (not (is_aligned it.payload_size it.payload_alignment)) invalid_payload_size
+    (cond (not (nat_lt it.backpressure_strategy 2)) invalid_backpressure_strategy 0)))
+
+-- The first setting of a publisher that is invalid where payloads are aligned so, in the order of the fields. Memory that grows
+-- begins with some.
+abbrev pub invalid_publisher_option : (alignment : ℕ) → PublisherOptions → ℕ
+invalid_publisher_option alignment it =
+    cond (not (it.struct_size == publisher_options_size)) invalid_struct_size
+    (cond (not (is_aligned it.initial_max_slice_len alignment)) invalid_initial_max_slice_len
+    (cond ((it.initial_max_slice_len == 0) && ((it.allocation_strategy == 1) || (it.allocation_strategy == 2))) invalid_initial_max_slice_len
+    (cond (not (nat_lt it.backpressure_strategy 2)) invalid_backpressure_strategy
+    (cond (not (nat_lt it.backpressure_handler 5)) invalid_backpressure_handler
+    (cond (not (nat_lt it.degradation 3)) invalid_degradation
+    (cond (not (nat_lt it.allocation_strategy 3)) invalid_allocation_strategy 0))))))
+
+-- The first setting of a subscriber that is invalid, in the order of the fields.
+abbrev pub invalid_subscriber_option : SubscriberOptions → ℕ
+invalid_subscriber_option it =
+    cond (not (it.struct_size == subscriber_options_size)) invalid_struct_size
+    (cond (not (nat_lt it.degradation 3)) invalid_degradation
+    (cond (not (it.reserved == 0)) invalid_reserved 0))
+
+-- ---- domains
 
 -- The settings of the domain: of slices of bytes, whose cells aren't handed out.
 abbrev pub settings_of : Config → ServiceConfig
@@ -76,17 +120,6 @@ publisher_settings config it = record (unasked_settings config it) { asked_slots
 -- The settings of a subscriber with these options.
 abbrev pub subscriber_settings : SubscriberOptions → SubscriberSettings
 subscriber_settings it = record { buffer_size = it.buffer_size; degradation_handler = Fixed (degradation_numbered it.degradation) }
-
--- A publisher can have the options where payloads are aligned so: its messages are of whole units, each number has a meaning, and
--- memory that grows begins with some.
-pub record AreOptions (alignment : ℕ) (it : PublisherOptions) : Type 0 where
-  pub aligned : 0 < alignment
-  pub whole : it.initial_max_slice_len % alignment ≡ 0
-  pub strategy : it.backpressure_strategy < 2
-  pub handler : it.backpressure_handler < 5
-  pub degradation : it.degradation < 3
-  pub allocation : it.allocation_strategy < 3
-  pub begins : (it.allocation_strategy ≡ 0) ⊎ (0 < it.initial_max_slice_len)
 
 -- The numbers of a publisher say what its settings do of its messages' length and of its strategy.
 pub record ReadsSettings (it : PublisherNumbers) (given : PublisherSettings) : Type 0 where

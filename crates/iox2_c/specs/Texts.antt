@@ -32,8 +32,7 @@ call_text n =
     (cond (nat_eq n 5) (codes "the domain exists already")
     (cond (nat_eq n 6) (codes "the send is blocked by a subscriber whose buffer is full")
     (cond (nat_eq n 7) (codes "an earlier send of the publisher is blocked")
-    (cond (nat_eq n 8) (codes "invalid value in the settings")
-    (cond (nat_eq n 9) (codes "the buffer is too small for the message") unknown_text)))))))))
+    (cond (nat_eq n 9) (codes "the buffer is too small for the message") unknown_text))))))))
 
 -- A loan's error.
 abbrev pub loan_text : ℕ → List ℕ
@@ -94,6 +93,20 @@ channel_text n =
     cond (nat_eq n 70) (codes "a connection has no channel with this number")
     (cond (nat_eq n 71) (codes "the publisher has no connection to that subscriber") unknown_text)
 
+-- An invalid setting.
+abbrev pub setting_text : ℕ → List ℕ
+setting_text n =
+    cond (nat_eq n 80) (codes "invalid struct_size: fill the struct with its function in the header of this library's version")
+    (cond (nat_eq n 81) (codes "invalid payload_size: it must be a multiple of payload_alignment")
+    (cond (nat_eq n 82) (codes "invalid payload_alignment: it must be 1, 2, 4, 8 or 16")
+    (cond (nat_eq n 83) (codes "invalid backpressure_strategy: it must be one of iox2ps_backpressure_strategy_e")
+    (cond (nat_eq n 84) (codes "invalid backpressure_handler: it must be one of iox2ps_backpressure_handler_e")
+    (cond (nat_eq n 85) (codes "invalid degradation: it must be one of iox2ps_degradation_e")
+    (cond (nat_eq n 86) (codes "invalid allocation_strategy: it must be one of iox2ps_allocation_strategy_e")
+    (cond (nat_eq n 87) (codes "invalid initial_max_slice_len: it must be a multiple of payload_alignment, and not 0 if memory may grow")
+    (cond (nat_eq n 88) (codes "invalid reserved_: it must be 0")
+    (cond (nat_eq n 89) (codes "the worst case of slots is too large: lower the limits in the settings, or the number of loans") unknown_text)))))))))
+
 -- A warning's kind.
 abbrev pub warning_text : ℕ → List ℕ
 warning_text n =
@@ -113,7 +126,8 @@ text_numbered n =
     (cond (nat_eq (n / 10) 4) (failure_text n)
     (cond (nat_eq (n / 10) 5) (publisher_text n)
     (cond (nat_eq (n / 10) 6) (subscriber_text n)
-    (cond (nat_eq (n / 10) 7) (channel_text n) (warning_text n))))))))
+    (cond (nat_eq (n / 10) 7) (channel_text n)
+    (cond (nat_eq (n / 10) 8) (setting_text n) (warning_text n)))))))))
 
 -- A text with the zero byte that ends it for C.
 abbrev pub ended : List ℕ → List ℕ

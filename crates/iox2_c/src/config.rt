@@ -1,18 +1,27 @@
 //! The settings of a domain.
-ghost use Rattle.std.specs.Prelude.{◌≡◌, ◌<◌, ◌↔◌, false, IsTrue};
+ghost use Rattle.std.specs.Prelude.{◌≡◌, ◌<◌, ◌≤◌, ◌⊎◌, false};
 ghost use Rattle.iox2_machine.specs.Defaults.{default_config};
 ghost use Rattle.iox2_machine.specs.declared.allocation.AllocationStrategy.TheVariants.{Static};
 ghost use Rattle.iox2_machine.specs.declared.service_config.TypeVariant.TheVariants.{Dynamic};
-ghost use Rattle.iox2_c.specs.Codes.{strategy_numbered};
-ghost use Rattle.iox2_c.specs.Settings.{AreValid, IsAlignment, settings_of};
+ghost use Rattle.iox2_c.specs.Codes.{first_setting_code, strategy_numbered, worst_case_too_large};
+ghost use Rattle.iox2_c.specs.Settings.{config_size, invalid_setting, is_alignment, settings_of};
 
 use crate::numbers::Wide;
+use crate::status::{
+    INVALID_BACKPRESSURE_STRATEGY, INVALID_PAYLOAD_ALIGNMENT, INVALID_PAYLOAD_SIZE,
+    INVALID_STRUCT_SIZE, OK,
+};
 use iox2_pubsub::{AllocationStrategy, BackpressureStrategy, ServiceConfig, TypeVariant};
+
+/// How many bytes the settings of a domain have.
+pub const CONFIG_SIZE: usize = size_of::<Config>();
 
 /// The settings that C may choose.
 #[repr(C)]
 #[derive(Clone, Copy)]
 pub struct Config {
+    /// How many bytes the caller's struct has.
+    pub struct_size: usize,
     /// Names the domain.
     pub service_id: Wide,
     /// What the header of each message names.
@@ -46,6 +55,7 @@ pub struct Config {
 impl Config {
     /// The defaults of a domain with this id, for messages of that many bytes.
     pub fn defaults(service_id: u128, payload_size: usize, payload_alignment: usize) -> Config
+        ensures known { result.struct_size ≡ config_size }
         ensures settings { settings_of result ≡ record (default_config service_id) { variant = Dynamic; lists_cells = false } }
         ensures size { result.payload_size ≡ payload_size }
         ensures alignment { result.payload_alignment ≡ payload_alignment }
@@ -59,11 +69,13 @@ impl Config {
 
     /// The settings of a domain for messages of that many bytes.
     pub fn of(config: &ServiceConfig, payload_size: usize, payload_alignment: usize) -> Config
+        ensures known { result.struct_size ≡ config_size }
         ensures settings { settings_of result ≡ record (config.now) { variant = Dynamic; units_per_element = 1; lists_cells = false; publisher_allocation_strategy = Static } }
         ensures size { result.payload_size ≡ payload_size }
         ensures alignment { result.payload_alignment ≡ payload_alignment }
     {
         Config {
+            struct_size: CONFIG_SIZE,
             service_id: Wide::of(config.service_id),
             node_id: Wide::of(config.node_id),
             payload_size,
@@ -105,19 +117,31 @@ impl Config {
         }
     }
 
-    /// Whether a domain can have the settings.
-    pub fn are_valid(&self) -> bool
-        ensures { IsTrue result ↔ AreValid self.now }
+    /// The code of the first setting that no domain can have, in the order of the fields; 0 if a domain can have
+    /// them all.
+    pub fn first_invalid(&self) -> u32
+        ensures first { result ≡ invalid_setting self.now }
+        ensures range { (result ≡ 0) ⊎ ((first_setting_code ≤ result) × (result < worst_case_too_large)) }
     {
-        is_alignment(self.payload_alignment)
-            && self.payload_size % self.payload_alignment == 0
-            && self.backpressure_strategy < 2
+        if self.struct_size != CONFIG_SIZE {
+            return INVALID_STRUCT_SIZE;
+        }
+        if !is_alignment(self.payload_alignment) {
+            return INVALID_PAYLOAD_ALIGNMENT;
+        }
+        if self.payload_size % self.payload_alignment != 0 {
+            return INVALID_PAYLOAD_SIZE;
+        }
+        if self.backpressure_strategy >= 2 {
+            return INVALID_BACKPRESSURE_STRATEGY;
+        }
+        OK
     }
 }
 
 // Whether payloads can be aligned so.
 fn is_alignment(value: usize) -> bool
-    ensures { IsTrue result ↔ IsAlignment value }
+    ensures { result ≡ is_alignment value }
 {
     matches!(value, 1 | 2 | 4 | 8 | 16)
 }

@@ -23,14 +23,32 @@ pub const HAS_DOMAIN: u32 = 5;
 pub const BLOCKED: u32 = 6;
 /// An earlier send of the publisher waits.
 pub const PUBLISHER_IS_BLOCKED: u32 = 7;
-/// A field of the settings has none of its values.
-pub const INVALID_SETTINGS: u32 = 8;
 /// The message is longer than the room for it.
 pub const TOO_SMALL: u32 = 9;
 /// A connection has no channel with this number.
 pub const NO_SUCH_CHANNEL: u32 = 70;
 /// The publisher has no connection to that subscriber.
 pub const NO_CONNECTION: u32 = 71;
+/// The struct of settings doesn't have the size that this library knows.
+pub const INVALID_STRUCT_SIZE: u32 = 80;
+/// The payloads' size is no multiple of their alignment.
+pub const INVALID_PAYLOAD_SIZE: u32 = 81;
+/// Payloads can't be aligned so.
+pub const INVALID_PAYLOAD_ALIGNMENT: u32 = 82;
+/// No strategy for full buffers has this number.
+pub const INVALID_BACKPRESSURE_STRATEGY: u32 = 83;
+/// No handler of full buffers has this number.
+pub const INVALID_BACKPRESSURE_HANDLER: u32 = 84;
+/// Nothing that is done about a refused connection has this number.
+pub const INVALID_DEGRADATION: u32 = 85;
+/// Memory grows in no way that has this number.
+pub const INVALID_ALLOCATION_STRATEGY: u32 = 86;
+/// Messages can't be this long.
+pub const INVALID_INITIAL_MAX_SLICE_LEN: u32 = 87;
+/// A field that is reserved isn't 0.
+pub const INVALID_RESERVED: u32 = 88;
+/// The worst case of slots doesn't fit.
+pub const WORST_CASE_TOO_LARGE: u32 = 89;
 
 /// The code of a refused loan.
 pub fn loan_status(error: LoanError) -> u32

@@ -6,11 +6,13 @@ use iox2_pubsub::ReceiveError;
 use iox2_request_response::{Client, PendingResponse, RequestResponseConfig, Response, Server};
 use std::process::Abort;
 
-// Responses to an earlier request, which couldn't be emptied, are released and not given out.
+// Responses to an earlier request, which couldn't be emptied, are released and not given out. There is
+// room for one of them and two later ones, so that none pushes it out.
 #[test]
 fn what_was_left_of_an_earlier_request_is_passed_over(rt: HostRuntime) {
     let config = RequestResponseConfig {
         max_active_requests_per_client: 1,
+        max_response_buffer_size: 3,
         max_borrowed_responses_per_pending_response: 1,
         ..RequestResponseConfig::new(7)
     };

@@ -5,6 +5,7 @@ mod drops;
 mod fixtures;
 mod growing_publishers;
 mod located;
+mod older_slots;
 mod overrides;
 mod slices;
 mod unspecified;

@@ -1,3 +1,4 @@
+// SPDX-License-Identifier: Apache-2.0 OR MIT
 //! Domains to try numbers in, and calls that have to be refused.
 
 use iox2_pubsub_sys::*;
@@ -19,6 +20,7 @@ pub struct Outs {
     pub header: Header,
     pub config: Config,
     pub warning: Warning,
+    pub id: Wide,
     pub written: *mut u8,
     pub read: *const u8,
     pub count: usize,
@@ -145,6 +147,9 @@ pub fn loan_is_refused(domain: &mut Domain, loan: &Loan, code: u32) {
 
 pub fn blocked_is_refused(domain: &mut Domain, blocked: &Blocked, code: u32) {
     unsafe {
+        refused(code, |outs| {
+            iox2ps_blocked_subscriber(domain, blocked, &mut outs.id)
+        });
         refused(code, |outs| {
             iox2ps_blocked_retry(domain, blocked, 1, &mut outs.count)
         });

@@ -1,3 +1,4 @@
+// SPDX-License-Identifier: Apache-2.0 OR MIT
 //! Random numbers, the same for each seed.
 
 pub struct Random(pub u64);

@@ -1,14 +1,14 @@
 //! The calls of publishers.
-ghost use Rattle.std.specs.Prelude.{ℕ, ◌≡◌, ◌≢◌, ◌<◌, ◌⊎◌, Err, IfErr, IfOk, None, Ok, Some};
+ghost use Rattle.std.specs.Prelude.{ℕ, ◌≡◌, ◌<◌, ◌≤◌, ◌⊎◌, Err, IfErr, IfOk, None, Ok, Some};
 ghost use Rattle.iox2_machine.specs.declared.errors.PublisherCreateError.{PublisherCreateError};
 ghost use Rattle.iox2_pubsub.specs.Factories.{with_slots};
 ghost use Rattle.iox2_pubsub.specs.Handles.{max_slice_len_of, strategy_of as handle_strategy, as_publisher, publisher_id};
 ghost use Rattle.iox2_pubsub.specs.Live.{A_publisher, IsNewIn, IsPublisherKey, IsReadyPublisher, No_item, publisher_key};
 ghost use Rattle.iox2_c.specs.Calls.{IsReady, MakesPublisher, RefusesPublisher};
-ghost use Rattle.iox2_c.specs.Codes.{code_of, publisher_code, slots_numbered, strategy_numbered};
+ghost use Rattle.iox2_c.specs.Codes.{code_of, first_setting_code, publisher_code, slots_numbered, strategy_numbered};
 ghost use Rattle.iox2_c.specs.Numbers.{named_publisher, wide};
 ghost use Rattle.iox2_c.specs.Serving.{ServesBut};
-ghost use Rattle.iox2_c.specs.Settings.{AreOptions, ReadsSettings, plain_publisher_settings, publisher_settings, unasked_settings};
+ghost use Rattle.iox2_c.specs.Settings.{ReadsSettings, invalid_publisher_option, plain_publisher_settings, publisher_settings, unasked_settings};
 ghost use Rattle.iox2_c.specs.Steps.{ClosesPublisher, CreatesPublisher};
 
 use crate::config::{Config, strategy_of};
@@ -17,7 +17,7 @@ use crate::numbers::PublisherNumbers;
 use crate::options::{PublisherOptions, allocation_of, degradation_of};
 use crate::recording::publisher_reply;
 use crate::service::{BytesDomain, Service};
-use crate::status::{INVALID_SETTINGS, NOT_LIVE, OK, PUBLISHER_IS_BLOCKED, publisher_status};
+use crate::status::{NOT_LIVE, OK, PUBLISHER_IS_BLOCKED, publisher_status};
 use iox2_pubsub::PublisherCreateError;
 use iox2_pubsub::slice::{PortFactoryPublisher, Publisher};
 
@@ -125,17 +125,18 @@ pub fn create_with(
     out: &mut PublisherNumbers,
 ) -> u32
     ensures creates { result ≡ 0 → CreatesPublisher service.old.domain service.new.domain (publisher_settings (service.old.domain).config options.now) (Ok (wide (out.new).id)) }
-    ensures errors { 0 < result → result ≢ 8 → (error : PublisherCreateError) × (result ≡ publisher_code error) × CreatesPublisher service.old.domain service.new.domain (publisher_settings (service.old.domain).config options.now) (Err error) }
-    ensures valid { result ≢ 8 → AreOptions service.old.payload_alignment options.now }
-    ensures invalid { result ≡ 8 → (AreOptions service.old.payload_alignment options.now → ⊥) × (service.new ≡ service.old) }
+    ensures errors { 0 < result → result < first_setting_code → (error : PublisherCreateError) × (result ≡ publisher_code error) × CreatesPublisher service.old.domain service.new.domain (publisher_settings (service.old.domain).config options.now) (Err error) }
+    ensures valid { result < first_setting_code → invalid_publisher_option service.old.payload_alignment options.now ≡ 0 }
+    ensures invalid { first_setting_code ≤ result → (result ≡ invalid_publisher_option service.old.payload_alignment options.now) × (service.new ≡ service.old) }
     ensures ready { result ≡ 0 → IsReady service.new.domain (named_publisher out.new) }
     ensures new { result ≡ 0 → IsNewIn service.old.domain (A_publisher (wide (out.new).id)) }
     ensures reads { result ≡ 0 → ReadsSettings out.new (publisher_settings (service.old.domain).config options.now) }
     ensures same { 0 < result → out.new ≡ out.old }
     ensures stays { ServesBut No_item service.old service.new }
 {
-    if !options.are_valid(service.payload_alignment) {
-        return INVALID_SETTINGS;
+    let invalid = options.first_invalid(service.payload_alignment);
+    if invalid != OK {
+        return invalid;
     }
     let factory = factory_with(service, options);
     let made = create_by(&mut service.domain, factory, options.preallocated_samples);

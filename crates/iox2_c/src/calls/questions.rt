@@ -1,28 +1,29 @@
 //! What a domain is asked that changes only connections.
-ghost use Rattle.std.specs.Prelude.{Bool, cond, drop, length, slice_get, ◌≡◌, ◌<◌, ◌≤◌, ◌⊎◌, ◌↔◌, IfErr, IfOk, IfSome, None};
+ghost use Rattle.std.specs.Prelude.{Bool, cond, drop, length, slice_get, ◌≡◌, ◌≢◌, ◌<◌, ◌≤◌, ◌⊎◌, ◌↔◌, IfErr, IfOk, IfSome, None};
 ghost use Rattle.std.specs.declared.result.Result.{Result};
 ghost use Rattle.std.specs.List.{count_by};
 ghost use Rattle.std.specs.Option.{is_some};
 ghost use Rattle.circular_buffer.specs.Buffer.{buffer};
 ghost use Rattle.iox2_machine.specs.machine.Limits.{warning_limit};
 ghost use Rattle.iox2_machine.specs.declared.errors.ConnectionFailure.{ConnectionFailure};
-ghost use Rattle.iox2_pubsub.specs.Live.{IsPublisherKey, IsSubscriberKey, IsUnblocked, No_item};
+ghost use Rattle.iox2_pubsub.specs.Live.{IsBlockedKey, IsPublisherKey, IsSubscriberKey, IsUnblocked, No_item};
 ghost use Rattle.iox2_c.specs.Calls.{RefusesPublisher};
-ghost use Rattle.iox2_c.specs.Codes.{code_of, failure_code};
-ghost use Rattle.iox2_c.specs.Numbers.{named_publisher, named_subscriber, wide};
+ghost use Rattle.iox2_c.specs.Channels.{TellsBlocker};
+ghost use Rattle.iox2_c.specs.Codes.{code_of, failure_code, invalid_struct_size};
+ghost use Rattle.iox2_c.specs.Numbers.{named_loan, named_publisher, named_subscriber, wide};
 ghost use Rattle.iox2_c.specs.Serving.{ServesBut};
-ghost use Rattle.iox2_c.specs.Settings.{settings_in, settings_of};
+ghost use Rattle.iox2_c.specs.Settings.{config_size, settings_in, settings_of};
 ghost use Rattle.iox2_c.specs.Warnings.{TellsOf};
 ghost use Rattle.iox2_c.specs.Steps.{Asks, UpdatesPublisher, UpdatesSubscriber};
 
 use crate::calls::publishers::ready_publisher;
 use crate::calls::samples::copy_bytes;
 use crate::calls::subscribers::live_subscriber;
-use crate::config::Config;
-use crate::numbers::{PublisherNumbers, SubscriberNumbers};
+use crate::config::{CONFIG_SIZE, Config};
+use crate::numbers::{LoanNumbers, PublisherNumbers, SubscriberNumbers, Wide};
 use crate::recording::{Recording, error_of};
 use crate::service::Service;
-use crate::status::{NOT_LIVE, OK, OUT_OF_MEMORY, failure_status};
+use crate::status::{INVALID_STRUCT_SIZE, NOT_LIVE, OK, OUT_OF_MEMORY, failure_status};
 use crate::warning::{WarningNumbers, numbers_of};
 use call_recorder::Name;
 use iox2_pubsub::{ConnectionFailure, UpdateConnections};
@@ -185,13 +186,35 @@ pub fn book_count(service: &Service, count: &mut usize) -> u32
     OK
 }
 
-/// The domain's settings.
-pub fn config(service: &Service, out: &mut Config) -> u32
-    ensures code { result ≡ 0 }
-    ensures reads { settings_of out.new ≡ settings_in service.now.domain }
-    ensures size { (out.new).payload_size ≡ service.now.payload_size }
-    ensures alignment { (out.new).payload_alignment ≡ service.now.payload_alignment }
+/// The subscriber that a blocked send waits for.
+pub fn blocker(service: &Service, numbers: &LoanNumbers, subscriber: &mut Wide) -> u32
+    ensures code { (result ≡ 0) ⊎ (result ≡ 2) }
+    ensures live { result ≡ 0 → IsBlockedKey service.now.domain (named_loan numbers.now) }
+    ensures tells { result ≡ 0 → TellsBlocker service.now.domain (wide (numbers.now).publisher) (wide subscriber.new) }
+    ensures not_live { result ≡ 2 → IsBlockedKey service.now.domain (named_loan numbers.now) → ⊥ }
+    ensures same { 0 < result → subscriber.new ≡ subscriber.old }
 {
+    let Some(waiting) = service.domain.blocked_of(&numbers.parts()) else {
+        return NOT_LIVE;
+    };
+    *subscriber = Wide::of(waiting.subscriber(&service.domain).value());
+    waiting.disown();
+    OK
+}
+
+/// The domain's settings, for a struct of that size.
+pub fn config(service: &Service, out: &mut Config, struct_size: usize) -> u32
+    ensures code { (result ≡ 0) ⊎ (result ≡ invalid_struct_size) }
+    ensures unknown { (result ≡ invalid_struct_size) ↔ (struct_size ≢ config_size) }
+    ensures known { result ≡ 0 → (out.new).struct_size ≡ config_size }
+    ensures reads { result ≡ 0 → settings_of out.new ≡ settings_in service.now.domain }
+    ensures size { result ≡ 0 → (out.new).payload_size ≡ service.now.payload_size }
+    ensures alignment { result ≡ 0 → (out.new).payload_alignment ≡ service.now.payload_alignment }
+    ensures same { 0 < result → out.new ≡ out.old }
+{
+    if struct_size != CONFIG_SIZE {
+        return INVALID_STRUCT_SIZE;
+    }
     *out = Config::of(
         service.domain.config(),
         service.payload_size,

@@ -7,11 +7,11 @@ ghost use Rattle.iox2_machine.specs.machine.Receives.{Got_sample, No_sample, Rec
 ghost use Rattle.iox2_pubsub.specs.Handles.{as_subscriber, buffer_size_of, origin_of, receiver_of, subscriber_id};
 ghost use Rattle.iox2_pubsub.specs.Slices.{SampleHasValues};
 ghost use Rattle.iox2_pubsub.specs.Live.{A_sample, A_subscriber, IsLiveSample, IsLiveSubscriber, IsNewIn, IsSampleKey, IsSubscriberKey, No_item, sample_key, subscriber_key};
-ghost use Rattle.iox2_c.specs.Codes.{code_of, receive_code, subscriber_code};
+ghost use Rattle.iox2_c.specs.Codes.{code_of, first_setting_code, receive_code, subscriber_code};
 ghost use Rattle.iox2_c.specs.Numbers.{named_sample, named_subscriber, wide};
 ghost use Rattle.iox2_c.specs.Returns.{ReceiveReturns};
 ghost use Rattle.iox2_c.specs.Serving.{ServesBut};
-ghost use Rattle.iox2_c.specs.Settings.{plain_subscriber_settings, subscriber_settings};
+ghost use Rattle.iox2_c.specs.Settings.{invalid_subscriber_option, plain_subscriber_settings, subscriber_settings};
 ghost use Rattle.iox2_c.specs.Steps.{ClosesSubscriber, CreatesSubscriber, Receives, ReceivesCopy};
 
 use crate::calls::samples;
@@ -22,7 +22,7 @@ use crate::options::{SubscriberOptions, degradation_of};
 use crate::recording::subscriber_reply;
 use crate::service::{BytesDomain, Service};
 use crate::starts::start_of;
-use crate::status::{INVALID_SETTINGS, NO_SAMPLE, NOT_LIVE, OK, receive_status, subscriber_status};
+use crate::status::{NO_SAMPLE, NOT_LIVE, OK, receive_status, subscriber_status};
 use iox2_pubsub::slice::{PortFactorySubscriber, Sample, Subscriber};
 use iox2_pubsub::{ReceiveError, SubscriberCreateError};
 
@@ -78,16 +78,17 @@ pub fn create_with(
     out: &mut SubscriberNumbers,
 ) -> u32
     ensures creates { result ≡ 0 → CreatesSubscriber service.old.domain service.new.domain (subscriber_settings options.now) (Ok out.new) }
-    ensures errors { 0 < result → result ≢ 8 → (error : SubscriberCreateError) × (result ≡ subscriber_code error) × CreatesSubscriber service.old.domain service.new.domain (subscriber_settings options.now) (Err error) }
-    ensures valid { result ≢ 8 → options.now.degradation < 3 }
-    ensures invalid { result ≡ 8 → (options.now.degradation < 3 → ⊥) × (service.new ≡ service.old) }
+    ensures errors { 0 < result → result < first_setting_code → (error : SubscriberCreateError) × (result ≡ subscriber_code error) × CreatesSubscriber service.old.domain service.new.domain (subscriber_settings options.now) (Err error) }
+    ensures valid { result < first_setting_code → invalid_subscriber_option options.now ≡ 0 }
+    ensures invalid { first_setting_code ≤ result → (result ≡ invalid_subscriber_option options.now) × (service.new ≡ service.old) }
     ensures live { result ≡ 0 → IsSubscriberKey service.new.domain (named_subscriber out.new) }
     ensures new { result ≡ 0 → IsNewIn service.old.domain (A_subscriber (wide (out.new).id)) }
     ensures same { 0 < result → out.new ≡ out.old }
     ensures stays { ServesBut No_item service.old service.new }
 {
-    if options.degradation >= 3 {
-        return INVALID_SETTINGS;
+    let invalid = options.first_invalid();
+    if invalid != OK {
+        return invalid;
     }
     let factory = factory_with(service, options);
     let made = factory.create(&mut service.domain);

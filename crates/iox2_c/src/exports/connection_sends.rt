@@ -17,7 +17,7 @@ use crate::status::NO_DOMAIN;
 /// Sends a message into one channel of one connection, and says how many subscribers took it or which
 /// send waits.
 #[unsafe(no_mangle)]
-pub extern "C" fn iox2ps_loan_deliver_offset_to_connection(
+pub extern "C" fn iox2ps_loan_deliver_offset_to_connection_counted(
     domain: &mut DomainBox,
     loan: &LoanNumbers,
     channel: usize,

@@ -7,63 +7,103 @@ ghost use Rattle.iox2_machine.specs.machine.Ports.{default_publisher_settings, d
 ghost use Rattle.iox2_machine.specs.machine.State.{fresh, no_messages};
 ghost use Rattle.iox2_domain.specs.Shows.{Shows};
 ghost use Rattle.iox2_c.specs.Boxed.{Knows};
-ghost use Rattle.iox2_c.specs.Settings.{AreValid, publisher_settings, settings_of, subscriber_settings};
+ghost use Rattle.iox2_c.specs.Settings.{config_size, invalid_setting, publisher_options_size, publisher_settings, settings_of, subscriber_options_size, subscriber_settings};
+ghost use Rattle.iox2_c.specs.Codes.{first_setting_code, worst_case_too_large};
 
 use crate::calls::questions;
-use crate::config::Config;
+use crate::config::{CONFIG_SIZE, Config};
 use crate::domain_box::DomainBox;
-use crate::options::{PublisherOptions, SubscriberOptions};
+use crate::options::{
+    PUBLISHER_OPTIONS_SIZE, PublisherOptions, SUBSCRIBER_OPTIONS_SIZE, SubscriberOptions,
+};
 use crate::recording::Room;
 use crate::service::Service;
-use crate::status::{HAS_DOMAIN, INVALID_SETTINGS, NO_DOMAIN, OK, OUT_OF_MEMORY};
+use crate::status::{HAS_DOMAIN, NO_DOMAIN, OK, OUT_OF_MEMORY, WORST_CASE_TOO_LARGE};
 use iox2_pubsub::worst_case_slots;
 use std::alloc::Global;
 
-/// Writes the defaults of a domain with this id, for messages of that many bytes.
+/// Writes the defaults of a domain with this id, for messages of that many bytes. Of a struct whose size this
+/// library doesn't know only the first field is written, so that it is refused.
 #[unsafe(no_mangle)]
-pub extern "C" fn iox2ps_config_defaults(
+pub extern "C" fn iox2ps_config_defaults_sized(
     config: &mut Config,
+    struct_size: usize,
     service_id: u64,
     payload_size: usize,
     payload_alignment: usize,
 )
-    ensures settings { settings_of config.new ≡ record (default_config service_id) { variant = Dynamic; lists_cells = false } }
-    ensures size { (config.new).payload_size ≡ payload_size }
-    ensures alignment { (config.new).payload_alignment ≡ payload_alignment }
+    ensures known { struct_size ≡ config_size → (config.new).struct_size ≡ config_size }
+    ensures settings { struct_size ≡ config_size → settings_of config.new ≡ record (default_config service_id) { variant = Dynamic; lists_cells = false } }
+    ensures size { struct_size ≡ config_size → (config.new).payload_size ≡ payload_size }
+    ensures alignment { struct_size ≡ config_size → (config.new).payload_alignment ≡ payload_alignment }
+    ensures unknown { struct_size ≢ config_size → config.new ≡ record (config.old) { struct_size = 0 } }
 {
-    *config = Config::defaults(service_id as u128, payload_size, payload_alignment);
+    if struct_size == CONFIG_SIZE {
+        *config = Config::defaults(service_id as u128, payload_size, payload_alignment);
+    } else {
+        config.struct_size = 0;
+    }
 }
 
-/// Writes what a publisher has that is made without options.
+/// Writes what a publisher has that is made without options. Of a struct whose size this library doesn't know, or
+/// with such settings, only the first field is written, so that it is refused.
 #[unsafe(no_mangle)]
-pub extern "C" fn iox2ps_publisher_options_of(config: &Config, options: &mut PublisherOptions)
-    ensures { publisher_settings (settings_of config.now) options.new ≡ record (default_publisher_settings (settings_of config.now)) { initial_max_slice_len = config.now.payload_size } }
+pub extern "C" fn iox2ps_publisher_options_of_sized(
+    config: &Config,
+    options: &mut PublisherOptions,
+    struct_size: usize,
+)
+    ensures known { config.now.struct_size ≡ config_size → struct_size ≡ publisher_options_size → (options.new).struct_size ≡ publisher_options_size }
+    ensures settings { config.now.struct_size ≡ config_size → struct_size ≡ publisher_options_size
+        → publisher_settings (settings_of config.now) options.new ≡ record (default_publisher_settings (settings_of config.now)) { initial_max_slice_len = config.now.payload_size } }
+    ensures unknown { (config.now.struct_size ≢ config_size) ⊎ (struct_size ≢ publisher_options_size) → options.new ≡ record (options.old) { struct_size = 0 } }
 {
-    *options = PublisherOptions::of(config);
+    if config.struct_size == CONFIG_SIZE && struct_size == PUBLISHER_OPTIONS_SIZE {
+        *options = PublisherOptions::of(config);
+    } else {
+        options.struct_size = 0;
+    }
 }
 
-/// Writes what a subscriber has that is made without options.
+/// Writes what a subscriber has that is made without options. Of a struct whose size this library doesn't know, or
+/// with such settings, only the first field is written, so that it is refused.
 #[unsafe(no_mangle)]
-pub extern "C" fn iox2ps_subscriber_options_of(config: &Config, options: &mut SubscriberOptions)
-    ensures { subscriber_settings options.new ≡ default_subscriber_settings (settings_of config.now) }
+pub extern "C" fn iox2ps_subscriber_options_of_sized(
+    config: &Config,
+    options: &mut SubscriberOptions,
+    struct_size: usize,
+)
+    ensures known { config.now.struct_size ≡ config_size → struct_size ≡ subscriber_options_size → (options.new).struct_size ≡ subscriber_options_size }
+    ensures settings { config.now.struct_size ≡ config_size → struct_size ≡ subscriber_options_size → subscriber_settings options.new ≡ default_subscriber_settings (settings_of config.now) }
+    ensures unknown { (config.now.struct_size ≢ config_size) ⊎ (struct_size ≢ subscriber_options_size) → options.new ≡ record (options.old) { struct_size = 0 } }
 {
-    *options = SubscriberOptions::of(config);
+    if config.struct_size == CONFIG_SIZE && struct_size == SUBSCRIBER_OPTIONS_SIZE {
+        *options = SubscriberOptions::of(config);
+    } else {
+        options.struct_size = 0;
+    }
 }
 
 /// How many slots a publisher with that many loans has.
 #[unsafe(no_mangle)]
 pub extern "C" fn iox2ps_worst_case_slots(config: &Config, loans: usize, slots: &mut usize) -> u32
     ensures slots { result ≡ 0 → slots.new ≡ worst_case (settings_of config.now) loans }
-    ensures code { (result ≡ 0) ⊎ (result ≡ 8) }
-    ensures fits { (result ≡ 0) ↔ IsTrue (fits (worst_case (settings_of config.now) loans)) }
+    ensures code { (result ≡ 0) ⊎ (first_setting_code ≤ result) }
+    ensures valid { (result ≡ 0) ⊎ (result ≡ worst_case_too_large) → invalid_setting config.now ≡ 0 }
+    ensures invalid { 0 < result → result ≢ worst_case_too_large → result ≡ invalid_setting config.now }
+    ensures fits { invalid_setting config.now ≡ 0 → (result ≡ 0) ↔ IsTrue (fits (worst_case (settings_of config.now) loans)) }
     ensures same { 0 < result → slots.new ≡ slots.old }
 {
+    let invalid = config.first_invalid();
+    if invalid != OK {
+        return invalid;
+    }
     match worst_case_slots(&config.service_config(), loans) {
         Some(count) => {
             *slots = count;
             OK
         }
-        None => INVALID_SETTINGS,
+        None => WORST_CASE_TOO_LARGE,
     }
 }
 
@@ -75,11 +115,11 @@ pub extern "C" fn iox2ps_domain_create(
     config: &Config,
 ) -> u32
     ensures fresh { result ≡ 0 → Knows (λ kept. Shows kept no_messages (fresh (settings_of config.now))) domain.new.service }
-    ensures code { (result ≡ 0) ⊎ (result ≡ 4) ⊎ (result ≡ 5) ⊎ (result ≡ 8) }
+    ensures code { (result ≡ 0) ⊎ (result ≡ 4) ⊎ (result ≡ 5) ⊎ (first_setting_code ≤ result) }
     ensures sizes { result ≡ 0 → IfSome domain.new.service (λ it. (it.payload_size ≡ config.now.payload_size) × (it.payload_alignment ≡ config.now.payload_alignment)) }
-    ensures valid { (result ≡ 0) ⊎ (result ≡ 4) → AreValid config.now }
+    ensures valid { (result ≡ 0) ⊎ (result ≡ 4) → invalid_setting config.now ≡ 0 }
     ensures there { (result ≡ 5) ↔ (domain.old.service ≢ None) }
-    ensures invalid { result ≡ 8 → AreValid config.now → ⊥ }
+    ensures invalid { first_setting_code ≤ result → result ≡ invalid_setting config.now }
     ensures refused { 0 < result → domain.new.service ≡ domain.old.service }
 {
     create(alloc, domain, config, None)
@@ -96,11 +136,11 @@ pub extern "C" fn iox2ps_domain_create_recorded(
     bytes: usize,
 ) -> u32
     ensures fresh { result ≡ 0 → Knows (λ kept. Shows kept no_messages (fresh (settings_of config.now))) domain.new.service }
-    ensures code { (result ≡ 0) ⊎ (result ≡ 4) ⊎ (result ≡ 5) ⊎ (result ≡ 8) }
+    ensures code { (result ≡ 0) ⊎ (result ≡ 4) ⊎ (result ≡ 5) ⊎ (first_setting_code ≤ result) }
     ensures sizes { result ≡ 0 → IfSome domain.new.service (λ it. (it.payload_size ≡ config.now.payload_size) × (it.payload_alignment ≡ config.now.payload_alignment)) }
-    ensures valid { (result ≡ 0) ⊎ (result ≡ 4) → AreValid config.now }
+    ensures valid { (result ≡ 0) ⊎ (result ≡ 4) → invalid_setting config.now ≡ 0 }
     ensures there { (result ≡ 5) ↔ (domain.old.service ≢ None) }
-    ensures invalid { result ≡ 8 → AreValid config.now → ⊥ }
+    ensures invalid { first_setting_code ≤ result → result ≡ invalid_setting config.now }
     ensures refused { 0 < result → domain.new.service ≡ domain.old.service }
 {
     create(alloc, domain, config, Some(Room { commands, bytes }))
@@ -109,19 +149,20 @@ pub extern "C" fn iox2ps_domain_create_recorded(
 // Makes a domain where there is none, which is recorded where there is room for that.
 fn create(alloc: Global, domain: &mut DomainBox, config: &Config, room: Option<Room>) -> u32
     ensures fresh { result ≡ 0 → Knows (λ kept. Shows kept no_messages (fresh (settings_of config.now))) domain.new.service }
-    ensures code { (result ≡ 0) ⊎ (result ≡ 4) ⊎ (result ≡ 5) ⊎ (result ≡ 8) }
+    ensures code { (result ≡ 0) ⊎ (result ≡ 4) ⊎ (result ≡ 5) ⊎ (first_setting_code ≤ result) }
     ensures sizes { result ≡ 0 → IfSome domain.new.service (λ it. (it.payload_size ≡ config.now.payload_size) × (it.payload_alignment ≡ config.now.payload_alignment)) }
-    ensures valid { (result ≡ 0) ⊎ (result ≡ 4) → AreValid config.now }
+    ensures valid { (result ≡ 0) ⊎ (result ≡ 4) → invalid_setting config.now ≡ 0 }
     ensures there { (result ≡ 5) ↔ (domain.old.service ≢ None) }
-    ensures invalid { result ≡ 8 → AreValid config.now → ⊥ }
+    ensures invalid { first_setting_code ≤ result → result ≡ invalid_setting config.now }
     ensures refused { 0 < result → domain.new.service ≡ domain.old.service }
 {
     if let Some(boxed) = domain.take(alloc) {
         domain.put(boxed);
         return HAS_DOMAIN;
     }
-    if !config.are_valid() {
-        return INVALID_SETTINGS;
+    let invalid = config.first_invalid();
+    if invalid != OK {
+        return invalid;
     }
     let Some(service) = Service::new(alloc, config, room) else {
         return OUT_OF_MEMORY;

@@ -5,9 +5,9 @@ ghost use Rattle.iox2_machine.specs.declared.errors.PublisherCreateError.{Publis
 ghost use Rattle.iox2_pubsub.specs.Live.{A_loan, A_publisher, IsNewIn, IsPublisherKey, No_item};
 ghost use Rattle.iox2_c.specs.Boxed.{Becomes, HoldsOn, Knows, KnowsNo, Turns};
 ghost use Rattle.iox2_c.specs.Calls.{IsOut, IsReady, RefusesPublisher};
-ghost use Rattle.iox2_c.specs.Codes.{loan_code, publisher_code};
+ghost use Rattle.iox2_c.specs.Codes.{first_setting_code, loan_code, publisher_code};
 ghost use Rattle.iox2_c.specs.Numbers.{named_loan, named_publisher, wide};
-ghost use Rattle.iox2_c.specs.Settings.{AreOptions, ReadsSettings, plain_publisher_settings, publisher_settings};
+ghost use Rattle.iox2_c.specs.Settings.{ReadsSettings, invalid_publisher_option, plain_publisher_settings, publisher_settings};
 ghost use Rattle.iox2_c.specs.Steps.{ClosesPublisher, CreatesPublisher, Lends, LendsUninit};
 
 use crate::calls::lending::{self, Unspecified, Zeros};
@@ -46,11 +46,11 @@ pub extern "C" fn iox2ps_publisher_create_with(
 ) -> u32
     ensures no_domain { (result ≡ 1) ↔ (domain.old.service ≡ None) }
     ensures creates { result ≡ 0 → Turns (λ old new. CreatesPublisher old.domain new.domain (publisher_settings (old.domain).config options.now) (Ok (wide (publisher.new).id)) × ReadsSettings publisher.new (publisher_settings (old.domain).config options.now)) domain.old.service domain.new.service }
-    ensures errors { 1 < result → result ≢ 8 → (error : PublisherCreateError) × (result ≡ publisher_code error)
+    ensures errors { 1 < result → result < first_setting_code → (error : PublisherCreateError) × (result ≡ publisher_code error)
         × Turns (λ old new. CreatesPublisher old.domain new.domain (publisher_settings (old.domain).config options.now) (Err error)) domain.old.service domain.new.service }
-    ensures valid { result ≢ 1 → result ≢ 8 → IfSome domain.old.service (λ it. AreOptions it.payload_alignment options.now) }
-    ensures invalid { result ≡ 8 → IfSome domain.old.service (λ it. AreOptions it.payload_alignment options.now → ⊥) }
-    ensures refused { (result ≡ 1) ⊎ (result ≡ 8) → domain.new.service ≡ domain.old.service }
+    ensures valid { result ≢ 1 → result < first_setting_code → IfSome domain.old.service (λ it. invalid_publisher_option it.payload_alignment options.now ≡ 0) }
+    ensures invalid { first_setting_code ≤ result → IfSome domain.old.service (λ it. result ≡ invalid_publisher_option it.payload_alignment options.now) }
+    ensures refused { (result ≡ 1) ⊎ (first_setting_code ≤ result) → domain.new.service ≡ domain.old.service }
     ensures ready { result ≡ 0 → Knows (λ kept. IsReady kept (named_publisher publisher.new)) domain.new.service }
     ensures new { result ≡ 0 → Knows (λ kept. IsNewIn kept (A_publisher (wide (publisher.new).id))) domain.old.service }
     ensures same { 0 < result → publisher.new ≡ publisher.old }

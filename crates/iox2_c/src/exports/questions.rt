@@ -1,17 +1,18 @@
 //! The exports of questions.
-ghost use Rattle.std.specs.Prelude.{◌≡◌, ◌<◌, ◌↔◌, None, Bool, cond, length, slice_get, ◌≤◌, ◌⊎◌, IfOk, IfSome};
+ghost use Rattle.std.specs.Prelude.{◌≡◌, ◌≢◌, ◌<◌, ◌↔◌, None, Bool, cond, length, slice_get, ◌≤◌, ◌⊎◌, IfOk, IfSome};
 ghost use Rattle.std.specs.declared.result.Result.{Result};
 ghost use Rattle.std.specs.List.{count_by};
 ghost use Rattle.std.specs.Option.{is_some};
 ghost use Rattle.circular_buffer.specs.Buffer.{buffer};
 ghost use Rattle.iox2_machine.specs.machine.Limits.{warning_limit};
 ghost use Rattle.iox2_machine.specs.declared.errors.ConnectionFailure.{ConnectionFailure};
-ghost use Rattle.iox2_pubsub.specs.Live.{IsPublisherKey, IsSubscriberKey, IsUnblocked, No_item};
+ghost use Rattle.iox2_pubsub.specs.Live.{IsBlockedKey, IsPublisherKey, IsSubscriberKey, IsUnblocked, No_item};
 ghost use Rattle.iox2_c.specs.Boxed.{Becomes, HoldsOn, Knows, KnowsNo};
 ghost use Rattle.iox2_c.specs.Calls.{RefusesPublisher};
-ghost use Rattle.iox2_c.specs.Codes.{code_of, failure_code};
-ghost use Rattle.iox2_c.specs.Numbers.{named_publisher, named_subscriber, wide};
-ghost use Rattle.iox2_c.specs.Settings.{settings_in, settings_of};
+ghost use Rattle.iox2_c.specs.Channels.{TellsBlocker};
+ghost use Rattle.iox2_c.specs.Codes.{code_of, failure_code, invalid_struct_size};
+ghost use Rattle.iox2_c.specs.Numbers.{named_loan, named_publisher, named_subscriber, wide};
+ghost use Rattle.iox2_c.specs.Settings.{config_size, settings_in, settings_of};
 ghost use Rattle.iox2_c.specs.Texts.{text_numbered};
 ghost use Rattle.iox2_c.specs.Warnings.{TellsOf};
 ghost use Rattle.iox2_c.specs.Steps.{Asks, UpdatesPublisher, UpdatesSubscriber};
@@ -19,7 +20,7 @@ ghost use Rattle.iox2_c.specs.Steps.{Asks, UpdatesPublisher, UpdatesSubscriber};
 use crate::calls::questions;
 use crate::config::Config;
 use crate::domain_box::DomainBox;
-use crate::numbers::{PublisherNumbers, SubscriberNumbers};
+use crate::numbers::{LoanNumbers, PublisherNumbers, SubscriberNumbers, Wide};
 use crate::status::NO_DOMAIN;
 use crate::texts::text_of;
 use crate::warning::WarningNumbers;
@@ -39,9 +40,9 @@ pub extern "C" fn iox2ps_error_text_at(code: u32, text: &mut *const u8, len: &mu
 /// program compares it with that of the header that it was compiled with.
 #[unsafe(no_mangle)]
 pub extern "C" fn iox2ps_version() -> u32
-    ensures { result ≡ 256 }
+    ensures { result ≡ 512 }
 {
-    256
+    512
 }
 
 /// Makes and removes a publisher's connections.
@@ -187,18 +188,44 @@ pub extern "C" fn iox2ps_domain_connection_count(domain: &mut DomainBox, count: 
     }
 }
 
-/// Reads the domain's settings back.
+/// Reads the domain's settings back. Nothing is written where this library doesn't know the struct's size.
 #[unsafe(no_mangle)]
-pub extern "C" fn iox2ps_domain_config(domain: &mut DomainBox, config: &mut Config) -> u32
+pub extern "C" fn iox2ps_domain_config_sized(
+    domain: &mut DomainBox,
+    config: &mut Config,
+    struct_size: usize,
+) -> u32
     ensures no_domain { (result ≡ 1) ↔ (domain.old.service ≡ None) }
-    ensures code { (result ≡ 0) ⊎ (result ≡ 1) }
+    ensures code { (result ≡ 0) ⊎ (result ≡ 1) ⊎ (result ≡ invalid_struct_size) }
+    ensures unknown { result ≢ 1 → (result ≡ invalid_struct_size) ↔ (struct_size ≢ config_size) }
+    ensures known { result ≡ 0 → (config.new).struct_size ≡ config_size }
     ensures reads { result ≡ 0 → Knows (λ kept. settings_of config.new ≡ settings_in kept) domain.old.service }
     ensures sizes { result ≡ 0 → IfSome domain.old.service (λ it. ((config.new).payload_size ≡ it.payload_size) × ((config.new).payload_alignment ≡ it.payload_alignment)) }
     ensures same { 0 < result → config.new ≡ config.old }
     ensures unchanged { domain.new.service ≡ domain.old.service }
 {
     match domain.service() {
-        Some(service) => questions::config(service, config),
+        Some(service) => questions::config(service, config, struct_size),
+        None => NO_DOMAIN,
+    }
+}
+
+/// Names the subscriber that a blocked send waits for.
+#[unsafe(no_mangle)]
+pub extern "C" fn iox2ps_blocked_subscriber(
+    domain: &mut DomainBox,
+    blocked: &LoanNumbers,
+    subscriber: &mut Wide,
+) -> u32
+    ensures no_domain { (result ≡ 1) ↔ (domain.old.service ≡ None) }
+    ensures code { result < 3 }
+    ensures tells { result ≡ 0 → Knows (λ kept. IsBlockedKey kept (named_loan blocked.now) × TellsBlocker kept (wide (blocked.now).publisher) (wide subscriber.new)) domain.old.service }
+    ensures not_live { result ≡ 2 → KnowsNo (λ kept. IsBlockedKey kept (named_loan blocked.now)) domain.old.service }
+    ensures same { 0 < result → subscriber.new ≡ subscriber.old }
+    ensures unchanged { domain.new.service ≡ domain.old.service }
+{
+    match domain.service() {
+        Some(service) => questions::blocker(service, blocked, subscriber),
         None => NO_DOMAIN,
     }
 }

@@ -17,7 +17,7 @@ use crate::status::NO_DOMAIN;
 
 /// Sends a message, and says how many subscribers took it or which send waits.
 #[unsafe(no_mangle)]
-pub extern "C" fn iox2ps_loan_send(
+pub extern "C" fn iox2ps_loan_send_counted(
     domain: &mut DomainBox,
     loan: &LoanNumbers,
     receivers: &mut usize,
@@ -43,7 +43,7 @@ pub extern "C" fn iox2ps_loan_send(
 
 /// Sends a copy of the bytes, and says how many subscribers took it or which send waits.
 #[unsafe(no_mangle)]
-pub extern "C" fn iox2ps_publisher_send_copy(
+pub extern "C" fn iox2ps_publisher_send_copy_counted(
     domain: &mut DomainBox,
     publisher: &PublisherNumbers,
     bytes: &[u8],
@@ -68,7 +68,7 @@ pub extern "C" fn iox2ps_publisher_send_copy(
 
 /// Tries a send again that waits.
 #[unsafe(no_mangle)]
-pub extern "C" fn iox2ps_blocked_retry(
+pub extern "C" fn iox2ps_blocked_retry_counted(
     domain: &mut DomainBox,
     blocked: &LoanNumbers,
     elapsed: u64,
@@ -90,7 +90,7 @@ pub extern "C" fn iox2ps_blocked_retry(
 
 /// Gives up the subscriber for which a send waits.
 #[unsafe(no_mangle)]
-pub extern "C" fn iox2ps_blocked_give_up(
+pub extern "C" fn iox2ps_blocked_give_up_counted(
     domain: &mut DomainBox,
     blocked: &LoanNumbers,
     receivers: &mut usize,

@@ -7,8 +7,8 @@ ghost use Rattle.iox2_machine.specs.declared.key.Key.{Key};
 ghost use Rattle.iox2_pubsub.specs.Live.{A_sample, A_subscriber, IsNewIn, IsSampleKey, IsSubscriberKey, No_item};
 ghost use Rattle.iox2_pubsub.specs.Slices.{SampleHasValues};
 ghost use Rattle.iox2_c.specs.Boxed.{Becomes, HoldsOn, Knows, KnowsNo, Turns};
-ghost use Rattle.iox2_c.specs.Codes.{receive_code, subscriber_code};
-ghost use Rattle.iox2_c.specs.Settings.{plain_subscriber_settings, subscriber_settings};
+ghost use Rattle.iox2_c.specs.Codes.{first_setting_code, receive_code, subscriber_code};
+ghost use Rattle.iox2_c.specs.Settings.{invalid_subscriber_option, plain_subscriber_settings, subscriber_settings};
 ghost use Rattle.iox2_c.specs.Numbers.{named_sample, named_subscriber, wide};
 ghost use Rattle.iox2_c.specs.Steps.{ClosesSubscriber, CreatesSubscriber, Receives, ReceivesCopy};
 
@@ -47,10 +47,10 @@ pub extern "C" fn iox2ps_subscriber_create_with(
 ) -> u32
     ensures no_domain { (result ≡ 1) ↔ (domain.old.service ≡ None) }
     ensures creates { result ≡ 0 → Turns (λ old new. CreatesSubscriber old.domain new.domain (subscriber_settings options.now) (Ok subscriber.new)) domain.old.service domain.new.service }
-    ensures errors { 1 < result → result ≢ 8 → (error : SubscriberCreateError) × (result ≡ subscriber_code error) × Turns (λ old new. CreatesSubscriber old.domain new.domain (subscriber_settings options.now) (Err error)) domain.old.service domain.new.service }
-    ensures valid { result ≢ 1 → result ≢ 8 → options.now.degradation < 3 }
-    ensures invalid { result ≡ 8 → options.now.degradation < 3 → ⊥ }
-    ensures refused { (result ≡ 1) ⊎ (result ≡ 8) → domain.new.service ≡ domain.old.service }
+    ensures errors { 1 < result → result < first_setting_code → (error : SubscriberCreateError) × (result ≡ subscriber_code error) × Turns (λ old new. CreatesSubscriber old.domain new.domain (subscriber_settings options.now) (Err error)) domain.old.service domain.new.service }
+    ensures valid { result ≢ 1 → result < first_setting_code → invalid_subscriber_option options.now ≡ 0 }
+    ensures invalid { first_setting_code ≤ result → result ≡ invalid_subscriber_option options.now }
+    ensures refused { (result ≡ 1) ⊎ (first_setting_code ≤ result) → domain.new.service ≡ domain.old.service }
     ensures live { result ≡ 0 → Knows (λ kept. IsSubscriberKey kept (named_subscriber subscriber.new)) domain.new.service }
     ensures new { result ≡ 0 → Knows (λ kept. IsNewIn kept (A_subscriber (wide (subscriber.new).id))) domain.old.service }
     ensures same { 0 < result → subscriber.new ≡ subscriber.old }

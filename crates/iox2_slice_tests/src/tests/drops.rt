@@ -2,11 +2,11 @@
 ghost use Rattle.iox2_pubsub.specs.Live.{IsWritten};
 
 use crate::tests::fixtures::{
-    lend_slice, receive_slice, send_slice, slice_factory, slice_subscriber,
+    lend_slice, receive_slice, release_slice, send_slice, slice_factory, slice_subscriber,
 };
 use iox2_fixtures::{close_publisher, slices};
+use iox2_pubsub::Domain;
 use iox2_pubsub::slice::{Publisher, SampleMut, SampleMutUninit, Subscriber};
-use iox2_pubsub::{Domain, Slice};
 use std::alloc::Global;
 use std::process::Abort;
 use std::rc::Rc;
@@ -107,8 +107,7 @@ fn left_by_close(
     let sample = receive_slice(rt, domain, subscriber);
     assert!(rt; close_publisher(domain, publisher.into_inner()));
     let closed = Rc::strong_count(value);
-    let found = domain.sample_of::<Slice>(&sample.into_parts());
-    found.expect(rt, "a sample").release(domain);
+    release_slice(rt, domain, sample);
     assert!(rt; takers == 1);
     [closed, Rc::strong_count(value)]
 }

@@ -9,7 +9,7 @@ ghost use Rattle.iox2_pubsub.specs.Slices.{HasUnwrittenCells, HoldsSlices, IsSli
 
 use iox2_fixtures::{holds_slices, is_slice_publisher_ready, is_sliced, receiver_count};
 use iox2_machine::{BackpressureStrategy, ServiceConfig};
-use iox2_pubsub::{CustomHeaderMarker, CustomPayloadMarker, Domain, slice};
+use iox2_pubsub::{CustomHeaderMarker, CustomPayloadMarker, Domain, Slice, slice};
 use std::alloc::Global;
 use std::process::Abort;
 
@@ -125,4 +125,25 @@ pub(crate) fn receive_slice<T: Drop, U: Default + Drop>(
     assert!(rt; subscriber.is_in(domain));
     let received = subscriber.receive(domain).expect(rt, "an answer");
     received.expect(rt, "a sample")
+}
+
+/// A handle of the sample that says where it lies.
+pub(crate) fn found_slice<T: Drop, U: Default + Drop>(
+    rt: &impl Abort,
+    domain: &Domain<T, U>,
+    sample: slice::Sample,
+) -> slice::Sample
+    ensures { IsLiveSample domain.now result }
+{
+    let found = domain.sample_of::<Slice>(&sample.into_parts());
+    found.expect(rt, "a sample")
+}
+
+/// Gives a slice back.
+pub(crate) fn release_slice<T: Drop, U: Default + Drop>(
+    rt: &impl Abort,
+    domain: &mut Domain<T, U>,
+    sample: slice::Sample,
+) {
+    found_slice(rt, domain, sample).release(domain);
 }

@@ -3,11 +3,14 @@ ghost use Rattle.iox2_pubsub.specs.Slices.{IsSliced};
 ghost use Rattle.iox2_machine.specs.declared.service_config.TypeVariant.TheVariants.{Dynamic};
 ghost use Rattle.std.specs.Prelude.{◌≡◌};
 
-use crate::tests::fixtures::{Bytes, byte_domain, slice_factory};
-use iox2_fixtures::{Numbers, is_slice_publisher_ready, is_sliced, smallest};
+use crate::tests::fixtures::{
+    Bytes, byte_domain, found_slice, lend_defaults, lend_slice, receive_slice, send_slice,
+    slice_factory, slice_subscriber,
+};
+use iox2_fixtures::{Numbers, holds_slices, is_slice_publisher_ready, is_sliced, smallest};
 use iox2_machine::{AllocationStrategy, LoanError, ServiceConfig, TypeVariant};
 use iox2_pubsub::Domain;
-use iox2_pubsub::slice::Publisher;
+use iox2_pubsub::slice::{Publisher, Sample};
 use std::alloc::Global;
 use std::process::Abort;
 use std::rc::Rc;
@@ -73,6 +76,42 @@ fn at_most_255_segments_are_made(rt: HostRuntime) {
         assert!(rt; up_to_255 == Ok(()));
         assert!(rt; next == expected);
         assert!(rt; last == Ok(()));
+    }
+}
+
+// Whether the sample, which stays borrowed, reads one element of this value.
+fn reads(rt: &impl Abort, domain: &Numbers, sample: Sample, value: u64) -> bool {
+    assert!(rt; holds_slices(domain));
+    let sample = found_slice(rt, domain, sample);
+    let is_read = sample.payload(domain) == [value].as_slice();
+    sample.disown();
+    is_read
+}
+
+// A slice of one element is borrowed while its publisher sends a longer one, and isn't given the memory that
+// it asks for then.
+#[test]
+fn a_sample_reads_on_when_its_publisher_has_grown(rt: HostRuntime) {
+    for longer in [4, 37] {
+        let mut domain: Numbers = Domain::new(rt.alloc(), slices()).expect(&rt, "a domain");
+        let subscriber = slice_subscriber(&rt, &mut domain);
+        let publisher = growing(&rt, &mut domain, AllocationStrategy::BestFit);
+        let loan = lend_slice(&rt, &mut domain, &publisher, 1);
+        let message = loan.write_from_fn(&mut domain, |_| 5);
+        let first = send_slice(&rt, &mut domain, message);
+        let sample = receive_slice(&rt, &mut domain, &subscriber);
+        let message = lend_defaults(&rt, &mut domain, &publisher, longer);
+        let second = send_slice(&rt, &mut domain, message);
+        let is_read = reads(&rt, &domain, sample, 5);
+        let too_long = lends(&rt, &mut domain, &publisher, usize::MAX);
+        let next = lends(&rt, &mut domain, &publisher, longer);
+        subscriber.disown();
+        publisher.disown();
+        drop(domain);
+        assert!(rt; [first, second] == [1, 1]);
+        assert!(rt; is_read);
+        assert!(rt; too_long == Err(LoanError::InternalFailure));
+        assert!(rt; next == Ok(()));
     }
 }
 

@@ -56,6 +56,31 @@ fn a_slice_is_sent_as_it_was_written(rt: HostRuntime) {
     assert!(rt; length == 5000 && elements == 5000);
 }
 
+// The loan is shorter than its publisher lends.
+#[test]
+fn each_element_is_sent_as_its_function_says(rt: HostRuntime) {
+    let mut domain: Numbers = Domain::new(rt.alloc(), slices()).expect(&rt, "a domain");
+    let subscriber = slice_subscriber(&rt, &mut domain);
+    let publisher = slice_publisher(&rt, &mut domain, 16);
+    let loan = lend_slice(&rt, &mut domain, &publisher, 12);
+    publisher.disown();
+    let mut message = loan.write_from_fn(&mut domain, |index| (index as u64).wrapping_mul(1234));
+    set(SampleMut::payload_mut(&mut domain, &mut message), 0, 42);
+    let takers = send_slice(&rt, &mut domain, message);
+    let sample = receive_slice(&rt, &mut domain, &subscriber);
+    subscriber.disown();
+    let sent = [
+        42, 1234, 2468, 3702, 4936, 6170, 7404, 8638, 9872, 11106, 12340, 13574,
+    ];
+    let is_read = sample.payload(&domain) == sent.as_slice();
+    let elements = sample.header(&domain).number_of_elements();
+    sample.disown();
+    drop(domain);
+    assert!(rt; takers == 1);
+    assert!(rt; is_read);
+    assert!(rt; elements == 12);
+}
+
 #[test]
 fn a_slice_is_copied_into_its_loan(rt: HostRuntime) {
     let mut domain: Numbers = Domain::new(rt.alloc(), slices()).expect(&rt, "a domain");

@@ -1,6 +1,6 @@
 use Rattle.std.proofs.Common.{refl, inl, inr, arith}
 use Rattle.iox2_c.proofs.BecomesSteps.{becomes}
-use Rattle.iox2_c.proofs.exports.sends.iox2ps_publisher_send_copy.Goals as goal
+use Rattle.iox2_c.proofs.exports.sends.iox2ps_publisher_send_copy_counted.Goals as goal
 
 pub returns-in-Some-clause-sent : goal.returns-in-Some-clause-sent
 returns-in-Some-clause-sent c = λ ended.
