@@ -422,6 +422,34 @@ static void lost_messages_of_closed_publishers_are_warned_of(void) {
   IS(iox2ps_domain_destroy(&domain), IOX2PS_OK);
 }
 
+/* ---- a recording */
+
+/* What is recorded of a message of four bytes, with this room: a text that ends in a zero byte, and how many commands had none. */
+static uint64_t recorded(size_t commands, size_t bytes, char *text, size_t room) {
+  iox2ps_domain_t domain = IOX2PS_DOMAIN_INIT;
+  iox2ps_config_t config;
+  iox2ps_blocked_t blocked;
+  size_t receivers, len;
+  uint64_t missed;
+  iox2ps_config_defaults(&config, 7, 4, 1);
+  IS(iox2ps_domain_create_recorded(&domain, &config, commands, bytes), IOX2PS_OK);
+  iox2ps_publisher_t publisher = publisher_of(&domain);
+  iox2ps_subscriber_t subscriber = subscriber_of(&domain);
+  IS(iox2ps_publisher_send_copy(&domain, &publisher, "\1\2\3\4", 4, &receivers, &blocked), IOX2PS_OK);
+  IS(borrow(&domain, &subscriber), IOX2PS_OK);
+  IS(iox2ps_domain_recording(&domain, text, room - 1, &len, &missed), IOX2PS_OK);
+  text[len] = 0;
+  IS(iox2ps_domain_destroy(&domain), IOX2PS_OK);
+  return missed;
+}
+
+static void as_much_is_recorded_as_the_arguments_say(void) {
+  char text[1024];
+  CHECK(recorded(20, 3, text, sizeof text) == 0 && strstr(text, " 2 = value 3\n") && !strstr(text, "value 4\n"));
+  CHECK(recorded(20, 4, text, sizeof text) == 0 && strstr(text, " 3 = value 4\n"));
+  CHECK(recorded(2, 20, text, sizeof text) > 0 && strstr(text, "\nend 2 "));
+}
+
 int main(void) {
   as_many_ports_as_the_settings_say();
   as_many_messages_as_the_settings_say();
@@ -437,5 +465,6 @@ int main(void) {
   a_refused_connection_is_ignored_warned_of_or_fails_the_call();
   less_room_than_borrowed_samples_is_warned_of();
   lost_messages_of_closed_publishers_are_warned_of();
+  as_much_is_recorded_as_the_arguments_say();
   return checked();
 }

@@ -52,20 +52,20 @@ def run_programs(steps, emulated):
     steps.run("the archive has the functions of the header", same_functions, emulated.target.out / "lib/libiox2_pubsub.a", nm)
     steps.run(f"how structs lie in memory, {c}", layouts.holds, (c, cpp), emulated.target.out / "include")
     for source, standard, _ in ROWS:
-        steps.run(f"{source}, {emulated.target.name} {standard}", emulated.run, source, standard, "-O2")
+        steps.run(f"{source}, {emulated.target.name} {standard}", emulated.run, source, standard, "-O1")
     for source in ("c/heap.c", *OWN_MALLOC):
-        steps.run(f"{source}, {emulated.target.name} c11", emulated.run, source, "c11", "-O2", *WRAPS)
+        steps.run(f"{source}, {emulated.target.name} c11", emulated.run, source, "c11", "-O1", *WRAPS)
 
 
 def run_random(steps, emulated, script_of_run):
     """Random calls beside a model of their own, and beside `run`, which runs on this machine."""
-    channels = emulated.compile("c/random_channels.c", "c11", "-O2")
+    channels = emulated.compile("c/random_channels.c", "c11", "-O1")
     for seed in SEEDS:
         steps.run(f"c/random_channels.c, {emulated.target.name}, seed {seed}", said, channels, seed, 20000)
     if script_of_run is None:
         steps.skip(f"random calls on {emulated.target.name} beside run", "pubsub_script (--script)")
         return
-    calls = emulated.compile("c/random_calls.c", "c11", "-O2")
+    calls = emulated.compile("c/random_calls.c", "c11", "-O1")
     for seed in SEEDS:
         steps.run(f"c/random_calls.c, {emulated.target.name}, seed {seed}", compare_with_run, emulated.work, script_of_run, calls, seed)
 
@@ -75,8 +75,8 @@ def run_random(steps, emulated, script_of_run):
 
 def same_recording(emulated, source, standard):
     """The same calls on both processors give the same bytes of a recording."""
-    here = compile_program(X86_64.compilers[standard.startswith("c++")], source, standard, emulated.work / "here", "-O2")
-    mine, theirs = said(here, both=False), said(emulated.compile(source, standard, "-O2"), both=False)
+    here = compile_program(X86_64.compilers[standard.startswith("c++")], source, standard, emulated.work / "here", "-O1")
+    mine, theirs = said(here, both=False), said(emulated.compile(source, standard, "-O1"), both=False)
     if mine != theirs:
         raise Failed(f"{X86_64.name} records\n{mine[:2000]}\nand {emulated.target.name}\n{theirs[:2000]}")
     return f"{len(mine)} bytes on both"
@@ -85,8 +85,8 @@ def same_recording(emulated, source, standard):
 def same_random_recording(emulated, seed):
     """So do random calls."""
     made = []
-    here = compile_program("gcc", "c/random_calls.c", "c11", emulated.work / "random_here", "-O2")
-    for program in (here, emulated.compile("c/random_calls.c", "c11", "-O2")):
+    here = compile_program("gcc", "c/random_calls.c", "c11", emulated.work / "random_here", "-O1")
+    for program in (here, emulated.compile("c/random_calls.c", "c11", "-O1")):
         said(program, seed, 2000, emulated.work / "script", emulated.work / "replies", emulated.work / "recording")
         made.append((emulated.work / "recording").read_bytes())
     if made[0] != made[1]:
@@ -110,11 +110,36 @@ def run_recordings(steps, emulated, replayer):
         ("c/recorded.c", "c11", recordings.RECEIVED_IN_C),
         ("cpp/recorded.cpp", "c++17", recordings.RECEIVED_IN_CPP),
     ):
-        program = emulated.compile(source, standard, "-O2")
+        program = emulated.compile(source, standard, "-O1")
         steps.run(f"{source}, {emulated.target.name}, replayed here", recordings.record_and_replay, emulated.work, replayer, received, program)
-    emulated.compile("c/random_calls.c", "c11", "-O2", name="random_recorded")
+    emulated.compile("c/random_calls.c", "c11", "-O1", name="random_recorded")
     for seed in SEEDS:
         steps.run(f"c/random_calls.c, {emulated.target.name}, replayed here, seed {seed}", recordings.record_random_calls, emulated.work, replayer, seed)
+
+
+# ---- what a message costs
+
+# How many instructions a message of 8 bytes may take from C, with what the program itself does. It was 617 on 29 November 2026.
+MOST = 625
+# The emulator writes a line for each instruction.
+COUNTS = ("-singlestep", "-d", "exec,nochain", "-D")
+
+
+def instructions(emulated, program, messages):
+    """How many instructions a program takes that passes so many messages."""
+    log = emulated.work / "instructions"
+    said(emulated.target.emulator[0], *COUNTS, log, program, messages)
+    with log.open("rb") as lines:
+        return sum(1 for _ in lines)
+
+
+def cost_of_message(emulated):
+    """What each message more takes, of which the first ones may take more."""
+    program = emulated.compile("../tools/call_cost.c", "c11", "-O2", "-static", name="call_cost").with_suffix(".elf")
+    few, many = (instructions(emulated, program, messages) for messages in (100, 300))
+    if (many - few) / 200 > MOST:
+        raise Failed(f"a message takes {(many - few) / 200} instructions, more than {MOST}")
+    return f"{(many - few) / 200:.1f} instructions, at most {MOST}"
 
 
 # ---- projects
@@ -163,7 +188,8 @@ def cargo(emulated, folder, rust, *words, fails=False):
     places = {"CARGO_TARGET_DIR": str(emulated.work / "target"), "PATH": f"{rust}:{os.environ['PATH']}"}
     environment = {**os.environ, **places}
     environment.pop("IOX2_PUBSUB_LIB_DIR", None)
-    configuration = ("--config", emulated.target.out / "cross/.cargo/config.toml")
+    # Cargo joins the lists of two such files, so that the project's own isn't named again.
+    configuration = () if (folder / ".cargo").exists() else ("--config", emulated.target.out / "cross/.cargo/config.toml")
     return said("cargo", *configuration, *words, cwd=folder, env=environment, fails=fails)
 
 
@@ -233,4 +259,5 @@ def run_emulated(steps, work, target, script_of_run, replayer):
     run_programs(steps, emulated)
     run_random(steps, emulated, script_of_run)
     run_recordings(steps, emulated, replayer)
+    steps.run(f"a message from C, {target.name}", cost_of_message, emulated)
     run_projects(steps, emulated)

@@ -32,6 +32,8 @@ class Places:
         """Each pair of words of one type, with the text in which they are exchanged."""
         region = re.search(self.region, text, re.M | re.S)
         found = list(re.compile(self.place, re.M).finditer(text, region.start(), region.end()))
+        if len(found) < 2:
+            raise Failed(f"{self} finds {len(found)} places")
         types = [match.groupdict().get("type") for match in found]
         for first, second in combinations(range(len(found)), 2):
             if types[first] == types[second]:
@@ -50,9 +52,28 @@ class Statements:
     def changes(self, text):
         """Each statement, with the text in which another stands instead of it."""
         region = re.search(self.region, text, re.M | re.S)
-        for match in re.compile(self.statement, re.M).finditer(text, region.start(), region.end()):
+        found = list(re.compile(self.statement, re.M).finditer(text, region.start(), region.end()))
+        if not found:
+            raise Failed(f"{self} finds nothing")
+        for match in found:
             what = f"{line_of(text, match.start())}: {' '.join(match[0].split())} left out"
             yield what, text[: match.start()] + self.instead + text[match.end() :]
+
+
+@dataclass(frozen=True)
+class Arguments:
+    """Two arguments of one type of a function of the C header, which a macro behind the header exchanges."""
+
+    file: str
+    function: str
+    arguments: tuple[str, ...]
+    pair: tuple[str, str]
+
+    def changes(self, text):
+        """The one change."""
+        other = dict(zip(self.pair, reversed(self.pair)))
+        given, passed = ", ".join(self.arguments), ", ".join(other.get(name, name) for name in self.arguments)
+        yield f"{self.function}: {' and '.join(self.pair)} exchanged", f"{text}#define {self.function}({given}) {self.function}({passed})\n"
 
 
 def line_of(text, at):
@@ -96,9 +117,10 @@ ALL = {
         *map(struct_of_c, ("iox2ps_config_t", "iox2ps_publisher_options_t", "iox2ps_subscriber_options_t")),
         *map(enum_of_c, ("iox2ps_backpressure_strategy_e", "iox2ps_backpressure_handler_e", "iox2ps_degradation_e")),
         *map(enum_of_c, ("iox2ps_allocation_strategy_e", "iox2ps_warning_e")),
+        Arguments("include/iox2_pubsub.h", "iox2ps_domain_create_recorded", ("domain", "config", "commands", "bytes"), ("commands", "bytes")),
     ),
     "cpp": (
-        Places(CPP, r"^class ServiceConfig .*?^protected:", r"^  (?P<type>[\w:]+) \w+\(\) const \{ return [^;]*?raw_\.(?P<word>\w+)[;)]"),
+        Places(CPP, r"^class ServiceConfig .*?^protected:", r"^  (?:\[\[nodiscard\]\] )?(?P<type>[\w:]+) \w+\(\) const \{ return [^;]*?raw_\.(?P<word>\w+)[;)]"),
         Places(CPP, CONFIG_OF_CPP, r"^  Config &\w+\((?P<type>[\w:]+) \w+\) \{\s*return set\(raw_\.(?P<word>\w+),"),
         Places(CPP, PUBLISHER_OF_CPP, r"^  +(?:PublisherOptions &\w+\(std::size_t \w+\) \{\s*)return set\((?P<word>\w+_),"),
         Places(CPP, r"^template <typename P> class Config .*?^\};", r"recorded_->(?P<word>\w+)"),
@@ -114,6 +136,7 @@ ALL = {
         Places("rust/src/domain.rs", r"\A.*\Z", r"config\.(?P<word>\w+) = wide\("),
         Places(FACTORY, PUBLISHER_OF_RUST, r"self\.options\.(?P<word>\w+) = value as u32;"),
         Places(FACTORY, PUBLISHER_OF_RUST, r"^        self\.options\.(?P<word>\w+) = (?:value;|self\.asked|<\[T\]>)"),
+        Places("rust/src/shared.rs", r"iox2ps_domain_create_recorded\([^)]*\)", r"\b(?P<word>commands|bytes)\b"),
         enum_of_rust("BackpressureStrategy", "publisher"),
         enum_of_rust("BackpressureAction", "publisher"),
         enum_of_rust("DegradationAction", "port_factory"),
@@ -128,6 +151,7 @@ ALL = {
     "dds_cpp": (
         Places("dds/include/iox2_pubsub_dds.hpp", r"settings_of\(.*?return plain;", r"plain\.(?P<word>topic|type_name) ="),
         Places("dds/include/iox2_pubsub_dds.hpp", r"settings_of\(.*?return plain;", r"plain\.(?P<word>reliability|\w+_reader|only_known) ="),
+        Places("dds/include/iox2_pubsub_dds.hpp", r"\A.*\Z", r"settings\.(?P<word>reader_limit|max_message_size)"),
         enum_of_cpp("Reliability", "dds/include/iox2_pubsub_dds.hpp"),
         Statements("dds/include/iox2_pubsub_dds.hpp", r"settings_of\(.*?return plain;", r"^    plain\.\w+ = .*;"),
         Statements("dds/include/iox2_pubsub_dds.hpp", r"\A.*\Z", r"settings\.dds_domain", "0"),
@@ -137,6 +161,7 @@ ALL = {
         Places("rust/src/dds.rs", r"\A.*\Z", r"plain\.(?P<word>topic|type_name) ="),
         Places("rust/src/dds.rs", r"^fn c_settings.*?^\}", r"plain\.(?P<word>reliability|\w+_reader|only_known) ="),
         struct_of_sys("Settings", "dds"),
+        Places("rust/src/dds.rs", r"^impl Settings \{.*?^\}", r"^        self\.(?P<word>(?:reader_limit|max_message_size) = [^;]*);"),
         Statements("rust/src/dds.rs", r"^impl Settings \{.*?^\}", r"^        self\.\w+ = .*;"),
         Statements("rust/src/dds.rs", r"^fn c_settings.*?^\}", r"^    plain\.\w+ = [^;]*;"),
         Statements("rust/src/dds.rs", r"\A.*\Z", r"^        plain\.type_name = [^;]*;"),
@@ -209,7 +234,12 @@ def run_exchanges(steps, work, archive, language, only=""):
     for places in ALL[language]:
         file = copy.work / places.file
         text = file.read_text()
-        chosen = [(what, changed) for what, changed in places.changes(text) if re.search(only, f"{places.file}, {what}")]
+        try:
+            found = list(places.changes(text))
+        except Failed as failure:
+            steps.add(0, 1, f"FAILED  {failure}\n")
+            continue
+        chosen = [(what, changed) for what, changed in found if re.search(only, f"{places.file}, {what}")]
         for what, changed in chosen:
             file.write_text(changed)
             by = copy.seen_by(language)

@@ -4,7 +4,7 @@ import os
 import re
 import shutil
 
-from .places import BINDINGS, HEADER, OUT, is_here, version
+from .places import BINDINGS, OUT, is_here, version
 from .programs import PAIRS, WARNINGS, check_example
 from .steps import Failed, said
 from .targets import AARCH64
@@ -62,21 +62,20 @@ def in_libdir(work, libdir, compilers):
     )]
     if there != sorted(wanted):
         raise Failed(f"there is {there}")
-    taken(work, name, "find_package(iox2_pubsub 0.1 REQUIRED)", compilers, f"-DCMAKE_PREFIX_PATH={prefix}")
+    taken(work, name, "find_package(iox2_pubsub 0.2 REQUIRED)", compilers, f"-DCMAKE_PREFIX_PATH={prefix}")
     return pkg_config(work, prefix, libdir) if is_here("pkg-config") else "by CMake"
 
 
 def shows_calls_alone(library):
-    """A shared library has its name and version, and shows the header's functions and nothing else."""
+    """A shared library has its name and version, and shows the archive's functions of the header and nothing else."""
     dynamic = said("readelf", "--dynamic", "--wide", library)
     if f"Library soname: [{SONAME}]" not in dynamic:
         raise Failed(dynamic)
     symbols = re.findall(r" [A-Z] (\S+)", said("nm", "--dynamic", "--defined-only", library))
-    declared = re.findall(r"^(?:IOX2PS_NODISCARD \w+|void) (iox2ps_\w+)\(", HEADER.read_text(), re.M)
-    wanted = sorted([f"{name}@@{NODE}" for name in declared] + [NODE])
-    if sorted(set(symbol if "@" in symbol else symbol for symbol in symbols)) != wanted:
+    defined = re.findall(r" T (iox2ps_\w+)", said("nm", "--defined-only", OUT / "lib/libiox2_pubsub.a"))
+    if sorted(symbols) != sorted([f"{name}@@{NODE}" for name in defined] + [NODE]):
         raise Failed(f"it shows {sorted(symbols)}")
-    return f"{len(declared)} functions"
+    return f"{len(defined)} functions"
 
 
 def shared(work, compilers):
@@ -86,7 +85,7 @@ def shared(work, compilers):
     prefix = installed(work, f"shared_{compilers[0]}", compilers, "-DIOX2PS_SHARED=ON", "-DCMAKE_INSTALL_LIBDIR=lib")
     library = prefix / f"lib/libiox2_pubsub.so.{version()}"
     shown = shows_calls_alone(library)
-    build = taken(work, "shared", "find_package(iox2_pubsub 0.1 REQUIRED)", compilers, f"-DCMAKE_PREFIX_PATH={prefix}", target="shared")
+    build = taken(work, "shared", "find_package(iox2_pubsub 0.2 REQUIRED)", compilers, f"-DCMAKE_PREFIX_PATH={prefix}", target="shared")
     if f"Shared library: [{SONAME}]" not in said("readelf", "--dynamic", build / "thermometer_c"):
         raise Failed("a program that links iox2_pubsub::shared doesn't want it")
     if is_here("pkg-config"):
@@ -117,7 +116,7 @@ FINDS = "cmake_minimum_required(VERSION 3.16)\nproject(finds C)\n{taking}\n"
 
 def refused(work, name, words, *flags):
     """Projects that find the folder, or have it in themselves, for another processor: each is told what the archive is for."""
-    for how, taking in (("find", "find_package(iox2_pubsub 0.1 REQUIRED)"), ("add", f'add_subdirectory("{OUT}" iox2_pubsub)')):
+    for how, taking in (("find", "find_package(iox2_pubsub 0.2 REQUIRED)"), ("add", f'add_subdirectory("{OUT}" iox2_pubsub)')):
         folder = work / f"refused_{name}_{how}"
         shutil.rmtree(folder, ignore_errors=True)
         folder.mkdir()

@@ -12,7 +12,7 @@ RUST = "bindings/rust/src"
 # How a kind of thing is found in its file, and how each of its parts is: by the kind's name.
 STRUCT = (r"^typedef struct {0} \{{(.*?)^\}} {0};", r"^  [\w *]+?\b(\w+);")
 ENUM = (r"^typedef enum {0} \{{(.*?)^\}} {0};", r"^  (IOX2PS_\w+) =")
-ARGUMENTS = (r"^uint32_t {0}\((.*?)\) IOX2PS_DDS_NOEXCEPT;", r"\b(dds_domain|max_message_size)\b")
+ARGUMENTS = (r"^(?:IOX2PS_NODISCARD )?\w+ {0}\((.*?)\)(?: IOX2PS_\w+)?;", r"\b(commands|bytes|dds_domain|max_message_size)\b")
 CLASS = (
     r"^(?:template <[^;]*?> )?class {0} [^;]*?^public:\n(.*?)^(?:protected|private):",
     r"^  (?:\[\[nodiscard\]\] )?(?:template <.*?> )?(?:\w+ &|[\w:<>]+ )(\w+)\([^)]*\)(?: const)? \{{",
@@ -34,6 +34,7 @@ GROUPS = {
                 "iox2ps_allocation_strategy_e",
                 "iox2ps_warning_e",
             ),
+            ARGUMENTS: ("iox2ps_domain_create_recorded",),
         },
     },
     "cpp": {

@@ -30,37 +30,40 @@ lies_so! {
     high 8
 }
 lies_so! {
-    config, Config, 120, 8,
-    service_id 0
-    node_id 16
-    payload_size 32
-    payload_alignment 40
-    max_publishers 48
-    max_subscribers 56
-    subscriber_max_buffer_size 64
-    subscriber_max_borrowed_samples 72
-    history_size 80
-    number_of_channels 88
-    subscriber_expired_connection_buffer 96
-    publisher_max_loaned_samples 104
-    enable_safe_overflow 112
-    backpressure_strategy 116
+    config, Config, 128, 8,
+    struct_size 0
+    service_id 8
+    node_id 24
+    payload_size 40
+    payload_alignment 48
+    max_publishers 56
+    max_subscribers 64
+    subscriber_max_buffer_size 72
+    subscriber_max_borrowed_samples 80
+    history_size 88
+    number_of_channels 96
+    subscriber_expired_connection_buffer 104
+    publisher_max_loaned_samples 112
+    enable_safe_overflow 120
+    backpressure_strategy 124
 }
 lies_so! {
-    publisher_options, PublisherOptions, 40, 8,
-    max_loaned_samples 0
-    initial_max_slice_len 8
-    preallocated_samples 16
-    backpressure_strategy 24
-    backpressure_handler 28
-    degradation 32
-    allocation_strategy 36
+    publisher_options, PublisherOptions, 48, 8,
+    struct_size 0
+    max_loaned_samples 8
+    initial_max_slice_len 16
+    preallocated_samples 24
+    backpressure_strategy 32
+    backpressure_handler 36
+    degradation 40
+    allocation_strategy 44
 }
 lies_so! {
-    subscriber_options, SubscriberOptions, 16, 8,
-    buffer_size 0
-    degradation 8
-    reserved 12
+    subscriber_options, SubscriberOptions, 24, 8,
+    struct_size 0
+    buffer_size 8
+    degradation 16
+    reserved 20
 }
 lies_so! {
     publisher, Publisher, 56, 8,

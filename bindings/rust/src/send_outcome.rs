@@ -1,8 +1,9 @@
 // SPDX-License-Identifier: Apache-2.0 OR MIT
 //! The outcome of a send.
 
+use crate::domain::expect;
 use crate::errors::{unexpected, SendError};
-use crate::ids::{number, UniquePublisherId};
+use crate::ids::{number, UniquePublisherId, UniqueSubscriberId};
 use crate::payload::Payload;
 use crate::shared::Shared;
 use crate::sys;
@@ -124,6 +125,37 @@ impl<P: Payload + ?Sized, M: Threads> BlockedSend<P, M> {
         UniquePublisherId::of(self.blocked.publisher)
     }
 
+    /// The id of the subscriber that it waits for, whose buffer is full. So a program knows whom it would pass over.
+    ///
+    /// ```
+    /// use iox2_pubsub::Domain;
+    ///
+    /// # fn main() -> Result<(), Box<dyn std::error::Error>> {
+    /// let domain = Domain::<u64>::builder(7)
+    ///     .subscriber_max_buffer_size(1)
+    ///     .enable_safe_overflow(false)
+    ///     .create()?;
+    /// let (display, recorder) = (domain.subscriber()?, domain.subscriber()?);
+    /// let publisher = domain.publisher()?;
+    /// publisher.send_copy(1)?.delivered();
+    /// assert_eq!(recorder.receive_copy()?, Some(1));
+    /// let blocked = publisher.send_copy(2)?.blocked().expect("the display's buffer is full");
+    /// assert_eq!(blocked.subscriber(), display.id()); // which may lose a message
+    /// assert_eq!(blocked.give_up()?.delivered(), Some(1));
+    /// assert_eq!(recorder.receive_copy()?, Some(2));
+    /// # Ok(())
+    /// # }
+    /// ```
+    #[must_use]
+    pub fn subscriber(&self) -> UniqueSubscriberId {
+        let mut id = sys::Wide::default();
+        // SAFETY: see `Shared::at`.
+        expect(self.hold.call(Brings::NOTHING, |shared| unsafe {
+            sys::iox2ps_blocked_subscriber(shared.at(), &self.blocked, &mut id)
+        }));
+        UniqueSubscriberId::of(id)
+    }
+
     /// Tries the send again at the subscriber that it waits for, and goes on to the others. `elapsed`
     /// is the time since it was first blocked there.
     ///
@@ -214,7 +246,7 @@ impl<P: Payload + ?Sized, M: Threads> fmt::Debug for BlockedSend<P, M> {
         f.debug_struct("BlockedSend")
             .field("publisher", &self.publisher())
             .field("number", &number(self.blocked.number))
-            .finish()
+            .finish_non_exhaustive()
     }
 }
 

@@ -301,6 +301,7 @@ fn a_blocked_send_is_tried_again() {
         .expect("the buffer is full");
     assert!(publisher.is_blocked());
     assert_eq!(blocked.publisher(), publisher.id());
+    assert_eq!(blocked.subscriber(), subscriber.id());
     assert_eq!(publisher.loan().err(), Some(LoanError::PublisherIsBlocked));
     assert_eq!(
         publisher.update_connections(),

@@ -4,6 +4,7 @@
 use super::model::Model;
 use super::{code, there};
 use crate::*;
+use std::mem::size_of;
 use std::ptr::null_mut;
 
 #[no_mangle]
@@ -12,13 +13,19 @@ unsafe extern "C" fn iox2ps_version() -> u32 {
 }
 
 #[no_mangle]
-unsafe extern "C" fn iox2ps_config_defaults(
+unsafe extern "C" fn iox2ps_config_defaults_sized(
     config: *mut Config,
+    struct_size: usize,
     service_id: u64,
     payload_size: usize,
     payload_alignment: usize,
 ) {
+    if struct_size != size_of::<Config>() {
+        (*config).struct_size = 0;
+        return;
+    }
     *config = Config {
+        struct_size,
         service_id: super::wide(service_id),
         payload_size,
         payload_alignment,
@@ -35,11 +42,17 @@ unsafe extern "C" fn iox2ps_config_defaults(
 }
 
 #[no_mangle]
-unsafe extern "C" fn iox2ps_publisher_options_of(
+unsafe extern "C" fn iox2ps_publisher_options_of_sized(
     config: *const Config,
     options: *mut PublisherOptions,
+    struct_size: usize,
 ) {
+    if struct_size != size_of::<PublisherOptions>() || !has_size(&*config) {
+        (*options).struct_size = 0;
+        return;
+    }
     *options = PublisherOptions {
+        struct_size,
         max_loaned_samples: (*config).publisher_max_loaned_samples,
         initial_max_slice_len: (*config).payload_size,
         backpressure_strategy: (*config).backpressure_strategy,
@@ -48,11 +61,17 @@ unsafe extern "C" fn iox2ps_publisher_options_of(
 }
 
 #[no_mangle]
-unsafe extern "C" fn iox2ps_subscriber_options_of(
+unsafe extern "C" fn iox2ps_subscriber_options_of_sized(
     config: *const Config,
     options: *mut SubscriberOptions,
+    struct_size: usize,
 ) {
+    if struct_size != size_of::<SubscriberOptions>() || !has_size(&*config) {
+        (*options).struct_size = 0;
+        return;
+    }
     *options = SubscriberOptions {
+        struct_size,
         buffer_size: (*config).subscriber_max_buffer_size,
         ..SubscriberOptions::default()
     };
@@ -76,13 +95,10 @@ unsafe extern "C" fn iox2ps_worst_case_slots(
     loans: usize,
     slots: *mut usize,
 ) -> u32 {
-    match worst_case(&*config, loans) {
-        Some(worst) => {
-            *slots = worst;
-            OK
-        }
-        None => INVALID_SETTINGS,
-    }
+    code(sound(&*config).and_then(|()| {
+        *slots = worst_case(&*config, loans).ok_or(WORST_CASE_TOO_LARGE)?;
+        Ok(())
+    }))
 }
 
 #[no_mangle]
@@ -94,18 +110,34 @@ unsafe extern "C" fn iox2ps_error_text_at(_: u32, text: *mut *const u8, len: *mu
 
 #[no_mangle]
 unsafe extern "C" fn iox2ps_domain_create(domain: *mut Domain, config: *const Config) -> u32 {
-    let config = &*config;
-    let alignment = config.payload_alignment;
-    let is_aligned =
-        matches!(alignment, 1 | 2 | 4 | 8 | 16) && config.payload_size % alignment == 0;
     if !(*domain).domain.is_null() {
         return HAS_DOMAIN;
     }
-    if !is_aligned || config.backpressure_strategy > 1 {
-        return INVALID_SETTINGS;
+    code(sound(&*config).map(|()| {
+        (*domain).domain = Box::into_raw(Box::new(Model::new(*config))).cast();
+    }))
+}
+
+fn has_size(config: &Config) -> bool {
+    config.struct_size == size_of::<Config>()
+}
+
+// The code of the first setting that is invalid.
+fn sound(config: &Config) -> Result<(), u32> {
+    let alignment = config.payload_alignment;
+    if !has_size(config) {
+        return Err(INVALID_STRUCT_SIZE);
     }
-    (*domain).domain = Box::into_raw(Box::new(Model::new(*config))).cast();
-    OK
+    if !matches!(alignment, 1 | 2 | 4 | 8 | 16) {
+        return Err(INVALID_PAYLOAD_ALIGNMENT);
+    }
+    if config.payload_size % alignment != 0 {
+        return Err(INVALID_PAYLOAD_SIZE);
+    }
+    match config.backpressure_strategy {
+        0 | 1 => Ok(()),
+        _ => Err(INVALID_BACKPRESSURE_STRATEGY),
+    }
 }
 
 #[no_mangle]
@@ -143,8 +175,18 @@ unsafe extern "C" fn iox2ps_domain_destroy(domain: *mut Domain) -> u32 {
 }
 
 #[no_mangle]
-unsafe extern "C" fn iox2ps_domain_config(domain: *mut Domain, config: *mut Config) -> u32 {
-    code(there(domain).map(|model| *config = model.config))
+unsafe extern "C" fn iox2ps_domain_config_sized(
+    domain: *mut Domain,
+    config: *mut Config,
+    struct_size: usize,
+) -> u32 {
+    code(there(domain).and_then(|model| {
+        if struct_size != size_of::<Config>() {
+            return Err(INVALID_STRUCT_SIZE);
+        }
+        *config = model.config;
+        Ok(())
+    }))
 }
 
 #[no_mangle]

@@ -7,6 +7,7 @@ use super::{code, number, of_service, there, wide, Model};
 use crate::*;
 use std::cell::Cell;
 use std::collections::VecDeque;
+use std::mem::size_of_val;
 use std::rc::Rc;
 
 // The publisher of this handle, by its place.
@@ -60,13 +61,32 @@ unsafe extern "C" fn iox2ps_publisher_create(
     iox2ps_publisher_create_with(domain, &options, publisher)
 }
 
-fn fits(config: &Config, options: &PublisherOptions) -> bool {
-    options.initial_max_slice_len % config.payload_alignment == 0
-        && (options.allocation_strategy == 0 || options.initial_max_slice_len > 0)
-        && options.backpressure_strategy <= 1
-        && options.backpressure_handler <= 4
-        && options.degradation <= 2
-        && options.allocation_strategy <= 2
+// The code of the first option that is invalid.
+fn sound(config: &Config, options: &PublisherOptions) -> Result<(), u32> {
+    let len = options.initial_max_slice_len;
+    let fits = len % config.payload_alignment == 0 && (options.allocation_strategy == 0 || len > 0);
+    let wanted = [
+        (
+            options.struct_size == size_of_val(options),
+            INVALID_STRUCT_SIZE,
+        ),
+        (fits, INVALID_INITIAL_MAX_SLICE_LEN),
+        (
+            options.backpressure_strategy <= 1,
+            INVALID_BACKPRESSURE_STRATEGY,
+        ),
+        (
+            options.backpressure_handler <= 4,
+            INVALID_BACKPRESSURE_HANDLER,
+        ),
+        (options.degradation <= 2, INVALID_DEGRADATION),
+        (
+            options.allocation_strategy <= 2,
+            INVALID_ALLOCATION_STRATEGY,
+        ),
+    ];
+    let wrong = wanted.iter().find(|(holds, _)| !holds);
+    wrong.map_or(Ok(()), |(_, code)| Err(*code))
 }
 
 fn slots(config: &Config, options: &PublisherOptions) -> Option<usize> {
@@ -93,9 +113,7 @@ unsafe extern "C" fn iox2ps_publisher_create_with(
 }
 
 fn create_publisher(model: &mut Model, options: PublisherOptions) -> Result<Publisher, u32> {
-    if !fits(&model.config, &options) {
-        return Err(INVALID_SETTINGS);
-    }
+    sound(&model.config, &options)?;
     let most = model.config.max_publishers;
     let at = free_place(&mut model.publishers, most)
         .ok_or(PUBLISHER_CREATE_ERROR_EXCEEDS_MAX_SUPPORTED_PUBLISHERS)?;
@@ -191,8 +209,14 @@ unsafe extern "C" fn iox2ps_subscriber_create_with(
 }
 
 fn create_subscriber(model: &mut Model, options: &SubscriberOptions) -> Result<Subscriber, u32> {
+    if options.struct_size != size_of_val(options) {
+        return Err(INVALID_STRUCT_SIZE);
+    }
     if options.degradation > 2 {
-        return Err(INVALID_SETTINGS);
+        return Err(INVALID_DEGRADATION);
+    }
+    if options.reserved != 0 {
+        return Err(INVALID_RESERVED);
     }
     let most = model.config.max_subscribers;
     if options.buffer_size > model.config.subscriber_max_buffer_size {

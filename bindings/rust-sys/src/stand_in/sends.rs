@@ -189,7 +189,7 @@ unsafe fn send(
 }
 
 #[no_mangle]
-unsafe extern "C" fn iox2ps_loan_send(
+unsafe extern "C" fn iox2ps_loan_send_counted(
     domain: *mut Domain,
     loan: *const Loan,
     receivers: *mut usize,
@@ -202,7 +202,7 @@ unsafe extern "C" fn iox2ps_loan_send(
 }
 
 #[no_mangle]
-unsafe extern "C" fn iox2ps_loan_deliver_offset_to_connection(
+unsafe extern "C" fn iox2ps_loan_deliver_offset_to_connection_counted(
     domain: *mut Domain,
     loan: *const Loan,
     channel: usize,
@@ -230,7 +230,7 @@ unsafe extern "C" fn iox2ps_loan_deliver_offset_to_connection(
 }
 
 #[no_mangle]
-unsafe extern "C" fn iox2ps_publisher_send_copy(
+unsafe extern "C" fn iox2ps_publisher_send_copy_counted(
     domain: *mut Domain,
     publisher: *const Publisher,
     bytes: *const u8,
@@ -248,28 +248,52 @@ unsafe extern "C" fn iox2ps_publisher_send_copy(
     }))
 }
 
+// The publisher of which this send waits, by its place.
+unsafe fn blocked_of<'d>(
+    domain: *mut Domain,
+    blocked: *const Blocked,
+) -> Result<(&'d mut Model, usize), u32> {
+    let model = of_service(domain, (*blocked).service_id)?;
+    let at = model
+        .publisher(number((*blocked).publisher))
+        .ok_or(NOT_LIVE)?;
+    let waits = model.publishers[at].as_ref().unwrap().blocked.as_ref();
+    let is_it = |one: &Sending| wide(one.message.number) == (*blocked).number;
+    match waits.map_or(false, is_it) {
+        true => Ok((model, at)),
+        false => Err(NOT_LIVE),
+    }
+}
+
+#[no_mangle]
+unsafe extern "C" fn iox2ps_blocked_subscriber(
+    domain: *mut Domain,
+    blocked: *const Blocked,
+    subscriber: *mut Wide,
+) -> u32 {
+    code(blocked_of(domain, blocked).map(|(model, at)| {
+        let publisher = model.publishers[at].as_ref().unwrap();
+        let place = publisher.blocked.as_ref().unwrap().place;
+        let end = model.sender_end(publisher.id, place).unwrap();
+        *subscriber = wide(model.connections[end].subscriber);
+    }))
+}
+
 unsafe fn goes_on(
     domain: *mut Domain,
     blocked: *const Blocked,
     from: usize,
     receivers: *mut usize,
 ) -> Result<(), u32> {
-    let model = of_service(domain, (*blocked).service_id)?;
-    let at = model
-        .publisher(number((*blocked).publisher))
-        .ok_or(NOT_LIVE)?;
+    let (model, at) = blocked_of(domain, blocked)?;
     let waits = &mut model.publishers[at].as_mut().unwrap().blocked;
-    let is_it = |one: &Sending| wide(one.message.number) == (*blocked).number;
-    if !waits.as_ref().map_or(false, is_it) {
-        return Err(NOT_LIVE);
-    }
     let mut sending = waits.take().unwrap();
     sending.place += from;
     sent(model, at, sending, receivers, std::ptr::null_mut())
 }
 
 #[no_mangle]
-unsafe extern "C" fn iox2ps_blocked_retry(
+unsafe extern "C" fn iox2ps_blocked_retry_counted(
     domain: *mut Domain,
     blocked: *const Blocked,
     _: u64,
@@ -279,7 +303,7 @@ unsafe extern "C" fn iox2ps_blocked_retry(
 }
 
 #[no_mangle]
-unsafe extern "C" fn iox2ps_blocked_give_up(
+unsafe extern "C" fn iox2ps_blocked_give_up_counted(
     domain: *mut Domain,
     blocked: *const Blocked,
     receivers: *mut usize,
