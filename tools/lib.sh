@@ -1,4 +1,3 @@
-# SPDX-License-Identifier: Apache-2.0 OR MIT
 # shellcheck shell=bash
 # What the shell tools share. A tool sources it first:
 #
@@ -17,8 +16,6 @@ quietly() { quietly_or 1 "$@"; }
 # Makes the static library or the program of the crate $1, of what the gate proved or anew. Where it can't, the tool ends with the
 # status $2, or 1.
 proved() { quietly_or "${2:-1}" "$top/tools/proved" "$1"; }
-# The same, for a tool whose user waits: it says meanwhile what is done.
-proved_aloud() { "$top/tools/proved" "$1" >&2 || exit "${2:-1}"; }
 
 passed=0 failed=0
 # Counts whether the arithmetic expression $1 holds.
@@ -30,10 +27,10 @@ finish() {
   [ "$failed" = 0 ]
 }
 
-# Makes the program $folder/$1 of tools/$1.c and the archive of the crate $2.
+# Makes the program $folder/$1 of tools/$1.c and the archive of the crate $2, with the compiler's flags that follow.
 compile_with() {
   proved "$2"
-  gcc -O2 -Wall -Wextra -o "$folder/$1" "$top/tools/$1.c" "$top/crates/$2/out/lib$2.a" "$(dirname "$(rt doc)")/c/liblibc_c.a"
+  gcc -O2 -Wall -Wextra "${@:3}" -o "$folder/$1" "$top/tools/$1.c" "$top/crates/$2/out/lib$2.a" "$(dirname "$(rt doc)")/c/liblibc_c.a"
 }
 
 # Lets the C library fill and copy by vector stores, at any length. It would do so with long runs by one string instruction, of

@@ -74,7 +74,7 @@ template <typename M> void all_is_refused(Handles<M> &its) {
   CHECK(!its.publisher.is_blocked());
   CHECK(is_refused(its.subscriber.receive()) && is_refused(its.subscriber.receive_copy()) && is_refused(its.subscriber.has_samples()));
   CHECK(is_refused(its.subscriber.close_channel(0, 0)) && is_refused(its.sample->header()));
-  CHECK(is_refused(its.blocked->retry()) && is_refused(its.loan.send()));
+  CHECK(is_refused(its.blocked->subscriber()) && is_refused(its.blocked->retry()) && is_refused(its.loan.send()));
 }
 
 /* What was received lies in the child's memory too. */

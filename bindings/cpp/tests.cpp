@@ -255,6 +255,27 @@ static void a_blocked_send_is_tried_again_or_given_up() {
   CHECK(!subscriber.receive().expect("a receive"));
 }
 
+/* One subscriber may lose messages, and another may not: who is full decides what becomes of the send. */
+static void a_blocked_send_names_its_subscriber() {
+  auto domain = made(Config<int>(3).enable_safe_overflow(false).subscriber_max_buffer_size(2));
+  auto publisher = domain.publisher().expect("a publisher");
+  auto recorder = domain.subscriber().expect("a recorder");
+  auto display = domain.subscriber(iox2ps::SubscriberOptions().buffer_size(1)).expect("a display");
+  CHECK(publisher.send_copy(1)->delivered() == std::size_t(2));
+  auto sent = publisher.send_copy(2).expect("a send");
+  CHECK(sent.blocked() && sent.blocked()->subscriber().expect("a subscriber") == display.id());
+  CHECK(sent.blocked()->give_up().expect("an end") == std::size_t(1));
+  CHECK(sent.blocked()->subscriber().error() == Error::NotLive);
+  /* Now both are full, the recorder first. */
+  auto both = publisher.send_copy(3).expect("a send");
+  CHECK(both.blocked() && both.blocked()->subscriber().expect("a subscriber") == recorder.id());
+  CHECK(*recorder.receive_copy().expect("a receive") == 1);
+  CHECK(!both.blocked()->retry().expect("a retry") && both.blocked()->subscriber().expect("a subscriber") == display.id());
+  display.close();
+  CHECK(both.blocked()->retry().expect("a retry") == std::size_t(1));
+  CHECK(*recorder.receive_copy().expect("a receive") == 2 && *recorder.receive_copy().expect("a receive") == 3);
+}
+
 static void a_domain_that_was_moved_from_is_empty() {
   auto domain = made(Config<int>(16));
   auto moved = std::move(domain);
@@ -720,6 +741,7 @@ static void an_error_is_an_error_code() {
   CHECK(code.message() == iox2ps::text(Error::LoanExceedsMaxLoans) && std::string(code.category().name()) == "iox2_pubsub");
   code = Error::ReceiveConnectionOutOfMemory;
   CHECK(code == std::errc::not_enough_memory && code != std::errc::invalid_argument);
+  CHECK(std::error_code(Error::InvalidDegradation) == std::errc::invalid_argument);
   CHECK(std::error_code(Error::NoDescriptor) == std::errc::too_many_files_open && std::error_code(Error::NotLive) != std::errc::not_enough_memory);
   CHECK(written(Error::OtherVersion) == iox2ps::text(Error::OtherVersion));
 }
@@ -757,6 +779,7 @@ int main() {
   handles_outlive_their_domain_and_make_room();
   loans_are_counted();
   a_blocked_send_is_tried_again_or_given_up();
+  a_blocked_send_names_its_subscriber();
   a_publisher_that_goes_while_it_is_blocked_closes_later();
   full_buffers_are_passed_over_or_fail_the_send();
   a_publisher_asks_for_fewer_slots();

@@ -430,6 +430,18 @@ public:
   explicit operator bool() const { return static_cast<bool>(hold_); }           /**< whether it still waits */
   Id publisher() const { return detail::id_of(blocked_.publisher); }            /**< whose send it is */
 
+  /** The id of the subscriber whose full buffer it waits for: the one that a retry tries again, and that give_up() passes over. So a
+   * program gives up a display, and waits for a recorder. The subscriber may have been closed meanwhile: a retry goes past it then. */
+  [[nodiscard]] Result<Id> subscriber() const {
+    if (!hold_) return Error::NotLive;
+    iox2ps_wide_t subscriber = {0, 0};
+    iox2ps_status_t code = hold_.ask([&](iox2ps_domain_t *domain) {
+      return iox2ps_blocked_subscriber(domain, &blocked_, &subscriber);
+    });
+    if (code != IOX2PS_OK) return detail::error_of(code);
+    return detail::id_of(subscriber);
+  }
+
   /** Tries the subscriber again that it waits for, and goes on to the others: how many took the message, or none
    * where it waits on. The time is since it was first blocked there, as iox2ps_blocked_retry() says; a negative one counts
    * as 0. */

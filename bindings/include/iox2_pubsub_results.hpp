@@ -129,6 +129,13 @@ public:
     case Error::SendConnectionOutOfMemory:
     case Error::ReceiveConnectionOutOfMemory:
     case Error::ConnectionOutOfMemory: return std::errc::not_enough_memory;
+    case Error::InvalidPayloadSize:
+    case Error::InvalidPayloadAlignment:
+    case Error::InvalidBackpressureStrategy:
+    case Error::InvalidBackpressureHandler:
+    case Error::InvalidDegradation:
+    case Error::InvalidAllocationStrategy:
+    case Error::InvalidInitialMaxSliceLen: return std::errc::invalid_argument;
     case Error::NoDescriptor: return std::errc::too_many_files_open;
     default: return {code, *this};
     }
@@ -143,8 +150,8 @@ public:
   return category;
 }
 
-/** The error as the standard library's: `std::error_code code = result.error();`. Those of memory and of descriptors compare equal to
- * the std::errc that says the same. */
+/** The error as the standard library's: `std::error_code code = result.error();`. Those of memory, settings and descriptors compare
+ * equal to the std::errc that says the same. */
 [[nodiscard]] inline std::error_code make_error_code(Error error) noexcept { return {static_cast<int>(error), error_category()}; }
 
 /** A value, or why there is none. What asks for a value that isn't there ends the program, and says why on standard

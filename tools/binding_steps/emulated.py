@@ -21,6 +21,11 @@ NO_RUST = "Rust for {} (Debian's cargo, rustc and libstd-rust-dev:arm64, or rust
 STANDARD_LIBRARIES, DEBIANS = Path("/usr/lib/rustlib"), Path("/usr/bin")
 
 
+# Debian 12's emulator never returns from a dynamically linked program that starts a thread, where the kernel is new (6.18). So programs are
+# linked with -static, and none runs longer than this.
+MOST_SECONDS = 600
+
+
 class Emulated:
     """A target, where its programs are made."""
 
@@ -31,8 +36,8 @@ class Emulated:
         """A file of bindings as a program that can be called here: a line of shell that has the emulator run what was compiled."""
         compiler = self.target.compilers[standard.startswith("c++")]
         program = self.work / (name or f"{source}_{standard}".replace("/", "_").replace(".", "_"))
-        compile_program(compiler, source, standard, program.with_suffix(".elf"), *flags, out=self.target.out)
-        program.write_text(f'#!/bin/sh\nexec {" ".join(self.target.emulator)} "$0.elf" "$@"\n')
+        compile_program(compiler, source, standard, program.with_suffix(".elf"), "-static", *flags, out=self.target.out)
+        program.write_text(f'#!/bin/sh\nexec timeout {MOST_SECONDS} {" ".join(self.target.emulator)} "$0.elf" "$@"\n')
         program.chmod(0o755)
         return program
 
@@ -135,7 +140,7 @@ def instructions(emulated, program, messages):
 
 def cost_of_message(emulated):
     """What each message more takes, of which the first ones may take more."""
-    program = emulated.compile("../tools/call_cost.c", "c11", "-O2", "-static", name="call_cost").with_suffix(".elf")
+    program = emulated.compile("../tools/call_cost.c", "c11", "-O2", name="call_cost").with_suffix(".elf")
     few, many = (instructions(emulated, program, messages) for messages in (100, 300))
     if (many - few) / 200 > MOST:
         raise Failed(f"a message takes {(many - few) / 200} instructions, more than {MOST}")
@@ -183,14 +188,12 @@ def rust_for(target):
     return None
 
 
-def cargo(emulated, folder, rust, *words, fails=False):
-    """What a cargo writes that has the target's standard library. The project's own configuration names linker and emulator."""
+def cargo(emulated, folder, rust, *words, fails=False, **more):
+    """What a cargo writes that has the target's standard library."""
     places = {"CARGO_TARGET_DIR": str(emulated.work / "target"), "PATH": f"{rust}:{os.environ['PATH']}"}
-    environment = {**os.environ, **places}
+    environment = {**os.environ, **places, **more}
     environment.pop("IOX2_PUBSUB_LIB_DIR", None)
-    # Cargo joins the lists of two such files, so that the project's own isn't named again.
-    configuration = () if (folder / ".cargo").exists() else ("--config", emulated.target.out / "cross/.cargo/config.toml")
-    return said("cargo", *configuration, *words, cwd=folder, env=environment, fails=fails)
+    return said("cargo", *words, cwd=folder, env=environment, fails=fails)
 
 
 def by_cargo(emulated, rust):
@@ -210,8 +213,15 @@ def other_cargo(emulated, rust):
 
 
 def tests_of_cargo(emulated, rust, crate):
-    """The tests of a crate."""
-    written = cargo(emulated, project(emulated) / crate, rust, "test", "--offline", "--tests", "--target", emulated.target.triple)
+    """The tests of a crate, whose harness starts threads."""
+    target = emulated.target
+    name = f"CARGO_TARGET_{target.triple.upper().replace('-', '_')}"
+    places = {
+        f"{name}_LINKER": target.compilers[0],
+        f"{name}_RUNNER": f"timeout {MOST_SECONDS} {' '.join(target.emulator)}",
+        f"{name}_RUSTFLAGS": "-C target-feature=+crt-static",
+    }
+    written = cargo(emulated, project(emulated) / crate, rust, "test", "--offline", "--tests", "--target", target.triple, **places)
     results = re.findall(r"^test result: .* (\d+) passed; (\d+) failed", written, re.M)
     return f"{sum(int(passed) for passed, _ in results)} passed, {sum(int(failed) for _, failed in results)} failed"
 

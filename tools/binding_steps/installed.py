@@ -12,6 +12,7 @@ from .targets import AARCH64
 # Where distributions have their libraries.
 LIBDIRS = ("lib", "lib/x86_64-linux-gnu")
 MINOR = version().rsplit(".", 1)[0]
+FIND = f"find_package(iox2_pubsub {MINOR} REQUIRED)"
 SONAME, NODE = f"libiox2_pubsub.so.{MINOR}", f"IOX2PS_{MINOR}"
 
 PROJECT = """cmake_minimum_required(VERSION 3.16)
@@ -62,7 +63,7 @@ def in_libdir(work, libdir, compilers):
     )]
     if there != sorted(wanted):
         raise Failed(f"there is {there}")
-    taken(work, name, "find_package(iox2_pubsub 0.2 REQUIRED)", compilers, f"-DCMAKE_PREFIX_PATH={prefix}")
+    taken(work, name, FIND, compilers, f"-DCMAKE_PREFIX_PATH={prefix}")
     return pkg_config(work, prefix, libdir) if is_here("pkg-config") else "by CMake"
 
 
@@ -85,7 +86,7 @@ def shared(work, compilers):
     prefix = installed(work, f"shared_{compilers[0]}", compilers, "-DIOX2PS_SHARED=ON", "-DCMAKE_INSTALL_LIBDIR=lib")
     library = prefix / f"lib/libiox2_pubsub.so.{version()}"
     shown = shows_calls_alone(library)
-    build = taken(work, "shared", "find_package(iox2_pubsub 0.2 REQUIRED)", compilers, f"-DCMAKE_PREFIX_PATH={prefix}", target="shared")
+    build = taken(work, "shared", FIND, compilers, f"-DCMAKE_PREFIX_PATH={prefix}", target="shared")
     if f"Shared library: [{SONAME}]" not in said("readelf", "--dynamic", build / "thermometer_c"):
         raise Failed("a program that links iox2_pubsub::shared doesn't want it")
     if is_here("pkg-config"):
@@ -116,7 +117,7 @@ FINDS = "cmake_minimum_required(VERSION 3.16)\nproject(finds C)\n{taking}\n"
 
 def refused(work, name, words, *flags):
     """Projects that find the folder, or have it in themselves, for another processor: each is told what the archive is for."""
-    for how, taking in (("find", "find_package(iox2_pubsub 0.2 REQUIRED)"), ("add", f'add_subdirectory("{OUT}" iox2_pubsub)')):
+    for how, taking in (("find", FIND), ("add", f'add_subdirectory("{OUT}" iox2_pubsub)')):
         folder = work / f"refused_{name}_{how}"
         shutil.rmtree(folder, ignore_errors=True)
         folder.mkdir()

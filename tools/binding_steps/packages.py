@@ -6,12 +6,14 @@ import re
 import shutil
 
 from . import registry
-from .installed import run_installed
+from .installed import MINOR, run_installed
 from .places import BINDINGS, OUT, is_here
 from .programs import ARCHIVE, GRIND, PAIRS, check_example
 from .steps import Failed, said
 from .targets import AARCH64, X86_64, stand_in
 
+# A version that the folder isn't.
+LATER = "{}.{}".format(MINOR.split(".")[0], int(MINOR.split(".")[1]) + 1)
 READING = "21.5 °C, read by 1\n"
 # The crate of others that the crate of streams needs.
 STREAMS_NEED = "futures-core"
@@ -43,7 +45,7 @@ target_link_libraries(one PRIVATE iox2_pubsub::iox2_pubsub)
 """
 
 
-def project_of(work, languages, extension, version="0.2", fails=False):
+def project_of(work, languages, extension, version=MINOR, fails=False):
     """A project of one language that says no standard."""
     folder = work / f"project_{languages}_{version}"
     folder.mkdir(exist_ok=True)
@@ -83,7 +85,7 @@ def run_packages(steps, work):
         steps.run(f"cmake, {c} and {cpp}", cmake_example, work, moved(work), c, cpp, f"cmake_{c}")
     steps.run("cmake, a project of C", project_of, work, "C", "c")
     steps.run("cmake, a project of C++", project_of, work, "CXX", "cpp")
-    steps.run("cmake, a later version", project_of, work, "C", "c", "0.2", True)
+    steps.run("cmake, a later version", project_of, work, "C", "c", LATER, True)
     run_installed(steps, work)
 
 

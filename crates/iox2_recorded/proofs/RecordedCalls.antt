@@ -1,5 +1,5 @@
 -- A recorded domain is called once more.
-use Rattle.std.proofs.Common.{rules, ◌≡◌, true, List, [], ◌∷◌, ◌++◌, sym, subst, append-nil, append_assoc}
+use Rattle.std.proofs.Common.{rules, ◌≡◌, ◌<◌, vec_capacity, vec_len, true, List, [], ◌∷◌, ◌++◌, sym, subst, append-nil, append_assoc}
 use Rattle.iox2_machine.specs.machine.Environments.{fixed_handlers}
 use Rattle.iox2_machine.specs.machine.State.{fresh, no_messages}
 use Rattle.iox2_machine.specs.declared.service_config.ServiceConfig.{ServiceConfig}
@@ -17,6 +17,10 @@ use Rattle.iox2_recorded.specs.declared.recorded.Recorded.{Recorded}
 -- Where there is room nothing was missed.
 pub room-none : {T U F G : Type 0} (r : Recorded T U F G) → has_room r ≡ true → r.missed ≡ 0
 room-none r room = search rules
+
+-- and the commands leave room for one more
+pub room-left : {T U F G : Type 0} (r : Recorded T U F G) → has_room r ≡ true → vec_len r.commands < vec_capacity r.commands
+room-left r room = search rules
 
 module _ {T U F G : Type 0} (defaults : Defaults T U) where
   -- what ran from a new domain is a run of it

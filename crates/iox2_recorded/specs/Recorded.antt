@@ -1,5 +1,5 @@
 -- What a recorded domain has done, and what of it is kept.
-use Rattle.std.specs.Prelude.{ℕ, Bool, true, false, List, [], ◌∷◌, ◌++◌, ◌≡◌, ◌==◌, ◌&&◌, ◌+◌, ◌-◌, ◌^◌, map, min, nat_lt, vec_capacity, vec_len}
+use Rattle.std.specs.Prelude.{ℕ, Bool, true, false, List, [], ◌∷◌, ◌++◌, ◌≡◌, ◌≤◌, ◌==◌, ◌&&◌, ◌+◌, ◌-◌, ◌^◌, map, min, nat_lt, vec_capacity, vec_len}
 use Rattle.iox2_machine.specs.machine.Environments.{fixed_handlers}
 use Rattle.iox2_machine.specs.machine.State.{State, Messages, fresh, no_messages}
 use Rattle.iox2_machine.specs.declared.service_config.ServiceConfig.{ServiceConfig}
@@ -54,6 +54,11 @@ IsCarriedOut defaults old new command reply =
 -- In all there is room for that many calls with their replies.
 abbrev pub HasRoomFor : {T U F G : Type 0} → Recorded T U F G → (calls : ℕ) → Type 0
 HasRoomFor r calls = (vec_capacity r.commands ≡ calls) × (vec_capacity r.replies ≡ calls)
+
+-- There is room for the names of what all calls make that are kept, and while none was missed no other has a name.
+pub record HasNames {T U F G : Type 0} (r : Recorded T U F G) : Type 0 where
+  pub room : vec_capacity r.commands ≤ vec_capacity r.table
+  pub each : r.missed ≡ 0 → vec_len r.table ≡ vec_len r.commands
 
 -- The command and its reply are kept behind the others, if none was missed so far and there is room; else one more is missed, of at
 -- most 2^64 - 1 that are counted, and what is kept stays. The room stays as it is.

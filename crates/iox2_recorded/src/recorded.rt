@@ -1,8 +1,8 @@
-ghost use Rattle.std.specs.Prelude.{◌≡◌, Err, IfErr, IfOk, false, true, vec_len};
+ghost use Rattle.std.specs.Prelude.{◌≡◌, Err, IfErr, IfOk, IsOk, false, true, vec_len};
 ghost use Rattle.iox2_runs.specs.Carries.{defaults_of};
 ghost use Rattle.iox2_recorded.specs.declared.create_error.RecordedCreateError.TheVariants.{NoCells, OutOfMemory};
 ghost use Rattle.iox2_runs.specs.Services.{lacks_cells};
-ghost use Rattle.iox2_recorded.specs.Recorded.{HasRoomFor, IsCarriedOut, IsRecorded, Keeps, SameRecording, WasRun, has_room};
+ghost use Rattle.iox2_recorded.specs.Recorded.{HasNames, HasRoomFor, IsCarriedOut, IsRecorded, Keeps, SameRecording, WasRun, has_room};
 
 use crate::create_error::RecordedCreateError;
 use iox2_machine::{BackpressureFn, DegradationFn};
@@ -18,7 +18,7 @@ fn has_default<T: Default + Drop>()
 }
 
 /// A domain that keeps what is called on it, as commands with their replies, in room that is reserved
-/// when it is made.
+/// when it is made, as is that for the names of what these calls make.
 ///
 /// A command names what it is on by the position, counted from 0, of the call that made it.
 pub struct Recorded<T, U, F, G> {
@@ -50,6 +50,7 @@ impl<
         ensures recorded { IfOk result (λ r. IsRecorded (defaults_of T.is_default U.is_default) r) }
         ensures empty { IfOk result (λ r. (r.config ≡ config) × (vec_len r.commands ≡ 0) × (vec_len r.replies ≡ 0) × (r.missed ≡ 0)) }
         ensures room { IfOk result (λ r. HasRoomFor r room) }
+        ensures names { IfOk result HasNames }
         ensures no_cells { lacks_cells config ≡ true → result ≡ Err NoCells }
         ensures out_of_memory { lacks_cells config ≡ false → IfErr result (λ error. error ≡ OutOfMemory) }
     {
@@ -58,13 +59,15 @@ impl<
         }
         let commands = Vec::with_capacity(alloc, room)?;
         let replies = Vec::with_capacity(alloc, room)?;
+        let table = Vec::with_capacity(alloc, room)?;
         let Ok(domain) = Domain::with_handlers(alloc, config) else {
+            disown_all(table);
             return Err(RecordedCreateError::OutOfMemory);
         };
         Ok(Recorded {
             config,
             domain,
-            table: Vec::new(alloc),
+            table,
             commands,
             replies,
             missed: 0,
@@ -74,13 +77,16 @@ impl<
     /// Carries out a command, and keeps it with its reply if there is room and no call was missed
     /// before. Else it is missed, which `missed` counts.
     ///
-    /// `AllocError` if there is no room to name what the command makes. Then it isn't carried out.
+    /// `AllocError` if there is no room to name what the command makes. Then it isn't carried out. A call
+    /// that is kept takes no memory for that, and isn't refused so; only one that is missed may.
     pub fn call(&mut self, command: Command<T, U>) -> Result<Reply<T, U>, AllocError>
         requires recorded { IsRecorded (defaults_of T.is_default U.is_default) self.old }
         ensures recorded { IsRecorded (defaults_of T.is_default U.is_default) self.new }
         ensures settings { self.new.config ≡ self.old.config }
         ensures carries { IfOk result (λ reply. IsCarriedOut (defaults_of T.is_default U.is_default) self.old self.new command reply) }
         ensures keeps { IfOk result (λ reply. Keeps self.old self.new command reply) }
+        ensures names { HasNames self.old → HasNames self.new }
+        ensures granted { HasNames self.old → has_room self.old ≡ true → IsOk result }
         ensures refused { IfErr result (λ _. SameRecording self.old self.new) }
     {
         self.table.reserve(1)?;

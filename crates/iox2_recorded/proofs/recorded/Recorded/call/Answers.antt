@@ -5,7 +5,7 @@ use Rattle.iox2_machine.specs.machine.State.{fresh, no_messages}
 use Rattle.iox2_runs.specs.Carries.{defaults_of}
 use Rattle.iox2_runs.proofs.LeavingSteps.{push-placed}
 use Rattle.iox2_runs.proofs.RunLoop.{still_keeps}
-use Rattle.iox2_recorded.proofs.RecordedCalls.{ran-all, ran-kept, ran-missed, ran-whole, room-none, was-run}
+use Rattle.iox2_recorded.proofs.RecordedCalls.{ran-all, ran-kept, ran-missed, ran-whole, room-left, room-none, was-run}
 use Rattle.iox2_recorded.specs.Recorded.{has_room}
 use Rattle.iox2_recorded.proofs.recorded.Recorded.call.Goals as goal
 use Rattle.iox2_recorded.proofs.recorded.Recorded.call.Goals.{then-has_room, else-has_room}
@@ -23,6 +23,20 @@ returns-in_err-reserve-clause-recorded g c =
       kept = r.kept;
       whole = r.whole;
     }
+
+pub returns-in_err-reserve-clause-names : goal.returns-in_err-reserve-clause-names
+returns-in_err-reserve-clause-names g c = λ has. record {
+  room = let grown = c.reserve.ensures.capacity in let had = has.room in omega (arith, grown, had);
+  each = λ none. c.reserve.ensures.len ∙ has.each none;
+}
+
+pub returns-in_err-reserve-clause-granted : goal.returns-in_err-reserve-clause-granted
+returns-in_err-reserve-clause-granted g c = λ has room.
+    let full = c.in_err-reserve.ensures.full in
+    let few = room-left {T = g.row.T.Denot} {U = g.row.U.Denot} {F = g.row.F.Denot} {G = g.row.G.Denot} c.args.self.now room in
+    let named = has.each (room-none {T = g.row.T.Denot} {U = g.row.U.Denot} {F = g.row.F.Denot} {G = g.row.G.Denot} c.args.self.now room) in
+    let fits = has.room in
+    absurd (omega (arith, full, few, named, fits))
 
 pub carry_out-made-requires : goal.carry_out-made-requires
 carry_out-made-requires g c =
@@ -103,5 +117,34 @@ returns-clause-keeps g c =
             kept = λ room. absurd (true≢false (sym room ∙ full));
             missed = λ _. (w.saturating_add-self.ensures, refl, refl);
             room = λ calls has. has;
+          })
+    ]
+
+pub returns-clause-names : goal.returns-clause-names
+returns-clause-names g c = λ has.
+    let old = c.args.self.now in
+    let had = has.room in
+    let reserved = c.reserve.ensures.capacity in
+    let carried = c.carry_out-made.ensures.room.capacity in
+    let pushed = c.push_reserved.ensures.capacity in
+    elim c.if-has_room.branch [
+      | then-has_room w ↦
+          let none = room-none {T = g.row.T.Denot} {U = g.row.U.Denot} {F = g.row.F.Denot} {G = g.row.G.Denot} (record old { domain = c.carry_out-made.new.domain; table = c.push_reserved.new.self }) (sym c.has_room.ensures ∙ w.if-has_room.true) in
+          let kept = w.push_reserved-then-has_room.ensures.capacity in
+          let same = has.each none in
+          let reserved_len = c.reserve.ensures.len in
+          let carried_len = c.carry_out-made.ensures.room.len in
+          let pushed_len = c.push_reserved.ensures.len in
+          let kept_len = w.push_reserved-then-has_room.ensures.len in
+          rw w.self-is
+          (record {
+            room = omega (arith, had, reserved, carried, pushed, kept);
+            each = λ _. omega (arith, same, reserved_len, carried_len, pushed_len, kept_len);
+          })
+      | else-has_room w ↦
+          rw w.self-is
+          (record {
+            room = omega (arith, had, reserved, carried, pushed);
+            each = λ none. absurd (omega (arith, none, w.saturating_add-self.ensures));
           })
     ]
