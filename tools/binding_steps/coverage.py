@@ -1,14 +1,12 @@
 # SPDX-License-Identifier: Apache-2.0 OR MIT
-"""Counts which lines and branches the tests run: of the C++ headers and the gateway by gcov, of the Rust crate by LLVM."""
+"""Counts which lines and branches the tests run: of the C++ headers by gcov, of the Rust crate by LLVM."""
 import gzip
 import json
-import shutil
-import sys
 from collections import defaultdict
 from pathlib import Path
 
 from . import rust_coverage
-from .places import BINDINGS, OUT, is_here
+from .places import OUT
 from .programs import compile_program
 from .steps import Failed, said
 
@@ -65,15 +63,6 @@ def headers(work):
     return files
 
 
-def gateway(work):
-    """The gateway's sources and headers, by its tests between processes."""
-    folder, files = work / "gateway", defaultdict(Counted)
-    folder.mkdir()
-    said(sys.executable, BINDINGS / "dds/tests/everything.py", OUT, "counted", folder)
-    add_counts(folder, BINDINGS / "dds", files)
-    return files
-
-
 def show(what, files):
     """A row for each file, and their sum."""
     print(f"\n| {what} | Lines run | Branches taken | Lines with a branch that isn't |")
@@ -89,8 +78,4 @@ def show(what, files):
 def run_coverage(work):
     """All that can be counted here."""
     show("Header", headers(work))
-    if shutil.which("idlc") and is_here("cmake"):
-        show("Gateway", gateway(work))
-    else:
-        print("skipped the gateway: Cyclone DDS or cmake isn't here")
     rust_coverage.run_coverage(work)

@@ -1,11 +1,10 @@
 #!/usr/bin/env python3
 # SPDX-License-Identifier: Apache-2.0 OR MIT
-"""Builds the gateway to DDS beside the library, and runs all its tests: everything.py BINDINGS_OUT [plain|checked|counted FOLDER].
+"""Builds the gateway to DDS beside the library, and runs all its tests: everything.py BINDINGS_OUT [plain|checked].
 
 BINDINGS_OUT is the folder that tools/bindings makes; the gateway is built into a copy of it, which is then moved. Each step is
 a line; the last one is `N passed, M failed`. Where Cyclone DDS isn't there nothing is run, and a line says so. With `plain`
-nothing is run under the sanitizers and valgrind, and with `checked` nothing else. With `counted` the gateway counts for gcov what it
-runs, and its counts are left in the folder. Tests between processes wait for each other, and
+nothing is run under the sanitizers and valgrind, and with `checked` nothing else. Tests between processes wait for each other, and
 not for times, so that they pass on a machine that does other work too."""
 import os, re, shutil, subprocess, sys, tempfile, time
 
@@ -162,19 +161,8 @@ def checked_steps(plain):
     if shutil.which("valgrind"): step("between processes, valgrind", tests(plain, ground, FEW="1", SLOWER="4", WRAP=grind))
     else: print("not there, and so not run: valgrind")
 
-def counted_steps(folder):
-    """What C++ without exceptions can count: a process that is killed leaves no counts."""
-    counted = programs("counted", *flags("--coverage -O0"))
-    if not counted: return
-    step("frames, counted", lambda: run([os.path.join(counted, "frames")]).strip())
-    step("between processes, counted", tests(counted))
-    made = os.path.join(counted, "CMakeFiles/iox2_pubsub_dds.dir/src")
-    for name in os.listdir(made):
-        if name.endswith((".gcno", ".gcda")): shutil.copy(os.path.join(made, name), folder)
-
 def all_steps():
     if not step("build, install and move", install): return
-    if part == "counted": return counted_steps(sys.argv[3])
     plain = programs("plain")
     if not plain: return
     if part != "checked": plain_steps(plain)
