@@ -1,10 +1,11 @@
 # SPDX-License-Identifier: Apache-2.0 OR MIT
-"""Counts which branches of the C++ headers the tests of C++ take, by gcov."""
+"""Counts which lines and branches the tests run: of the C++ headers by gcov, of the Rust crate by LLVM."""
 import gzip
 import json
 from collections import defaultdict
 from pathlib import Path
 
+from . import rust_coverage
 from .places import OUT
 from .programs import compile_program
 from .steps import Failed, said
@@ -36,31 +37,45 @@ class Counted:
         return sorted({number for (number, _), count in self.branches.items() if count == 0})
 
 
-def count(work, source, files):
-    """Compiles a program so that it counts, runs it, and adds what it counted of the headers."""
-    folder = work / Path(source).stem
-    folder.mkdir()
-    program = compile_program("g++", source, "c++17", folder / "program", *FLAGS)
-    said(program, cwd=folder)
+def add_counts(folder, within, files):
+    """Adds what gcov finds in a folder of files below another one."""
     notes = list(folder.glob("*.gcda"))
     if not notes:
-        raise Failed(f"{source} left no counts")
+        raise Failed(f"there are no counts of {within}")
     said("gcov", "--json-format", "--branch-probabilities", *notes, cwd=folder)
     for packed in folder.glob("*.gcov.json.gz"):
         for file in json.loads(gzip.decompress(packed.read_bytes()))["files"]:
             name = Path(folder, file["file"]).resolve()
-            if name.is_relative_to(OUT / "include"):
+            if name.is_relative_to(within):
                 for line in file["lines"]:
                     files[name.name].add(line)
 
 
-def run_coverage(work):
-    """Counts all programs together, and prints a row for each header."""
+def headers(work):
+    """The headers, of all programs together."""
     files = defaultdict(Counted)
     for source in PROGRAMS:
-        count(work, source, files)
-    print("| Header | Lines run | Branches taken | Lines with a branch that isn't |")
+        folder = work / Path(source).stem
+        folder.mkdir()
+        program = compile_program("g++", source, "c++17", folder / "program", *FLAGS)
+        said(program, cwd=folder)
+        add_counts(folder, OUT / "include", files)
+    return files
+
+
+def show(what, files):
+    """A row for each file, and their sum."""
+    print(f"\n| {what} | Lines run | Branches taken | Lines with a branch that isn't |")
     print("|---|---|---|---|")
+    sums = [0, 0, 0, 0]
     for name, counted in sorted(files.items()):
-        lines, branches = (f"{ran} of {there}" for ran, there in map(counted.part, (counted.lines, counted.branches)))
-        print(f"| `{name}` | {lines} | {branches} | {', '.join(map(str, counted.untaken()))} |")
+        parts = (*counted.part(counted.lines), *counted.part(counted.branches))
+        sums = [one + other for one, other in zip(sums, parts)]
+        print(f"| `{name}` | {parts[0]} of {parts[1]} | {parts[2]} of {parts[3]} | {', '.join(map(str, counted.untaken()))} |")
+    print(f"| all | {sums[0]} of {sums[1]} | {sums[2]} of {sums[3]} | |")
+
+
+def run_coverage(work):
+    """All that can be counted here."""
+    show("Header", headers(work))
+    rust_coverage.run_coverage(work)
