@@ -350,8 +350,8 @@ public:
     return data_[index];
   }
   T *data() const { return data_; }                               /**< the first of them */
-  std::size_t size() const { return size_; }                      /**< how many there are */
-  bool empty() const { return size_ == 0; }                       /**< whether there is none */
+  [[nodiscard]] std::size_t size() const { return size_; }                      /**< how many there are */
+  [[nodiscard]] bool empty() const { return size_ == 0; }                       /**< whether there is none */
   T *begin() const { return data_; }                              /**< the first of them */
   T *end() const { return data_ + size_; }                        /**< past the last of them */
 
@@ -428,7 +428,7 @@ public:
   ~BlockedSend() { end(); }
 
   explicit operator bool() const { return static_cast<bool>(hold_); }           /**< whether it still waits */
-  Id publisher() const { return detail::id_of(blocked_.publisher); }            /**< whose send it is */
+  [[nodiscard]] Id publisher() const { return detail::id_of(blocked_.publisher); }            /**< whose send it is */
 
   /** The id of the subscriber whose full buffer it waits for: the one that a retry tries again, and that give_up() passes over. So a
    * program gives up a display, and waits for a recorder. The subscriber may have been closed meanwhile: a retry goes past it then. */
@@ -532,8 +532,8 @@ public:
   ~Loan() { discard(); }
 
   explicit operator bool() const { return static_cast<bool>(hold_); } /**< whether there is a message */
-  Id publisher() const { return detail::id_of(loan_.publisher); }     /**< whose message it is */
-  Id number() const { return detail::id_of(loan_.number); }           /**< that no other message has */
+  [[nodiscard]] Id publisher() const { return detail::id_of(loan_.publisher); }     /**< whose message it is */
+  [[nodiscard]] Id number() const { return detail::id_of(loan_.number); }           /**< that no other message has */
 
   /** Sends the message, and leaves this empty, so that nobody writes into what was sent; with Error::PublisherIsBlocked it stays. */
   Result<Sent<P, M>> send() {
@@ -622,9 +622,9 @@ public:
   ~Sample() { release(); }
 
   explicit operator bool() const { return static_cast<bool>(hold_); }  /**< whether there is a message */
-  Id origin() const { return detail::id_of(sample_.origin); }          /**< the publisher that sent it */
-  Id subscriber() const { return detail::id_of(sample_.subscriber); }  /**< the subscriber that received it */
-  Id number() const { return detail::id_of(sample_.number); }          /**< that no other message has */
+  [[nodiscard]] Id origin() const { return detail::id_of(sample_.origin); }          /**< the publisher that sent it */
+  [[nodiscard]] Id subscriber() const { return detail::id_of(sample_.subscriber); }  /**< the subscriber that received it */
+  [[nodiscard]] Id number() const { return detail::id_of(sample_.number); }          /**< that no other message has */
 
   /** Where the message comes from. */
   Result<Header> header() const {
@@ -680,7 +680,7 @@ public:
 
   explicit operator bool() const { return hold_ && open_; } /**< whether it is open */
   /** That no other port of its domain has. */
-  Id id() const { return *this ? detail::id_of(port_.id) : Id{0, 0}; }
+  [[nodiscard]] Id id() const { return *this ? detail::id_of(port_.id) : Id{0, 0}; }
 
   /** What it does at a full buffer. */
   BackpressureStrategy backpressure_strategy() const {
@@ -688,7 +688,7 @@ public:
   }
 
   /** How many values a message may have. */
-  std::size_t initial_max_slice_len() const { return *this ? port_.initial_max_slice_len / sizeof(Element) : 0; }
+  [[nodiscard]] std::size_t initial_max_slice_len() const { return *this ? port_.initial_max_slice_len / sizeof(Element) : 0; }
 
   /** Lends a message with its default value, which is made where the message lies. */
   template <typename Q = P, std::enable_if_t<!detail::is_slice<Q>, int> = 0> Result<Loan<P, M>> loan() {
@@ -776,7 +776,7 @@ public:
   }
 
   /** Whether a send waits for a subscriber whose buffer is full. */
-  bool is_blocked() const {
+  [[nodiscard]] bool is_blocked() const {
     std::uint32_t answer = 0;
     if (!hold_) return false;
     hold_.ask([&](iox2ps_domain_t *domain) { return iox2ps_publisher_is_blocked(domain, &port_, &answer); });
@@ -936,9 +936,9 @@ public:
 
   explicit operator bool() const { return hold_ && open_; } /**< whether it is open */
   /** That no other port of its domain has. */
-  Id id() const { return *this ? detail::id_of(port_.id) : Id{0, 0}; }
+  [[nodiscard]] Id id() const { return *this ? detail::id_of(port_.id) : Id{0, 0}; }
   /** How many messages of one publisher may wait. */
-  std::size_t buffer_size() const { return *this ? port_.buffer_size : 0; }
+  [[nodiscard]] std::size_t buffer_size() const { return *this ? port_.buffer_size : 0; }
 
   /** The next message of some publisher, or none where none waits. Those of one publisher come in the order in
    * which they were sent. */
@@ -1214,7 +1214,7 @@ public:
   }
 
   /** The last warnings, 32 at most, the oldest first. */
-  std::vector<Warning> warnings() const {
+  [[nodiscard]] std::vector<Warning> warnings() const {
     std::vector<Warning> all;
     iox2ps_warning_t warning;
     auto next = [&](iox2ps_domain_t *domain) { return iox2ps_domain_warning(domain, all.size(), &warning); };
@@ -1223,7 +1223,7 @@ public:
   }
 
   /** How many connections the domain has. */
-  std::size_t connection_count() const {
+  [[nodiscard]] std::size_t connection_count() const {
     std::size_t count = 0;
     ask([&](iox2ps_domain_t *domain) { return iox2ps_domain_connection_count(domain, &count); });
     return count;
@@ -1231,14 +1231,14 @@ public:
 
   /** How many books of slots the domain has: that of each publisher, and that of a closed one until nobody holds a slot
    * of it. */
-  std::size_t book_count() const {
+  [[nodiscard]] std::size_t book_count() const {
     std::size_t count = 0;
     ask([&](iox2ps_domain_t *domain) { return iox2ps_domain_book_count(domain, &count); });
     return count;
   }
 
   /** How often memory for a connection was refused. */
-  std::uint64_t refused_connections() const {
+  [[nodiscard]] std::uint64_t refused_connections() const {
     std::uint64_t count = 0;
     ask([&](iox2ps_domain_t *domain) { return iox2ps_domain_refused_connections(domain, &count); });
     return count;
