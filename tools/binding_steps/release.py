@@ -208,12 +208,13 @@ def built_anew(work, target):
 
 def publish(packed):
     """Puts the releases of all targets into dist/, in place of those that are there, with what they say of their proofs on one page."""
+    lines = "".join(lines_of(target, proof_of(target.out)) for target in packed)
+    said = proofs(commit(), kit(), lines, TOP)
     shutil.rmtree(DIST, ignore_errors=True)
     DIST.mkdir()
     for file in packed.values():
         shutil.copyfile(file, DIST / file.name)
-    lines = "".join(lines_of(target, proof_of(target.out)) for target in packed)
-    (DIST / PROOFS).write_text(proofs(commit(), kit(), lines, TOP))
+    (DIST / PROOFS).write_text(said)
     (DIST / SUMS).write_text("".join(f"{sum_of(file.read_bytes())}  {file.name}\n" for file in packed.values()))
 
 
