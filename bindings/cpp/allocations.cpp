@@ -8,8 +8,9 @@
 #include <cstdlib>
 #include <thread>
 
-static thread_local bool counts = false;
-static thread_local unsigned long taken = 0;
+// Volatile, since a compiler may take it that a function of this name neither reads nor changes them.
+static thread_local volatile bool counts = false;
+static thread_local volatile unsigned long taken = 0;
 
 extern "C" {
 void *__libc_malloc(std::size_t size);
@@ -17,12 +18,12 @@ void *__libc_calloc(std::size_t values, std::size_t size);
 void *__libc_realloc(void *memory, std::size_t size);
 void *__libc_memalign(std::size_t alignment, std::size_t size);
 
-void *malloc(std::size_t size) { return taken += counts, __libc_malloc(size); }
-void *calloc(std::size_t values, std::size_t size) { return taken += counts, __libc_calloc(values, size); }
-void *realloc(void *memory, std::size_t size) { return taken += counts, __libc_realloc(memory, size); }
-void *aligned_alloc(std::size_t alignment, std::size_t size) { return taken += counts, __libc_memalign(alignment, size); }
+void *malloc(std::size_t size) { return taken = taken + counts, __libc_malloc(size); }
+void *calloc(std::size_t values, std::size_t size) { return taken = taken + counts, __libc_calloc(values, size); }
+void *realloc(void *memory, std::size_t size) { return taken = taken + counts, __libc_realloc(memory, size); }
+void *aligned_alloc(std::size_t alignment, std::size_t size) { return taken = taken + counts, __libc_memalign(alignment, size); }
 int posix_memalign(void **memory, std::size_t alignment, std::size_t size) {
-  *memory = (taken += counts, __libc_memalign(alignment, size));
+  *memory = (taken = taken + counts, __libc_memalign(alignment, size));
   return *memory ? 0 : 12;
 }
 }
