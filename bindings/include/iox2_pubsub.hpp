@@ -1086,6 +1086,7 @@ public:
   template <typename N = M> Result<typename detail::Threads<N>::MessageFd> message_fd() {
     if (!hold_) return Error::NotLive;
     if (!hold_.is_here()) return Error::AfterFork;
+    static_cast<void>(hold_.many()); /* its words are better than those about what is missing below */
     auto made = detail::Threads<N>::MessageFd::create();
     if (!made) return made;
     Done set = set_listener([raised = *made] { raised.raise(); });
