@@ -138,11 +138,14 @@ impl Recorder {
         self.missed
     }
 
-    /// The text of the recording, of a domain with these settings.
+    /// The text of the recording, of a domain with these settings. It promises a read of each byte that is
+    /// kept of a received message.
     ///
     /// `AllocError` where there is no memory for it.
     pub fn text(&self, alloc: Global, config: ServiceConfig) -> Result<String, AllocError> {
         let (commands, replies) = (self.commands.as_slice(), self.replies.as_slice());
-        save(alloc, &Recording::of(alloc, config, commands, replies)?)
+        let mut recording = Recording::of(alloc, config, commands, replies)?;
+        recording.reads = self.bytes;
+        save(alloc, &recording)
     }
 }

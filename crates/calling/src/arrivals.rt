@@ -36,7 +36,7 @@ pub fn echo(
 }
 
 /// Passes a reading through a publisher of its own. `None` where messages wait already, or where the
-/// publisher was refused memory for a connection.
+/// publisher's connection couldn't be allocated.
 pub fn echo_once(
     domain: &mut Domain<u32, ()>,
     subscriber: &Subscriber,

@@ -15,7 +15,7 @@ pub struct Opaque {
     _unused: u64,
 }
 
-// (docs/decisions/bindings.md, "C owns a domain by a struct of one pointer")
+// (docs/DECISIONS.md, "C owns a domain by a struct of one pointer")
 #[repr(C)]
 #[derive(Drop)]
 pub struct DomainBox {

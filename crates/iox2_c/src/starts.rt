@@ -7,7 +7,7 @@ use std::ptr::NonNull;
 // Where no bytes lie.
 const NOTHING: &u8 = &0;
 
-/// Where the bytes begin (docs/decisions/bindings.md, "What a clause says of a pointer for C").
+/// Where the bytes begin (docs/DECISIONS.md, "What a clause says of a pointer for C").
 pub fn start_of(bytes: &[u8]) -> *const u8 {
     match bytes.first() {
         Some(first) => ptr::from_ref(first),

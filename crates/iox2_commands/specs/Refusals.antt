@@ -20,7 +20,7 @@ use Rattle.iox2_commands.specs.declared.new_publisher.NewPublisher.{NewPublisher
 use Rattle.iox2_commands.specs.declared.reply.Reply.{Reply}
 use Rattle.iox2_commands.specs.declared.reply.Reply.TheVariants.{PublisherMade, SubscriberMade, PublisherRefused, SubscriberRefused}
 
--- No connection was refused memory.
+-- Each connection could be allocated.
 abbrev pub TellNoRefusal : Warnings → Type 0
 TellNoRefusal warnings = warnings.refused_connections ≡ 0
 

@@ -47,7 +47,7 @@ pub enum PutOutcome {
 pub struct Connection {
     // In channel 0.
     waiting: HeapCircularBuffer<usize>,
-    // Its capacity is how many may be borrowed (docs/decisions/cost.md, "A connection takes 192 bytes").
+    // Its capacity is how many may be borrowed (docs/DECISIONS.md, "A connection takes 192 bytes").
     borrowed: Vec<usize>,
     returned: HeapCircularBuffer<usize>,
     // The channels behind channel 0, by number.

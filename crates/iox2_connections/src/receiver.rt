@@ -87,7 +87,7 @@ fn look(connections: &Slab<Connection>, key: Option<usize>) -> Found
 }
 
 // The same. A look-up in connections that may be written tests less, and nothing is written
-// (docs/decisions/cost.md, "Look-ups that can't fail go through `&mut`").
+// (docs/DECISIONS.md, "Look-ups that can't fail go through `&mut`").
 fn look_to_take(connections: &mut Slab<Connection>, key: Option<usize>) -> Found
     requires { ForSome key (ContainsKey connections.old) }
     ensures offers { result ≡ offer_at connections.old key }
@@ -239,7 +239,7 @@ fn has_number(book: &SlotBook, slot: usize, number: u128) -> bool
 /// of this book, and is marked as open, and the slot was last borrowed from it and has this number.
 /// Mostly it is. No holders are counted for that. A look-up in books that may be written tests
 /// less, and nothing is written
-/// (docs/decisions/cost.md, "Look-ups that can't fail go through `&mut`").
+/// (docs/DECISIONS.md, "Look-ups that can't fail go through `&mut`").
 #[inline(always)]
 pub fn is_last_at(
     connections: &Slab<Connection>,
@@ -281,7 +281,7 @@ pub fn release_if_last(
     if !is_last_at(connections, books, key, message) {
         return false;
     }
-    // The compiler does this look-up with the first (docs/decisions/cost.md, "A release looks its
+    // The compiler does this look-up with the first (docs/DECISIONS.md, "A release looks its
     // connection up twice").
     release(connections, key, message.slot);
     true

@@ -167,7 +167,7 @@ fn one_more(missed: usize) -> usize
 }
 
 // How many places have missed the message, with one more place that has this outcome
-// (docs/decisions/cost.md, "A delivery counts the places that missed it").
+// (docs/DECISIONS.md, "A delivery counts the places that missed it").
 fn count_missed(missed: usize, reception: Reception) -> usize
     requires fits { missed + 1 < 2 ^ 64 }
     ensures { result + accepted_count (result_of reception) ≡ missed + 1 }
@@ -408,7 +408,7 @@ pub fn deliver<R: Receiver, F: BackpressureFn>(
 }
 
 // Reclaims all slots that were given back in a connection. Mostly that is one, and then nothing is
-// looked at again (docs/decisions/cost.md, "A delivery mostly reclaims one slot").
+// looked at again (docs/DECISIONS.md, "A delivery mostly reclaims one slot").
 pub(crate) fn reclaim_from(connection: &mut Connection, book: &mut SlotBook)
     requires { IsHeld book.old.holders connection.old }
     ensures book { book.new ≡ with_counters book.old book.new.holders }

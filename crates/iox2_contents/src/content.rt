@@ -15,7 +15,7 @@ use std::marker::Model;
 
 /// What is in a slot. An unwritten loan has its cells; a written loan or a sent message has its
 /// values. The one that isn't used is empty
-/// (docs/decisions/slots.md, "What lies in a slot is one type").
+/// (docs/DECISIONS.md, "What lies in a slot is one type").
 ///
 /// iceoryx2's `RawSample` and `RawSampleMut` (`src/raw_sample.rs`) point to a message's headers and
 /// payload in shared memory.

@@ -23,7 +23,7 @@ pub struct Contents<T, U> {
     slots: Vec<Content<T, U>>,
     // One vector more, and no third: the contents take 48 bytes, so that an entry of a slab is
     // found by one multiplication
-    // (docs/decisions/cost.md, "The contents of a publisher take 48 bytes").
+    // (docs/DECISIONS.md, "The contents of a publisher take 48 bytes").
     lists: CellLists<T>,
 }
 
@@ -162,7 +162,7 @@ impl<T: Drop, U: Default + Drop> Contents<T, U> {
 
     // The same for a loan whose cells have a list. It is a function of its own, so that nothing has
     // to be kept over a usual write
-    // (docs/decisions/cost.md, "The contents of a publisher take 48 bytes").
+    // (docs/DECISIONS.md, "The contents of a publisher take 48 bytes").
     #[cold]
     #[inline(never)]
     fn write_listed_from_fn<F: FnMut(usize) -> T + Drop>(&mut self, slot: usize, f: F)

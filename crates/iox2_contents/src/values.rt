@@ -84,7 +84,7 @@ impl<T: Drop> Values<T> {
 
     /// Takes out the list with its room, and empties it. Loops push to a list that they own, so
     /// that its length needn't be stored at each push
-    /// (docs/decisions/slots.md, "A list of elements is taken out to be filled").
+    /// (docs/DECISIONS.md, "A list of elements is taken out to be filled").
     pub(crate) fn take_empty(&mut self) -> Vec<T>
         ensures empty { result.items ≡ [] }
         ensures room { vec_capacity result ≡ self.old.room }

@@ -5,7 +5,7 @@ ghost use Rattle.iox2_domain.specs.Boxes.{box_of, boxes_of, degradation_box_of};
 use std::alloc::{AllocError, Global};
 use std::marker::Model;
 
-/// The boxes of a port: for full buffers, and for connections that are refused memory.
+/// The boxes of a port: for full buffers, and for connections that can't be allocated.
 #[derive(Drop)]
 pub struct PortBoxes<F, G> {
     /// What it asks at a full buffer.

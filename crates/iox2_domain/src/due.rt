@@ -3,7 +3,7 @@ ghost use Rattle.std.specs.Prelude.{◌≡◌, IsTrue, false};
 ghost use Rattle.iox2_domain.specs.Due.{is_to_clear, is_to_connect};
 
 /// What a publisher does before its next message, or at an update. It has one value for both
-/// chores, so that a message asks once (docs/decisions/slots.md, "Older slots go at the next loan, send
+/// chores, so that a message asks once (docs/DECISIONS.md, "Older slots go at the next loan, send
 /// or update").
 #[derive(Clone, Copy)]
 pub enum Due {

@@ -18,7 +18,7 @@ pub enum HandlerMark<A> {
 
 /// Asks the box of the publisher with an id, which is looked for each time. If there is none, the
 /// strategy is followed
-/// (docs/decisions/handlers.md, "A box that isn't there follows the strategy").
+/// (docs/DECISIONS.md, "A box that isn't there follows the strategy").
 #[derive(Drop)]
 pub struct AskedBox<'a, F, G> {
     pub(crate) boxes: &'a Boxes<F, G>,

@@ -69,7 +69,7 @@ pub struct PublisherState {
     pub due: Due,
     // How many of its older slots, those before the current segment, had a holder when it last looked, and
     // how many slots were free then. No view has these two, and any numbers will do. They lie beside a flag,
-    // so that a publisher takes no byte more (docs/decisions/slots.md, "Older slots go at the next loan, send
+    // so that a publisher takes no byte more (docs/DECISIONS.md, "Older slots go at the next loan, send
     // or update").
     pub held_older: u16,
     pub known_free: u32,

@@ -29,7 +29,7 @@ pub struct DomainState<T, U> {
     pub connections: Slab<Connection>,
     pub books: Slab<SlotBook>,
     // At the key of each book what is in its slots
-    // (docs/decisions/slots.md, "Book and contents aren't one record").
+    // (docs/DECISIONS.md, "Book and contents aren't one record").
     pub contents: Vec<Option<Contents<T, U>>>,
 }
 
@@ -78,7 +78,7 @@ impl<T: Drop, U: Default + Drop> DomainState<T, U> {
         &self.config
     }
 
-    /// How many connections were refused memory. `u64::MAX` means that many or more.
+    /// How many connections couldn't be allocated. `u64::MAX` means that many or more.
     pub fn refused_connections(&self) -> u64
         ensures { result ≡ (self.now.warnings).items.refused_connections }
     {

@@ -13,7 +13,7 @@ use std::marker::Model;
 // How many warnings are kept.
 const WARNING_LIMIT: usize = 32;
 
-/// The last warnings of a domain, and how many connections were refused memory.
+/// The last warnings of a domain, and how many connections couldn't be allocated.
 #[derive(Drop)]
 pub struct Warnings {
     latest: HeapCircularBuffer<Warning>,
@@ -48,7 +48,7 @@ impl Warnings {
         self.latest.push_back(warning);
     }
 
-    /// Counts a connection that was refused memory. The count stays at its greatest value.
+    /// Counts a connection that couldn't be allocated. The count stays at its greatest value.
     pub fn count_refusal(&mut self)
         ensures { self.new ≡ warning_ring (refusal_counted self.old.items) self.old.capacity }
     {
@@ -62,7 +62,7 @@ impl Warnings {
         &self.latest
     }
 
-    /// How many connections were refused memory. `u64::MAX` means that many or more.
+    /// How many connections couldn't be allocated. `u64::MAX` means that many or more.
     pub fn refused_connections(&self) -> u64
         ensures { result ≡ self.now.items.refused_connections }
     {

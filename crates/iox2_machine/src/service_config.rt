@@ -102,7 +102,7 @@ impl ServiceConfig {
     /// out.
     ///
     /// They follow iceoryx2's configuration if nothing else is set
-    /// (docs/decisions/domain.md, "The defaults of a service").
+    /// (docs/DECISIONS.md, "The defaults of a service").
     pub fn new(service_id: u128) -> ServiceConfig
         ensures { result ≡ default_config service_id }
     {

@@ -40,7 +40,7 @@ fn remember(publisher: &mut PublisherState, book: &mut SlotBook, slot: usize)
 // publisher waits for a receiver, and there is one holder more for the history. Each of the two says how
 // the send ended, so that nothing is asked again behind them. The progress is copied field by field: a copy
 // of the whole takes what lies between its fields too, which would be cleared at each message
-// (docs/decisions/cost.md, "What a message takes is cleared and asked once").
+// (docs/DECISIONS.md, "What a message takes is cleared and asked once").
 #[inline(always)]
 fn conclude(
     publisher: &mut PublisherState,
@@ -177,7 +177,7 @@ pub(crate) fn send_unasked<T: Drop, U: Default + Drop>(
 }
 
 /// The same, whether the publisher has a handler or not. A box is among these boxes.
-// (docs/decisions/cost.md, "A publisher without a handler pays one look for it")
+// (docs/DECISIONS.md, "A publisher without a handler pays one look for it")
 #[inline(never)]
 pub(crate) fn send_ready<T: Drop, U: Default + Drop, F: BackpressureFn, G: DegradationFn>(
     state: &mut DomainState<T, U>,

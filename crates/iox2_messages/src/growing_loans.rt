@@ -17,7 +17,7 @@ use iox2_updates::reclaim;
 /// Readies a slot for a loan of a publisher whose memory grows: its current segment then has a free
 /// slot that is long enough. Refuses the loan as `loan` says. What is in older slots that nobody holds
 /// any more is dropped first.
-// (docs/decisions/cost.md, "What a publisher that doesn't grow pays for those that do")
+// (docs/DECISIONS.md, "What a publisher that doesn't grow pays for those that do")
 #[cold]
 #[inline(never)]
 pub(crate) fn prepare<T: Drop, U: Default + Drop>(

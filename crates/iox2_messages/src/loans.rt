@@ -63,7 +63,7 @@ pub fn loan<T: Drop, U: Default + Drop>(
 {
     prepare_if_growing(state, place, len)?;
     // What follows refuses only a static publisher. It is one body for both kinds, since the write and
-    // the send then know the loan's book and slot (docs/decisions/cost.md, "What a publisher that
+    // the send then know the loan's book and slot (docs/DECISIONS.md, "What a publisher that
     // doesn't grow pays for those that do").
     let Some(publisher) = &mut state.publishers[place] else {
         unreachable!();

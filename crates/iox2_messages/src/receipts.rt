@@ -28,7 +28,7 @@ use slab::Slab;
 // The receipt of a message that was taken. Where the connection stands is read from it as it is now,
 // after the message was taken, so that a release which follows finds it read and compared. Look-ups in
 // what may be written test less, and nothing is written.
-// (docs/decisions/cost.md, "A receipt reads its connection after the message was taken".)
+// (docs/DECISIONS.md, "A receipt reads its connection after the message was taken".)
 fn receipt_of(
     connections: &mut Slab<Connection>,
     books: &mut Slab<SlotBook>,
@@ -168,7 +168,7 @@ pub fn release_sample<T: Drop, U: Default + Drop>(state: &mut DomainState<T, U>,
 
 // The same, wherever the sample lies and whichever of its ports is gone. It takes the sample itself: a
 // reference would have the usual release keep it in memory
-// (docs/decisions/cost.md, "What a usual message asks about departed ports").
+// (docs/DECISIONS.md, "What a usual message asks about departed ports").
 #[cold]
 #[inline(never)]
 fn search_and_release<T: Drop, U: Default + Drop>(state: &mut DomainState<T, U>, sample: SampleAt)

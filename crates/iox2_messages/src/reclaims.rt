@@ -15,7 +15,7 @@ use slab::Slab;
 /// A publisher reclaims every slot of its book that was given back in its connections, if none of its
 /// slots is free. A slot that nobody else holds is free then. Returns whether none is free even so. The
 /// book is asked anew only where slots were reclaimed
-/// (docs/decisions/cost.md, "What a message takes is cleared and asked once").
+/// (docs/DECISIONS.md, "What a message takes is cleared and asked once").
 #[inline(always)]
 pub(crate) fn reclaim_if_full(
     publisher: &PublisherState,

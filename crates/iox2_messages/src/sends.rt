@@ -23,7 +23,7 @@ use iox2_machine::{BackpressureFn, ConnectionFailure, DegradationFn, UniquePubli
 
 // Whether the publisher of a loan that lies where its handle says is there, and due for nothing: so the
 // loan may be sent at once, if its publisher has no handler. It returns at each test that fails
-// (docs/decisions/cost.md, "A call goes on where its look-up ended").
+// (docs/DECISIONS.md, "A call goes on where its look-up ended").
 #[inline(always)]
 fn is_ready<T: Drop, U: Default + Drop>(state: &DomainState<T, U>, loan: &LoanAt) -> bool
     requires agrees { IsDomain state.now }
@@ -82,7 +82,7 @@ fn catch_up_and_find<T: Drop, U: Default + Drop, F: BackpressureFn, G: Degradati
 
 // The publisher of a loan does what it is due for, and sends the loan, wherever both are. If the
 // update of its connections fails, the loan is given back. Of a publisher that is gone the loan is lost.
-// (docs/decisions/cost.md, "What a usual message asks about departed ports")
+// (docs/DECISIONS.md, "What a usual message asks about departed ports")
 #[cold]
 #[inline(never)]
 fn catch_up_and_send<T: Drop, U: Default + Drop, F: BackpressureFn, G: DegradationFn>(
@@ -153,7 +153,7 @@ fn send_unready<T: Drop, U: Default + Drop, F: BackpressureFn, G: DegradationFn>
 ///
 /// The outcome is made in each branch so that it isn't tested twice. The
 /// boxes are handed on in one call alone, so that where they lie isn't on the path of a message of a
-/// publisher without a handler (docs/decisions/cost.md, "One call takes the boxes").
+/// publisher without a handler (docs/DECISIONS.md, "One call takes the boxes").
 ///
 /// iceoryx2's `PublisherSharedState::send_sample` (`src/port/publisher.rs`).
 #[inline(always)]

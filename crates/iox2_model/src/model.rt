@@ -76,12 +76,12 @@ impl Model {
         self.made.len()
     }
 
-    /// How many connections were refused memory.
+    /// How many connections couldn't be allocated.
     pub fn refused_connections(&self) -> u64 {
         self.refused_connections
     }
 
-    /// Whether a further segment of a publisher was refused memory.
+    /// Whether a further segment of a publisher couldn't be allocated.
     pub fn has_refused_segment(&self) -> bool {
         self.has_refused_segment
     }
@@ -91,7 +91,7 @@ impl Model {
         self.memory.questions()
     }
 
-    // Whether a connection is refused memory this time, which is counted.
+    // Whether allocating a connection fails this time, which is counted.
     pub(crate) fn refuses_connection(&mut self) -> bool {
         let refuses = self.memory.refuses();
         if refuses {
@@ -100,7 +100,7 @@ impl Model {
         refuses
     }
 
-    // Whether a further segment is refused memory this time, which is remembered.
+    // Whether allocating a further segment fails this time, which is remembered.
     pub(crate) fn refuses_segment(&mut self) -> bool {
         let refuses = self.memory.refuses();
         if refuses {

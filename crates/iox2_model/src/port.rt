@@ -11,7 +11,7 @@ pub(crate) struct Port {
     // At the place of a port of the other kind, the port with which it has a mailbox.
     pub(crate) ends: Vec<Option<usize>>,
     pub(crate) is_due: bool,
-    // What is done about a connection that is refused memory.
+    // What is done about a connection that can't be allocated.
     degradation: DegradationAction,
 }
 
@@ -39,7 +39,7 @@ impl Port {
         mem::replace(&mut self.is_due, false)
     }
 
-    // The failure of its update where a connection was refused memory.
+    // The failure of its update where a connection couldn't be allocated.
     pub(crate) fn failure(&self) -> Option<ConnectionFailure> {
         match self.degradation {
             DegradationAction::Ignore | DegradationAction::Warn => None,

@@ -7,7 +7,7 @@ use std::alloc::Global;
 
 impl Model {
     // The publisher, where it is due, goes over the subscribers' places. Returns the first failure,
-    // which there is where a connection is refused memory and the publisher's answer fails the call.
+    // which there is where a connection can't be allocated and the publisher's answer fails the call.
     pub(crate) fn update_publisher(&mut self, p: usize) -> Updated {
         if !self.sender_mut(p)?.take_due() {
             return Ok(None);

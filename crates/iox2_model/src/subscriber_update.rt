@@ -18,7 +18,7 @@ enum Retirement {
 impl Model {
     // The subscriber, where it is due, goes over the publishers' places. Returns the first failure,
     // which there is where a departed publisher couldn't be kept among the expired ones, and where a
-    // connection is refused memory and the subscriber's answer fails the call.
+    // connection can't be allocated and the subscriber's answer fails the call.
     pub(crate) fn update_subscriber(&mut self, q: usize) -> Updated {
         if !self.receiver_mut(q)?.take_due() {
             return Ok(None);

@@ -128,7 +128,7 @@ fn a_full_segment_is_followed_by_another(rt: HostRuntime) {
 }
 
 // The first segment is held by the first loan all the while, and each other one by none. So each loan
-// behind the first one that was refused memory needs the memory again.
+// behind the first one that couldn't allocate needs the memory again.
 #[test]
 fn refused_memory_is_asked_for_again(rt: HostRuntime) {
     let first = publisher(2, AllocationStrategy::BestFit, Some(1));

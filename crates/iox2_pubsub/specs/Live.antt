@@ -317,12 +317,12 @@ OthersSend publisher old new = (other : ℕ) → other ≢ publisher → payload
 abbrev pub ConnectionsStay : {T U F G : Type 0} → (old new : Kept T U F G) → Type 0
 ConnectionsStay old new = (publisher : ℕ) (subscriber : Subscriber) → IsConnected old publisher subscriber → IsConnected new publisher subscriber
 
--- No port was refused memory for a connection meanwhile, as the domain's count says while it isn't at its end.
+-- Each connection could be allocated meanwhile, as the domain's count says while it isn't at its end.
 abbrev pub NoneRefused : {T U F G : Type 0} → (old new : Kept T U F G) → Type 0
 NoneRefused old new = ((new.warnings).refused_connections ≡ (old.warnings).refused_connections) × ((old.warnings).refused_connections < refusal_limit)
 
--- An update of the publisher with this id connects it with each subscriber that awaits it, if no port is refused memory
--- for a connection, and who awaits another publisher still does.
+-- An update of the publisher with this id connects it with each subscriber that awaits it, if each connection can be
+-- allocated, and who awaits another publisher still does.
 pub record Connected {T U F G : Type 0} (publisher : ℕ) (old new : Kept T U F G) : Type 0 where
   pub awaited : (subscriber : Subscriber) → IsAwaited old publisher subscriber → NoneRefused old new → IsConnected new publisher subscriber
   pub others : (other : ℕ) (subscriber : Subscriber) → other ≢ publisher → IsAwaited old other subscriber → IsAwaited new other subscriber
@@ -470,7 +470,7 @@ AreApart first (Both second third) = AreApart first second × AreApart first thi
 
 module _ {T U F G : Type 0} where
   -- The settings stay, and each port, loan, sample and blocked send that was live is live and reads as it did, except
-  -- the item that was spent. A publisher without a blocked send stays so, and so does one whose sends are never
+  -- the item that was consumed. A publisher without a blocked send stays so, and so does one whose sends are never
   -- blocked, and one that no handler fails. Each port keeps its boxes and its place, and each subscriber its buffer.
   pub record StaysBut (spent : Item) (old new : Kept T U F G) : Type 0 where
     pub settings : new.config ≡ old.config

@@ -93,7 +93,7 @@ module _ {T U F G : Type 0} (domain : Kept T U F G) where
   FailsCopy publisher error = ((reason : LoanError) × (error ≡ Not_lent reason)) ⊎ (IsOfHandler error × (NeverFails domain publisher.id → ⊥))
 
 module _ {T U F G : Type 0} where
-  -- A send spent the loan, with this outcome or error. It succeeds if the publisher is there and no handler fails it;
+  -- A send consumed the loan, with this outcome or error. It succeeds if the publisher is there and no handler fails it;
   -- it isn't blocked if the publisher never waits, and else is blocked under the loan's key. What other publishers sent
   -- waits as it did, and when the send has ended the publisher has one loan more left.
   pub record SpendsLoan (loan : SampleMut) (result : Result SendOutcome SendError) (old new : Kept T U F G) : Type 0 where

@@ -53,7 +53,7 @@ impl BlockedSend {
         loan_key(self.service_id, &self.loan)
     }
 
-    /// Spends the handle of a blocked send whose domain is gone. A domain that is still there isn't
+    /// Consumes the handle of a blocked send whose domain is gone. A domain that is still there isn't
     /// told, and keeps the send.
     pub fn disown(self) {
         self.into_parts();

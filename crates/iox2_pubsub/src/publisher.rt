@@ -65,7 +65,7 @@ impl Publisher {
         port_key(self.service_id, self.id.value())
     }
 
-    /// Spends the handle of a publisher whose domain is gone. A domain that is still there isn't
+    /// Consumes the handle of a publisher whose domain is gone. A domain that is still there isn't
     /// told, and keeps the publisher. This library's own.
     pub fn disown(self) {
         self.into_parts();

@@ -131,7 +131,7 @@ impl<K> Sample<K> {
         sample_user_header(&domain.state, &self.sample)
     }
 
-    /// Spends the handle of a sample whose domain is gone. A domain that is still there isn't told,
+    /// Consumes the handle of a sample whose domain is gone. A domain that is still there isn't told,
     /// and counts the message as borrowed from then on. This library's own.
     pub fn disown(self) {
         self.into_parts();

@@ -91,7 +91,7 @@ impl SampleMutUninit {
         loan_key(self.service_id, &self.loan)
     }
 
-    /// Spends the handle of a loan whose domain is gone. A domain that is still there isn't told,
+    /// Consumes the handle of a loan whose domain is gone. A domain that is still there isn't told,
     /// and keeps the loan. This library's own.
     pub fn disown(self) {
         self.into_parts();

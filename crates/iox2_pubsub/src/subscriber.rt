@@ -63,7 +63,7 @@ impl Subscriber {
         port_key(self.service_id, self.id.value())
     }
 
-    /// Spends the handle of a subscriber whose domain is gone. A domain that is still there isn't
+    /// Consumes the handle of a subscriber whose domain is gone. A domain that is still there isn't
     /// told, and keeps the subscriber. This library's own.
     pub fn disown(self) {
         self.into_parts();

@@ -9,5 +9,6 @@ mod many_units;
 mod missing_cells;
 mod refused_publishers;
 mod runs;
+mod slices;
 mod steps;
 mod worst_cases;

@@ -40,7 +40,7 @@ RanWithOneDefault {T} {U} defaults c commands new replies =
 -- Both lists ran, each on a new domain with these settings. The rest holds under six conditions: neither run made a publisher
 -- whose memory grows; the second list leaves out calls of other subscribers than the one made at `position`;
 -- publishers are independent; each other subscriber that was closed had released its samples in both runs; neither run
--- tells of refused memory, by a reply or by its count of refused connections; and the subscriber made at `position` got
+-- tells of a failed allocation, by a reply or by its count of refused connections; and the subscriber made at `position` got
 -- the same replies to its receives. Then this subscriber sees the same at the end of both runs, and reads of its
 -- samples got the same replies. It also sees the same after each number of commands, at any point that each run has
 -- there. Each run has such a point after each number of commands (`grants` of both runs).

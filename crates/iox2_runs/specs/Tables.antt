@@ -10,7 +10,7 @@ use Rattle.iox2_machine.specs.machine.State.{State}
 use Rattle.iox2_commands.specs.Outcomes.{Handle, No_handle, Publisher_handle, Subscriber_handle, Loan_handle, Blocked_handle, Sample_handle, Event}
 use Rattle.iox2_commands.specs.Runs.{received}
 
--- What the handle names that a command made, with the service's number; no entry if it made none or it is spent.
+-- What the handle names that a command made, with the service's number; no entry if it made none or it is consumed.
 pub data TableEntry : Type 0 where
   No_entry : TableEntry
   Publisher_entry : (service id : ℕ) → TableEntry

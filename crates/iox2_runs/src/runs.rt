@@ -45,7 +45,7 @@ use std::alloc::Global;
 use updates::update;
 
 // There is a default value of the type. For proofs alone
-// (docs/decisions/crates.md, "What exists for proofs alone").
+// (docs/DECISIONS.md, "What exists for proofs alone").
 fn has_default<T: Default + Drop>()
     ensures { (value : T) × T.is_default value }
 {
@@ -154,9 +154,9 @@ pub fn carry_out<
 /// message number is left. That is said of services whose elements are one unit each
 /// (`units_per_element`); on any other every loan, every value sent at once and every receive is skipped.
 ///
-/// What the commands made is spent at the end: ports stay in the domain, loans stay out, blocked
+/// What the commands made is consumed at the end: ports stay in the domain, loans stay out, blocked
 /// sends stay so and messages stay borrowed. The memory for the replies and for what the commands make
-/// is taken first. If it is refused the commands are handed back, and none was carried out. The same
+/// is taken first. If that fails the commands are handed back, and none was carried out. The same
 /// happens if a command could be on cells that the domain doesn't hand out (`lacks_cells`), which is
 /// never so where messages are single values. Elsewhere a list without commands, which needs no memory,
 /// is carried out whatever the settings.

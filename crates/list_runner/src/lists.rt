@@ -24,7 +24,7 @@ fn is_met(reply: &Reply<u64, ()>) -> bool {
 }
 
 /// Prints how many slots a publisher needs and how long the list is, and runs it on a new domain. Where
-/// some command isn't granted, prints the first one and how many connections were refused memory.
+/// some command isn't granted, prints the first one and how many connections couldn't be allocated.
 pub(crate) fn fill(rt: &HostRuntime, sizes: &Sizes) -> Result<(), Failure> {
     let slots = worst_case_slots(&sizes.config, sizes.loans).ok_or(Failure::TooManySlots)?;
     println!(rt; "{slots} slots")?;
@@ -52,7 +52,7 @@ fn print_first_refused(rt: &HostRuntime, replies: &[Reply<u64, ()>]) -> io::Resu
     Ok(())
 }
 
-// The replies of a new domain, and how many of its connections were refused memory.
+// The replies of a new domain, and how many of its connections couldn't be allocated.
 fn outcome_of(
     alloc: Global,
     sizes: &Sizes,
@@ -68,7 +68,7 @@ fn outcome_of(
 }
 
 /// Has two runs of the list compared. Prints how many commands were skipped or refused in each run
-/// and how many of its connections were refused memory, or that there is no comparison.
+/// and how many of its connections couldn't be allocated, or that there is no comparison.
 pub(crate) fn compare(rt: &HostRuntime, sizes: &Sizes) -> Result<(), Failure> {
     let commands = filling(rt.alloc(), sizes)?;
     let same = filling(rt.alloc(), sizes)?;

@@ -3,14 +3,14 @@ ghost use Rattle.std.specs.Prelude.{◌≡◌};
 
 use iox2_pubsub::Subscriber;
 
-/// A subscriber whose handle is spent when it goes out of scope.
+/// A subscriber whose handle is disowned when it goes out of scope.
 pub struct Receiver {
     /// The subscriber.
     pub subscriber: Subscriber,
 }
 
 impl Receiver {
-    /// The subscriber, which its caller spends.
+    /// The subscriber, which its caller consumes.
     pub fn into_subscriber(self) -> Subscriber
         ensures { result ≡ self.subscriber }
     {

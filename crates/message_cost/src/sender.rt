@@ -3,14 +3,14 @@ ghost use Rattle.std.specs.Prelude.{◌≡◌};
 
 use iox2_pubsub::Publisher;
 
-/// A publisher whose handle is spent when it goes out of scope.
+/// A publisher whose handle is disowned when it goes out of scope.
 pub struct Sender {
     /// The publisher.
     pub publisher: Publisher,
 }
 
 impl Sender {
-    /// The publisher, which its caller spends.
+    /// The publisher, which its caller consumes.
     pub fn into_publisher(self) -> Publisher
         ensures { result ≡ self.publisher }
     {

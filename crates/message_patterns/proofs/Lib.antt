@@ -3,9 +3,6 @@ pub mod Sums
 pub mod Middles
 pub mod Waits
 pub mod VotesWait
-pub mod Unmoved
-pub mod Granted
-pub mod Borrows
 pub mod Moved
 pub mod QueueItems
 pub mod Stopped

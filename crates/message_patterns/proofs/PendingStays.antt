@@ -7,9 +7,12 @@ use Rattle.iox2_machine.specs.machine.Records.{Entry, Environment, Publisher as 
 use Rattle.iox2_machine.specs.machine.Receives.{Receive, ReceiveResult, Got_sample, No_sample, Receive_error, TakeSample}
 use Rattle.iox2_machine.specs.machine.Releases.{is_unused, place_freed, released, subscriber_pruned, unborrowed}
 use Rattle.iox2_machine.specs.machine.State.{State, Messages, publishers_due}
+use Rattle.iox2_machine.specs.machine.SubscriberUpdate.{UpdateSubscriber}
+use Rattle.iox2_machine.specs.declared.errors.ConnectionFailure.{ConnectionFailure}
 use Rattle.iox2_machine.specs.Stored.{In_blocked_send}
 use Rattle.iox2_machine.specs.declared.errors.ReceiveError.{ReceiveError}
-use Rattle.iox2_laws.proofs.Cases.{by_option}
+use Rattle.iox2_laws.proofs.Cases.{by_option, by_bool}
+use Rattle.std.proofs.lemmas.Bool.{true≢false}
 use Rattle.iox2_domain.specs.Kept.{Kept, entries_of, state_of}
 use Rattle.iox2_domain.specs.Shows.{Shows}
 use Rattle.iox2_pubsub.specs.Handles.{blocked_sender, receiver_of, sample_number}
@@ -20,7 +23,6 @@ use Rattle.iox2_pubsub.specs.Sample.{Sample}
 use Rattle.iox2_pubsub.specs.declared.subscriber.Subscriber.{Subscriber}
 use Rattle.iox2_pubsub.proofs.UpToDateShown.{up-to-date-in}
 use Rattle.message_patterns.specs.Blocking.{HeldBack, IsPending}
-use Rattle.message_patterns.proofs.Granted.{updated-same}
 
 module _ {T U : Type 0} (p n r : ℕ) where
   held-with : (s t : State T U) → t.publishers ≡ s.publishers → HeldBack s p n r → HeldBack t p n r
@@ -52,6 +54,15 @@ module _ {T U : Type 0} (p n r : ℕ) where
       let kept : HeldBack t p n r = held-with s t refl held in
       let freed : HeldBack (cond (is_unused t q) (place_freed t q) t) p n r = held-freed t q (is_unused t q) kept in
       record { publisher = freed.publisher; blocked = freed.blocked; stands = freed.stands; waits = freed.waits; message = freed.message; channel = freed.channel; ends = freed.ends }
+
+-- the update of a subscriber that is up to date changes nothing
+module _ {T U : Type 0} (environment : Environment) (s : State T U) (q : ℕ) (y : MachineSubscriber) (here : s.subscribers q ≡ Some y) (fresh : y.is_due ≡ false) where
+  updated-same : (t : State T U) (failure : Option ConnectionFailure) → UpdateSubscriber environment s q t failure → (t ≡ s) × (failure ≡ None)
+  updated-same t failure h =
+      by_option ((t ≡ s) × (failure ≡ None)) (s.subscribers q) _ _ h (λ _ v. absurd v) (λ z present h.
+      by_bool ((t ≡ s) × (failure ≡ None)) z.is_due _ _ h
+      (λ due _. absurd (true≢false (sym due ∙ ap (λ (z : MachineSubscriber). z.is_due) (same_Some z y (sym present ∙ here)) ∙ fresh)))
+      (λ _ k. k))
 
 -- publishers stay where a subscriber that is up to date receives
 received-publishers : {T U : Type 0} (environment : Environment) (s : State T U) (q : ℕ) (y : MachineSubscriber) → s.subscribers q ≡ Some y → y.is_due ≡ false → (s' : State T U) (result : ReceiveResult)

@@ -97,10 +97,6 @@ module _ {U F G : Type 0} where
   pub takes-renamed : (d : Kept ℕ U F G) (p p' : ℕ) → p ≡ p' → (q : Subscriber) (values : List ℕ) (more : ℕ) → TakesMore d p q values more → TakesMore d p' q values more
   takes-renamed d p p' same q values more takes = subst (λ (i : ℕ). TakesMore d i q values more) same takes
 
--- settings stay
-pub borrows-stay : {T U F G : Type 0} (old new : Kept T U F G) → new.config ≡ old.config → 0 < (old.config).subscriber_max_borrowed_samples → 0 < (new.config).subscriber_max_borrowed_samples
-borrows-stay old new same some = subst (λ (c : ServiceConfig). 0 < c.subscriber_max_borrowed_samples) (sym same) some
-
 pub if-ok-then : {A E : Type 0} (r : Result A E) (P Q : A → Type 0) → ((v : A) → P v → Q v) → IfOk r P → IfOk r Q
 if-ok-then (Ok v) P Q f is = f v is
 if-ok-then (Err e) P Q f is = tt

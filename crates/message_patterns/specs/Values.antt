@@ -4,7 +4,7 @@ use Rattle.std.specs.declared.option.Option.{Option}
 use Rattle.std.specs.declared.option.Option.TheVariants.{None, Some}
 use Rattle.std.specs.declared.result.Result.{Result}
 use Rattle.std.specs.declared.result.Result.TheVariants.{Ok, Err}
-use Rattle.iox2_domain.specs.Kept.{Kept, state_of}
+use Rattle.iox2_domain.specs.Kept.{Kept}
 use Rattle.iox2_pubsub.specs.Live.{AllFrom, HasItsBuffer, IsConnected}
 use Rattle.iox2_pubsub.specs.LoansLeft.{HasLoansLeft, HasNumbersLeft}
 use Rattle.iox2_pubsub.specs.declared.publisher.Publisher.{Publisher}
@@ -37,7 +37,3 @@ module _ {U F G : Type 0} (domain : Kept ℕ U F G) (publisher : ℕ) (subscribe
 pub record CanSend {T U F G : Type 0} (domain : Kept T U F G) (publisher : Publisher) (n : ℕ) : Type 0 where
   pub loans : HasLoansLeft domain publisher 1
   pub numbers : HasNumbersLeft domain n
-
--- The subscriber has borrowed nothing. No word of the library says it, so it is said of the state that the domain keeps.
-unfoldable pub BorrowsNone : {T U F G : Type 0} → Kept T U F G → Subscriber → Type 0
-BorrowsNone domain subscriber = (publisher : ℕ) → ((state_of domain).mailboxes publisher subscriber.id).borrowed ≡ []

@@ -3,6 +3,7 @@
 ghost use Rattle.std.specs.Prelude.{ℕ, List, [], ◌∷◌, ◌++◌, ◌+◌, ◌<◌, ◌≤◌, ◌≡◌, length, IfNone, IfOk, IfSome, OnOk};
 ghost use Rattle.iox2_pubsub.specs.Handles.{blocked_sender, buffer_size_of, publisher_id};
 ghost use Rattle.iox2_pubsub.specs.Live.{A_blocked_send, HasItsBuffer, IsBlockedSend, IsConnected, IsLiveSubscriber, IsReadyPublisher, IsSingleValued, IsUpToDate, StaysBut, UpToDateStay, blocked_key, lender_key, publisher_key};
+ghost use Rattle.iox2_pubsub.specs.RoomyPublishers.{HasRoomAlone};
 ghost use Rattle.iox2_pubsub.specs.declared.subscriber.Subscriber.{Subscriber as Port};
 ghost use Rattle.message_patterns.specs.Blocking.{IsPending};
 ghost use Rattle.message_patterns.specs.Values.{TakesMore, Wait};
@@ -27,6 +28,7 @@ pub fn push_or_wait<F: BackpressureFn, G: DegradationFn>(
     requires publisher { IsReadyPublisher domain.old publisher.now }
     ensures taken { (subscriber : Port) (earlier : List ℕ) (more : ℕ) → TakesMore domain.old (publisher_id publisher.now) subscriber earlier (more + 1)
         → IfOk result (λ waits. IfNone waits (TakesMore domain.new (publisher_id publisher.now) subscriber (earlier ++ value ∷ []) more)) }
+    ensures roomy { (subscriber : Port) → HasRoomAlone domain.old (publisher_id publisher.now) subscriber → IfOk result (λ waits. IfSome waits (λ it. ⊥)) }
     ensures waits { (subscriber : Port) (earlier : List ℕ) → Wait domain.old (publisher_id publisher.now) subscriber earlier → IsConnected domain.old (publisher_id publisher.now) subscriber
         → IfOk result (λ waits. IfSome waits (λ it. Wait domain.new (publisher_id publisher.now) subscriber earlier × IsPending domain.new it subscriber value)) }
     ensures blocked { IfOk result (λ waits. IfSome waits (λ it. IsBlockedSend domain.new it × (lender_key (blocked_key it) ≡ publisher_key publisher.now))) }

@@ -6,7 +6,8 @@ ghost use Rattle.iox2_pubsub.specs.LoansLeft.{HasOneMoreLeft, LoansLeftStay};
 ghost use Rattle.iox2_pubsub.specs.declared.subscriber.Subscriber.{Subscriber as Port};
 ghost use Rattle.iox2_pubsub.specs.declared.blocked_send.BlockedSend.{BlockedSend as Waiting};
 ghost use Rattle.message_patterns.specs.Blocking.{IsPending};
-ghost use Rattle.message_patterns.specs.Values.{BorrowsNone, CanSend, OnNoValue, TakesMore, Wait};
+ghost use Rattle.iox2_pubsub.specs.BorrowsLeft.{HasBorrowsLeft};
+ghost use Rattle.message_patterns.specs.Values.{CanSend, OnNoValue, TakesMore, Wait};
 
 use crate::Numbers;
 use crate::failure::Failure;
@@ -81,8 +82,8 @@ pub fn read_one(domain: &mut Numbers, subscriber: &Subscriber) -> Result<Option<
     ensures fewer { IfOk result (λ read. OnSome read (waiting domain.new subscriber.now < waiting domain.old subscriber.now)) }
     ensures none { IfOk result (λ read. IfNone read (waiting domain.new subscriber.now ≡ 0)) }
     ensures nothing { KeepsAll domain.old subscriber.now → IfOk result (λ read. IfNone read (waiting domain.old subscriber.now ≡ 0)) }
-    ensures granted { IsUpToDate domain.old subscriber.now → BorrowsNone domain.old subscriber.now → 0 < (domain.old.config).subscriber_max_borrowed_samples → IsOk result }
-    ensures borrows { IsUpToDate domain.old subscriber.now → BorrowsNone domain.old subscriber.now → BorrowsNone domain.new subscriber.now }
+    ensures granted { (n : ℕ) → IsUpToDate domain.old subscriber.now → HasBorrowsLeft domain.old subscriber.now (n + 1) → IsOk result }
+    ensures borrows { (n : ℕ) → HasBorrowsLeft domain.old subscriber.now (n + 1) → HasBorrowsLeft domain.new subscriber.now (n + 1) }
     ensures pending { (blocked : Waiting) (reader : Port) (held : ℕ) → IsUpToDate domain.old subscriber.now → IsPending domain.old blocked reader held → IsPending domain.new blocked reader held }
     ensures kept { KeepsAll domain.old subscriber.now → OnNoValue result (WaitingStays domain.old domain.new) }
     ensures up_to_date { UpToDateStay domain.old domain.new }

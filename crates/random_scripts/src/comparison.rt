@@ -10,7 +10,7 @@ use std::alloc::{AllocError, Global};
 #[derive(Drop)]
 pub(crate) struct Ran {
     pub(crate) replies: Vec<Reply<u64, u64>>,
-    /// How many connections the domain was refused memory for.
+    /// How many connections of the domain couldn't be allocated.
     pub(crate) refused_connections: u64,
 }
 

@@ -20,7 +20,7 @@ pub(crate) enum Difference {
         run: usize,
         model: usize,
     },
-    /// In how many connections were refused memory.
+    /// In how many connections couldn't be allocated.
     Refusals {
         run: u64,
         model: u64,

@@ -25,7 +25,7 @@ pub(crate) fn only_run(rt: &HostRuntime, number: u64, seed: u64) -> Result<(), F
 }
 
 /// Draws a script, makes that many allocations, and then runs the script, in which one may be refused.
-/// Fails if its outcome isn't what the model says, whatever was refused memory.
+/// Fails if its outcome isn't what the model says, whatever couldn't be allocated.
 pub(crate) fn run_refused(
     rt: &HostRuntime,
     allocations: u64,
@@ -44,7 +44,7 @@ pub(crate) fn run_refused(
     }
 }
 
-// Says what was refused memory, where the model has these replies then. It is asked about each time
+// Says what couldn't be allocated, where the model has these replies then. It is asked about each time
 // that a port, a connection or a segment needs memory, up to the first reply that it hasn't with ample memory:
 // what was refused was refused before. Most likely it was shortly before.
 fn explain(rt: &HostRuntime, script: &Script, ran: &Ran) -> Result<(), Failure> {
@@ -103,7 +103,7 @@ fn print_closest(
     Err(Failure::Refuted)
 }
 
-// Says what was refused memory: a connection, a segment or a port.
+// Says what couldn't be allocated: a connection, a segment or a port.
 fn print_refusal(rt: &HostRuntime, ran: &Ran, refused: &Comparison) -> Result<(), Failure> {
     if ran.refused_connections > 0 {
         println!(rt; "a connection was refused")?;

@@ -19,6 +19,9 @@ pub(crate) enum Failure {
     /// A reply isn't the one that was recorded.
     #[error("a reply isn't the one that was recorded")]
     OtherReply,
+    /// A read of a received message that the recording promises isn't in it.
+    #[error("a read that the recording promises isn't in it")]
+    MissingRead,
     /// Memory is refused.
     #[error("out of memory")]
     OutOfMemory(#[from(alloc)] AllocError),
@@ -39,7 +42,7 @@ pub(crate) enum Failure {
 impl Failing for Failure {
     fn status(&self) -> u8 {
         match *self {
-            Failure::OtherReply | Failure::Refuted => 1,
+            Failure::OtherReply | Failure::MissingRead | Failure::Refuted => 1,
             Failure::NoRecording(error) if error.fault == Fault::OutOfMemory => 3,
             Failure::NoScript(ScriptError::OutOfMemory) => 3,
             Failure::Usage | Failure::NoRecording(_) | Failure::NoScript(_) => 2,

@@ -4,6 +4,8 @@
 mod damage;
 mod failure;
 mod random_lists;
+mod random_reads;
+mod reads;
 mod record;
 mod replay;
 mod shortest;

@@ -1,5 +1,6 @@
 //! Random lists are recorded, saved, loaded and replayed.
 use crate::failure::Failure;
+use crate::random_reads::misses_each;
 use crate::record::recorded;
 use crate::replay::first_difference;
 use crate::shortest::shortest;
@@ -20,8 +21,9 @@ pub(crate) fn print_list(rt: &HostRuntime, number: u64, seed: u64) -> Result<(),
 }
 
 /// Draws that many lists of a seed, of services with up to three channels a connection. Each is recorded,
-/// saved and loaded, and is the same then; its replay has the recorded replies; and if one recorded reply
-/// is made another one, the replay differs there alone, and so does the shortest list.
+/// saved and loaded, and is the same then; its replay has the recorded replies; if one recorded reply is made
+/// another one, the replay differs there alone, and so does the shortest list; and if it promises reads, each
+/// is missed that is left out.
 pub(crate) fn try_random_lists(rt: &HostRuntime, count: u64, seed: u64) -> Result<(), Failure> {
     let mut commands = 0usize;
     for number in 0..count {
@@ -78,8 +80,20 @@ fn try_other_reply(rt: &HostRuntime, recording: Recording, number: u64) -> Resul
         if fewest.replies.get(last) == again.replies.get(last) {
             return refuted(rt, number, "has a shortest list that shows nothing");
         }
+        if !misses_each(rt.alloc(), &changed, reads_of(number))? {
+            return refuted(rt, number, "hides a read that is left out");
+        }
     }
     Ok(())
+}
+
+// Of how many elements of each message a list promises reads.
+fn reads_of(number: u64) -> usize {
+    match number % 3 {
+        0 => 1,
+        1 => 2,
+        _ => 5,
+    }
 }
 
 fn refuted(rt: &HostRuntime, number: u64, what: &str) -> Result<(), Failure> {

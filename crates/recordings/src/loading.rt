@@ -1,7 +1,7 @@
 //! Recordings are read.
 use crate::load_error::{Fault, LoadError};
 use crate::recording::Recording;
-use crate::saving::{REPLIES, TITLE, VERSION, push_end};
+use crate::saving::{READS, REPLIES, TITLE, VERSION, push_end};
 use crate::sum::Sum;
 use iox2_machine::{AllocationStrategy, BackpressureStrategy, ServiceConfig};
 use script_text::{command_of, domain_of};
@@ -71,7 +71,9 @@ impl Reader {
                 self.expects = Expects::Service;
             }
             Expects::Service => {
-                self.recording.config = service_of(line).ok_or(Fault::BadService)?;
+                let (service, reads) = reads_of(line).ok_or(Fault::BadService)?;
+                self.recording.config = service_of(service).ok_or(Fault::BadService)?;
+                self.recording.reads = reads;
                 self.expects = Expects::Domain;
             }
             Expects::Domain => {
@@ -131,6 +133,14 @@ fn check_title(line: &str) -> Result<(), Fault> {
     match version.parse::<u64>() {
         Ok(VERSION) => Ok(()),
         _ => Err(Fault::OtherVersion),
+    }
+}
+
+// What is before the promise of reads, and how many elements it is for: 0 where there is none.
+fn reads_of(line: &str) -> Option<(&str, usize)> {
+    match line.split_once(READS) {
+        Some((service, reads)) => Some((service, reads.parse::<usize>().ok()?)),
+        None => Some((line, 0)),
     }
 }
 

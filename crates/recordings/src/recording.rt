@@ -13,20 +13,24 @@ pub struct Recording {
     pub commands: Vec<Command<u64, u64>>,
     /// What was replied to each, as `push_reply` writes it.
     pub replies: Vec<String>,
+    /// How many elements of each received message are read right behind its receive, from the first one
+    /// on, or all where it has fewer. 0 where the recording promises no reads.
+    pub reads: usize,
 }
 
 impl Recording {
-    /// A recording without any call.
+    /// A recording without any call, which promises no reads.
     pub fn new(alloc: Global, config: ServiceConfig) -> Recording {
         Recording {
             config,
             commands: Vec::new(alloc),
             replies: Vec::new(alloc),
+            reads: 0,
         }
     }
 
-    /// The recording of these commands and their replies. A command without a reply is left out, and
-    /// so is what follows it.
+    /// The recording of these commands and their replies, which promises no reads. A command without a
+    /// reply is left out, and so is what follows it.
     ///
     /// `AllocError` where there is no room for it.
     pub fn of(

@@ -10,6 +10,9 @@ pub(crate) const TITLE: &str = "recording ";
 /// The version of the text that `save` gives, and the only one that `load` reads.
 pub(crate) const VERSION: u64 = 1;
 
+/// What is before the number of elements that are read behind each receive.
+pub(crate) const READS: &str = " reads ";
+
 /// What is between a command and its reply.
 pub(crate) const REPLIES: &str = " = ";
 
@@ -21,6 +24,7 @@ pub fn save(alloc: Global, recording: &Recording) -> Result<String, AllocError> 
     let mut text = String::new(alloc);
     write!(text, "{TITLE}{VERSION}\n")?;
     push_service(&mut text, &recording.config)?;
+    push_reads(&mut text, recording.reads)?;
     text.push('\n')?;
     push_domain(&mut text, &recording.config)?;
     text.push('\n')?;
@@ -34,6 +38,14 @@ pub fn save(alloc: Global, recording: &Recording) -> Result<String, AllocError> 
     push_end(&mut text, recording.commands.len(), sum)?;
     text.push('\n')?;
     Ok(text)
+}
+
+// The promise of reads, behind the settings of the service.
+fn push_reads(text: &mut String, reads: usize) -> Result<(), AllocError> {
+    match reads {
+        0 => Ok(()),
+        _ => write!(text, "{READS}{reads}"),
+    }
 }
 
 /// The last line, without its end.

@@ -4,7 +4,7 @@ use Rattle.std.specs.Fmt.{decimal}
 use Rattle.script_text.specs.declared.failure.ScriptError.{ScriptError}
 use Rattle.script_text.specs.declared.failure.ScriptError.TheVariants.{BadCommand, OutOfMemory, InputFailed, OutputFailed}
 
--- The exit status: 2 for a malformed line, 3 for refused memory, 4 for a failing stream.
+-- The exit status: 2 for a malformed line, 3 for a failed allocation, 4 for a failing stream.
 abbrev pub status_of : ScriptError → ℕ
 status_of (BadCommand line) = 2
 status_of OutOfMemory = 3

@@ -1,5 +1,5 @@
 //! Two domains in which the same calls were made, so that the same numbers are live in both: each holds
-//! its own handles alone, and none that was spent, also where what that named was used again.
+//! its own handles alone, and none that was consumed, also where what that named was used again.
 
 use crate::tests::waiting_publishers::{
     Ports, block, blocked_again, deliver, delivered, given_up, lend, message_of, next_reading,

@@ -148,7 +148,7 @@ fn loan_named<B: Fill>(
 }
 
 // The same, where the publisher is sought, and why it was refused, if it was.
-// (docs/decisions/bindings.md, "A call by right numbers has a way of its own")
+// (docs/DECISIONS.md, "A call by right numbers has a way of its own")
 #[cold]
 #[inline(never)]
 fn loan_elsewhere<B: Fill>(

@@ -119,7 +119,7 @@ fn send_named(
     tell_of(sent, numbers, receivers, blocked)
 }
 
-// The same, where the loan is sought (docs/decisions/bindings.md, "A call by right numbers has a way of its own").
+// The same, where the loan is sought (docs/DECISIONS.md, "A call by right numbers has a way of its own").
 #[cold]
 #[inline(never)]
 fn send_elsewhere(

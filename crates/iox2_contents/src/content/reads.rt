@@ -73,7 +73,7 @@ impl<T, U> Content<T, U> {
     }
 
     // The first value of a list. It is a function of its own, so that a read of a value in place
-    // has no join with it (docs/decisions/cost.md, "A call goes on where its look-up ended").
+    // has no join with it (docs/DECISIONS.md, "A call goes on where its look-up ended").
     #[cold]
     #[inline(never)]
     fn listed_value(&self) -> &T

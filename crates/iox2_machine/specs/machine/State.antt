@@ -16,7 +16,7 @@ use Rattle.iox2_machine.specs.declared.warning.Warning.{Warning}
 -- What a domain tells without failing a call.
 pub record Warnings : Type 0 where
   pub latest : List Warning  -- oldest first
-  pub refused_connections : ℕ  -- how many connections were refused memory
+  pub refused_connections : ℕ  -- how many connections couldn't be allocated
 
 -- All except the messages that were sent. A port that is gone has no record: ids are never used again.
 pub record State (T U : Type 0) : Type 0 where
@@ -64,7 +64,7 @@ no_messages = λ _. None
 abbrev pub warned : Warnings → Warning → Warnings
 warned ws w = record ws { latest = last_n warning_limit (ws.latest ++ w ∷ []) }
 
--- One more connection was refused memory. The count stays at its greatest value.
+-- One more connection couldn't be allocated. The count stays at its greatest value.
 abbrev pub refusal_counted : Warnings → Warnings
 refusal_counted ws = record ws { refused_connections = min (ws.refused_connections + 1) refusal_limit }
 

@@ -42,7 +42,7 @@ impl LoanParts {
 impl SampleMutUninit {
     ghost use Rattle.iox2_pubsub.specs.Parts.{unwritten_parts};
 
-    /// The loan's numbers. Its handle is spent, and the loan is out still. This library's own.
+    /// The loan's numbers. Consumes its handle; the loan is still out. This library's own.
     pub fn into_parts(self) -> LoanParts
         ensures { result ≡ unwritten_parts self }
     {
@@ -54,7 +54,7 @@ impl SampleMutUninit {
 impl SampleMut {
     ghost use Rattle.iox2_pubsub.specs.Parts.{written_parts};
 
-    /// The loan's numbers. Its handle is spent, and the loan is out still. This library's own.
+    /// The loan's numbers. Consumes its handle; the loan is still out. This library's own.
     pub fn into_parts(self) -> LoanParts
         ensures { result ≡ written_parts self }
     {
@@ -137,7 +137,7 @@ impl<T: Drop, U: Default + Drop, F: BackpressureFn, G: DegradationFn> Domain<T, 
 impl BlockedSend {
     ghost use Rattle.iox2_pubsub.specs.Parts.{blocked_parts};
 
-    /// The numbers of the blocked send. Its handle is spent, and the send is blocked still. This
+    /// The numbers of the blocked send. Consumes its handle; the send is still blocked. This
     /// library's own.
     pub fn into_parts(self) -> LoanParts
         ensures { result ≡ blocked_parts self }

@@ -11,7 +11,7 @@ use iox2_machine::{BackpressureFn, DegradationFn, UniquePublisherId, UniqueSubsc
 impl Publisher {
     ghost use Rattle.iox2_pubsub.specs.Parts.{publisher_parts};
 
-    /// The publisher's numbers. Its handle is spent, and the domain keeps the publisher. This
+    /// The publisher's numbers. Consumes its handle; the domain keeps the publisher. This
     /// library's own.
     pub fn into_parts(self) -> PublisherParts
         ensures { result ≡ publisher_parts self }
@@ -66,7 +66,7 @@ impl<T: Drop, U: Default + Drop, F: BackpressureFn, G: DegradationFn> Domain<T, 
 impl Subscriber {
     ghost use Rattle.iox2_pubsub.specs.Parts.{subscriber_parts};
 
-    /// The subscriber's numbers. Its handle is spent, and the domain keeps the subscriber. This
+    /// The subscriber's numbers. Consumes its handle; the domain keeps the subscriber. This
     /// library's own.
     pub fn into_parts(self) -> SubscriberParts
         ensures { result ≡ subscriber_parts self }

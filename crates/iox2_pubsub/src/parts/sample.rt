@@ -41,7 +41,7 @@ impl SampleParts {
 impl<K> Sample<K> {
     ghost use Rattle.iox2_pubsub.specs.Parts.{sample_parts};
 
-    /// The sample's numbers. Its handle is spent, and the message is borrowed still. This library's
+    /// The sample's numbers. Consumes its handle; the message is still borrowed. This library's
     /// own.
     pub fn into_parts(self) -> SampleParts
         ensures { result ≡ sample_parts self }

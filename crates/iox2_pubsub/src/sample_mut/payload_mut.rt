@@ -25,7 +25,7 @@ impl SampleMut {
     ///
     /// iceoryx2's `SampleMut::payload_mut` (`src/sample_mut.rs`). There the loan knows its memory;
     /// here the domain is handed in, and is what the reference borrows. It comes first, and the loan
-    /// second (docs/decisions/names.md, "`payload_mut` and `user_header_mut` take the domain first").
+    /// second (docs/DECISIONS.md, "`payload_mut` and `user_header_mut` take the domain first").
     pub fn payload_mut<'a, T: Drop, U: Default + Drop, F: BackpressureFn, G: DegradationFn>(
         domain: &'a mut Domain<T, U, F, G>,
         sample: &mut SampleMut,

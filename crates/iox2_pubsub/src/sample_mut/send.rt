@@ -85,7 +85,7 @@ impl SampleMut {
 
 // Sends a publisher's written loan to its receivers, once the publisher's connections are updated. If the
 // send is blocked, its outcome has this handle. The handle is made before, of the numbers of the loan that
-// the send spends, and is disowned if the send isn't blocked (docs/decisions/sends.md, "A blocked
+// the send consumes, and is disowned if the send isn't blocked (docs/DECISIONS.md, "A blocked
 // send's handle is made before its send").
 #[inline(always)]
 fn send_loan<T: Drop, U: Default + Drop, F: BackpressureFn, G: DegradationFn>(

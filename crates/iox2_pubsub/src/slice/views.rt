@@ -34,7 +34,7 @@ impl Publisher {
         publisher
     }
 
-    /// Spends the handle of a publisher whose domain is gone. A domain that is still there isn't
+    /// Consumes the handle of a publisher whose domain is gone. A domain that is still there isn't
     /// told, and keeps the publisher. This library's own.
     pub fn disown(self) {
         self.into_inner().disown();
@@ -78,7 +78,7 @@ impl Subscriber {
         subscriber
     }
 
-    /// Spends the handle of a subscriber whose domain is gone. A domain that is still there isn't
+    /// Consumes the handle of a subscriber whose domain is gone. A domain that is still there isn't
     /// told, and keeps the subscriber. This library's own.
     pub fn disown(self) {
         self.into_inner().disown();
@@ -122,7 +122,7 @@ impl SampleMutUninit {
         sample
     }
 
-    /// Spends the handle of a loan whose domain is gone. A domain that is still there isn't told,
+    /// Consumes the handle of a loan whose domain is gone. A domain that is still there isn't told,
     /// and keeps the loan. This library's own.
     pub fn disown(self) {
         self.into_inner().disown();
@@ -158,7 +158,7 @@ impl SampleMut {
         sample
     }
 
-    /// Spends the handle of a loan whose domain is gone. A domain that is still there isn't told,
+    /// Consumes the handle of a loan whose domain is gone. A domain that is still there isn't told,
     /// and keeps the loan. This library's own.
     pub fn disown(self) {
         self.into_inner().disown();

@@ -5,9 +5,9 @@ use iox2_commands::Reply;
 use iox2_pubsub::{BlockedSend, Publisher, Sample, SampleMut, SampleMutUninit, Subscriber};
 use std::mem;
 
-/// What a command made, while nobody has spent it.
+/// What a command made, until it is consumed.
 pub enum Made {
-    /// It made nothing, or that was spent.
+    /// It made nothing, or that was consumed.
     Nothing,
     /// A publisher.
     Publisher(Publisher),
@@ -24,7 +24,7 @@ pub enum Made {
 }
 
 impl Made {
-    /// Spends the handle. What it named in the domain stays.
+    /// Consumes the handle. What it named in the domain stays.
     pub fn disown(self) {
         match self {
             Made::Nothing => {}
@@ -38,7 +38,7 @@ impl Made {
     }
 }
 
-/// Spends each of the handles.
+/// Consumes each of the handles.
 pub fn disown_all(mut table: Vec<Made>) {
     while let Some(made) = table.pop() {
         made.disown();
@@ -61,7 +61,7 @@ pub(crate) fn take(table: &mut Vec<Made>, of: usize) -> Made
 }
 
 /// Puts what a command left of what was taken for it back into the table, at the position of the
-/// command that made it, and returns the reply and what is made. Past the end it is spent.
+/// command that made it, and returns the reply and what is made. Past the end it is consumed.
 pub(crate) fn put_back<T, U>(
     turn: Turn<T, U>,
     table: &mut Vec<Made>,

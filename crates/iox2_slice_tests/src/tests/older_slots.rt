@@ -1,12 +1,13 @@
-//! What lies in a publisher's older slots goes at a loan, told by the shares of a value that are left.
+//! What lies in a publisher's older slots goes at its next loan, send or update, told by the shares of a value
+//! that are left.
 
 use crate::tests::fixtures::{
     lend_slice, receive_slice, release_slice, send_slice, slice_factory, slice_subscriber,
 };
 use iox2_fixtures::{is_slice_publisher_ready, is_sliced, slices};
 use iox2_machine::{AllocationStrategy, LoanError, ServiceConfig};
-use iox2_pubsub::Domain;
-use iox2_pubsub::slice::{Publisher, Sample, SampleMutUninit, Subscriber};
+use iox2_pubsub::slice::{Publisher, Sample, SampleMut, SampleMutUninit, Subscriber};
+use iox2_pubsub::{Domain, UpdateConnections};
 use std::alloc::Global;
 use std::process::Abort;
 use std::rc::Rc;
@@ -169,4 +170,107 @@ fn a_refused_loan_loses_track_of_no_older_slot(rt: HostRuntime) {
     let [refused, lent] = kept_behind_a_refusal(&rt, rt.alloc());
     assert!(rt; refused == 8);
     assert!(rt; lent == 1);
+}
+
+// Sends a written loan. Returns how many subscribers took it.
+fn send(rt: &impl Abort, domain: &mut Shares, message: SampleMut) -> usize {
+    let found = domain.written_of(&message.into_inner().into_parts());
+    send_slice(rt, domain, SampleMut::new(found.expect(rt, "a loan")))
+}
+
+// How many shares there are, of which one is in no slot, while two samples of `len` shares each are borrowed
+// and a loan of `longer` shares is out, for which memory has grown; after both were released; and after the
+// loan was sent.
+fn kept_until_a_send(
+    rt: &impl Abort,
+    alloc: Global,
+    strategy: AllocationStrategy,
+    len: usize,
+    longer: usize,
+) -> [usize; 3] {
+    let value = Rc::new(alloc, 7_u8).expect(rt, "a value");
+    let mut domain = domain(rt, alloc, 2);
+    let subscriber = slice_subscriber(rt, &mut domain);
+    let publisher = publisher(rt, &mut domain, strategy);
+    let first = pass(rt, &mut domain, &publisher, &subscriber, &value, len);
+    let second = pass(rt, &mut domain, &publisher, &subscriber, &value, len);
+    let loan = lend_slice(rt, &mut domain, &publisher, longer);
+    let message = loan.write_from_fn(&mut domain, |_| value.clone().expect(rt, "a share"));
+    let borrowed = Rc::strong_count(&value);
+    release_slice(rt, &mut domain, first);
+    release_slice(rt, &mut domain, second);
+    let released = Rc::strong_count(&value);
+    let takers = send(rt, &mut domain, message);
+    let sent = Rc::strong_count(&value);
+    publisher.disown();
+    subscriber.disown();
+    assert!(rt; takers == 1);
+    [borrowed, released, sent]
+}
+
+#[test]
+fn what_lay_in_an_older_slot_goes_at_the_next_send_after_its_release(rt: HostRuntime) {
+    for strategy in [AllocationStrategy::BestFit, AllocationStrategy::PowerOfTwo] {
+        for (len, longer, kept) in [(3, 12, 19), (100, 400, 601)] {
+            let [borrowed, released, sent] = kept_until_a_send(
+                &rt,
+                rt.alloc(),
+                strategy,
+                len,
+                longer,
+            );
+            assert!(rt; borrowed == kept);
+            assert!(rt; released == kept);
+            assert!(rt; sent == longer + 1);
+        }
+    }
+}
+
+// Updates the publisher's connections.
+fn update(rt: &impl Abort, domain: &mut Shares, publisher: &Publisher) {
+    assert!(rt; is_slice_publisher_ready(domain, publisher));
+    let updated = publisher.update_connections(domain);
+    assert!(rt; updated.is_ok());
+}
+
+// How many shares there are, of which one is in no slot, after memory has grown and the publisher was updated
+// while a sample of `len` shares is borrowed; after that was released; and after the next update.
+fn kept_until_an_update(
+    rt: &impl Abort,
+    alloc: Global,
+    strategy: AllocationStrategy,
+    len: usize,
+) -> [usize; 3] {
+    let value = Rc::new(alloc, 7_u8).expect(rt, "a value");
+    let mut domain = domain(rt, alloc, 2);
+    let subscriber = slice_subscriber(rt, &mut domain);
+    let publisher = publisher(rt, &mut domain, strategy);
+    let sample = pass(rt, &mut domain, &publisher, &subscriber, &value, len);
+    lend(rt, &mut domain, &publisher, 500);
+    update(rt, &mut domain, &publisher);
+    let borrowed = Rc::strong_count(&value);
+    release_slice(rt, &mut domain, sample);
+    let released = Rc::strong_count(&value);
+    update(rt, &mut domain, &publisher);
+    let updated = Rc::strong_count(&value);
+    publisher.disown();
+    subscriber.disown();
+    [borrowed, released, updated]
+}
+
+#[test]
+fn what_lay_in_an_older_slot_goes_at_the_next_update_after_its_release(rt: HostRuntime) {
+    for strategy in [AllocationStrategy::BestFit, AllocationStrategy::PowerOfTwo] {
+        for (len, kept) in [(5, 6), (37, 38)] {
+            let [borrowed, released, updated] = kept_until_an_update(
+                &rt,
+                rt.alloc(),
+                strategy,
+                len,
+            );
+            assert!(rt; borrowed == kept);
+            assert!(rt; released == kept);
+            assert!(rt; updated == 1);
+        }
+    }
 }

@@ -335,7 +335,7 @@ fn pop_from(free: &mut Vec<usize>, start: usize) -> Option<usize>
 }
 
 // The same if the newest of all, which was taken out, is older
-// (docs/decisions/cost.md, "The newest free slot is taken first").
+// (docs/DECISIONS.md, "The newest free slot is taken first").
 #[cold]
 #[inline(never)]
 fn another_from(free: &mut Vec<usize>, newest: usize, start: usize) -> Option<usize>

@@ -4,6 +4,8 @@ use Rattle.iox2_machine.specs.declared.service_config.ServiceConfig.{ServiceConf
 use Rattle.iox2_domain.specs.Boxes.{answers_of}
 use Rattle.iox2_pubsub.specs.Handles.{publisher_id, written_lender}
 use Rattle.iox2_pubsub.specs.Live.{IsConnected}
+use Rattle.iox2_pubsub.proofs.CopiesServe.{waits-both}
+use Rattle.iox2_pubsub.proofs.RoomySends.{alone-since}
 use Rattle.message_patterns.specs.Values.{Wait, singles}
 use Rattle.message_patterns.proofs.Pending.{blocked-waits}
 use Rattle.message_patterns.proofs.Waits.{room-for-one, takes-next, takes-renamed, takes-stay, wait-stays}
@@ -44,3 +46,16 @@ returns-in-Ok-Blocked-clause-waits g c = λ reader earlier wait joined.
     let joins : IsConnected mid lender reader = subst (λ (i : ℕ). IsConnected mid i reader) (sym same) (wrote.leaves.up_to_date.connections publisher reader (loaned.up_to_date.connections publisher reader joined)) in
     let both = blocked-waits mid new c.config.ensures.shown (answers_of g.F.BackpressureFn.allows g.G.DegradationFn.allows mid.boxes.publishers) c.write_payload-message.result c.in-Ok-Blocked.waiting one wrote.out (wrote.unblocked c.in-Ok.ensures.loan.lent.unblocked) sent.spends.blocked.1 sent.sent c.args.value c.write_payload-message.ensures.reads reader earlier waits joins in
     (subst (λ (i : ℕ). Wait new i reader earlier) same both.0, both.1)
+
+pub returns-in-Ok-Blocked-clause-roomy : goal.returns-in-Ok-Blocked-clause-roomy
+returns-in-Ok-Blocked-clause-roomy g c = λ reader room.
+    let mid = c.write_payload-message.new.domain in
+    let loaned = c.in-Ok.ensures.leaves in
+    let wrote = c.write_payload-message.ensures.becomes in
+    let publisher = publisher_id c.args.publisher.now in
+    let lender = written_lender c.write_payload-message.result in
+    let same = ap (λ (k : Key). k.port) wrote.key ∙ c.in-Ok.ensures.loan.lent.publisher in
+    let sent = rw c.in-Ok-Blocked.field-0-is at c.in-Ok-Blocked.ensures in
+    let joins : IsConnected mid lender reader = subst (λ (i : ℕ). IsConnected mid i reader) (sym same) (wrote.leaves.up_to_date.connections publisher reader (loaned.up_to_date.connections publisher reader room.connected)) in
+    (sent.roomy_alone reader (alone-since (waits-both loaned.waits wrote.leaves.waits) (wrote.leaves.stays.settings ∙ loaned.stays.settings)
+    (λ it its. wrote.leaves.stays.buffers it (loaned.stays.buffers it its)) publisher lender same reader joins room)).0

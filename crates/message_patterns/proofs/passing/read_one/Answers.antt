@@ -1,28 +1,7 @@
-use Rattle.std.proofs.Common.{rules}
-use Rattle.message_patterns.proofs.Borrows.{borrows-after, borrows-error, borrows-none, kept-error, kept-none, receive-granted}
+use Rattle.std.proofs.Common.{rules, sym}
 use Rattle.message_patterns.proofs.PendingStays.{from-origin, pending-after, pending-error, pending-none}
 use Rattle.message_patterns.proofs.Waits.{read-first, read-oldest}
 use Rattle.message_patterns.proofs.passing.read_one.Goals as goal
-
-pub returns-in-Ok-None-clause-borrows : goal.returns-in-Ok-None-clause-borrows
-returns-in-Ok-None-clause-borrows g c = λ updated none.
-    borrows-none c.args.domain.now c.receive.new.domain c.config.ensures.shown c.args.subscriber.now updated none (rw c.in-Ok-None.field-0-is at c.in-Ok-None.ensures)
-
-pub returns-in-Ok-None-clause-kept : goal.returns-in-Ok-None-clause-kept
-returns-in-Ok-None-clause-kept g c = λ keeps.
-    kept-none c.args.domain.now c.receive.new.domain c.config.ensures.shown c.args.subscriber.now (rw c.in-Ok-None.field-0-is at c.in-Ok-None.ensures) keeps
-
-pub returns-in-Err-clause-granted : goal.returns-in-Err-clause-granted
-returns-in-Err-clause-granted g c = λ updated none some.
-    absurd (receive-granted c.args.domain.now c.receive.new.domain c.config.ensures.shown c.args.subscriber.now updated none c.in-Err.error c.in-Err.ensures some)
-
-pub returns-in-Err-clause-borrows : goal.returns-in-Err-clause-borrows
-returns-in-Err-clause-borrows g c = λ updated none.
-    borrows-error c.args.domain.now c.receive.new.domain c.config.ensures.shown c.args.subscriber.now updated none c.in-Err.error c.in-Err.ensures
-
-pub returns-in-Err-clause-kept : goal.returns-in-Err-clause-kept
-returns-in-Err-clause-kept g c = λ keeps.
-    kept-error c.args.domain.now c.receive.new.domain c.config.ensures.shown c.args.subscriber.now c.in-Err.error c.in-Err.ensures keeps
 
 pub returns-clause-first : goal.returns-clause-first
 returns-clause-first g c = λ publisher values wait.
@@ -35,9 +14,9 @@ returns-clause-oldest g c = λ keeps.
     read-oldest c.args.domain.now c.receive.new.domain c.release.new.domain c.args.subscriber.now c.in-Ok-Some.sample received.received c.payload-value.result.now c.payload-value.ensures.reads c.release.ensures.leaves.waits keeps
 
 pub returns-clause-borrows : goal.returns-clause-borrows
-returns-clause-borrows g c = λ updated none.
+returns-clause-borrows g c = λ n left.
     let received = rw c.in-Ok-Some.field-0-is at c.in-Ok-Some.ensures in
-    borrows-after c.args.domain.now c.receive.new.domain c.config.ensures.shown c.args.subscriber.now updated none c.in-Ok-Some.sample received c.release.new.domain c.release.ensures.released
+    c.release.ensures.gives_back c.args.subscriber.now n (sym received.received.subscriber) (received.takes.own n left)
 
 pub returns-in-Ok-None-clause-pending : goal.returns-in-Ok-None-clause-pending
 returns-in-Ok-None-clause-pending g c = λ blocked reader held updated pending.

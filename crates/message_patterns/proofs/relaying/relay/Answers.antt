@@ -2,7 +2,7 @@ use Rattle.std.proofs.Common.{refl, sym, arith, rules, ◌+◌, ◌-◌, ◌<◌
 use Rattle.std.proofs.lemmas.Bool.{true≢false}
 use Rattle.iox2_pubsub.specs.Handles.{publisher_id}
 use Rattle.message_patterns.proofs.Moved.{can-send-fewer, moved-more, moved-stays}
-use Rattle.message_patterns.proofs.Waits.{borrows-stay, keeps-stay, takes-fewer}
+use Rattle.message_patterns.proofs.Waits.{keeps-stay, takes-fewer}
 use Rattle.message_patterns.proofs.relaying.relay.Goals as goal
 
 pub loop-moved-preserved : goal.loop-moved-preserved
@@ -15,14 +15,11 @@ loop-moved-preserved g c = record {
       let has = c.loop-moved.invariant.moves origin reader values earlier (more + 1) keeps wait (takes-fewer c.args.to.now publisher reader earlier (moved + 1 + more) (moved + (more + 1)) (omega arith) takes) in
       moved-more c.loop-moved.from c.loop-moved.to c.relay_one.new.from c.relay_one.new.to origin c.args.subscriber.now publisher reader values earlier moved more c.in-Some._value has
       (rw c.in-Some.is at c.in_ok-_value.ensures.first) (rw c.in-Some.is at c.in_ok-_value.ensures.sent);
-  granted = λ updated none some.
-      let was = c.loop-moved.invariant.granted updated none some in
-      let now = c.loop-moved.invariant.up_to_date.0.subscribers c.args.subscriber.now updated in (
-        c.in_ok-_value.ensures.borrows now was.0,
-        λ left can.
-            (c.in_ok-_value.ensures.granted now was.0 (borrows-stay c.args.from.now c.loop-moved.from c.loop-moved.invariant.stays.0.settings some) left
-            (was.1 (left + 1) (can-send-fewer c.args.to.now c.args.publisher.now (c.loop-moved.moved + 1 + left) (c.loop-moved.moved + (left + 1)) (omega arith) can))).1,
-      );
+  borrows = λ left. c.in_ok-_value.ensures.borrows (c.loop-moved.invariant.borrows left);
+  granted = λ updated borrows left can.
+      let now = c.loop-moved.invariant.up_to_date.0.subscribers c.args.subscriber.now updated in
+      let sends = can-send-fewer c.args.to.now c.args.publisher.now (c.loop-moved.moved + 1 + left) (c.loop-moved.moved + (left + 1)) (omega arith) can in
+      (c.in_ok-_value.ensures.granted now (c.loop-moved.invariant.borrows borrows) left (c.loop-moved.invariant.granted updated borrows (left + 1) sends)).1;
 }
 
 pub returns-clause-moves : goal.returns-clause-moves
@@ -63,11 +60,10 @@ returns-in_err-_value-clause-moves g c = λ origin reader values earlier more ke
     )
 
 pub returns-in_err-_value-clause-granted : goal.returns-in_err-_value-clause-granted
-returns-in_err-_value-clause-granted g c = λ updated none some can.
-    let was = c.loop-moved.invariant.granted updated none some in
+returns-in_err-_value-clause-granted g c = λ updated borrows can.
     let now = c.loop-moved.invariant.up_to_date.0.subscribers c.args.subscriber.now updated in
     let left : ℕ = c.args.n - c.loop-moved.moved - 1 in
     let more : c.loop-moved.moved < c.args.n = c.loop-moved-test.true in
     let enough : c.loop-moved.moved + (left + 1) ≤ c.args.n = omega arith in
-    absurd (true≢false (sym (c.in_err-_value.ensures.granted now was.0 (borrows-stay c.args.from.now c.loop-moved.from c.loop-moved.invariant.stays.0.settings some) left
-    (was.1 (left + 1) (can-send-fewer c.args.to.now c.args.publisher.now c.args.n (c.loop-moved.moved + (left + 1)) enough can))).0))
+    let sends = can-send-fewer c.args.to.now c.args.publisher.now c.args.n (c.loop-moved.moved + (left + 1)) enough can in
+    absurd (true≢false (sym (c.in_err-_value.ensures.granted now (c.loop-moved.invariant.borrows borrows) left (c.loop-moved.invariant.granted updated borrows (left + 1) sends)).0))

@@ -3,7 +3,8 @@ use Rattle.iox2_pubsub.specs.Handles.{publisher_id}
 use Rattle.iox2_pubsub.specs.Live.{IsUpToDate, KeepsAll, Stays, UpToDateStay}
 use Rattle.iox2_pubsub.specs.declared.subscriber.Subscriber.{Subscriber}
 use Rattle.message_patterns.specs.Moves.{HasMoved}
-use Rattle.message_patterns.specs.Values.{BorrowsNone, CanSend, TakesMore, Wait}
+use Rattle.iox2_pubsub.specs.BorrowsLeft.{HasBorrowsLeft}
+use Rattle.message_patterns.specs.Values.{CanSend, TakesMore, Wait}
 use Rattle.message_patterns.proofs.relaying.relay.Given as goal
 
 abbrev pub invariant-loop-moved : goal.invariant-loop-moved
@@ -13,6 +14,6 @@ invariant-loop-moved g l = record {
   moves : (origin : ℕ) (reader : Subscriber) (values earlier : List ℕ) (more : ℕ) → KeepsAll l.fn.from l.subscriber → Wait l.fn.from origin l.subscriber values
       → TakesMore l.fn.to (publisher_id l.publisher) reader earlier (l.moved + more)
       → HasMoved l.from l.to origin l.subscriber (publisher_id l.publisher) reader values earlier l.moved more;
-  granted : IsUpToDate l.fn.from l.subscriber → BorrowsNone l.fn.from l.subscriber → 0 < (l.fn.from.config).subscriber_max_borrowed_samples
-      → BorrowsNone l.from l.subscriber × ((left : ℕ) → CanSend l.fn.to l.publisher (l.moved + left) → CanSend l.to l.publisher left);
+  borrows : HasBorrowsLeft l.fn.from l.subscriber 1 → HasBorrowsLeft l.from l.subscriber 1;
+  granted : IsUpToDate l.fn.from l.subscriber → HasBorrowsLeft l.fn.from l.subscriber 1 → (left : ℕ) → CanSend l.fn.to l.publisher (l.moved + left) → CanSend l.to l.publisher left;
 }

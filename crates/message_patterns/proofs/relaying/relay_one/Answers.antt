@@ -5,7 +5,7 @@ use Rattle.message_patterns.proofs.Waits.{takes-renamed, takes-stay}
 use Rattle.message_patterns.proofs.relaying.relay_one.Goals as goal
 
 pub returns-in-Err-clause-granted : goal.returns-in-Err-clause-granted
-returns-in-Err-clause-granted g c = λ updated none some left can. absurd (true≢false (sym (c.in-Err.ensures.granted 0 left can.loans can.numbers)))
+returns-in-Err-clause-granted g c = λ updated borrows left can. absurd (true≢false (sym (c.in-Err.ensures.granted 0 left can.loans can.numbers)))
 
 pub returns-in-Ok-Some-clause-sent : goal.returns-in-Ok-Some-clause-sent
 returns-in-Ok-Some-clause-sent g c = λ reader earlier more takes.
@@ -18,7 +18,7 @@ returns-in-Ok-Some-clause-sent g c = λ reader earlier more takes.
     (c.send_loan.ensures.sent reader earlier more (takes-renamed c.loan_uninit.new.domain publisher lender (sym lent) reader earlier (more + 1) before))
 
 pub returns-in-Ok-Some-clause-granted : goal.returns-in-Ok-Some-clause-granted
-returns-in-Ok-Some-clause-granted g c = λ updated none some left can. (
+returns-in-Ok-Some-clause-granted g c = λ updated borrows left can. (
   refl,
   record {
     loans = c.send_loan.ensures.given_back c.args.publisher.now 0 (sym c.in-Ok.ensures.loan.lent.publisher) (c.in-Ok.ensures.leaves.loans_left.loans 0 can.loans);
@@ -27,10 +27,22 @@ returns-in-Ok-Some-clause-granted g c = λ updated none some left can. (
 )
 
 pub returns-in-Ok-None-clause-granted : goal.returns-in-Ok-None-clause-granted
-returns-in-Ok-None-clause-granted g c = λ updated none some left can. (
+returns-in-Ok-None-clause-granted g c = λ updated borrows left can. (
   refl,
   record {
     loans = c.discard.ensures.given_back c.args.publisher.now 0 (sym c.in-Ok.ensures.loan.lent.publisher) (c.in-Ok.ensures.leaves.loans_left.loans 0 can.loans);
     numbers = c.discard.ensures.leaves.loans_left.numbers left (c.in-Ok.ensures.leaves.loans_left.numbers left can.numbers);
   },
 )
+
+pub returns-in-Ok-Some-clause-borrows : goal.returns-in-Ok-Some-clause-borrows
+returns-in-Ok-Some-clause-borrows g c = c.read_one.ensures.borrows 0
+
+pub returns-in-Ok-None-clause-borrows : goal.returns-in-Ok-None-clause-borrows
+returns-in-Ok-None-clause-borrows g c = c.read_one.ensures.borrows 0
+
+pub returns-in-Err-read_one-clause-borrows : goal.returns-in-Err-read_one-clause-borrows
+returns-in-Err-read_one-clause-borrows g c = c.read_one.ensures.borrows 0
+
+pub returns-in-Err-read_one-clause-granted : goal.returns-in-Err-read_one-clause-granted
+returns-in-Err-read_one-clause-granted g c = λ updated borrows left can. absurd (true≢false (sym (c.in-Err-read_one.ensures.granted 0 updated borrows)))

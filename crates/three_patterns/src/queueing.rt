@@ -1,0 +1,84 @@
+//! Numbers wait in a queue with a bound.
+ghost use Rattle.std.specs.Prelude.{ℕ, [], IfOk, IsTrue, OnOk};
+ghost use Rattle.iox2_pubsub.specs.Handles.{publisher_id};
+ghost use Rattle.iox2_pubsub.specs.Leaves.{LeavesButWaiting};
+ghost use Rattle.iox2_pubsub.specs.Live.{IsLiveSubscriber, IsUpToDate, Stays};
+ghost use Rattle.message_patterns.specs.Queues.{AreQueuePorts};
+ghost use Rattle.message_patterns.specs.Values.{Wait};
+ghost use Rattle.three_patterns.specs.Ports.{AreJoined};
+
+use crate::failure::Failure;
+use crate::ports::{Pair, join, settings};
+use iox2_pubsub::{Domain, Publisher, Subscriber};
+use message_patterns::{Numbers, Queue};
+use std::alloc::Global;
+
+/// What came of it: the number that found no room, and those that were taken out.
+#[derive(Drop)]
+pub struct Queued {
+    pub refused: Option<u32>,
+    pub popped: [Option<u32>; 3],
+}
+
+/// Puts one number more into a queue than it takes, and takes out what is in it. A function that is
+/// lent a queue fails `rt verdict`, since a queue has boxes: this one owns it.
+pub fn queue_numbers(alloc: Global) -> Result<Queued, Failure> {
+    let mut domain = Domain::<u32, ()>::new(alloc, settings(4))?;
+    let pair = join(&mut domain)?;
+    match expect_idle(&mut domain, &pair.publisher, &pair.subscriber) {
+        Ok(()) => {
+            let Pair {
+                publisher,
+                subscriber,
+            } = pair;
+            let mut queue = Queue::over(domain, publisher, subscriber);
+            let pushed = (queue.push(1), queue.push(2), queue.push(3), queue.push(4));
+            let popped = (queue.pop(), queue.pop(), queue.pop());
+            queue.close();
+            pushed.0?;
+            pushed.1?;
+            pushed.2?;
+            Ok(Queued {
+                refused: pushed.3?,
+                popped: [popped.0?, popped.1?, popped.2?],
+            })
+        }
+        Err(error) => {
+            pair.close(&mut domain);
+            Err(error)
+        }
+    }
+}
+
+// Fails if a message waits for the subscriber.
+fn expect_idle(
+    domain: &mut Numbers,
+    publisher: &Publisher,
+    subscriber: &Subscriber,
+) -> Result<(), Failure>
+    requires joined { AreJoined domain.old publisher.now subscriber.now }
+    ensures ports { OnOk result (AreQueuePorts domain.new publisher.now subscriber.now) }
+    ensures drained { OnOk result (Wait domain.new (publisher_id publisher.now) subscriber.now []) }
+    ensures stays { Stays domain.old domain.new }
+{
+    if !is_idle(domain, subscriber)? {
+        return Err(Failure::Busy);
+    }
+    Ok(())
+}
+
+// Whether nothing waits for the subscriber.
+fn is_idle(domain: &mut Numbers, subscriber: &Subscriber) -> Result<bool, Failure>
+    requires { IsLiveSubscriber domain.old subscriber.now }
+    ensures none { IfOk result (λ idle. IsTrue idle → (publisher : ℕ) → Wait domain.new publisher subscriber.now []) }
+    ensures updated { OnOk result (IsUpToDate domain.new subscriber.now) }
+    ensures leaves { LeavesButWaiting subscriber.now domain.old domain.new }
+{
+    match subscriber.has_samples(domain) {
+        Ok(waits) => {
+            domain.config();
+            Ok(!waits)
+        }
+        Err(error) => Err(Failure::Update(error)),
+    }
+}
