@@ -1,0 +1,77 @@
+// SPDX-License-Identifier: Apache-2.0 OR MIT
+/* Calls of iox2_pubsub.h as the words of an entry of the list, and how they are made by the proved functions. Any words make a call:
+ * those that name nothing are refused as such calls of a program are. */
+#ifndef IOX2PS_DOMAIN_CALLS_H
+#define IOX2PS_DOMAIN_CALLS_H
+
+#include "handle_words.h"
+
+typedef enum domain_operation_t {
+  PUBLISHER_CREATE = 1,   /* this and the others that make a port, with the process' number in NODE_WORD */
+  PUBLISHER_CREATE_WITH,  /* by publisher_options_words */
+  PUBLISHER_CLOSE,
+  PUBLISHER_UPDATE,
+  PUBLISHER_LOAN,         /* the publisher's words, with the length in LENGTH_WORD */
+  LOAN_SEND,
+  LOAN_DISCARD,
+  BLOCKED_RETRY,
+  BLOCKED_GIVE_UP,
+  SUBSCRIBER_CREATE,
+  SUBSCRIBER_CREATE_WITH, /* by subscriber_options_words */
+  SUBSCRIBER_CLOSE,
+  SUBSCRIBER_UPDATE,
+  SUBSCRIBER_HAS_SAMPLES,
+  SUBSCRIBER_RECEIVE,
+  SAMPLE_RELEASE,
+  LOAN_DELIVER,           /* the loan's words, with deliver_word in the last */
+  PUBLISHER_CLOSE_CHANNEL, /* the publisher's words, with the channel, the connection and the state in three of them */
+  SUBSCRIBER_SET_CHANNEL, /* the subscriber's words, with the channel and the state in two of them; as the next two */
+  SUBSCRIBER_CLOSE_CHANNEL,
+  SUBSCRIBER_SET_HINT,
+  DOMAIN_LEAVE,           /* gives back all that the caller has of the domain */
+  DOMAIN_OPERATIONS
+} domain_operation_t;
+
+enum {
+  LENGTH_WORD = 4,
+  NODE_WORD = 5,    /* which process makes a port; also in the handle that it made */
+  BOOK_OF_LOAN = 3, BOOK_OF_SAMPLE = 4,
+  SUBSCRIBER_CHANNEL = 3, SUBSCRIBER_STATE, /* behind a subscriber's */
+  /* The first in the place of a length that no call on channels asks for. */
+  PUBLISHER_CHANNEL = 2, PUBLISHER_CONNECTION = 4, PUBLISHER_STATE,
+  DELIVER_WORD = 5
+};
+_Static_assert(CALL_ARGUMENTS == 1 + HANDLE_WORDS, "an entry has room for an operation and a handle");
+
+/* What a call replied. */
+typedef struct domain_reply_t {
+  iox2ps_status_t code;
+  uint64_t count;                /* receivers, bytes, or an answer */
+  char *payload;                 /* where the domain believes the bytes to be; null without any */
+  uint64_t handle[HANDLE_WORDS]; /* what the call made */
+  uint32_t brought;              /* what it has brought to others: a sum of iox2ps_brings_e */
+  uint64_t messages;             /* how many calls had brought a message by then; the domain's memory counts them */
+} domain_reply_t;
+
+/* What the list has to know of an operation. */
+typedef struct domain_traits_t {
+  uint32_t brings;     /* what it may bring: a sum of iox2ps_brings_e */
+  handle_kind_t makes; /* the kind of handle that it makes with IOX2PS_OK, or HANDLE_KINDS */
+  handle_kind_t ends;  /* the kind of handle that it is given and may end, or HANDLE_KINDS */
+} domain_traits_t;
+
+/* False where struct_size isn't that of this header. */
+bool publisher_options_words(const iox2ps_publisher_options_t *options, uint64_t words[HANDLE_WORDS]);
+bool subscriber_options_words(const iox2ps_subscriber_options_t *options, uint64_t words[HANDLE_WORDS]);
+
+/* A channel and a connection in one word. There are never as many as 2^32 of either: such numbers, too, name nothing there. */
+uint64_t deliver_word(size_t channel, size_t connection);
+
+/* Of any number. Of one that is no operation nothing is brought, made or ended. */
+domain_traits_t domain_traits(uint64_t operation);
+/* Whether a call that returned this code has ended the handle that it was given. */
+bool domain_has_ended(domain_traits_t traits, iox2ps_status_t code);
+/* Makes a call on a domain with this service_id. What is no operation is refused as a handle that isn't live is. */
+domain_reply_t domain_make(iox2ps_domain_t *domain, iox2ps_wide_t service_id, uint64_t operation, const uint64_t words[HANDLE_WORDS]);
+
+#endif

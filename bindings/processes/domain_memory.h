@@ -1,0 +1,51 @@
+// SPDX-License-Identifier: Apache-2.0 OR MIT
+/* A group of domains with all that follows from their calls, in one region of memory that lies at the same address in each process. It
+ * is the object of the list: a copy of the region's used bytes is a copy of all its domains. */
+#ifndef IOX2PS_DOMAIN_MEMORY_H
+#define IOX2PS_DOMAIN_MEMORY_H
+
+#include "book_owners.h"
+#include "domain_calls.h"
+#include "payload_extents.h"
+#include "replica.h"
+
+enum { DOMAIN_BRINGS = 5, BROUGHT_DEATHS = 4, DEATHS_KEPT = 64 }; /* bits of iox2ps_brings_e and IOX2PS_BRINGS_DEAD_NODE */
+
+/* One of the domains. */
+typedef struct domain_memory_t {
+  struct group_memory_t *group;
+  iox2ps_domain_t domain;
+  iox2ps_wide_t service_id;
+  live_handles_t handles;
+  book_owners_t owners;
+  uint64_t brought[DOMAIN_BRINGS]; /* how many calls brought each of iox2ps_brings_e, and how many processes died */
+} domain_memory_t;
+
+typedef struct group_memory_t {
+  replica_memory_t replica;
+  region_heap_t heap;
+  payload_extents_t payloads;      /* where the domains believe them to be: each process moves a pointer to where it has them */
+  uint64_t died[DEATHS_KEPT];      /* the numbers of the last processes that died, by turns */
+  domain_reply_t *replies;         /* the last one to each place: behind the domains, and before the heap */
+  uint32_t count;
+  domain_memory_t domains[];
+} group_memory_t;
+
+/* What each of the domains is made with. */
+typedef struct domain_plan_t { const iox2ps_config_t *config; size_t commands; /* of its recording */ } domain_plan_t;
+
+/* How many bytes lie before the book-keeping of ports. */
+size_t group_memory_head(uint32_t places, uint32_t count);
+/* Makes so many domains in a region of so many bytes. The codes of iox2ps_domain_create_recorded. */
+iox2ps_status_t group_memory_make(group_memory_t *it, size_t room, uint32_t places, char *payloads, size_t payload_room,
+                                  const domain_plan_t *plans, uint32_t count);
+/* Makes a call of a place, whose arguments are `domain_call` and words; the list calls it. Without arguments: gives back all that the
+ * place has. */
+call_apply_t group_memory_apply;
+/* An operation on one of the domains, as an argument. */
+static inline uint64_t domain_call(uint32_t domain, uint64_t operation) { return (uint64_t)domain << 32 | operation; }
+/* For a question, which changes nothing and so isn't in the list: the domain, until domain_memory_asked. */
+iox2ps_domain_t *domain_memory_ask(domain_memory_t *it);
+void domain_memory_asked(void);
+
+#endif

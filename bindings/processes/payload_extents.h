@@ -1,0 +1,29 @@
+// SPDX-License-Identifier: Apache-2.0 OR MIT
+/* Which bytes of the payloads are taken: a list of extents in a heap, and nothing among the payloads themselves, since each process
+ * keeps this list for itself over the same payloads. */
+#ifndef IOX2PS_PAYLOAD_EXTENTS_H
+#define IOX2PS_PAYLOAD_EXTENTS_H
+
+#include "region_heap.h"
+#include <stdint.h>
+
+enum { PAYLOAD_ALIGNMENT = 64 }; /* so that no two messages share a cache line */
+
+typedef struct payload_extent_t { size_t at, size; bool is_taken; } payload_extent_t;
+
+typedef struct payload_extents_t {
+  char *payloads; /* where the domain believes them to be */
+  size_t room, taken;
+  payload_extent_t *all; /* one behind the other, from 0 to the room */
+  size_t count, count_room;
+} payload_extents_t;
+
+bool payload_extents_make(payload_extents_t *it, region_heap_t *heap, char *payloads, size_t room);
+bool payload_extents_have(const payload_extents_t *it, const void *bytes);
+/* The first room for so many bytes, or null. */
+char *payload_extents_take(payload_extents_t *it, region_heap_t *heap, size_t size);
+/* How many bytes there are for what was taken here. */
+size_t payload_extents_size(const payload_extents_t *it, const void *bytes);
+void payload_extents_give(payload_extents_t *it, const void *bytes);
+
+#endif

@@ -1,0 +1,85 @@
+// SPDX-License-Identifier: Apache-2.0 OR MIT
+#include "replica.h"
+
+static void make_copy(const replica_t *it) {
+  copies_make(&it->copies, it->place, it->memory->progress.made, it->memory, it->memory->size);
+}
+
+/* Half a list at most, so that whoever finds its next call overwritten finds a copy that is further. */
+static bool is_copy_due(const replica_t *it, uint64_t after) {
+  return it->memory->progress.made >= copies_newest(&it->copies) + after;
+}
+
+static replica_status_t load(replica_t *it) {
+  for (uint32_t turn = 0; turn < it->loads; turn++) {
+    switch (copies_load(&it->copies, it->memory)) {
+      case COPY_LOADED: return REPLICA_OK;
+      case COPY_CHANGED: continue;
+      case COPY_NONE:
+      case COPY_DAMAGED: return REPLICA_DAMAGED;
+    }
+  }
+  return REPLICA_OUTRUN;
+}
+
+/* Makes calls until there is none, or so many are made, or so many entries of the own place are in the list. `announced`: the
+ * arguments of the own call, or null. */
+static replica_status_t follow(replica_t *it, uint64_t most, uint64_t entries, const uint64_t *announced) {
+  call_progress_t *progress = &it->memory->progress;
+  uint32_t behind = 0;
+  while (most > 0 && progress->of[it->place].entries < entries) {
+    replica_status_t status;
+    switch (call_list_step(&it->list, progress, it->apply, it->memory + 1, (call_own_t){it->place, announced})) {
+      case CALL_MADE: most--; break;
+      case CALL_NONE: return REPLICA_OK;
+      case CALL_BEHIND:
+        if (behind++ == it->loads) return REPLICA_OUTRUN;
+        if ((status = load(it)) != REPLICA_OK) return status;
+        break;
+      case CALL_DAMAGED: return REPLICA_DAMAGED;
+      case CALL_DIVERGED: return REPLICA_DIVERGED;
+    }
+  }
+  return REPLICA_OK;
+}
+
+/* Adds calls until the announced one is among them. */
+static replica_status_t add_announced(replica_t *it, const uint64_t *announced) {
+  const call_progress_t *progress = &it->memory->progress;
+  uint64_t entries = progress->of[it->place].entries + 1;
+  while (true) {
+    replica_status_t status = follow(it, UINT64_MAX, entries, announced);
+    if (status != REPLICA_OK || progress->of[it->place].entries >= entries) return status;
+    if (is_copy_due(it, it->list.length / 2)) make_copy(it);
+    call_list_add(&it->list, progress, it->place);
+  }
+}
+
+void replica_create(replica_t *it) { make_copy(it); }
+
+replica_status_t replica_join(replica_t *it) {
+  replica_status_t status = load(it);
+  return status == REPLICA_OK ? follow(it, UINT64_MAX, UINT64_MAX, NULL) : status;
+}
+
+replica_status_t replica_follow(replica_t *it, uint64_t most, bool is_idle) {
+  replica_status_t status = follow(it, most, UINT64_MAX, NULL);
+  if (status == REPLICA_OK && is_idle && is_copy_due(it, it->list.length / 8 * 3)) make_copy(it);
+  return status;
+}
+
+replica_status_t replica_call(replica_t *it, const uint64_t arguments[CALL_ARGUMENTS]) {
+  call_list_announce(&it->list, &it->memory->progress, it->place, arguments);
+  return add_announced(it, arguments);
+}
+
+replica_status_t replica_call_end(replica_t *it, call_end_t end) {
+  call_list_announce_end(&it->list, &it->memory->progress, it->place, end);
+  return add_announced(it, NULL);
+}
+
+replica_status_t replica_end_predecessor(replica_t *it, uint64_t number) {
+  replica_status_t status = REPLICA_OK;
+  if (call_list_is_announced(&it->list, &it->memory->progress, it->place)) status = add_announced(it, NULL);
+  return status == REPLICA_OK ? replica_call_end(it, (call_end_t){it->place, number, true}) : status;
+}

@@ -1,0 +1,47 @@
+// SPDX-License-Identifier: Apache-2.0 OR MIT
+/* The object of one process, kept like those of all others by the list of calls and by copies. */
+#ifndef IOX2PS_REPLICA_H
+#define IOX2PS_REPLICA_H
+
+#include "call_list.h"
+#include "copies.h"
+
+/* What a copy has. The object lies behind it, with all that it needs: it is at the same address in each process, or has
+ * no pointers. */
+typedef struct replica_memory_t {
+  uint64_t size; /* bytes that are used, with these */
+  call_progress_t progress;
+} replica_memory_t;
+
+typedef struct replica_t {
+  call_list_t list;
+  copies_t copies;
+  call_apply_t *apply;
+  replica_memory_t *memory;
+  uint32_t place;
+  uint32_t loads; /* how many copies in a row may be overwritten while they are loaded */
+} replica_t;
+
+typedef enum replica_status_t {
+  REPLICA_OK,
+  REPLICA_OUTRUN,  /* each copy was overwritten before it was loaded; or the list has nonsense */
+  REPLICA_DAMAGED, /* the list or a copy has what no process of this library writes */
+  REPLICA_DIVERGED /* objects don't go through the same states */
+} replica_status_t;
+
+/* Makes the first copy. By the process that creates the list, before another comes. */
+void replica_create(replica_t *it);
+/* Loads the newest copy, and makes the calls that came since. By a process that joins. */
+replica_status_t replica_join(replica_t *it);
+/* Makes the calls that others added, at most so many. `is_idle`: this process has nothing better to do, and so makes the
+ * copy that will be due. */
+replica_status_t replica_follow(replica_t *it, uint64_t most, bool is_idle);
+/* Adds a call to the list and makes it, behind those of others that come before it. */
+replica_status_t replica_call(replica_t *it, const uint64_t arguments[CALL_ARGUMENTS]);
+/* Adds that a process died, or that this one ends. Afterwards no call of it is made any more, and what it had is given back. */
+replica_status_t replica_call_end(replica_t *it, call_end_t end);
+/* The same of the process that had this place before and died: by the one that took the place over, which so goes on in it.
+ * What that process had announced is made first, since it may be in the list already. */
+replica_status_t replica_end_predecessor(replica_t *it, uint64_t number);
+
+#endif

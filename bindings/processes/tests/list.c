@@ -1,0 +1,93 @@
+// SPDX-License-Identifier: Apache-2.0 OR MIT
+#define _GNU_SOURCE
+/* Several processes make calls at once, in short lists; some are killed in the middle of it. All objects that are left are the same,
+ * and have each call of who ended well once. */
+#include "children.h"
+#include "shared_object.h"
+#include <sys/wait.h>
+
+enum { CALLS = 20000, KILLS = 60 };
+
+/* The calls of one process. Each object gives it the reply that the list has there. */
+static void make_calls(void *shared, uint32_t place, uint64_t count) {
+  replica_t it = object_of(shared, place);
+  CHECK(replica_join(&it) == REPLICA_OK);
+  const shared_object_t *object = (const shared_object_t *)it.memory;
+  uint64_t before = object->calls_of[place];
+  for (uint64_t i = 1; i <= count; i++) {
+    uint64_t arguments[CALL_ARGUMENTS] = {place, i, i, i, i, i, i};
+    CHECK(replica_call(&it, arguments) == REPLICA_OK);
+    CHECK(object->calls_of[place] == before + i);
+    if (i % 7 == 0) CHECK(replica_follow(&it, LENGTH, true) == REPLICA_OK);
+  }
+}
+
+static pid_t start(void *shared, uint32_t place, uint64_t count) {
+  pid_t child = fork_child();
+  CHECK(child >= 0);
+  if (child > 0) return child;
+  make_calls(shared, place, count);
+  _exit(0);
+}
+
+static void wait_for(pid_t child) {
+  int status;
+  CHECK(waitpid(child, &status, 0) == child && WIFEXITED(status) && WEXITSTATUS(status) == 0);
+}
+
+static void *create(void) {
+  void *shared = shared_memory(shared_room());
+  replica_t first = object_of(shared, 0);
+  replica_create(&first);
+  free(first.memory);
+  return shared;
+}
+
+static void processes_at_once(void) {
+  void *shared = create();
+  pid_t children[PLACES];
+  for (uint32_t place = 0; place < PLACES; place++) children[place] = start(shared, place, CALLS);
+  for (uint32_t place = 0; place < PLACES; place++) wait_for(children[place]);
+  replica_t one = object_of(shared, 0), other = object_of(shared, 1);
+  CHECK(replica_join(&one) == REPLICA_OK && replica_join(&other) == REPLICA_OK);
+  CHECK(memcmp(one.memory, other.memory, sizeof(shared_object_t)) == 0);
+  for (uint32_t place = 0; place < PLACES; place++) CHECK(((shared_object_t *)one.memory)->calls_of[place] == CALLS);
+  CHECK(one.memory->progress.made == (uint64_t)PLACES * CALLS);
+  free(one.memory), free(other.memory);
+  munmap(shared, shared_room());
+}
+
+static void killed_processes(void) {
+  void *shared = create();
+  replica_t it = object_of(shared, 0);
+  CHECK(replica_join(&it) == REPLICA_OK);
+  pid_t lives = start(shared, 1, 5 * CALLS);
+  uint64_t own = 0;
+  for (uint32_t kill_number = 1; kill_number <= KILLS; kill_number++) {
+    uint32_t place = 2 + kill_number % 3;
+    pid_t victim = start(shared, place, UINT64_MAX);
+    uint64_t arguments[CALL_ARGUMENTS] = {0};
+    for (uint64_t until = it.memory->progress.of[place].entries + 1 + 97 * kill_number % 500; it.memory->progress.of[place].entries < until; own++)
+      CHECK(replica_call(&it, arguments) == REPLICA_OK);
+    CHECK(kill(victim, SIGKILL) == 0 && waitpid(victim, NULL, 0) == victim);
+    CHECK(replica_call_end(&it, (call_end_t){place, kill_number, true}) == REPLICA_OK);
+    CHECK(it.memory->progress.of[place].ended == kill_number);
+    uint64_t calls = ((shared_object_t *)it.memory)->calls_of[place];
+    for (int i = 0; i < 2 * PLACES; i++, own++) CHECK(replica_call(&it, arguments) == REPLICA_OK);
+    CHECK(((shared_object_t *)it.memory)->calls_of[place] == calls);
+  }
+  wait_for(lives);
+  replica_t other = object_of(shared, 5);
+  CHECK(replica_join(&other) == REPLICA_OK && replica_follow(&it, UINT64_MAX, false) == REPLICA_OK);
+  CHECK(memcmp(it.memory, other.memory, sizeof(shared_object_t)) == 0);
+  CHECK(((shared_object_t *)it.memory)->calls_of[0] == own && ((shared_object_t *)it.memory)->calls_of[1] == 5 * CALLS);
+  free(it.memory), free(other.memory);
+  munmap(shared, shared_room());
+}
+
+int main(void) {
+  processes_at_once();
+  killed_processes();
+  puts("the list: all processes have the same object");
+  return 0;
+}

@@ -1,0 +1,153 @@
+// SPDX-License-Identifier: Apache-2.0 OR MIT
+#define _GNU_SOURCE
+/* A process is stopped before an access to shared memory, and then killed: as it creates, joins, takes the place of a dead one over, reaps,
+ * calls, copies and leaves. While it is stopped, no call of another takes more accesses than a bound; when it is dead, all that it had is given back.
+ *
+ *   steps          before every eleventh access
+ *   steps whole    before each */
+#include "children.h"
+#include "mailbox.h"
+#include <sys/wait.h>
+
+/* What a call takes at most: a copy made and one loaded, its own entry, and two calls of others. */
+enum { MOST_ACCESSES = 2 * sizeof(mailbox_t) / 8 + 100, ROUNDS = 5 };
+
+static uint64_t accesses, stops_at, most;
+static char name[64];
+
+void before_access(void) {
+  if (++accesses == stops_at) raise(SIGSTOP);
+}
+
+static uint64_t counted_call(member_t *it, operation_t operation, uint64_t argument) {
+  uint64_t before = accesses, reply = call(it, operation, argument);
+  if (accesses - before > most) most = accesses - before;
+  CHECK(most <= MOST_ACCESSES);
+  return reply;
+}
+
+/* Sends and receives, as long as another process has some slots. */
+static void make_calls(member_t *it) {
+  for (int round = 0; round < ROUNDS; round++) {
+    uint64_t slot = counted_call(it, LEND, 0);
+    CHECK(slot != NOTHING && counted_call(it, SEND, slot) == slot);
+    while ((slot = counted_call(it, RECEIVE, 0)) != NOTHING) CHECK(counted_call(it, RELEASE, slot) == slot);
+  }
+}
+
+static void live(void) {
+  member_t it;
+  CHECK(join_mailbox(&it, name, SHARED_OPEN_OR_CREATE, true) == SHARED_OK);
+  for (int round = 0; round < 2; round++) {
+    uint64_t slot = call(&it, LEND, 0);
+    if (slot != NOTHING) call(&it, SEND, slot);
+    slot = call(&it, RECEIVE, 0);
+    CHECK(replica_follow(&it.replica, LENGTH, true) == REPLICA_OK);
+    if (slot != NOTHING) call(&it, RELEASE, slot);
+  }
+  leave_mailbox(&it);
+}
+
+/* Starts a process that stops before this access. False if it comes to its end first. */
+static bool start(uint64_t access, pid_t *child) {
+  *child = fork_child();
+  CHECK(*child >= 0);
+  if (*child == 0) {
+    accesses = 0, stops_at = access;
+    live();
+    _exit(0);
+  }
+  int status;
+  CHECK(waitpid(*child, &status, WUNTRACED) == *child);
+  CHECK(WIFSTOPPED(status) || (WIFEXITED(status) && WEXITSTATUS(status) == 0));
+  return WIFSTOPPED(status);
+}
+
+static void end(pid_t child) { CHECK(kill(child, SIGKILL) == 0 && waitpid(child, NULL, 0) == child); }
+
+/* Nothing is left of others, and who joins has the same object. */
+static void check_all_is_given_back(member_t *it) {
+  make_calls(it);
+  for (int slot = 0; slot < SLOTS; slot++) CHECK(mailbox_of(it)->slots[slot].state == FREE);
+  for (uint32_t place = 1; place < PLACES; place++) CHECK(it->files.places.shared->numbers[place] == 0);
+  member_t joins;
+  CHECK(join_mailbox(&joins, name, SHARED_OPEN, false) == SHARED_OK);
+  CHECK(memcmp(joins.replica.memory, it->replica.memory, sizeof(mailbox_t)) == 0);
+  leave_mailbox(&joins);
+}
+
+/* Has a slot, and dies. */
+static void leave_a_dead_process(void) {
+  pid_t child = fork_child();
+  if (child == 0) {
+    member_t it;
+    CHECK(join_mailbox(&it, name, SHARED_OPEN, true) == SHARED_OK && call(&it, LEND, 0) != NOTHING);
+    raise(SIGKILL);
+  }
+  CHECK(waitpid(child, NULL, 0) == child);
+}
+
+/* With calls while the process is stopped, or killed at once, so that what it announced isn't in the list. */
+static uint64_t kill_members(uint64_t stride, bool with_calls, bool one_is_dead) {
+  uint64_t count = 0;
+  member_t it;
+  pid_t child;
+  CHECK(join_mailbox(&it, name, SHARED_CREATE, true) == SHARED_OK);
+  bool goes_on = true;
+  for (uint64_t access = 1; goes_on; access += stride, count++) {
+    if (one_is_dead) leave_a_dead_process();
+    if ((goes_on = start(access, &child))) {
+      if (with_calls) make_calls(&it);
+      end(child);
+    }
+    reap(&it);
+    check_all_is_given_back(&it);
+  }
+  leave_mailbox(&it);
+  return count;
+}
+
+/* In a mailbox that is full, each takes over the place of the one killed before, whatever that was doing; and so does one that lives. */
+static uint64_t kill_in_a_full_one(uint64_t stride) {
+  uint64_t count = 0;
+  member_t it;
+  pid_t child;
+  most_places = 2;
+  CHECK(join_mailbox(&it, name, SHARED_CREATE, true) == SHARED_OK);
+  leave_a_dead_process();
+  for (uint64_t access = 1; start(access, &child); access += stride, count++) {
+    if (count % 2 == 0) make_calls(&it);
+    end(child);
+    if (count % 3 == 0) CHECK(!start(UINT64_MAX, &child));
+  }
+  CHECK(!start(UINT64_MAX, &child));
+  check_all_is_given_back(&it);
+  leave_mailbox(&it);
+  most_places = PLACES;
+  return count;
+}
+
+static uint64_t kill_creators(uint64_t stride) {
+  uint64_t count = 0;
+  pid_t child;
+  for (uint64_t access = 1; start(access, &child); access += stride, count++) {
+    end(child);
+    member_t it;
+    CHECK(join_mailbox(&it, name, SHARED_OPEN_OR_CREATE, true) == SHARED_OK);
+    check_all_is_given_back(&it);
+    leave_mailbox(&it);
+  }
+  return count;
+}
+
+int main(int argument_count, char **arguments) {
+  uint64_t stride = argument_count > 1 && strcmp(arguments[1], "whole") == 0 ? 1 : 11;
+  snprintf(name, sizeof name, "test_steps.%d", (int)getpid());
+  uint64_t count = kill_members(stride, true, false);
+  count += kill_members(stride, true, true);
+  count += kill_members(stride > 3 ? 3 : stride, false, false); /* so that some die between what they announce and its swap */
+  count += kill_in_a_full_one(stride);
+  count += kill_creators(stride);
+  printf("%llu processes were stopped and killed, and a call took %llu accesses at most\n", (unsigned long long)count, (unsigned long long)most);
+  return 0;
+}
