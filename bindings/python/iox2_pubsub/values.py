@@ -1,0 +1,97 @@
+# SPDX-License-Identifier: Apache-2.0 OR MIT
+"""What a message's values are: bytes, or what numpy has a dtype for."""
+from __future__ import annotations
+
+from typing import Any, Callable, NamedTuple
+
+
+class Values(NamedTuple):
+    """Of one value the bytes and the alignment, and how arrays become bytes and bytes arrays."""
+
+    size: int
+    alignment: int
+    dtype: Any
+    shape: tuple[int, ...] | None
+    from_buffer: Any
+    encode: Callable[[Any], Any] | None
+
+
+BYTES = Values(1, 1, None, None, None, None)
+
+
+def values_of(dtype: Any, is_single: bool) -> Values:
+    """Reads a dtype, which numpy knows."""
+    if dtype is bytes:
+        return BYTES
+    import numpy as np
+
+    kind = np.dtype(dtype)
+    if kind.hasobject:
+        raise TypeError(f"{kind} has objects, which are references: a message holds numbers, structs and arrays of them")
+    if kind.itemsize == 0:
+        raise ValueError(f"{kind} has no bytes: say a length, as in 'S8'")
+    base, inner = kind.base, kind.shape
+    shape: tuple[int, ...] | None = inner if is_single else (-1, *inner)
+    if not is_single and not inner:
+        shape = None  # as numpy.frombuffer makes it
+
+    def converted(message: Any) -> Any:
+        """An array of the type. What numpy would change is refused: None to nan, 1.5 to 1, 300 to a byte, a text that is cut off."""
+        given = np.asarray(message)
+        if not isinstance(message, (np.ndarray, np.generic)) and (base.fields or base.kind in "mM" or given.size == 0):
+            return np.asarray(message, dtype=base, order="C")
+        counts = given.dtype.kind in "biu" and base.kind in "iu"
+        array = given.astype(base, order="C", casting="unsafe" if counts else "same_kind", copy=False)
+        if array is not given and base.kind in "iuSU" and not np.array_equal(array, given):
+            raise ValueError(f"{base} has no room for {message!r:.60}: make the domain of a wider type")
+        return array
+
+    def encode(message: Any) -> Any:
+        array = converted(message)
+        if array.shape != inner if is_single else array.shape[1:] != inner or array.ndim == 0:
+            wanted = str(inner) if is_single else f"(n, {', '.join(map(str, inner))})"
+            raise ValueError(f"a message of this domain has the shape {wanted}, not {array.shape}: reshape the array")
+        return array
+
+    return Values(kind.itemsize, kind.alignment, base, shape, np.frombuffer, encode)
+
+
+# How Rust and C++ name numbers, by the kinds of numpy.
+LETTERS = {"b": "bool", "i": "i", "u": "u", "f": "f", "c": "c", "m": "i", "M": "i"}
+
+
+def _name_of(kind: Any) -> str:
+    if kind.shape:
+        return f"[{_name_of(kind.base)}; {kind.shape[0]}]" if len(kind.shape) == 1 else _nested(kind.base, kind.shape)
+    if kind.fields:
+        fields = ", ".join(f"{name}: {_name_of(kind.fields[name][0])}" for name in kind.names)
+        return f"{{{fields}}}"
+    if kind.kind == "b":
+        return "bool"
+    if kind.kind in LETTERS:
+        return f"{LETTERS[kind.kind]}{kind.itemsize * 8}"
+    return f"[u8; {kind.itemsize}]"
+
+
+def _nested(base: Any, shape: tuple[int, ...]) -> str:
+    name = _name_of(base)
+    for length in reversed(shape):
+        name = f"[{name}; {length}]"
+    return name
+
+
+def type_name_of(dtype: Any, is_single: bool) -> str:
+    """By which name processes compare a type: as Rust and C++ name numbers and arrays, "u64" and "[u64; 3]"; "[u64]" where a message has
+    many values. That of a struct has its fields: `type_name` says the one that a program in Rust or C++ has.
+
+    >>> import numpy as np
+    >>> type_name_of("f8", True), type_name_of(("u8", (2, 3)), False), type_name_of(bytes, False)
+    ('f64', '[[[u64; 3]; 2]]', '[u8]')
+    """
+    if dtype is bytes:
+        name = "u8"
+    else:
+        import numpy as np
+
+        name = _name_of(np.dtype(dtype))
+    return name if is_single else f"[{name}]"

@@ -1,0 +1,39 @@
+// SPDX-License-Identifier: Apache-2.0 OR MIT
+/* Publishers and subscribers. */
+#ifndef IOX2_PUBSUB_PORTS_H
+#define IOX2_PUBSUB_PORTS_H
+
+#include "domain.h"
+#include "waits.h"
+
+typedef struct Port {
+  PyObject_HEAD
+  Domain *domain;
+  struct Port *next, *before; /* in its domain, while it is open; used under the lock */
+  Waiter *own;                /* for event loops, once its descriptor was asked for */
+  char is_subscriber, is_open;
+  char is_left; /* it is closed once the send has ended that waits */
+  union {
+    iox2ps_publisher_t publisher;
+    iox2ps_subscriber_t subscriber;
+  };
+} Port;
+
+extern PyType_Spec port_spec, publisher_spec, subscriber_spec;
+extern PyTypeObject *port_type; /* the base of both */
+
+/* A port that isn't made yet, in its domain. Null with an exception. */
+Port *new_port(PyTypeObject *type, Domain *domain, int is_subscriber);
+
+/* Under the lock: it was made, and is open from now on. */
+void list_port(Port *port);
+
+/* Closes it if it is open; refused where an earlier send of it waits. */
+iox2ps_status_t close_port(Port *port);
+
+/* Under the lock: a publisher connects to new subscribers, and takes back what waited for those that were closed; all of the domain's do,
+ * so that a new subscriber gets their history. */
+iox2ps_status_t update_made(iox2ps_domain_t *handle, void *what);
+void connect_publishers(Domain *domain, iox2ps_domain_t *handle);
+
+#endif

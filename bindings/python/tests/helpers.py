@@ -1,0 +1,56 @@
+# SPDX-License-Identifier: Apache-2.0 OR MIT
+"""What the tests share. None of them looks at a clock: a thread has come to a place when the domain says so."""
+import threading
+import time
+
+import iox2_pubsub as ps
+
+PATIENCE = 120  # seconds, after which a thread that should have ended has failed
+
+
+def pair(dtype="i8", max_len=None, **settings):
+    """A publisher and a subscriber of a domain of their own."""
+    domain = ps.Domain(7, dtype, max_len, **settings)
+    return domain.publisher(), domain.subscriber()
+
+
+def until(condition):
+    """Lets other threads run until this holds."""
+    while not condition():
+        time.sleep(0)
+
+
+class Beside(threading.Thread):
+    """A call on a thread of its own. `result` waits for it, and raises what it raised."""
+
+    def __init__(self, call, *args):
+        super().__init__(daemon=True)
+        self._call, self._args, self._error = call, args, None
+        self.start()
+
+    def run(self):
+        try:
+            self._result = self._call(*self._args)
+        except BaseException as error:
+            self._error = error
+
+    def result(self):
+        self.join(PATIENCE)
+        assert not self.is_alive(), "the call waits for good"
+        if self._error is not None:
+            raise self._error
+        return self._result
+
+
+def waiting(domain, call, *args):
+    """The call on a thread of its own, which waits in the domain by now."""
+    before = domain.waiting
+    beside = Beside(call, *args)
+    until(lambda: domain.waiting > before or not beside.is_alive())
+    return beside
+
+
+def value(sample):
+    """Of a domain of single numbers."""
+    with sample:
+        return sample.array.item()

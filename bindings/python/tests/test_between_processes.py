@@ -1,0 +1,316 @@
+# SPDX-License-Identifier: Apache-2.0 OR MIT
+"""Domains that processes share by a name. None of the tests looks at a clock."""
+import asyncio
+import itertools
+import os
+import select
+import signal
+import subprocess
+import sys
+from pathlib import Path
+
+import pytest
+from helpers import PATIENCE, Beside, until, value, waiting
+
+import iox2_pubsub as ps
+from other_process import SETTINGS, opened
+
+try:
+    ps.Domain.exists("nobody")
+except NotImplementedError as missing:
+    pytest.skip(str(missing), allow_module_level=True)
+
+names = itertools.count()
+
+
+@pytest.fixture
+def name():
+    return f"test_python/{next(names)}.{os.getpid()}"
+
+
+@pytest.fixture
+def start():
+    """Starts other processes, which are killed at the end."""
+    started = []
+
+    def start(role, name):
+        words = (sys.executable, Path(__file__).with_name("other_process.py"), role, name)
+        started.append(subprocess.Popen(words, stdin=subprocess.PIPE, stdout=subprocess.PIPE, text=True, bufsize=1))
+        return started[-1]
+
+    yield start
+    for process in started:
+        process.kill()
+        process.communicate()
+
+
+def go_on(process):
+    process.stdin.write("go on\n")
+    process.stdin.flush()
+
+
+def hear(process):
+    return process.stdout.readline().strip()
+
+
+def end(process):
+    go_on(process)
+    assert process.wait() == 0
+
+
+def test_messages_come_from_another_process(name, start):
+    with opened(name) as domain:
+        subscriber = domain.subscriber()
+        process = start("sends_many", name)
+        for number in range(1, 301):
+            assert value(subscriber.receive(timeout=None)) == number
+        end(process)
+        assert ps.Domain.exists(name)
+    assert not ps.Domain.exists(name)
+
+
+def test_they_are_read_where_they_were_written(name, start):
+    domain = ps.Domain.open_or_create(name, "u1", 1 << 20)
+    publisher, subscriber = domain.publisher(), domain.subscriber()
+    with publisher.loan_uninit() as loan:
+        loan.array[:3] = (1, 2, 3)
+        written = loan.array.ctypes.data
+        loan.send()
+    with subscriber.receive() as sample:
+        assert sample.array.ctypes.data == written and sample.array[:3].tolist() == [1, 2, 3]
+        with pytest.raises(ValueError):
+            sample.array[0] = 7
+    assert [one for one in ps.Domain.list() if one.name == name] == [ps.DomainInfo(name, "[u8]", 1 << 20, 1, 16, 1)]
+
+
+def test_each_wait_ends_by_what_another_process_sends(name, start):
+    subscriber = opened(name).subscriber()
+    process = start("sends", name)
+    assert hear(process) == "is here"
+    for number in range(1, 6):
+        assert subscriber.receive() is None and subscriber.receive(timeout=0.001) is None
+        go_on(process)
+        assert value(subscriber.receive(timeout=None)) == number
+
+
+def test_threads_wait_together(name, start):
+    domain = opened(name)
+    both = [domain.subscriber(), domain.subscriber()]
+    process = start("sends", name)
+    assert hear(process) == "is here"
+    for number in range(1, 6):
+        threads = [waiting(domain, subscriber.receive, None) for subscriber in both]
+        go_on(process)
+        assert [value(thread.result()) for thread in threads] == [number, number]
+
+
+def test_a_thread_of_this_process_ends_a_wait_too(name):
+    domain = opened(name)
+    publisher, subscriber = domain.publisher(), domain.subscriber()
+    for number in range(5):
+        thread = waiting(domain, subscriber.receive, None)
+        publisher.send_copy(number)
+        assert value(thread.result()) == number
+
+
+def test_tasks_wait_in_the_event_loop(name, start):
+    subscriber = opened(name).subscriber()
+    process = start("sends", name)
+    assert hear(process) == "is here"
+
+    async def receive_all():
+        for number in range(1, 6):
+            begun = asyncio.create_task(subscriber.receive_async())
+            await asyncio.sleep(0)
+            go_on(process)
+            assert value(await begun) == number
+
+    asyncio.run(asyncio.wait_for(receive_all(), PATIENCE))
+
+
+def test_a_descriptor_is_readable_when_something_came(name, start):
+    subscriber = opened(name).subscriber()
+    process = start("sends", name)
+    assert hear(process) == "is here"
+    for number in range(1, 6):
+        go_on(process)
+        sample = None
+        while sample is None:
+            assert select.select([subscriber], [], [], PATIENCE)[0]
+            sample = subscriber.receive()
+        assert value(sample) == number
+
+
+def test_a_descriptor_isnt_readable_for_good(name, start):
+    subscriber = opened(name, reap_every=3600).subscriber()
+    process = start("sends", name)
+    assert hear(process) == "is here"
+    subscriber.fileno()
+    go_on(process)
+    assert value(subscriber.receive(timeout=None)) == 1
+    rounds = 0
+    while select.select([subscriber], [], [], 0)[0]:
+        assert subscriber.receive() is None
+        rounds += 1
+        assert rounds < 100
+
+
+def test_a_send_waits_for_room_that_another_process_makes(name, start):
+    publisher = opened(name).publisher()
+    process = start("receives", name)
+    assert hear(process) == "is here"
+    for number in range(1, 11):
+        if number > 2:  # its buffer has room for two
+            go_on(process)
+        publisher.send_copy(number, timeout=None)
+        if number > 2:
+            assert hear(process) == str(number - 2)
+
+
+def test_a_loan_waits_for_a_slot_that_another_process_has(name, start):
+    publisher = opened(name).publisher(preallocated_samples=1)
+    process = start("keeps", name)
+    assert hear(process) == "is here"
+    assert publisher.send_copy(1) == 1
+    assert hear(process) == "has it"
+    with pytest.raises(ps.LoanOutOfMemory):
+        publisher.loan()
+    thread = waiting(publisher.domain, lambda: publisher.loan(timeout=None))
+    go_on(process)
+    thread.result().discard()
+
+
+def test_what_a_killed_process_had_is_free(name, start):
+    domain = opened(name)
+    for _ in range(3):
+        process = start("has_all", name)
+        assert hear(process) == "has all"
+        with pytest.raises(ps.PublisherExceedsMaxSupportedPublishers):
+            domain.publisher()
+        process.kill()
+        process.wait()
+        domain.publisher().close()
+
+
+def test_a_death_ends_a_wait_for_a_slot(name, start):
+    publisher = opened(name).publisher(preallocated_samples=1)
+    process = start("keeps", name)
+    assert hear(process) == "is here"
+    assert publisher.send_copy(1) == 1
+    assert hear(process) == "has it"
+    thread = waiting(publisher.domain, lambda: publisher.loan(timeout=None))
+    process.kill()
+    process.wait()
+    thread.result().discard()
+
+
+def test_a_wait_is_interrupted(name, start):
+    process = start("waits_for_good", name)
+    assert hear(process) == "waits"
+    beside = Beside(process.wait)
+    while process.poll() is None:
+        process.send_signal(signal.SIGINT)
+        until(lambda: True)
+    beside.result()
+    assert "interrupted" in process.stdout.read() or process.returncode != 0
+
+
+def test_each_cause_is_said(name, start):
+    with pytest.raises(ps.OpenDoesNotExist) as refused:
+        ps.Domain.open(name, "i8", **SETTINGS)
+    assert refused.value.code == 200 and name.split("/")[-1] in str(refused.value) and isinstance(refused.value, FileNotFoundError)
+    process = start("has_it", name)
+    assert hear(process) == "has it"
+    for kind, call in (
+        (ps.CreateAlreadyExists, lambda: ps.Domain.create(name, "i8", **SETTINGS)),
+        (ps.OpenIncompatibleTypes, lambda: ps.Domain.open(name, "f8", **SETTINGS)),
+        (ps.OpenIncompatibleTypes, lambda: ps.Domain.open(name, "i8", type_name="Reading", **SETTINGS)),
+        (ps.OpenIncompatibleTypes, lambda: ps.Domain.open(name, "i4", type_name="i64", **SETTINGS)),
+        (ps.OpenIncompatibleSettings, lambda: ps.Domain.open(name, "i8", **SETTINGS, max_subscribers=3)),
+        (ps.OpenIncompatibleSettings, lambda: ps.Domain.open(name, "i8", enable_safe_overflow=False)),
+    ):
+        with pytest.raises(kind) as refused:
+            call()
+        assert isinstance(refused.value, ps.DomainOpenError)
+    with opened(name):
+        third = start("has_it", name)
+        assert hear(third) == "OpenExceedsMaxNumberOfNodes"  # it has room for two
+    end(process)
+    with opened(name), pytest.raises(ps.OpenAddressInUse):
+        ps.Domain.open(name, "i8", **SETTINGS)
+    assert not ps.Domain.exists(name)
+
+
+@pytest.mark.parametrize("wrong", ["", "..", "My/../Service", "n" * 300])
+def test_what_is_no_name_is_refused(wrong):
+    for call in (ps.Domain.open_or_create, ps.Domain.open, ps.Domain.create):
+        with pytest.raises(ps.OpenInvalidArgument):
+            call(wrong, "i8")
+    assert not ps.Domain.exists(wrong)
+
+
+def test_what_cant_be_is_refused(name):
+    for call, kind in (
+        (lambda: ps.Domain.create("zero\0inside", "i8"), ValueError),
+        (lambda: ps.Domain.create(name, "O"), TypeError),
+        (lambda: ps.Domain.create(name, "i8", max_processes=65), ps.OpenInvalidArgument),
+        (lambda: ps.Domain.create(name, "i8", calls=100), ps.OpenInvalidArgument),
+        (lambda: ps.Domain.create(name, "i8", type_name="n" * 300), ps.OpenInvalidArgument),
+        (lambda: ps.Domain.create(name, "i8", book_room=64), MemoryError),
+        (lambda: ps.Domain.create(name, "i8", no_such=1), TypeError),
+        (lambda: ps.Domain.create(name), TypeError),
+    ):
+        with pytest.raises(kind):
+            call()
+    assert not ps.Domain.exists(name)
+
+
+def test_names_of_types_are_those_of_rust():
+    from iox2_pubsub.values import type_name_of
+
+    pose = [("x", "f4"), ("at", "u2", (3,))]
+    assert [type_name_of(dtype, True) for dtype in ("?", "u1", "f8", ("i4", (2, 3)), "S8", pose)] == [
+        "bool", "u8", "f64", "[[i32; 3]; 2]", "[u8; 8]", "{x: f32, at: [u16; 3]}"
+    ]
+    assert type_name_of("u8", False) == "[u64]" and type_name_of(bytes, False) == "[u8]"
+
+
+def test_calls_are_recorded_where_it_is_created_so(name):
+    domain = ps.Domain.create(name, "i8", record=100)
+    domain.publisher().send_copy(1)
+    assert "publisher" in domain.recording().text
+
+
+def test_a_child_of_fork_opens_it_for_itself(name):
+    domain = opened(name)
+    subscriber = domain.subscriber()
+    child = os.fork()
+    if child == 0:
+        try:
+            try:
+                subscriber.receive(timeout=None)
+            except ps.AfterFork:
+                publisher = opened(name).publisher()
+                publisher.send_copy(5, timeout=None)
+                publisher.send_copy(6, timeout=None)
+                signal.pause()
+        finally:
+            os._exit(1)
+    assert [value(subscriber.receive(timeout=None)) for _ in range(2)] == [5, 6]
+    os.kill(child, signal.SIGKILL)
+    os.waitpid(child, 0)
+
+
+def test_waits_end_where_the_files_are_written_over(name):
+    domain = opened(name)
+    subscriber, publisher = domain.subscriber(), domain.publisher()
+    thread = waiting(domain, subscriber.receive, None)
+    (path,) = [path for path in Path("/dev/shm").iterdir() if name.split("/")[1] in path.name and path.name.endswith(".calls")]
+    with path.open("r+b") as file:
+        file.seek(4096)
+        file.write(b"\1" * (path.stat().st_size - 4096))
+    with pytest.raises(ps.ProcessesDamaged):
+        thread.result()
+    with pytest.raises(ps.ProcessesDamaged):
+        publisher.send_copy(1)
+    domain.close()
