@@ -256,7 +256,7 @@ static void numbers_are_of_another_domain(void) {
   end(&there);
 }
 
-/* A copy of a handle is the same handle, and is spent with it. */
+/* A copy of a handle is the same handle, and is consumed with it. */
 static void numbers_are_used_twice_and_kept_too_long(void) {
   world_t world, kept;
   iox2ps_blocked_t blocked;
@@ -276,7 +276,7 @@ static void numbers_are_used_twice_and_kept_too_long(void) {
   IS(iox2ps_publisher_close(domain, &kept.publisher), IOX2PS_OK);
   publisher_is_refused(domain, &world.publisher, IOX2PS_NOT_LIVE);
 
-  /* The loan of a closed publisher is spent by its send, and its numbers stay spent when others take the slots. */
+  /* The loan of a closed publisher is consumed by its send, and its numbers stay invalid when others take the slots. */
   kept.loan = world.loan;
   REFUSED(iox2ps_loan_send(domain, &world.loan, &outs.count, &outs.blocked),
           IOX2PS_SEND_ERROR_CONNECTION_BROKEN_SINCE_SENDER_NO_LONGER_EXISTS);

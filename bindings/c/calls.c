@@ -968,6 +968,29 @@ static void each_code_has_a_text_that_no_other_has(void) {
   CHECK(with_text == CODES);
 }
 
+/* These codes alone say that a call has brought something to others, of all that it may bring. */
+static void codes_say_what_was_brought(void) {
+  const struct {
+    uint32_t code, brought;
+  } some[] = {
+      {IOX2PS_OK, 15},
+      {IOX2PS_BLOCKED, IOX2PS_BRINGS_MESSAGE},
+      {IOX2PS_TOO_SMALL, IOX2PS_BRINGS_ROOM},
+      {IOX2PS_SEND_ERROR_CONNECTION_BROKEN_SINCE_SENDER_NO_LONGER_EXISTS, IOX2PS_BRINGS_LOAN},
+      {IOX2PS_SEND_ERROR_UNABLE_TO_DELIVER, 15},
+      {IOX2PS_SEND_ERROR_CONNECTION_OUT_OF_MEMORY, 15},
+      {IOX2PS_CONNECTION_FAILURE_OUT_OF_MEMORY, 15},
+      {IOX2PS_CONNECTION_FAILURE_EXPIRED_BUFFER_FULL, 15},
+  };
+  size_t bring = 0;
+  for (size_t i = 0; i < CODES; i++) bring += iox2ps_brought_by(15, codes[i]) != 0 ? 1 : 0;
+  CHECK(bring == sizeof some / sizeof some[0]);
+  for (size_t i = 0; i < sizeof some / sizeof some[0]; i++) {
+    CHECK(iox2ps_brought_by(15, some[i].code) == some[i].brought);
+    CHECK(iox2ps_brought_by(IOX2PS_BRINGS_FREE, some[i].code) == (some[i].brought & IOX2PS_BRINGS_FREE));
+  }
+}
+
 static void texts_are_iceoryx2s(void) {
   const char *text;
   size_t len;
@@ -1048,6 +1071,7 @@ int main(void) {
   texts_are_iceoryx2s();
   a_text_names_the_setting();
   each_code_has_a_text_that_no_other_has();
+  codes_say_what_was_brought();
   slots_are_counted();
   return checked();
 }

@@ -1,6 +1,7 @@
 // SPDX-License-Identifier: Apache-2.0 OR MIT
 /* The heap of the archive, by the calls that the proved code makes of it, on each processor: the kit's and that of bindings/archive do the
- * same. It is linked with -Wl,--wrap=malloc -Wl,--wrap=realloc. */
+ * same. */
+#include "allocations.h"
 #include "checks.h"
 #include <stdint.h>
 #include <string.h>
@@ -13,16 +14,6 @@ typedef struct {
 result_t rattle_alloc(size_t size, size_t alignment);
 result_t rattle_realloc(void *block, size_t kept, size_t size, size_t alignment);
 void rattle_dealloc(void *block);
-
-static int is_refused;
-
-void *__real_malloc(size_t size);
-void *__real_realloc(void *old, size_t size);
-void *__wrap_malloc(size_t size);
-void *__wrap_realloc(void *old, size_t size);
-
-void *__wrap_malloc(size_t size) { return is_refused ? NULL : __real_malloc(size); }
-void *__wrap_realloc(void *old, size_t size) { return is_refused ? NULL : __real_realloc(old, size); }
 
 /* Of 0 bytes there is a block too, which isn't null, and is given back as any other is. */
 static void zero_bytes(void) {

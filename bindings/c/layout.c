@@ -1,6 +1,6 @@
 // SPDX-License-Identifier: Apache-2.0 OR MIT
-/* How the archive has the structs of the header in memory, on each of its processors. `tools/bindings layouts` makes this file. */
-#include "iox2_pubsub.h"
+/* How the archive has the structs of the headers in memory, on each of its processors. `tools/bindings layouts` makes this file. */
+#include "iox2_pubsub_shared.h"
 
 #ifdef __cplusplus
 #define HAS(what, number) static_assert((what) == (number), #what)
@@ -114,3 +114,34 @@ HAS(offsetof(iox2ps_warning_t, publisher), 0);
 HAS(offsetof(iox2ps_warning_t, subscriber), 16);
 HAS(offsetof(iox2ps_warning_t, kind), 32);
 HAS(offsetof(iox2ps_warning_t, failure), 36);
+
+HAS(sizeof(iox2ps_allocator_t), 32);
+HAS(ALIGNMENT(iox2ps_allocator_t), 8);
+HAS(offsetof(iox2ps_allocator_t, allocate), 0);
+HAS(offsetof(iox2ps_allocator_t, reallocate), 8);
+HAS(offsetof(iox2ps_allocator_t, deallocate), 16);
+HAS(offsetof(iox2ps_allocator_t, context), 24);
+
+HAS(sizeof(iox2ps_joined_t), 48);
+HAS(ALIGNMENT(iox2ps_joined_t), 8);
+HAS(offsetof(iox2ps_joined_t, struct_size), 0);
+HAS(offsetof(iox2ps_joined_t, wake), 8);
+HAS(offsetof(iox2ps_joined_t, connect), 16);
+HAS(offsetof(iox2ps_joined_t, waits_are_stopped), 24);
+HAS(offsetof(iox2ps_joined_t, reserved_), 28);
+HAS(offsetof(iox2ps_joined_t, before_), 32);
+HAS(offsetof(iox2ps_joined_t, after_), 40);
+
+HAS(sizeof(iox2ps_shared_domain_t), 80);
+HAS(ALIGNMENT(iox2ps_shared_domain_t), 8);
+HAS(offsetof(iox2ps_shared_domain_t, struct_size), 0);
+HAS(offsetof(iox2ps_shared_domain_t, version), 8);
+HAS(offsetof(iox2ps_shared_domain_t, is_slice), 12);
+HAS(offsetof(iox2ps_shared_domain_t, element_size), 16);
+HAS(offsetof(iox2ps_shared_domain_t, element_alignment), 24);
+HAS(offsetof(iox2ps_shared_domain_t, call), 32);
+HAS(offsetof(iox2ps_shared_domain_t, join), 40);
+HAS(offsetof(iox2ps_shared_domain_t, leave), 48);
+HAS(offsetof(iox2ps_shared_domain_t, stop_waits), 56);
+HAS(offsetof(iox2ps_shared_domain_t, keep), 64);
+HAS(offsetof(iox2ps_shared_domain_t, release), 72);

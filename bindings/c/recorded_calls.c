@@ -1,28 +1,9 @@
 // SPDX-License-Identifier: Apache-2.0 OR MIT
 /* What a recorded domain keeps of its calls, and what they take. A call is kept whole or not at all, whatever room there is; a loan's
  * bytes are written once in the recording, also if a send of it is refused before; and no call takes memory that it doesn't take in a
- * domain without a recording.
- *
- * It is linked with -Wl,--wrap=malloc -Wl,--wrap=realloc. */
+ * domain without a recording. */
+#include "allocations.h"
 #include "checks.h"
-#include <stdlib.h>
-
-static size_t allocations;
-
-void *__real_malloc(size_t size);
-void *__real_realloc(void *old, size_t size);
-void *__wrap_malloc(size_t size);
-void *__wrap_realloc(void *old, size_t size);
-
-void *__wrap_malloc(size_t size) {
-  allocations++;
-  return __real_malloc(size);
-}
-
-void *__wrap_realloc(void *old, size_t size) {
-  allocations++;
-  return __real_realloc(old, size);
-}
 
 /* A domain, and what was made in it last. */
 typedef struct run_t {

@@ -2,22 +2,9 @@
 /* Refuses the first allocation of the archive, then the second, and so on, each in a run of its own: ports are made,
  * messages go from two publishers to a subscriber, the memory of a third one grows, and all is closed. Each call returns
  * what it says of an allocation that fails, and a second try succeeds. With the ports made no call on a message takes memory but
- * where that grows.
- *
- * It is linked with -Wl,--wrap=malloc -Wl,--wrap=realloc. */
+ * where that grows. */
+#include "allocations.h"
 #include "checks.h"
-#include <stdlib.h>
-
-static size_t allocations, refused_at;
-
-void *__real_malloc(size_t size);
-void *__real_realloc(void *old, size_t size);
-void *__wrap_malloc(size_t size);
-void *__wrap_realloc(void *old, size_t size);
-
-void *__wrap_malloc(size_t size) { return ++allocations == refused_at ? NULL : __real_malloc(size); }
-
-void *__wrap_realloc(void *old, size_t size) { return ++allocations == refused_at ? NULL : __real_realloc(old, size); }
 
 /* Whether memory was refused since the last call of this. */
 static size_t looked_at;

@@ -6,6 +6,8 @@
 #include <pthread.h>
 #include <stdio.h>
 #include <stdlib.h>
+#include <sys/wait.h>
+#include <unistd.h>
 
 typedef struct { uint64_t producer, number; double values[6]; } reading_t;
 
@@ -95,6 +97,28 @@ static void *consume(void *given) {
   return NULL;
 }
 
+/* A child of the process has a domain of its own: what it sends and destroys is there for its parent. No thread is in a call. */
+static void a_child_has_a_copy(const iox2ps_subscriber_t *subscriber) {
+  iox2ps_loan_t loan;
+  iox2ps_blocked_t blocked;
+  iox2ps_sample_t sample;
+  void *written;
+  const void *read;
+  size_t count = 0, len;
+  int status = 1;
+  check(iox2ps_publisher_loan(&domain, &publisher, sizeof(reading_t), &loan, &written) == IOX2PS_OK, "no loan");
+  pid_t child = fork();
+  if (child == 0) {
+    int is_sent = iox2ps_loan_send(&domain, &loan, &count, &blocked) == IOX2PS_OK && count == CONSUMERS;
+    _exit(is_sent && iox2ps_domain_destroy(&domain) == IOX2PS_OK ? 0 : 1);
+  }
+  check(child > 0 && waitpid(child, &status, 0) == child && status == 0, "the child failed");
+  check(iox2ps_subscriber_receive(&domain, subscriber, &sample, &read, &len) == IOX2PS_NO_SAMPLE, "a message of the child's came");
+  check(iox2ps_loan_send(&domain, &loan, &count, &blocked) == IOX2PS_OK && count == CONSUMERS, "the loan isn't there any more");
+  check(iox2ps_subscriber_receive(&domain, subscriber, &sample, &read, &len) == IOX2PS_OK, "no message came");
+  check(iox2ps_sample_release(&domain, &sample) == IOX2PS_OK, "no sample");
+}
+
 int main(void) {
   iox2ps_config_t config;
   iox2ps_subscriber_t subscribers[CONSUMERS];
@@ -115,6 +139,7 @@ int main(void) {
   }
   for (int i = 0; i < PRODUCERS; i++) pthread_join(producers[i], NULL);
   for (int i = 0; i < CONSUMERS; i++) pthread_join(consumers[i], NULL);
+  a_child_has_a_copy(&subscribers[0]);
   check(iox2ps_domain_destroy(&domain) == IOX2PS_OK, "no domain"); /* all threads have ended */
   printf("%d messages reached %d threads\n", PRODUCERS * MESSAGES, CONSUMERS);
   return 0;

@@ -2,7 +2,7 @@
 /* No call on a message takes memory, also where a thread makes its first, waits, is told or tells others. Connections do, which are
  * made when a port is, or by an update. The functions of the C library are this program's here: each counts for the thread that asks
  * for it. */
-#include "iox2_pubsub_shared.hpp"
+#include "iox2_pubsub_wait_set.hpp"
 #include <atomic>
 #include <cstdio>
 #include <cstdlib>
@@ -152,11 +152,32 @@ static void listeners_take_none() {
 #endif
 }
 
+static void a_set_takes_none_where_it_waits() {
+  auto domain = domain_of(true);
+  auto publisher = domain.publisher().expect("a publisher");
+  auto subscriber = domain.subscriber().expect("a subscriber");
+  auto set = iox2ps::WaitSet::create().expect("a set");
+  auto of_publisher = set.attach_notification(publisher).expect("a guard");
+  auto of_subscriber = set.attach_deadline(subscriber, 1ms).expect("a guard");
+  auto of_time = set.attach_interval(1ms).expect("a guard");
+  unsigned events = 0, missed = 0;
+  takes_none("waits for a message, a deadline and an interval", [&] {
+    auto take = [&](iox2ps::WaitSetAttachmentId id) {
+      if (id.has_event_from(of_subscriber)) CHECK(subscriber.receive_copy().expect("a receive") == 1);
+      missed += id.has_missed_deadline(of_subscriber) ? 1 : 0;
+      return ++events < 20 || missed == 0 ? iox2ps::CallbackProgression::Continue : iox2ps::CallbackProgression::Stop;
+    };
+    CHECK(publisher.send_copy(1).expect("a send").delivered() == 1u);
+    CHECK(set.wait_and_process(take).value() == iox2ps::WaitSetRunResult::StopRequest);
+  });
+}
+
 int main() {
   the_count_counts();
   a_message_takes_none();
   waits_take_none();
   threads_that_wake_each_other_take_none();
   listeners_take_none();
+  a_set_takes_none_where_it_waits();
   std::printf("%u lists of calls take no memory\n", passed.load());
 }

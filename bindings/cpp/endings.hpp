@@ -7,11 +7,15 @@
 #include <cstdio>
 #include <cstdlib>
 #include <string>
+#ifdef __linux__
+#include <sys/prctl.h>
+#endif
 #include <sys/resource.h>
 #include <sys/wait.h>
 #include <unistd.h>
 
-/* Runs in a child what may end it, and returns its status. What it writes to standard error is in said. No core is left. */
+/* Runs in a child what may end it, and returns its status. What it writes to standard error is in said. No core is left. One that waits
+ * for good ends with its parent. */
 template <typename Run> int status_of(Run run, std::string &said) {
   int ends[2];
   if (pipe(ends) != 0) std::abort();
@@ -21,7 +25,9 @@ template <typename Run> int status_of(Run run, std::string &said) {
     rlimit none = {0, 0};
     static_cast<void>(setrlimit(RLIMIT_CORE, &none));
     static_cast<void>(dup2(ends[1], STDERR_FILENO));
-    static_cast<void>(alarm(60));
+#ifdef __linux__
+    static_cast<void>(prctl(PR_SET_PDEATHSIG, SIGKILL));
+#endif
     run();
     _exit(0);
   }

@@ -2,7 +2,7 @@
 /* A child of a process that has domains: each call on one of them is refused there, also where another thread had the lock when the
  * process was forked, and what the child drops touches neither the archive nor the descriptors. The parent goes on as if no child
  * were there, and the child has domains of its own. */
-#include "iox2_pubsub_shared.hpp"
+#include "iox2_pubsub_wait_set.hpp"
 #include "endings.hpp"
 #include <atomic>
 #include <cstdio>
@@ -66,15 +66,39 @@ template <typename M> iox2ps::Domain<int, M> made() {
 }
 
 template <typename M> void all_is_refused(Handles<M> &its) {
-  CHECK(is_refused(its.domain.publisher()) && is_refused(its.domain.subscriber()));
-  CHECK(is_refused(its.domain.config()) && is_refused(its.domain.recording()));
-  CHECK(its.domain.connection_count() == 0 && its.domain.warnings().empty());
-  CHECK(is_refused(its.publisher.loan()) && is_refused(its.publisher.send_copy(1)) && is_refused(its.publisher.update_connections()));
-  CHECK(is_refused(its.publisher.has_channel_state(0, 0, 0)) && is_refused(its.publisher.get_connection_id_of(its.subscriber.id())));
-  CHECK(!its.publisher.is_blocked());
-  CHECK(is_refused(its.subscriber.receive()) && is_refused(its.subscriber.receive_copy()) && is_refused(its.subscriber.has_samples()));
-  CHECK(is_refused(its.subscriber.close_channel(0, 0)) && is_refused(its.sample->header()));
-  CHECK(is_refused(its.blocked->subscriber()) && is_refused(its.blocked->retry()) && is_refused(its.loan.send()));
+  auto &[domain, publisher, full, subscriber, loan, sample, blocked] = its;
+  CHECK(is_refused(domain.publisher()) && is_refused(domain.subscriber()));
+  CHECK(is_refused(domain.config()) && is_refused(domain.recording()));
+  CHECK(domain.connection_count() + domain.book_count() + domain.refused_connections() == 0 && domain.warnings().empty());
+  CHECK(is_refused(publisher.loan()) && is_refused(publisher.loan(1)) && is_refused(publisher.loan_uninit()));
+  CHECK(is_refused(publisher.send_copy(1)) && is_refused(publisher.update_connections()) && !full.is_blocked());
+  CHECK(is_refused(publisher.get_connection_id_of(subscriber.id())) && is_refused(publisher.close_channel(0, 0, 0)));
+  CHECK(is_refused(publisher.has_channel_state(0, 0, 0)) && is_refused(publisher.has_disconnect_hint(0, 0, 0)));
+  CHECK(is_refused(subscriber.receive()) && is_refused(subscriber.receive_copy()) && is_refused(subscriber.has_samples()));
+  CHECK(is_refused(subscriber.update_connections()) && is_refused(subscriber.set_channel_state(0, 0)));
+  CHECK(is_refused(subscriber.close_channel(0, 0)) && is_refused(subscriber.set_disconnect_hint(0, 0)));
+  CHECK(is_refused(subscriber.at_least_one_channel_has_state(0, 0)) && is_refused(sample->header()));
+  CHECK(is_refused(blocked->subscriber()) && loan);
+}
+
+/* The same of calls that wait, for which there is nobody to wake them. */
+template <typename M> void waits_are_refused(Handles<M> &its) {
+  auto &[domain, publisher, full, subscriber, loan, sample, blocked] = its;
+  CHECK(is_refused(subscriber.blocking_receive()) && is_refused(subscriber.timed_receive(1h)));
+  CHECK(is_refused(subscriber.blocking_receive_copy()) && is_refused(subscriber.timed_receive_copy(1h)));
+  CHECK(is_refused(subscriber.blocking_for_each([](const auto &) { return true; })));
+  CHECK(is_refused(publisher.blocking_loan()) && is_refused(publisher.blocking_loan_uninit()) && is_refused(publisher.timed_loan(1h)));
+  CHECK(is_refused(publisher.blocking_send_copy(1)) && is_refused(publisher.timed_send_copy(1, 1h)));
+  CHECK(is_refused(subscriber.set_listener([] {})));
+  subscriber.clear_listener();
+  domain.stop_waits(false);
+  CHECK(domain.waits_are_stopped());
+}
+
+/* A call that ends a handle leaves it empty in the child too. */
+template <typename M, typename Send, typename End> void ends_refused(Handles<M> &its, Send send, End end) {
+  CHECK(is_refused(send(its.loan)) && !its.loan);
+  CHECK(is_refused(end(*its.blocked)) && !*its.blocked);
 }
 
 /* What was received lies in the child's memory too. */
@@ -102,8 +126,18 @@ static void for_one_thread() {
   Handles<iox2ps::OneThread> its(made<iox2ps::OneThread>());
   returns("a child of a domain for one thread", [&] {
     all_is_refused(its);
+    std::thread([&] { all_is_refused(its); }).join();
+    ends_refused(its, [](auto &loan) { return loan.send(); }, [](auto &blocked) { return blocked.retry(); });
     all_goes(its);
     a_child_has_domains_of_its_own();
+  });
+  returns("a child that gives up, and its child", [&] {
+    returns("a child of a child", [&] {
+      all_is_refused(its);
+      all_goes(its);
+    });
+    ends_refused(its, [](auto &loan) { return loan.deliver_offset_to_connection(0, 0); }, [](auto &blocked) { return blocked.give_up(); });
+    all_goes(its);
   });
   CHECK(its.loan.send().has_value() && its.subscriber.receive_copy().expect("a receive") == 2);
   CHECK(its.blocked->retry().expect("a retry") == 1u);
@@ -118,15 +152,20 @@ static void for_several() {
   unsigned before = Reachable::taken;
   returns("a child of a domain that threads share", [&] {
     all_is_refused(its);
-    CHECK(is_refused(its.subscriber.timed_receive(1h)) && is_refused(its.publisher.blocking_loan()));
-    CHECK(is_refused(its.subscriber.set_listener([] {})));
-    its.subscriber.clear_listener();
-    its.domain.stop_waits();
-    CHECK(!its.domain.waits_are_stopped());
+    waits_are_refused(its);
+    std::thread([&] {
+      all_is_refused(its);
+      waits_are_refused(its);
+    }).join();
+    ends_refused(its, [](auto &loan) { return loan.blocking_send(); }, [](auto &blocked) { return blocked.blocking_retry(); });
     all_goes(its);
     CHECK(Reachable::taken == before);
     a_child_has_domains_of_its_own();
   });
+  returns("a child that tries for an hour", [&] {
+    ends_refused(its, [](auto &loan) { return loan.timed_send(1h); }, [](auto &blocked) { return blocked.timed_retry(1h); });
+  });
+  returns("a child whose other thread drops all", [&] { std::thread([&] { all_goes(its); }).join(); });
   Reachable::last->unlock();
   CHECK(its.loan.send().has_value() && its.subscriber.receive_copy().expect("a receive") == 2);
   CHECK(its.blocked->retry().expect("a retry") == 1u);
@@ -161,6 +200,28 @@ static void a_descriptor_stays_the_parents() {
 }
 #endif
 
+/* Its parent's set waits for nothing there, has no member more, and is dropped with its guards. */
+static void a_set_stays_the_parents() {
+  auto domain = iox2ps::SharedDomain<int, Reachable>::create(iox2ps::Config<int>(7)).expect("a domain");
+  auto publisher = domain.publisher().expect("a publisher");
+  auto subscriber = domain.subscriber().expect("a subscriber");
+  std::optional set = iox2ps::WaitSet::create().expect("a set");
+  std::optional of_subscriber = set->attach_notification(subscriber).expect("a guard");
+  std::optional of_time = set->attach_interval(1h).expect("a guard");
+  auto stops = [](iox2ps::WaitSetAttachmentId) { return iox2ps::CallbackProgression::Stop; };
+  Reachable::last->lock(); /* as another thread may have it */
+  returns("a child of a set", [&] {
+    CHECK(is_refused(set->wait_and_process(stops)) && is_refused(set->wait_and_process_once_with_timeout(stops, 1h)));
+    CHECK(is_refused(set->attach_notification(subscriber)) && is_refused(set->attach_deadline(publisher, 1h)));
+    of_subscriber.reset();
+    set.reset();
+    of_time.reset();
+  });
+  Reachable::last->unlock();
+  CHECK(publisher.send_copy(1).expect("a send").delivered() == 1u);
+  CHECK(set->wait_and_process(stops).value() == iox2ps::WaitSetRunResult::StopRequest);
+}
+
 /* A fork while threads of the parent wait, wake and send leaves the child nothing that it would wait for. */
 static void children_of_busy_parents_end() {
   auto domain = iox2ps::SharedDomain<int>::create(iox2ps::Config<int>(7)).expect("a domain");
@@ -190,6 +251,7 @@ int main() {
 #ifdef __linux__
   a_descriptor_stays_the_parents();
 #endif
+  a_set_stays_the_parents();
   children_of_busy_parents_end();
   std::puts("a child has nothing of its parent's domains");
 }

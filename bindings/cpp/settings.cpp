@@ -253,6 +253,42 @@ static void a_subscriber_has_the_buffer_that_its_options_say() {
   CHECK(received(subscriber) == 0);
 }
 
+static void a_publishers_options_are_read_back() {
+  using Options = PublisherOptions<std::uint32_t[]>;
+  auto domain = made(Config<std::uint32_t[]>(7, 4).publisher_max_loaned_samples(5).max_publishers(9).backpressure_strategy(
+      BackpressureStrategy::DiscardData));
+  Options plain = domain.publisher().expect("a publisher").options();
+  CHECK(plain.max_loaned_samples() == 5u && plain.initial_max_slice_len() == 4u && plain.preallocated_samples() == 0u);
+  CHECK(plain.backpressure_strategy() == BackpressureStrategy::DiscardData && !plain.backpressure_handler());
+  CHECK(plain.degradation_handler() == DegradationAction::Warn && plain.allocation_strategy() == AllocationStrategy::Static);
+  for (auto handler : {BackpressureAction::FollowStrategy, BackpressureAction::Retry, BackpressureAction::DiscardData,
+                       BackpressureAction::DiscardDataAndFail}) {
+    bool is_even = static_cast<std::uint32_t>(handler) % 2 == 0;
+    auto degradation = is_even ? DegradationAction::Ignore : DegradationAction::DegradeAndFail;
+    auto strategy = is_even ? AllocationStrategy::BestFit : AllocationStrategy::PowerOfTwo;
+    auto given = Options().max_loaned_samples(3).initial_max_slice_len(7).preallocated_samples(2).allocation_strategy(strategy);
+    given.backpressure_strategy(BackpressureStrategy::RetryUntilDelivered).backpressure_handler(handler).degradation_handler(degradation);
+    auto publisher = domain.publisher(given).expect("a publisher");
+    Options read = publisher.options();
+    CHECK(read.max_loaned_samples() == 3u && read.initial_max_slice_len() == 7u && read.preallocated_samples() == 2u);
+    CHECK(read.backpressure_strategy() == BackpressureStrategy::RetryUntilDelivered && read.backpressure_handler() == handler);
+    CHECK(read.degradation_handler() == degradation && read.allocation_strategy() == strategy);
+    publisher.close();
+    CHECK(!publisher.options().max_loaned_samples());
+  }
+}
+
+static void a_subscribers_options_are_read_back() {
+  auto domain = made(Config<Byte>(7).subscriber_max_buffer_size(5));
+  auto plain = domain.subscriber().expect("a subscriber").options();
+  CHECK(plain.buffer_size() == 5u && plain.degradation_handler() == DegradationAction::Warn);
+  auto given = SubscriberOptions().buffer_size(0).degradation_handler(DegradationAction::Ignore);
+  auto subscriber = domain.subscriber(given).expect("a subscriber");
+  CHECK(subscriber.options().buffer_size() == 1u && subscriber.options().degradation_handler() == DegradationAction::Ignore);
+  auto moved = std::move(subscriber);
+  CHECK(moved.options().buffer_size() == 1u && !subscriber.options().buffer_size()); // NOLINT(bugprone-use-after-move)
+}
+
 // ---- connections that aren't made, and warnings
 
 /* The warnings of a domain whose last port is refused its connection, and answers this. */
@@ -324,6 +360,8 @@ int main() {
   a_publisher_has_what_its_options_say();
   memory_grows_as_the_options_say();
   a_subscriber_has_the_buffer_that_its_options_say();
+  a_publishers_options_are_read_back();
+  a_subscribers_options_are_read_back();
   a_refused_connection_is_ignored_warned_of_or_fails_the_call();
   less_room_than_borrowed_samples_is_warned_of();
   lost_messages_of_closed_publishers_are_warned_of();

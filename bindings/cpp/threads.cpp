@@ -214,28 +214,108 @@ void loans_wait_for_slots() {
   lends_after(publisher, [&] { subscriber.close(); });
 }
 
-/* How often a listener is called while two threads wait for a loan that never comes. */
-template <typename D> unsigned heard_while_two_wait(D &domain, iox2ps::Publisher<Message, M> &publisher, iox2ps::Error refused) {
-  std::atomic<unsigned> heard{0};
-  auto subscriber = domain.subscriber().expect("a subscriber");
-  CHECK(subscriber.set_listener([&] { heard++; }).has_value());
-  auto wait = [&] { CHECK(publisher.timed_send_copy(message(1), 300ms).error() == refused); };
-  std::thread one(wait), other(wait);
-  one.join();
-  other.join();
-  return heard;
+/* Two threads wait for a loan that never comes, and stop where they are woken: then the one that waits for a message isn't woken,
+ * since another is about to come back. */
+void threads_that_wait_for_a_loan_dont_wake_each_other() {
+  for (std::size_t slots : {std::size_t(0), std::size_t(1)}) {
+    auto domain = keeping<Watched>(1);
+    auto other = domain.publisher().expect("a publisher");
+    auto publisher = domain.publisher(iox2ps::PublisherOptions<Message>().preallocated_samples(slots)).expect("a publisher");
+    auto subscriber = domain.subscriber().expect("a subscriber");
+    std::atomic<unsigned> heard{0};
+    CHECK(subscriber.set_listener([&] { heard++; }).has_value());
+    std::vector<iox2ps::Loan<Message, WatchedThreads>> out;
+    while (auto loan = publisher.loan()) out.push_back(std::move(*loan));
+    auto receives = asleep_after(to_sleep, [&] { CHECK(first_of(subscriber.blocking_receive()) == 7); });
+    Watch one = asleep_and_stopped([&] { CHECK(publisher.blocking_loan().has_value()); });
+    Watch two = asleep_and_stopped([&] { CHECK(publisher.blocking_send_copy(message(8)).expect("a send").delivered() == 1u); });
+    CHECK(heard == 0);
+    CHECK(other.send_copy(message(7)).expect("a send").delivered() == 1u);
+    receives.join();
+    out.clear();
+    for (Watch *watch : {&one, &two}) {
+      watch->go_on();
+      watch->join();
+    }
+    CHECK(heard == 2);
+  }
 }
 
-void threads_that_wait_for_a_loan_dont_wake_each_other() {
-  auto domain = keeping(1);
+/* A send waits for two subscribers one after the other. A retry that goes on from the first to the second is blocked still, and wakes
+ * who waits at a subscriber between them. */
+void a_retry_wakes_whom_it_reaches() {
+  auto domain = keeping<Watched>(1);
   auto publisher = domain.publisher().expect("a publisher");
-  auto first = publisher.loan().expect("a loan");
-  auto second = publisher.loan().expect("a loan");
-  CHECK(heard_while_two_wait(domain, publisher, iox2ps::Error::LoanExceedsMaxLoans) == 0);
-  auto small = domain.publisher(iox2ps::PublisherOptions<Message>().preallocated_samples(1)).expect("a publisher");
-  auto third = small.loan().expect("a loan");
-  /* Each of the two tries when it comes and when its time is up, and updates the connections then. */
-  CHECK(heard_while_two_wait(domain, small, iox2ps::Error::LoanOutOfMemory) <= 4);
+  auto first = domain.subscriber().expect("a subscriber"), between = domain.subscriber().expect("a subscriber");
+  auto last = domain.subscriber().expect("a subscriber");
+  CHECK(publisher.send_copy(message(1)).expect("a send").delivered() == 3u);
+  CHECK(first_of(between.receive()) == 1);
+  auto waits = blocked(publisher.send_copy(message(2)));
+  CHECK(waits.subscriber().expect("a subscriber") == first.id());
+  auto receives = asleep_after(to_sleep, [&] { CHECK(first_of(between.blocking_receive()) == 2); });
+  CHECK(first_of(first.receive()) == 1);
+  CHECK(!waits.retry().expect("a retry") && waits.subscriber().expect("a subscriber") == last.id());
+  receives.join();
+  CHECK(first_of(last.receive()) == 1 && waits.retry().expect("a retry") == 3u);
+}
+
+/* Of each sort one call that is refused, in a domain in which threads wait for all that there is. */
+template <typename M, typename D>
+void are_refused(D &domain, iox2ps::Publisher<Message, M> &full, iox2ps::Publisher<Message, M> &lends, iox2ps::Subscriber<Message, M> &held,
+                 iox2ps::Subscriber<Message, M> &empty) {
+  using iox2ps::Error;
+  CHECK(domain.publisher().error() == Error::PublisherExceedsMaxSupportedPublishers);
+  CHECK(domain.subscriber().error() == Error::SubscriberExceedsMaxSupportedSubscribers);
+  CHECK(lends.loan().error() == Error::LoanExceedsMaxLoans && lends.timed_loan(0ns).error() == Error::LoanExceedsMaxLoans);
+  CHECK(lends.send_copy(message(1)).error() == Error::LoanExceedsMaxLoans);
+  CHECK(full.loan().error() == Error::PublisherIsBlocked && full.send_copy(message(1)).error() == Error::PublisherIsBlocked);
+  CHECK(full.update_connections().error() == Error::PublisherIsBlocked);
+  CHECK(held.receive().error() == Error::ReceiveExceedsMaxBorrows && held.receive_copy().error() == Error::ReceiveExceedsMaxBorrows);
+  CHECK(!empty.receive().expect("a receive") && !empty.receive_copy().expect("a receive"));
+  CHECK(!empty.timed_receive(0ns).expect("a receive"));
+  CHECK(held.close_channel(9, 0).error() == Error::NoSuchChannel && full.close_channel(9, 0, 0).error() == Error::NoSuchChannel);
+}
+
+void a_refused_call_wakes_nobody() {
+  iox2ps::Config<Message> config(1);
+  config.enable_safe_overflow(false).subscriber_max_buffer_size(1).subscriber_max_borrowed_samples(1);
+  config.max_publishers(3).max_subscribers(2);
+  auto domain = iox2ps::SharedDomain<Message, Watched>::create(config).expect("a domain");
+  auto first = domain.publisher().expect("a publisher");
+  auto full = domain.publisher().expect("a publisher");
+  auto lends = domain.publisher().expect("a publisher");
+  auto held = domain.subscriber().expect("a subscriber");
+  std::vector<iox2ps::Sample<Message, WatchedThreads>> samples;
+  for (auto *publisher : {&full, &first}) {
+    CHECK(publisher->send_copy(message(1)).expect("a send").delivered() == 1u);
+    samples.push_back(std::move(*held.receive().expect("a receive")));
+    CHECK(publisher->send_copy(message(2)).expect("a send").delivered() == 1u);
+  }
+  auto unsent = full.loan(message(3)).expect("a loan");
+  auto waits = blocked(full.send_copy(message(3)));
+  auto woken = blocked(first.send_copy(message(3)));
+  auto one = lends.loan().expect("a loan"), two = lends.loan().expect("a loan");
+  auto empty = domain.subscriber().expect("a subscriber");
+  std::atomic<unsigned> heard{0};
+  CHECK(empty.set_listener([&] { heard++; }).has_value());
+  /* The first that waits goes on where another is woken only after it. */
+  auto next = asleep_after(to_sleep, [&] { static_cast<void>(woken.blocking_retry()); });
+  Watch others[] = {
+      asleep_and_stopped([&] { static_cast<void>(empty.blocking_receive()); }),
+      asleep_and_stopped([&] { static_cast<void>(waits.blocking_retry()); }),
+      asleep_and_stopped([&] { static_cast<void>(unsent.blocking_send()); }),
+      asleep_and_stopped([&] { static_cast<void>(lends.blocking_loan()); }),
+  };
+  are_refused(domain, full, lends, held, empty);
+  CHECK(heard == 0);
+  CHECK(held.close_channel(0, iox2ps::channel_state_open).has_value());
+  next.has_had(to_sleep + 1);
+  domain.stop_waits();
+  next.join();
+  for (Watch &watch : others) {
+    watch.go_on();
+    watch.join();
+  }
 }
 
 void copies_and_all_take_the_lock_once() {
@@ -351,6 +431,26 @@ void a_blocked_publisher_connects_later() {
   auto last = domain.subscriber().expect("a subscriber");
   receives.join();
   CHECK(first_of(last.receive()) == 2);
+}
+
+/* A publisher that couldn't connect to a late subscriber does so where a loan of it waits for a slot. The loan doesn't get one, and who
+ * waits gets the history. */
+void an_update_for_a_loan_wakes_who_waits() {
+  iox2ps::Config<Message> config(1);
+  config.history_size(1).subscriber_max_buffer_size(1).enable_safe_overflow(false);
+  auto domain = iox2ps::SharedDomain<Message, Watched>::create(config).expect("a domain");
+  auto publisher = domain.publisher(iox2ps::PublisherOptions<Message>().preallocated_samples(2)).expect("a publisher");
+  auto first = domain.subscriber().expect("a subscriber");
+  CHECK(publisher.send_copy(message(1)).expect("a send").delivered() == 1u);
+  auto waits = blocked(publisher.send_copy(message(2)));
+  auto late = domain.subscriber().expect("a subscriber");
+  auto sample = std::move(*first.receive().expect("a receive"));
+  CHECK(waits.retry().expect("a retry") == 1u);
+  auto receives = asleep_after(to_sleep, [&] { CHECK(first_of(late.blocking_receive()) == 2); });
+  auto lends = asleep_after(to_sleep, [&] { CHECK(publisher.blocking_loan().has_value()); });
+  receives.join();
+  sample.release();
+  lends.join();
 }
 
 constexpr auto is_closed = [](const auto &result) { return !result.has_value() && result.error() == iox2ps::Error::NotLive; };
@@ -824,11 +924,14 @@ int main() {
       loans_wait,
       loans_wait_for_slots,
       threads_that_wait_for_a_loan_dont_wake_each_other,
+      a_retry_wakes_whom_it_reaches,
+      a_refused_call_wakes_nobody,
       copies_and_all_take_the_lock_once,
       waits_are_stopped_twice_and_taken_back,
       a_loop_of_timed_calls_sees_the_end,
       a_late_subscriber_has_the_history_at_once,
       a_blocked_publisher_connects_later,
+      an_update_for_a_loan_wakes_who_waits,
       a_close_ends_the_waits_for_messages,
       a_close_ends_the_waits_for_loans,
       a_close_ends_the_waits_beside_a_blocked_send,

@@ -35,14 +35,22 @@ public:
 
   /* Waits until it has had that many turns. */
   void has_had(std::size_t turns) {
-    wait_until([&] { return had_ >= turns || has_ended_; });
-    if (had_ < turns) too_few();
+    bool are_few = true;
+    wait_until([&] {
+      are_few = had_ < turns;
+      return !are_few || has_ended_;
+    });
+    if (are_few) too_few();
   }
 
   /* Waits until it has had that many turns and is before the lock. */
   void stands_after(std::size_t turns) {
-    wait_until([&] { return (comes_ && had_ == turns) || has_ended_; });
-    if (has_ended_) too_few();
+    bool has_ended = false;
+    wait_until([&] {
+      has_ended = has_ended_;
+      return (comes_ && had_ == turns) || has_ended;
+    });
+    if (has_ended) too_few();
   }
 
   /* It stops no more. */
@@ -128,6 +136,14 @@ private:
 template <typename Run> Watch asleep_after(std::size_t turns, Run run) {
   Watch watch(SIZE_MAX, std::move(run));
   watch.has_had(turns);
+  return watch;
+}
+
+/* Starts a thread, and returns when it sleeps in its first wait. Where it is woken it stops before the lock, until it is told to go
+ * on. */
+template <typename Run> Watch asleep_and_stopped(Run run) {
+  Watch watch(to_sleep, std::move(run));
+  watch.has_had(to_sleep);
   return watch;
 }
 

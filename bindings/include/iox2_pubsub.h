@@ -9,7 +9,7 @@
  *  - an iox2ps_domain_t starts as IOX2PS_DOMAIN_INIT, is changed by these functions alone, and isn't copied
  *    while it has a domain;
  *  - one call at a time works on a domain; threads that share one bring a lock, as is said below;
- *  - malloc, realloc and free are the C library's, and no call is made from a signal handler;
+ *  - memory is the C library's, or that of functions that keep what iox2ps_allocator_t says; no call is made from a signal handler;
  *  - a pointer to a payload is used as the call that gives it says, and not longer.
  *
  * Handles need not be valid. Where the numbers of a port, a loan, a sample or a blocked send name nothing that
@@ -39,7 +39,8 @@
  *     - for room: a receive, or a subscriber or a channel closed. A release makes no room in a buffer;
  *     - for an earlier send: a retry or a giving up;
  *     - for a loan: a send, a discard, a release, a receive that copies, a retry, a giving up, or an update of the publisher's
- *       connections, which alone takes back what waited for a subscriber that was closed;
+ *       connections, which alone takes back what waited for a subscriber that was closed. iox2ps_brought_by() says what of
+ *       that a call has brought by the code that it returned;
  *  - iox2ps_domain_destroy is called when no thread will call, read or write any more.
  * With the lock, all calls of a domain are one list, and what is proved of a list of calls is so of that one, in the order
  * in which the lock was taken. bindings/c/threads.c is such a program; iox2_pubsub_shared.hpp has a lock in it.
@@ -67,7 +68,7 @@ extern "C" {
 
 #define IOX2PS_VERSION_MAJOR 0 /**< the first number of this header's version; that of the archive is iox2ps_version() */
 #define IOX2PS_VERSION_MINOR 2 /**< the second number */
-#define IOX2PS_VERSION_PATCH 0 /**< the third number */
+#define IOX2PS_VERSION_PATCH 1 /**< the third number */
 
 /** The version as one number, which grows with each version. */
 #define IOX2PS_VERSION (IOX2PS_VERSION_MAJOR * 65536 + IOX2PS_VERSION_MINOR * 256 + IOX2PS_VERSION_PATCH)
@@ -196,13 +197,26 @@ typedef enum iox2ps_warning_e {
   IOX2PS_WARNING_EXPIRED_DATA_DISCARDED = 104
 } iox2ps_warning_e;
 
-/** A domain, which its iox2ps_domain_t owns. */
+/** What a call may bring to threads that wait and share its domain; a sum of these. */
+typedef enum iox2ps_brings_e {
+  IOX2PS_BRINGS_MESSAGE = 1, /**< a message, to those who found IOX2PS_NO_SAMPLE */
+  IOX2PS_BRINGS_ROOM = 2,    /**< room in a buffer, to a send that was IOX2PS_BLOCKED */
+  IOX2PS_BRINGS_FREE = 4,    /**< the end of an earlier send, to those who found IOX2PS_PUBLISHER_IS_BLOCKED */
+  IOX2PS_BRINGS_LOAN = 8     /**< a loan, to those who found IOX2PS_LOAN_ERROR_EXCEEDS_MAX_LOANS or .._OUT_OF_MEMORY */
+} iox2ps_brings_e;
+
+/** A domain, which its iox2ps_domain_t owns. A child of a fork has a copy of its own, in its own memory: what it calls there nobody
+ * else sees, it need destroy nothing, and where another thread may have been in a call when the process forked it calls nothing. */
 typedef struct iox2ps_domain_t {
   void *domain_; /**< null where there is none */
 } iox2ps_domain_t;
 
 /** What an iox2ps_domain_t begins with, also one that is static. */
+#ifdef __cplusplus
+#define IOX2PS_DOMAIN_INIT {nullptr}
+#else
 #define IOX2PS_DOMAIN_INIT {0}
+#endif
 
 /** A number of 128 bits. */
 typedef struct iox2ps_wide_t {
@@ -374,7 +388,7 @@ static inline void iox2ps_subscriber_options_of(const iox2ps_config_t *config, i
  * iox2ps_domain_create() returns it; IOX2PS_WORST_CASE_TOO_LARGE. */
 IOX2PS_NODISCARD iox2ps_status_t iox2ps_worst_case_slots(const iox2ps_config_t *config, size_t loans, size_t *slots);
 
-/** The text of a code or of the kind of a warning, which ends in a zero byte and stays there for good; len
+/** The text of a code or of the kind of a warning, which is static and ends in a zero byte; len
  * is without that byte. Each number has one. */
 void iox2ps_error_text_at(uint32_t code, const char **text, size_t *len);
 
@@ -385,6 +399,63 @@ static inline const char *iox2ps_error_text(uint32_t code) {
   iox2ps_error_text_at(code, &text, &len);
   return text;
 }
+
+/** What a call has brought that may bring this sum of iox2ps_brings_e and returned this code. A call that was refused changed
+ * nothing: threads that it wakes all the same, and that are refused again, wake each other without end. A send that fails in the
+ * end, and an update that lacks memory for a connection, have reached others. */
+static inline uint32_t iox2ps_brought_by(uint32_t brings, iox2ps_status_t code) {
+  switch (code) {
+  case IOX2PS_OK:
+  case IOX2PS_SEND_ERROR_UNABLE_TO_DELIVER:
+  case IOX2PS_SEND_ERROR_CONNECTION_OUT_OF_MEMORY:
+  case IOX2PS_CONNECTION_FAILURE_OUT_OF_MEMORY:
+  case IOX2PS_CONNECTION_FAILURE_EXPIRED_BUFFER_FULL: return brings;
+  case IOX2PS_BLOCKED: return brings & IOX2PS_BRINGS_MESSAGE; /* those before the full buffer have the message */
+  case IOX2PS_TOO_SMALL: return brings & IOX2PS_BRINGS_ROOM;  /* it was received, and isn't released */
+  case IOX2PS_SEND_ERROR_CONNECTION_BROKEN_SINCE_SENDER_NO_LONGER_EXISTS: return brings & IOX2PS_BRINGS_LOAN;
+  default: return 0;
+  }
+}
+
+/** @}
+ * @name Memory
+ * By default the library takes memory of malloc, realloc and free. A program may hand in functions of its own before it makes a
+ * domain, so that all memory comes of a static region, for example, or define the three iox2ps_memory_ functions itself: then it
+ * is linked without those of the archive, and without malloc where nothing else of it calls that. The library asks for memory where a domain, a port or a
+ * connection is made, where a publisher's memory grows, and for the text of a recording, and for nothing else: no call that
+ * passes a message on asks. Where there is none the call returns what it says of that.
+ * @{ */
+
+/** Where the library takes memory from. Of one domain at a time one function is called; of several domains, as many as threads
+ * call, each with a lock of its own if at all. None calls the library. */
+typedef struct iox2ps_allocator_t {
+  /** Brings size bytes, 1 at least, at an address that is a multiple of alignment, a power of two of 4,096 at most; or null. */
+  void *(*allocate)(void *context, size_t size, size_t alignment);
+  /** Brings a block of size bytes in place of this one, which begins with the same kept bytes, or null: then the block stays. */
+  void *(*reallocate)(void *context, void *block, size_t kept, size_t size, size_t alignment);
+  void (*deallocate)(void *context, void *block); /**< takes a block back */
+  void *context;                                  /**< what each is called with */
+} iox2ps_allocator_t;
+
+/** Takes memory of these functions from now on, which are copied, or of the C library again: null. IOX2PS_HAS_DOMAIN while the
+ * process has a domain, or another thread makes one, and then nothing changes. */
+IOX2PS_NODISCARD iox2ps_status_t iox2ps_set_allocator(const iox2ps_allocator_t *allocator);
+
+/** A block of where the library takes its own, for what a language keeps beside a domain; null where there is none. It counts as a
+ * domain for iox2ps_set_allocator() until it is given back. */
+void *iox2ps_allocate(size_t size, size_t alignment);
+
+/** Gives such a block back; null is none. */
+void iox2ps_deallocate(void *block);
+
+/** As allocate of iox2ps_allocator_t. A program may define it, with the two below. */
+void *iox2ps_memory_allocate(size_t size, size_t alignment);
+
+/** As reallocate of iox2ps_allocator_t. */
+void *iox2ps_memory_reallocate(void *block, size_t kept, size_t size, size_t alignment);
+
+/** As deallocate of iox2ps_allocator_t. */
+void iox2ps_memory_deallocate(void *block);
 
 /** @}
  * @name Domains

@@ -34,6 +34,7 @@
 #include <memory>
 #include <new>
 #include <optional>
+#include <string_view>
 #include <type_traits>
 #include <utility>
 #include <vector>
@@ -69,17 +70,18 @@ template <typename P, typename M = OneThread> class BlockedSend;
 inline constexpr std::uint64_t channel_state_open = IOX2PS_CHANNEL_STATE_OPEN;     /**< the state of a new channel */
 inline constexpr std::uint64_t channel_state_closed = IOX2PS_CHANNEL_STATE_CLOSED; /**< that of one which takes no message */
 
-/** Until when a call waits, or for good. */
+/** Until when a call waits, or nothing where it waits forever. */
 using Until = std::optional<std::chrono::steady_clock::time_point>;
 
 namespace detail {
 
 /* For what a thread waits. */
 enum class Waits : unsigned {
-  Message = 1, /* a message */
-  Room = 2,    /* room in the buffer that a blocked send has to reach */
-  Free = 4,    /* that the publisher's earlier send ends */
-  Loan = 8     /* a loan */
+  Nothing = 0,                     /* nothing: it sleeps for others, and tells them of what other processes bring */
+  Message = IOX2PS_BRINGS_MESSAGE, /* a message */
+  Room = IOX2PS_BRINGS_ROOM,       /* room in the buffer that a blocked send has to reach */
+  Free = IOX2PS_BRINGS_FREE,       /* that the publisher's earlier send ends */
+  Loan = IOX2PS_BRINGS_LOAN        /* a loan */
 };
 
 /* What a call may have brought to those who wait: a sum of the same. */
@@ -146,10 +148,16 @@ public:
     return make();
   }
 
+  /* The domain goes, and may do so in this thread. */
+  [[nodiscard]] bool may_go() const { return true; }
+  void end() {}
+
   /* Nothing waits at a port, and nothing is called for a subscriber. */
+  void bring_too(Brings) {}
   void end_waits(Id) {}
   void forget(Id) {}
   struct MessageFd {};
+  struct Share {};
 
 private:
 #ifdef IOX2PS_CHECK_THREADS
@@ -164,20 +172,35 @@ private:
 #endif
 };
 
+/* What lies where the library takes its memory, and not in the C++ library's. */
+struct InOwnMemory {
+  static void *operator new(std::size_t size, const std::nothrow_t &) noexcept { return iox2ps_allocate(size, alignof(std::max_align_t)); }
+  static void *operator new(std::size_t size, std::align_val_t alignment, const std::nothrow_t &) noexcept {
+    return iox2ps_allocate(size, static_cast<std::size_t>(alignment));
+  }
+  static void operator delete(void *memory, const std::nothrow_t &) noexcept { iox2ps_deallocate(memory); }
+  static void operator delete(void *memory, std::align_val_t, const std::nothrow_t &) noexcept { iox2ps_deallocate(memory); }
+  static void operator delete(void *memory) noexcept { iox2ps_deallocate(memory); }
+  static void operator delete(void *memory, std::align_val_t) noexcept { iox2ps_deallocate(memory); }
+};
+
 /* A publisher as its domain has it. It is made with the publisher, so that no destructor takes memory. It is in the list of those
  * that are open; where it goes while a send of it waits it is an orphan, and closes when that has ended. */
-struct Sender {
+struct Sender : InOwnMemory {
   iox2ps_publisher_t port;
+  iox2ps_publisher_options_t options;
   std::unique_ptr<Sender> next_orphan;
   Sender *before, *after;
 };
 
 /* The domain that its handles share. */
-template <typename M> struct Shared {
+template <typename M> struct Shared : InOwnMemory {
   iox2ps_domain_t domain = IOX2PS_DOMAIN_INIT;
   OfProcess process;
   typename Threads<M>::Count holders;
   Threads<M> threads;
+  /* What an update of a publisher's connections may bring: its history, where one is kept. */
+  Brings history = 0;
   Sender *open = nullptr;
   std::unique_ptr<Sender> orphans;
 
@@ -185,6 +208,7 @@ template <typename M> struct Shared {
   Shared(const Shared &) = delete;
   Shared &operator=(const Shared &) = delete;
   ~Shared() {
+    threads.end();
     static_cast<void>(iox2ps_domain_destroy(&domain));
     while (orphans) orphans = std::move(orphans->next_orphan);
   }
@@ -192,12 +216,23 @@ template <typename M> struct Shared {
   /* These are parts of calls. */
   iox2ps_status_t create_publisher(const iox2ps_publisher_options_t &options, Sender &sender) {
     iox2ps_status_t code = iox2ps_publisher_create_with(&domain, &options, &sender.port);
-    if (code != IOX2PS_OK) return code;
+    sender.options = options;
+    if (code == IOX2PS_OK) add(sender);
+    return code;
+  }
+
+  /* A publisher is open. */
+  void add(Sender &sender) {
     sender.before = nullptr;
     sender.after = open;
     if (open) open->before = &sender;
     open = &sender;
-    return code;
+  }
+
+  /* It is to close. */
+  void remove(Sender &sender) {
+    (sender.before ? sender.before->after : open) = sender.after;
+    if (sender.after) sender.after->before = sender.before;
   }
 
   /* Each open publisher connects to a subscriber that was made, and hands it its history. One that can't does so with its next send. */
@@ -206,8 +241,7 @@ template <typename M> struct Shared {
   }
 
   iox2ps_status_t close_publisher(std::unique_ptr<Sender> sender) {
-    (sender->before ? sender->before->after : open) = sender->after;
-    if (sender->after) sender->after->before = sender->before;
+    remove(*sender);
     iox2ps_status_t code = iox2ps_publisher_close(&domain, &sender->port);
     if (code != IOX2PS_PUBLISHER_IS_BLOCKED) return code;
     sender->next_orphan = std::move(orphans);
@@ -240,7 +274,7 @@ public:
     return *this;
   }
   ~Hold() {
-    if (is_here() && shared_->holders.is_last()) delete shared_;
+    if (is_here() && shared_->holders.is_last() && shared_->threads.may_go()) delete shared_;
   }
 
   explicit operator bool() const { return shared_ != nullptr; }
@@ -274,6 +308,9 @@ public:
     return answer != 0;
   }
 
+  /* Of a call under way: it has brought this, whatever its code says. */
+  void bring_too(Brings brings) const { shared_->threads.bring_too(brings); }
+
   /* Closes a port by these calls, and ends what waits there. Another thread may be in a call of its handle, which finds the port
    * closed: so where there are several the handle keeps the domain until it goes. */
   template <typename Close> void close(typename Threads<M>::Open &open, Brings brings, Id port, Close &&make) {
@@ -303,12 +340,14 @@ constexpr std::uint64_t elapsed_of(std::chrono::nanoseconds elapsed) {
   return static_cast<std::uint64_t>((std::max)(elapsed, std::chrono::nanoseconds(0)).count());
 }
 
-/* So long from now, or for good where that is later than a time can be. */
-inline Until after(std::chrono::nanoseconds timeout) {
-  auto now = std::chrono::steady_clock::now();
-  if (timeout > (std::chrono::steady_clock::time_point::max)() - now) return std::nullopt;
-  return now + timeout;
+/* So long after that, or forever where that is later than a time can be. */
+inline Until later(std::chrono::steady_clock::time_point from, std::chrono::nanoseconds time) {
+  if (time > (std::chrono::steady_clock::time_point::max)() - from) return std::nullopt;
+  return from + time;
 }
+
+/* So long from now. */
+inline Until after(std::chrono::nanoseconds timeout) { return later(std::chrono::steady_clock::now(), timeout); }
 
 /* The value at these bytes, or the first of a slice. */
 template <typename T> const T *at(const void *bytes) { return std::launder(static_cast<const T *>(bytes)); }
@@ -448,7 +487,7 @@ public:
   Result<std::optional<std::size_t>> retry(std::chrono::nanoseconds elapsed = {}) {
     if (!hold_) return Error::NotLive;
     std::size_t count = 0;
-    iox2ps_status_t code = hold_.call(brings, [&](iox2ps_domain_t *domain) { return again(domain, elapsed, &count); });
+    iox2ps_status_t code = hold_.call(end_brings, [&](iox2ps_domain_t *domain) { return again(domain, elapsed, &count); });
     return ended(code, count);
   }
 
@@ -458,7 +497,7 @@ public:
     if (!hold_) return Error::NotLive;
     std::size_t count = 0;
     auto started = std::chrono::steady_clock::now();
-    iox2ps_status_t code = hold_.wait(detail::Waits::Room, blocked_.publisher, brings, until, [&](iox2ps_domain_t *domain) {
+    iox2ps_status_t code = hold_.wait(detail::Waits::Room, blocked_.publisher, end_brings, until, [&](iox2ps_domain_t *domain) {
       return again(domain, std::chrono::steady_clock::now() - started, &count);
     });
     return ended(code, count);
@@ -482,13 +521,24 @@ private:
   friend class Loan<P, M>;
   friend class Publisher<P, M>;
 
-  /* Others may have got the message on its way, and where it has ended its publisher is free, and its slot perhaps. */
-  static constexpr detail::Brings brings = detail::Waits::Message | detail::Waits::Free | detail::Waits::Loan;
+  /* Where it has ended its publisher is free, and its slot perhaps. Others may have got the message on its way. */
+  static constexpr detail::Brings end_brings = detail::Waits::Free | detail::Waits::Loan, brings = end_brings | detail::Waits::Message;
 
   BlockedSend(detail::Hold<M> hold, const iox2ps_blocked_t &blocked) : hold_(std::move(hold)), blocked_(blocked) {}
 
+  /* One that is blocked where it was has reached nobody, and wakes nobody. */
   iox2ps_status_t again(iox2ps_domain_t *domain, std::chrono::nanoseconds elapsed, std::size_t *count) {
-    return over(iox2ps_blocked_retry(domain, &blocked_, detail::elapsed_of(elapsed), count));
+    Id before = stands_at(domain);
+    iox2ps_status_t code = over(iox2ps_blocked_retry(domain, &blocked_, detail::elapsed_of(elapsed), count));
+    if (code != IOX2PS_BLOCKED || stands_at(domain) != before) hold_.bring_too(iox2ps_brought_by(only(detail::Waits::Message), code));
+    return code;
+  }
+
+  /* Whose buffer it waits for. */
+  Id stands_at(iox2ps_domain_t *domain) const {
+    iox2ps_wide_t subscriber = {0, 0};
+    static_cast<void>(iox2ps_blocked_subscriber(domain, &blocked_, &subscriber));
+    return detail::id_of(subscriber);
   }
 
   /* Where a send has ended, a publisher that went meanwhile closes. */
@@ -775,6 +825,12 @@ public:
     return blocking_send_copy(value, detail::after(timeout));
   }
 
+  /** What it was made with: a copy that the handle keeps, with a value for each option but backpressure_handler(), which is none
+   * where the strategy answers. 0 preallocated_samples() are as many as the worst case needs. Of an empty handle nothing is set. */
+  [[nodiscard]] PublisherOptions<P> options() const {
+    return sender_ ? detail::Raw::made_with<PublisherOptions<P>>(sender_->options) : PublisherOptions<P>();
+  }
+
   /** Whether a send waits for a subscriber whose buffer is full. */
   [[nodiscard]] bool is_blocked() const {
     std::uint32_t answer = 0;
@@ -840,6 +896,7 @@ public:
 
 private:
   friend class Domain<P, M>;
+  friend struct detail::Raw;
 
   Publisher(detail::Hold<M> hold, std::unique_ptr<detail::Sender> sender)
       : hold_(std::move(hold)), port_(sender->port), sender_(std::move(sender)) {}
@@ -866,7 +923,7 @@ private:
   auto at_once(detail::Brings brings = 0) const {
     return [this, brings](auto &&make) { return hold_.call(brings, make); };
   }
-  auto waiting(Until until, detail::Brings brings = only(detail::Waits::Message)) const {
+  auto waiting(Until until, detail::Brings brings = 0) const {
     return [this, until, brings](auto &&make) {
       return hold_.wait(detail::Waits::Loan, port_.id, brings, until, [&](iox2ps_domain_t *domain) -> iox2ps_status_t {
         iox2ps_status_t code = make(domain);
@@ -874,8 +931,9 @@ private:
         if (!sender_) return IOX2PS_NOT_LIVE; /* closed meanwhile, also where the send that it waits for goes on */
         /* A closed subscriber's slots come back by an update of the connections alone, which a loan doesn't make. */
         if (code != IOX2PS_LOAN_ERROR_OUT_OF_MEMORY) return code;
-        if (iox2ps_publisher_update_connections(domain, &port_) != IOX2PS_OK) return code;
-        return make(domain);
+        iox2ps_status_t updated = iox2ps_publisher_update_connections(domain, &port_);
+        hold_.bring_too(iox2ps_brought_by(hold_->history, updated));
+        return updated == IOX2PS_OK ? make(domain) : code;
       });
     };
   }
@@ -939,6 +997,8 @@ public:
   [[nodiscard]] Id id() const { return *this ? detail::id_of(port_.id) : Id{0, 0}; }
   /** How many messages of one publisher may wait. */
   [[nodiscard]] std::size_t buffer_size() const { return *this ? port_.buffer_size : 0; }
+  /** What it was made with: a copy that the handle keeps, with a value for each option. Of an empty handle nothing is set. */
+  [[nodiscard]] SubscriberOptions options() const { return *this ? options_ : SubscriberOptions(); }
 
   /** The next message of some publisher, or none where none waits. Those of one publisher come in the order in
    * which they were sent. */
@@ -964,7 +1024,8 @@ public:
     return blocking_receive(detail::after(timeout));
   }
 
-  /** The next message as a copy: a receive, a copy and a release with no other call between. */
+  /** The next message as a copy: a receive, a copy and a release with no other call between. It is for small values: the copy lies on
+   * the stack, several times where nothing is optimized. */
   template <typename Q = P, std::enable_if_t<!detail::is_slice<Q>, int> = 0> Result<std::optional<Element>> receive_copy() {
     if (!hold_) return Error::NotLive;
     Copy copy;
@@ -1062,7 +1123,8 @@ public:
 
   /** For several threads alone: calls this when a message may have come, from now on, in place of what was set before; but not
    * for what waits already. It is called without the lock, by the thread whose call brought something, and by several threads
-   * at a time.
+   * at a time. What another process brings is told by whichever thread finds it, or by one of the library's own, which begins here:
+   * Error::OutOfMemory where there can't be one.
    *
    * It may receive, send and destroy handles, here and in other domains. A call that waits doesn't wait in it: it tries once, as
    * where waits are stopped. What its calls bring to listeners is called after it has returned, so one that sends to its own
@@ -1072,6 +1134,7 @@ public:
   template <typename F> Done set_listener(F &&listener) {
     if (!*this) return Error::NotLive;
     if (!hold_.is_here()) return Error::AfterFork;
+    if (!hold_.many().is_watched()) return Error::OutOfMemory;
     hold_.many().listen(id(), std::make_shared<const std::function<void()>>(std::forward<F>(listener)));
     return std::monostate{};
   }
@@ -1102,10 +1165,12 @@ public:
 
 private:
   friend class Domain<P, M>;
+  friend struct detail::Raw;
 
   static constexpr detail::Brings copies = detail::Waits::Room | detail::Waits::Loan;
 
-  Subscriber(detail::Hold<M> hold, const iox2ps_subscriber_t &port) : hold_(std::move(hold)), port_(port) {}
+  Subscriber(detail::Hold<M> hold, const iox2ps_subscriber_t &port, const SubscriberOptions &options)
+      : hold_(std::move(hold)), port_(port), options_(options) {}
 
   struct Got {
     iox2ps_sample_t sample;
@@ -1148,7 +1213,24 @@ private:
   detail::Hold<M> hold_;
   typename detail::Threads<M>::Open open_;
   iox2ps_subscriber_t port_;
+  SubscriberOptions options_;
 };
+
+namespace detail {
+
+/* How a domain has a name for other processes: as iox2_pubsub_processes.hpp says, and not without it. */
+template <typename P, typename M, typename = void> struct ByName {
+  struct Options {};
+  template <typename... Words> static Result<Domain<P, M>> make(const Words &...) {
+    static_assert(!std::is_same_v<P, P>, "processes share a domain by a name where #include \"iox2_pubsub_processes.hpp\" comes first");
+  }
+  static Result<bool> exists(std::string_view name) { return make(name).error(); }
+};
+
+/* Whether there may, or has to be a domain already. */
+enum class Opens : unsigned char { Open, Create, OpenOrCreate };
+
+} // namespace detail
 
 /** A service whose messages are of the type P. Copies are the same domain. One that was moved from is empty: it makes
  * nothing, and has no settings, no warnings and nothing to count. */
@@ -1156,14 +1238,28 @@ template <typename P, typename M> class Domain {
 public:
   /** Makes a domain. Error::InvalidBackpressureStrategy, Error::OutOfMemory, Error::OtherVersion. */
   static Result<Domain> create(const Config<P> &config) {
-    if (iox2ps_version() != IOX2PS_VERSION) return Error::OtherVersion;
-    if (!detail::count_forks()) return Error::OutOfMemory;
-    detail::Hold<M> hold(new (std::nothrow) detail::Shared<M>);
-    if (!hold) return Error::OutOfMemory;
-    iox2ps_status_t code = detail::Raw::create(config, &hold->domain);
-    if (code != IOX2PS_OK) return detail::error_of(code);
-    return Domain(std::move(hold));
+    return create_by(config, [&](detail::Shared<M> &shared) { return detail::Raw::create(config, &shared.domain); });
   }
+
+  /** Opens the domain that processes share by this name, or creates it. This and the next four are for programs that include
+   * iox2_pubsub_processes.hpp, which says more: as which names there are, the options, and errors. */
+  template <typename N = M>
+  static Result<Domain> open_or_create(std::string_view name, const Config<P> &config,
+                                       const typename detail::ByName<P, N>::Options &options = {}) {
+    return detail::ByName<P, N>::make(detail::Opens::OpenOrCreate, name, config, options);
+  }
+  /** The same, where there is one. Also Error::OpenDoesNotExist. */
+  template <typename N = M>
+  static Result<Domain> open(std::string_view name, const Config<P> &config, const typename detail::ByName<P, N>::Options &options = {}) {
+    return detail::ByName<P, N>::make(detail::Opens::Open, name, config, options);
+  }
+  /** The same, where there is none. Also Error::CreateAlreadyExists. */
+  template <typename N = M>
+  static Result<Domain> create(std::string_view name, const Config<P> &config, const typename detail::ByName<P, N>::Options &options = {}) {
+    return detail::ByName<P, N>::make(detail::Opens::Create, name, config, options);
+  }
+  /** Whether processes share a domain by this name, whatever its messages are. */
+  template <typename N = M> static Result<bool> exists(std::string_view name) { return detail::ByName<P, N>::exists(name); }
 
   explicit operator bool() const { return static_cast<bool>(hold_); } /**< whether there is a domain */
 
@@ -1189,19 +1285,20 @@ public:
   Result<Subscriber<P, M>> subscriber(const SubscriberOptions &options = {}) const {
     if (!hold_) return Error::NotLive;
     iox2ps_subscriber_t port;
+    iox2ps_subscriber_options_t raw;
     iox2ps_status_t code = hold_.ask([&](iox2ps_domain_t *domain) {
       iox2ps_config_t settings;
       iox2ps_status_t read = iox2ps_domain_config(domain, &settings);
       if (read != IOX2PS_OK) return read;
-      auto raw = detail::Raw::options(options, settings);
+      raw = detail::Raw::options(options, settings);
       iox2ps_status_t made = iox2ps_subscriber_create_with(domain, &raw, &port);
       if constexpr (detail::is_shared<M>) {
-        if (made == IOX2PS_OK) connect_publishers(settings.history_size > 0);
+        if (made == IOX2PS_OK) connect_publishers();
       }
       return made;
     });
     if (code != IOX2PS_OK) return detail::error_of(code);
-    return Subscriber<P, M>(hold_, port);
+    return Subscriber<P, M>(hold_, port, detail::Raw::made_with<SubscriberOptions>(raw, port));
   }
 
   /** The settings that it was made with. */
@@ -1268,9 +1365,21 @@ public:
   }
 
   /** For several threads alone: whether stop_waits() was called, and not taken back. So a loop of timed_ calls tells an end from a
-   * time that has passed. */
+   * time that has passed. True where there is no domain, and in a child of the process that made it, where no call waits. */
   [[nodiscard]] bool waits_are_stopped() const {
-    return hold_.is_here() && hold_.many().is_stopped();
+    return !hold_.is_here() || hold_.many().is_stopped();
+  }
+
+  /** For several threads alone: the domain for another language of this process, as iox2_pubsub_shared.h says. What is returned,
+   * and each that joins, keeps the domain. Error::OutOfMemory; Error::OfProcesses of one that has a name. */
+  template <typename N = M> Result<typename detail::Threads<N>::Share> share() const {
+    if (!hold_) return Error::NotLive;
+    if (!hold_.is_here()) return Error::AfterFork;
+    if (hold_.many().has_others()) return Error::OfProcesses;
+    using Handed = typename detail::Threads<N>::template Handed<P>;
+    typename detail::Threads<N>::Share made(new (std::nothrow) Handed(*this));
+    if (!made) return Error::OutOfMemory;
+    return made;
   }
 
 private:
@@ -1278,11 +1387,23 @@ private:
 
   explicit Domain(detail::Hold<M> hold) : hold_(std::move(hold)) {}
 
+  template <typename Make> static Result<Domain> create_by(const Config<P> &config, Make &&make) {
+    if (iox2ps_version() != IOX2PS_VERSION) return Error::OtherVersion;
+    if (!detail::count_forks()) return Error::OutOfMemory;
+    detail::Hold<M> hold(new (std::nothrow) detail::Shared<M>);
+    if (!hold) return Error::OutOfMemory;
+    iox2ps_status_t code = make(*hold.operator->());
+    if (code != IOX2PS_OK) return detail::error_of(code);
+    if (config.history_size() > 0) hold->history = only(detail::Waits::Message);
+    return Domain(std::move(hold));
+  }
+
   /* Part of a call that has made a subscriber. An update takes back what waited for closed subscribers, and other threads may wait
    * for that or for what a history brings. */
-  void connect_publishers(bool have_history) const {
+  void connect_publishers() const {
     hold_->update_publishers();
-    hold_.many().bring_too(have_history ? detail::Waits::Message | detail::Waits::Loan : only(detail::Waits::Loan));
+    hold_->threads.connect_joined(&hold_->domain);
+    hold_.bring_too(hold_->history | detail::Waits::Loan);
   }
 
   /* Makes calls of iox2_pubsub.h on the domain with no other between them, and returns the code that make returns: for what goes
@@ -1293,11 +1414,34 @@ private:
     return hold_.call(brings, std::forward<Call>(make));
   }
 
+  /* For several threads alone: what goes between domains has made a subscriber and this publisher. They are connected as those of the
+   * domain's own handles are, until it leaves. */
+  iox2ps_status_t join(detail::Sender &sender) const {
+    return hold_.ask([&](iox2ps_domain_t *) {
+      connect_publishers();
+      hold_->add(sender);
+      return static_cast<iox2ps_status_t>(IOX2PS_OK);
+    });
+  }
+  void leave(detail::Sender &sender) const {
+    hold_.ask([&](iox2ps_domain_t *) {
+      hold_->remove(sender);
+      return static_cast<iox2ps_status_t>(IOX2PS_OK);
+    });
+  }
+
   /* For several threads alone: makes them again as long as their code says that this port still waits, each time when something
    * came that may help; or, where a time is given, until that has passed, or until waits are stopped. */
   template <typename Call> iox2ps_status_t wait(detail::Waits what, Id port, detail::Brings brings, Until until, Call &&make) const {
     if (!hold_) return IOX2PS_NOT_LIVE;
     return hold_.wait(what, {port.low, port.high}, brings, until, std::forward<Call>(make));
+  }
+
+  /* For several threads alone: lets another language join or leave, in the process that made the domain. */
+  template <typename Do> iox2ps_status_t hand(Do &&with) const {
+    if (!hold_.is_here()) return detail::after_fork;
+    with(hold_.many());
+    return IOX2PS_OK;
   }
 
   template <typename Question> iox2ps_status_t ask(Question &&question) const {

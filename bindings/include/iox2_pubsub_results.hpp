@@ -24,6 +24,7 @@ namespace iox2ps {
 enum class Error : std::uint32_t {
   NotLive = IOX2PS_NOT_LIVE,                        /**< the handle is empty: it was moved from, sent or ended */
   OutOfMemory = IOX2PS_OUT_OF_MEMORY,               /**< there is no memory for the domain or the handle */
+  HasDomain = IOX2PS_HAS_DOMAIN,                    /**< the process has a domain, of the memory that is to change */
   PublisherIsBlocked = IOX2PS_PUBLISHER_IS_BLOCKED, /**< an earlier send of the publisher waits, and nothing was done */
 
   LoanOutOfMemory = IOX2PS_LOAN_ERROR_OUT_OF_MEMORY,                   /**< each slot is in use, or memory may not grow further */
@@ -90,6 +91,25 @@ enum class Error : std::uint32_t {
   InvalidReserved = IOX2PS_INVALID_RESERVED,                          /**< never returned */
   WorstCaseTooLarge = IOX2PS_WORST_CASE_TOO_LARGE,                    /**< never returned */
 
+  /* Of domains that processes share by a name: iox2_pubsub_processes.hpp. */
+  OpenDoesNotExist = 200u,                /**< no process has a domain with this name */
+  OpenIncompatibleTypes = 201u,           /**< those who have it have messages of another type, size or alignment */
+  OpenIncompatibleSettings = 202u,        /**< they have other settings */
+  OpenVersionMismatch = 203u,             /**< they have another version or build of the library */
+  OpenInsufficientPermissions = 204u,     /**< the files belong to somebody else */
+  OpenServiceInCorruptedState = 205u,     /**< a file with this name is another program's, or was written over or cut short */
+  OpenExceedsMaxNumberOfNodes = 206u,     /**< as many processes as there may be have it */
+  OpenAddressInUse = 207u,                /**< this process has something at the address where the domain lies, as the domain itself */
+  OpenInvalidArgument = 208u,             /**< a name or an option that can't be */
+  OpenInternalFailure = 209u,             /**< the system refuses, as for want of memory */
+  CreateAlreadyExists = 210u,             /**< there is a domain with this name */
+  ProcessesDamaged = 220u,                /**< the files were written over, or this process was left behind for too long */
+  ProcessesDiverged = 221u,               /**< the domain of another process has replied otherwise than this one */
+
+  /** No other language joins a domain that processes share. */
+  OfProcesses = 0xfffffffbu,
+  /** Nothing is attached to the WaitSet that is to wait. */
+  NoAttachments = 0xfffffffcu,
   /** The domain is that of the process that was forked, and this is its child. A domain of its own is made here. */
   AfterFork = 0xfffffffdu,
   /** The system has no file descriptor left. */
@@ -98,13 +118,15 @@ enum class Error : std::uint32_t {
   OtherVersion = 0xffffffffu
 };
 
-/** An error in words, which lie there for good. */
+/** An error in words: a static text. */
 [[nodiscard]] inline const char *text(Error error) {
   switch (error) {
   case Error::NotLive: return "NotLive: the handle is empty: it was moved from, sent, given back or closed";
   case Error::LoanExceedsMaxLoans:
     return "LoanError::ExceedsMaxLoans: as many loans of the publisher are out as may be: send or discard one, or allow more "
            "by publisher_max_loaned_samples of the domain or max_loaned_samples of the publisher";
+  case Error::OfProcesses: return "OfProcesses: no other language joins a domain that processes share: it opens it by its name";
+  case Error::NoAttachments: return "NoAttachments: the WaitSet has nothing to wait for: attach something first, and keep its guard";
   case Error::AfterFork: return "AfterFork: the domain belongs to the process that was forked: make one in this process";
   case Error::NoDescriptor: return "NoDescriptor: the system has no file descriptor left";
   case Error::OtherVersion: return "OtherVersion: the archive isn't of the headers' version";
@@ -135,7 +157,9 @@ public:
     case Error::InvalidBackpressureHandler:
     case Error::InvalidDegradation:
     case Error::InvalidAllocationStrategy:
-    case Error::InvalidInitialMaxSliceLen: return std::errc::invalid_argument;
+    case Error::InvalidInitialMaxSliceLen:
+    case Error::OpenInvalidArgument: return std::errc::invalid_argument;
+    case Error::OpenInsufficientPermissions: return std::errc::permission_denied;
     case Error::NoDescriptor: return std::errc::too_many_files_open;
     default: return {code, *this};
     }

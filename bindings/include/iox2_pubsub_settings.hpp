@@ -125,6 +125,7 @@ inline Id id_of(iox2ps_wide_t wide) { return Id{wide.low, wide.high}; }
 struct Raw {
   template <typename S> static auto &of(S &settings) { return settings.raw_; }
   template <typename O> static auto options(const O &options, const iox2ps_config_t &config) { return options.raw(config); }
+  template <typename O, typename... Words> static O made_with(const Words &...words) { return O::made_with(words...); }
   template <typename C> static auto create(const C &config, iox2ps_domain_t *domain) { return config.create(domain); }
   template <typename D, typename... Words> static auto call(const D &domain, Words &&...words) {
     return domain.call(std::forward<Words>(words)...);
@@ -132,6 +133,13 @@ struct Raw {
   template <typename D, typename... Words> static auto wait(const D &domain, Words &&...words) {
     return domain.wait(std::forward<Words>(words)...);
   }
+  template <typename D, typename... Words> static auto create_by(Words &&...words) { return D::create_by(std::forward<Words>(words)...); }
+  template <typename D> static void connect_publishers(const D &domain) { domain.connect_publishers(); }
+  template <typename D, typename Do> static auto hand(const D &domain, Do &&with) { return domain.hand(std::forward<Do>(with)); }
+  template <typename D, typename S> static auto join(const D &domain, S &sender) { return domain.join(sender); }
+  template <typename D, typename S> static void leave(const D &domain, S &sender) { domain.leave(sender); }
+  template <typename P> static const auto &hold(const P &port) { return port.hold_; }
+  template <typename P> static const auto &port(const P &port) { return port.port_; }
 };
 
 } // namespace detail
@@ -221,8 +229,8 @@ public:
   Config &subscriber_max_buffer_size(std::size_t value) { return set(raw_.subscriber_max_buffer_size, value); }
   /** How many samples of one publisher a subscriber may hold. */
   Config &subscriber_max_borrowed_samples(std::size_t value) { return set(raw_.subscriber_max_borrowed_samples, value); }
-  /** How many messages a publisher keeps for later subscribers, which get them at its next send or update. Without
-   * overflow keep it below the buffer's size, or that send may block. */
+  /** How many messages a publisher keeps for later subscribers, which get them at its next send or update,
+   * and at once where threads share the domain. Without overflow keep it below the buffer's size, or that send may block. */
   Config &history_size(std::size_t value) { return set(raw_.history_size, value); }
   /** How many channels each connection has; 0 counts as 1. Each takes slots in the memory of each publisher. */
   Config &number_of_channels(std::size_t value) { return set(raw_.number_of_channels, value); }
@@ -293,8 +301,35 @@ public:
   /** How its memory grows where a loan doesn't fit. */
   PublisherOptions &allocation_strategy(AllocationStrategy value) { return set(allocation_strategy_, value); }
 
+  /* What was set; of a publisher's options() all is there. */
+  [[nodiscard]] std::optional<std::size_t> max_loaned_samples() const { return max_loaned_samples_; } /**< as it was set */
+  [[nodiscard]] std::optional<std::size_t> initial_max_slice_len() const {                            /**< as it was set */
+    if (!initial_max_slice_len_) return std::nullopt;
+    return *initial_max_slice_len_ / sizeof(detail::Element<P>);
+  }
+  [[nodiscard]] std::optional<std::size_t> preallocated_samples() const { return preallocated_samples_; }            /**< as it was set */
+  [[nodiscard]] std::optional<BackpressureStrategy> backpressure_strategy() const { return backpressure_strategy_; } /**< as it was set */
+  /** As it was set; none where the strategy answers. */
+  [[nodiscard]] std::optional<BackpressureAction> backpressure_handler() const { return backpressure_handler_; }
+  [[nodiscard]] std::optional<DegradationAction> degradation_handler() const { return degradation_; }          /**< as it was set */
+  [[nodiscard]] std::optional<AllocationStrategy> allocation_strategy() const { return allocation_strategy_; } /**< as it was set */
+
 private:
   friend struct detail::Raw;
+
+  /* All of them, as C was told. */
+  static PublisherOptions made_with(const iox2ps_publisher_options_t &raw) {
+    PublisherOptions all;
+    all.max_loaned_samples_ = raw.max_loaned_samples;
+    all.initial_max_slice_len_ = raw.initial_max_slice_len;
+    all.preallocated_samples_ = raw.preallocated_samples;
+    all.backpressure_strategy_ = static_cast<BackpressureStrategy>(raw.backpressure_strategy);
+    if (raw.backpressure_handler != IOX2PS_BACKPRESSURE_NONE)
+      all.backpressure_handler_ = static_cast<BackpressureAction>(raw.backpressure_handler);
+    all.degradation_ = static_cast<DegradationAction>(raw.degradation);
+    all.allocation_strategy_ = static_cast<AllocationStrategy>(raw.allocation_strategy);
+    return all;
+  }
 
   template <typename T> PublisherOptions &set(std::optional<T> &field, T value) {
     field = value;
@@ -341,8 +376,19 @@ public:
     return *this;
   }
 
+  [[nodiscard]] std::optional<std::size_t> buffer_size() const { return buffer_size_; }               /**< as it was set */
+  [[nodiscard]] std::optional<DegradationAction> degradation_handler() const { return degradation_; } /**< as it was set */
+
 private:
   friend struct detail::Raw;
+
+  /* All of them, as C was told; but for a buffer of 0, which counted as 1. */
+  static SubscriberOptions made_with(const iox2ps_subscriber_options_t &raw, const iox2ps_subscriber_t &port) {
+    SubscriberOptions all;
+    all.buffer_size_ = port.buffer_size;
+    all.degradation_ = static_cast<DegradationAction>(raw.degradation);
+    return all;
+  }
 
   iox2ps_subscriber_options_t raw(const iox2ps_config_t &config) const {
     iox2ps_subscriber_options_t raw;
@@ -377,7 +423,7 @@ enum class WarningKind : std::uint32_t {
   ExpiredDataDiscarded = IOX2PS_WARNING_EXPIRED_DATA_DISCARDED
 };
 
-/** The kind in words, which lie there for good. */
+/** The kind in words: a static text. */
 [[nodiscard]] inline const char *text(WarningKind kind) { return iox2ps_error_text(static_cast<std::uint32_t>(kind)); }
 
 /** Something that a domain did or left undone without failing the call. */
@@ -400,12 +446,14 @@ inline Warning warning_of(const iox2ps_warning_t &raw) {
 
 } // namespace iox2ps
 
+namespace std {
+
 /** Lets an Id be the key of a std::unordered_map. */
-template <> struct std::hash<iox2ps::Id> {
+template <> struct hash<iox2ps::Id> {
   /** Of both halves. */
-  [[nodiscard]] std::size_t operator()(iox2ps::Id id) const noexcept {
-    return std::hash<std::uint64_t>()(id.low ^ id.high * 0x9e3779b97f4a7c15u);
-  }
+  [[nodiscard]] size_t operator()(iox2ps::Id id) const noexcept { return hash<uint64_t>()(id.low ^ id.high * 0x9e3779b97f4a7c15u); }
 };
+
+} // namespace std
 
 #endif

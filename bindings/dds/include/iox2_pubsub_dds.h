@@ -133,8 +133,9 @@ typedef struct iox2ps_dds_origin_t {
 /* Joins a DDS domain, by number: 0 to 230. What is longer than max_message_size bytes is thrown away by DDS before it takes
  * memory, if this is the process's first use of that DDS domain; 0 means 1 MiB. Later gateways for longer
  * messages are refused. */
-uint32_t iox2ps_dds_gateways_open(uint32_t dds_domain, size_t max_message_size, iox2ps_dds_gateways_t **gateways,
-                                  char *why, size_t room) IOX2PS_DDS_NOEXCEPT;
+IOX2PS_NODISCARD iox2ps_status_t iox2ps_dds_gateways_open(uint32_t dds_domain, size_t max_message_size,
+                                                          iox2ps_dds_gateways_t **gateways, char *why,
+                                                          size_t room) IOX2PS_DDS_NOEXCEPT;
 
 /* Gives the group up. Gateways that are open in it stay, and keep what they need. */
 void iox2ps_dds_gateways_close(iox2ps_dds_gateways_t *gateways) IOX2PS_DDS_NOEXCEPT;
@@ -154,7 +155,7 @@ void iox2ps_dds_wake(iox2ps_dds_gateways_t *gateways) IOX2PS_DDS_NOEXCEPT;
 /* Waits until the topics' readers have what was sent, as a program does before it ends. IOX2PS_DDS_TIMEOUT.
  * IOX2PS_DDS_NO_PEER, without a wait, where a gateway has sent messages and has met no reader that takes them since it was
  * opened: nobody else has the topic, or only with another type. */
-uint32_t iox2ps_dds_flush(iox2ps_dds_gateways_t *gateways, uint64_t nanoseconds) IOX2PS_DDS_NOEXCEPT;
+IOX2PS_NODISCARD iox2ps_status_t iox2ps_dds_flush(iox2ps_dds_gateways_t *gateways, uint64_t nanoseconds) IOX2PS_DDS_NOEXCEPT;
 
 /* ---- one gateway */
 
@@ -164,9 +165,10 @@ void iox2ps_dds_settings_defaults(iox2ps_dds_settings_t *settings, size_t elemen
 
 /* Opens a gateway. Where a port is refused the code is the domain's; else IOX2PS_DDS_REFUSED: for settings that don't fit the
  * domain, a domain or a topic that has a gateway of this process, or what DDS refuses. */
-uint32_t iox2ps_dds_gateway_open(iox2ps_dds_gateways_t *gateways, iox2ps_domain_t *domain,
-                                 const iox2ps_dds_settings_t *settings, iox2ps_dds_gateway_t **gateway, char *why,
-                                 size_t room) IOX2PS_DDS_NOEXCEPT;
+IOX2PS_NODISCARD iox2ps_status_t iox2ps_dds_gateway_open(iox2ps_dds_gateways_t *gateways, iox2ps_domain_t *domain,
+                                                         const iox2ps_dds_settings_t *settings,
+                                                         iox2ps_dds_gateway_t **gateway, char *why,
+                                                         size_t room) IOX2PS_DDS_NOEXCEPT;
 
 /* Ends the gateway's threads, gives up what it holds, closes its ports and leaves the topic. */
 void iox2ps_dds_gateway_close(iox2ps_dds_gateway_t *gateway) IOX2PS_DDS_NOEXCEPT;
@@ -179,12 +181,12 @@ iox2ps_wide_t iox2ps_dds_publisher(const iox2ps_dds_gateway_t *gateway) IOX2PS_D
 
 /* Which node and publisher sent the message of this number, a sample's number field. It is known as long as somebody has the
  * message. IOX2PS_DDS_UNKNOWN. */
-uint32_t iox2ps_dds_origin(iox2ps_dds_gateway_t *gateway, iox2ps_wide_t number,
-                           iox2ps_dds_origin_t *origin) IOX2PS_DDS_NOEXCEPT;
+IOX2PS_NODISCARD iox2ps_status_t iox2ps_dds_origin(iox2ps_dds_gateway_t *gateway, iox2ps_wide_t number,
+                                                   iox2ps_dds_origin_t *origin) IOX2PS_DDS_NOEXCEPT;
 
 /* Gives the gateway two threads, one for each way, until it is stopped or closed. Its settings have a lock with a wait. The
  * group's forward and wait pass it over meanwhile. IOX2PS_DDS_REFUSED, IOX2PS_DDS_HAS_THREADS. */
-uint32_t iox2ps_dds_start(iox2ps_dds_gateway_t *gateway) IOX2PS_DDS_NOEXCEPT;
+IOX2PS_NODISCARD iox2ps_status_t iox2ps_dds_start(iox2ps_dds_gateway_t *gateway) IOX2PS_DDS_NOEXCEPT;
 void iox2ps_dds_stop(iox2ps_dds_gateway_t *gateway) IOX2PS_DDS_NOEXCEPT;
 
 #ifdef __cplusplus

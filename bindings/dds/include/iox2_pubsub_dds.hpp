@@ -98,6 +98,34 @@ template <typename P, typename M> struct Lock {
   }
 };
 
+/* The publisher of a gateway among those of a domain that threads share, so that a subscriber that is made later has what it keeps. */
+template <typename P, typename M> class Joined {
+public:
+  using Sender = iox2ps::detail::Sender;
+
+  Joined() = default;
+  Joined(const Domain<P, M> &domain, std::unique_ptr<Sender> sender) : domain_(&domain), sender_(std::move(sender)) {
+    if (iox2ps::detail::Raw::join(domain, *sender_) != IOX2PS_OK) sender_.reset();
+  }
+  Joined(Joined &&) noexcept = default;
+  Joined &operator=(Joined &&other) noexcept {
+    end();
+    domain_ = other.domain_;
+    sender_ = std::move(other.sender_);
+    return *this;
+  }
+  ~Joined() { end(); }
+
+private:
+  void end() noexcept {
+    if (sender_) iox2ps::detail::Raw::leave(*domain_, *sender_);
+  }
+
+  const Domain<P, M> *domain_ = nullptr;
+  std::unique_ptr<Sender> sender_;
+};
+template <typename P> class Joined<P, OneThread> {};
+
 } // namespace detail
 
 /* Ends a wait from any thread. */
@@ -164,6 +192,7 @@ public:
   Gateway(Gateway &&) noexcept = default;
   Gateway &operator=(Gateway &&other) noexcept {
     gateway_ = std::move(other.gateway_); // one that was there is closed while its domain lives
+    joined_ = std::move(other.joined_);
     domain_ = std::move(other.domain_);
     group_ = std::move(other.group_);
     return *this;
@@ -202,8 +231,8 @@ private:
   friend class Gateways;
   using Handle = std::unique_ptr<iox2ps_dds_gateway_t, detail::Closes<iox2ps_dds_gateway_t, iox2ps_dds_gateway_close>>;
 
-  Gateway(detail::GroupHandle group, std::unique_ptr<Domain<P, M>> domain, Handle gateway)
-      : Polled(std::move(group)), domain_(std::move(domain)), gateway_(std::move(gateway)) {}
+  Gateway(detail::GroupHandle group, std::unique_ptr<Domain<P, M>> domain, detail::Joined<P, M> joined, Handle gateway)
+      : Polled(std::move(group)), domain_(std::move(domain)), joined_(std::move(joined)), gateway_(std::move(gateway)) {}
 
   static iox2ps_dds_settings_t settings_of(const Settings &settings, const std::string &name, Domain<P, M> *domain) {
     iox2ps_dds_settings_t plain;
@@ -222,8 +251,20 @@ private:
                                         std::string &why) {
     auto kept = std::make_unique<Domain<P, M>>(std::move(domain));
     iox2ps_domain_t *place = nullptr;
-    auto find = [&](iox2ps_domain_t *its) { return place = its, static_cast<std::uint32_t>(IOX2PS_OK); };
-    if (iox2ps::detail::Raw::call(*kept, 0, find) != IOX2PS_OK) return why = text(Error::NotLive), std::nullopt;
+    iox2ps_wide_t service_id{};
+    auto find = [&](iox2ps_domain_t *its) {
+      iox2ps_config_t config;
+      std::uint32_t code = iox2ps_domain_config(place = its, &config);
+      if (code == IOX2PS_OK) service_id = config.service_id;
+      return code;
+    };
+    auto found = iox2ps::detail::Raw::call(*kept, 0, find);
+    if (found != IOX2PS_OK) return why = text(iox2ps::detail::error_of(found)), std::nullopt;
+    std::unique_ptr<iox2ps::detail::Sender> sender;
+    if constexpr (iox2ps::detail::is_shared<M>) {
+      sender.reset(new (std::nothrow) iox2ps::detail::Sender);
+      if (!sender) return why = text(iox2ps::detail::error_of(IOX2PS_OUT_OF_MEMORY)), std::nullopt;
+    }
     std::string name = settings.type_name.empty() ? detail::name_of<Element>() : settings.type_name;
     iox2ps_dds_settings_t plain = settings_of(settings, name, kept.get());
     iox2ps_dds_gateway_t *gateway = nullptr;
@@ -232,10 +273,17 @@ private:
       why = words;
       return std::nullopt;
     }
-    return Gateway(std::move(group), std::move(kept), Handle(gateway));
+    detail::Joined<P, M> joined;
+    if constexpr (iox2ps::detail::is_shared<M>) {
+      sender->port.service_id = service_id;
+      sender->port.id = iox2ps_dds_publisher(gateway);
+      joined = {*kept, std::move(sender)};
+    }
+    return Gateway(std::move(group), std::move(kept), std::move(joined), Handle(gateway));
   }
 
-  std::unique_ptr<Domain<P, M>> domain_; // which outlives the gateway
+  std::unique_ptr<Domain<P, M>> domain_; // which outlives the others
+  detail::Joined<P, M> joined_;
   Handle gateway_;
 };
 

@@ -152,38 +152,35 @@ void Gateway::stop() {
   group_->attach(*this);
 }
 
-/* Where the domain's waits were stopped they return at once, and something else has to take time. */
+/* Both threads sleep until something comes: a message, room, data of the topic, or the end. Where the domain's waits were stopped they
+ * return at once, and something else has to take time. */
+constexpr Nanoseconds for_good{std::int64_t{1} << 60};
+constexpr auto moment = std::chrono::milliseconds(1);
+
 void Gateway::run_out() {
-  constexpr auto turn = std::chrono::milliseconds(100);
   while (!stops_) {
     iox2ps_dds_forwarded_t now{};
     outgoing_->forward(now, 1024);
     topic_->flush();
     if (stops_) return;
     if (outgoing_->held() > 0) {
-      topic_->wait_for_room(std::chrono::milliseconds(1));
+      topic_->wait_for_room(moment);
       continue;
     }
-    auto begun = std::chrono::steady_clock::now();
-    iox2ps_dds_forwarded_t waited{};
-    outgoing_->wait(waited, turn, stops_);
+    bool came = outgoing_->wait(now, for_good, stops_);
     topic_->flush();
-    bool came = waited.sent + waited.dropped > 0 || outgoing_->held() > 0;
-    if (!came && !stops_ && std::chrono::steady_clock::now() - begun < turn) std::this_thread::sleep_for(std::chrono::milliseconds(1));
+    if (!came && !stops_) std::this_thread::sleep_for(moment);
   }
 }
 
 void Gateway::run_in() {
-  constexpr auto turn = std::chrono::milliseconds(100);
   while (!stops_) {
     iox2ps_dds_forwarded_t now{};
     if (!incoming_->is_blocked()) incoming_->forward(now, 1024);
     if (stops_) return;
-    auto begun = std::chrono::steady_clock::now();
-    if (!incoming_->is_blocked()) wait_at(waitset_, guard_, turn);
-    else incoming_->wait(now, turn, stops_);
-    bool waits_on = incoming_->is_blocked() && std::chrono::steady_clock::now() - begun < turn;
-    if (waits_on && !stops_) std::this_thread::sleep_for(std::chrono::milliseconds(1));
+    if (!incoming_->is_blocked()) wait_at(waitset_, guard_, for_good);
+    else incoming_->wait(now, for_good, stops_);
+    if (incoming_->is_blocked() && !stops_) std::this_thread::sleep_for(moment);
   }
 }
 

@@ -38,7 +38,7 @@ void Outgoing::forward(iox2ps_dds_forwarded_t &now, std::size_t most) {
   if (held() == 0) has_some_ = false;
 }
 
-void Outgoing::wait(iox2ps_dds_forwarded_t &now, Nanoseconds timeout, const std::atomic<bool> &stops) {
+bool Outgoing::wait(iox2ps_dds_forwarded_t &now, Nanoseconds timeout, const std::atomic<bool> &stops) {
   Held got;
   bool has_got = false;
   caller_.wait(IOX2PS_DDS_MESSAGE, subscriber_.id, IOX2PS_DDS_ROOM, static_cast<std::uint64_t>(timeout.count()),
@@ -50,6 +50,7 @@ void Outgoing::wait(iox2ps_dds_forwarded_t &now, Nanoseconds timeout, const std:
                });
   if (has_got) take(got);
   forward(now, 1024);
+  return has_got;
 }
 
 /* The message's bytes are in the frame then, and the domain has its slot back. */

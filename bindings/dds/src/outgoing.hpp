@@ -26,8 +26,8 @@ public:
    * never waits for its own subscriber. */
   void forward(iox2ps_dds_forwarded_t &now, std::size_t most);
 
-  /* Waits for a message so long, and takes it; for a domain that threads share. */
-  void wait(iox2ps_dds_forwarded_t &now, Nanoseconds timeout, const std::atomic<bool> &stops);
+  /* Waits for a message so long, and takes it with what came since; for a domain that threads share. Returns whether one came. */
+  bool wait(iox2ps_dds_forwarded_t &now, Nanoseconds timeout, const std::atomic<bool> &stops);
 
   std::size_t held() const { return held_.size() + (topic_.has_begun() ? 1 : 0); }
 

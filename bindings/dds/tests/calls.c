@@ -24,12 +24,17 @@ static iox2ps_dds_gateway_t *gateway;
 static pthread_mutex_t mutex = PTHREAD_MUTEX_INITIALIZER;
 static pthread_cond_t changed = PTHREAD_COND_INITIALIZER;
 
+/* With the lock: wakes the others where a call has brought them something. */
+static void wake(uint32_t brings, uint32_t code) {
+  if (iox2ps_brought_by(brings, code) != 0) pthread_cond_broadcast(&changed);
+}
+
 static uint32_t call(void *context, iox2ps_domain_t *its, uint32_t brings, iox2ps_dds_make_t make, void *what) {
   uint32_t code;
   (void)context;
   pthread_mutex_lock(&mutex);
   code = make(its, what);
-  if (brings != 0) pthread_cond_broadcast(&changed);
+  wake(brings, code);
   pthread_mutex_unlock(&mutex);
   return code;
 }
@@ -52,10 +57,10 @@ static uint32_t wait_on(void *context, iox2ps_domain_t *its, uint32_t waits, iox
   (void)port;
   pthread_mutex_lock(&mutex);
   for (code = make(its, what); code == again; code = make(its, what)) {
-    pthread_cond_broadcast(&changed); /* a send that is tried again may have reached somebody */
+    wake(brings, code);
     if (pthread_cond_timedwait(&changed, &mutex, &until) != 0) break;
   }
-  if (brings != 0) pthread_cond_broadcast(&changed);
+  wake(brings, code);
   pthread_mutex_unlock(&mutex);
   return code;
 }
@@ -113,12 +118,12 @@ static int open_all(const char *topic) {
 int main(int count, char **words) {
   const int threads = count == 4 && strcmp(words[1], "threads") == 0;
   const uint64_t wanted = count == 4 ? strtoull(words[2], NULL, 10) : 0;
-  uint64_t number, good = 0, wrong = 0, turns;
+  uint64_t number, good = 0, wrong = 0;
   iox2ps_dds_peers_t peers = {0};
   iox2ps_dds_counts_t counts;
   alarm(900); /* a program whose test is gone ends by itself */
   if (count != 4 || !open_all(words[3])) return 3;
-  for (turns = 0; turns < 3000 && (peers.readers == 0 || peers.writers == 0); turns++) {
+  while (peers.readers == 0 || peers.writers == 0) {
     poll_for(0, 20000000);
     iox2ps_dds_peers(gateway, &peers);
   }
@@ -128,7 +133,7 @@ int main(int count, char **words) {
     if (call(NULL, &domain, IOX2PS_DDS_MESSAGE, send_copy, &reading) != IOX2PS_OK) return 5;
     poll_for(threads, 0);
   }
-  for (turns = 0; turns < 30000 && good < wanted; turns++) {
+  while (good < wanted) {
     got_t got;
     poll_for(threads, 2000000);
     while (call(NULL, &domain, IOX2PS_DDS_ROOM, receive_copy, &got) == IOX2PS_OK) {
@@ -137,7 +142,7 @@ int main(int count, char **words) {
       wrong += got.reading.number != good;
     }
   }
-  number = iox2ps_dds_flush(gateways, 30000000000u);
+  number = iox2ps_dds_flush(gateways, UINT64_MAX);
   iox2ps_dds_counts(gateway, &counts);
   printf("{\"good\": %llu, \"wrong\": %llu, \"sent\": %llu, \"flushed\": %d}\n", (unsigned long long)good, (unsigned long long)wrong,
          (unsigned long long)counts.sent, number == IOX2PS_OK);

@@ -21,7 +21,7 @@ int look_role(const Options &options) {
     return peers.writers >= options.number("writers", 0) && peers.other_types >= options.number("other_types", 0) &&
            peers.incompatible_writers + peers.incompatible_readers >= options.number("incompatible", 0);
   };
-  while (!is_there(peer.gateway.peers()) && seconds_since(start) < 60) peer.gateway.wait(10ms);
+  while (!is_there(peer.gateway.peers()) && is_patient(start)) peer.gateway.wait(10ms);
   stay(peer.gateway, options);
   auto end = Clock::now() + std::chrono::seconds(options.number("hold", 0));
   while (Clock::now() < end) peer.gateway.wait(10ms);
@@ -44,7 +44,7 @@ int wake_role(const Options &options) {
     std::this_thread::sleep_for(200ms);
     waker.wake();
   });
-  peer.gateway.wait(10s);
+  peer.gateway.wait(patience);
   double first = seconds_since(start);
   other.join();
   peer.gateway.wait(100ms); // the wake was for one wait
@@ -85,12 +85,12 @@ template <typename T> int values_role(const Options &options) {
       (void)publisher.send_copy(T{static_cast<double>(number) / 2, number}).expect("a send");
       while (gateway.forward().held > 0) gateway.wait(1ms);
     }
-    flushed = gateway.flush(30s);
+    flushed = gateway.flush(patience);
     options.tell("sent");
     stay(gateway, options);
   }
   Flag until = options.flag("until");
-  while (good < options.number("expect", 0) && seconds_since(start) < 60) {
+  while (good < options.number("expect", 0) && is_patient(start)) {
     bool over = until.is_up();
     auto now = gateway.wait(10ms);
     if (over && now.received + now.dropped == 0) break;
@@ -168,8 +168,8 @@ int many_role(const Options &options) {
     (void)to_numbers.send_copy(static_cast<double>(number)).expect("a send");
     while (all->forward().held > 0) all->wait(1ms);
   }
-  while (!done() && seconds_since(start) < 60) all->wait(10ms);
-  all->flush(30s);
+  while (!done() && is_patient(start)) all->wait(10ms);
+  all->flush(patience);
   stay(*all, options);
   std::printf("{\"bytes\": %llu, \"readings\": %llu, \"numbers\": %llu}\n", static_cast<unsigned long long>(first->counts().received),
               static_cast<unsigned long long>(second->counts().received), static_cast<unsigned long long>(third->counts().received));
@@ -181,7 +181,7 @@ int churn_role(const Options &options) {
   Peer full = peer_of(options);
   auto subscriber = full.domain.subscriber().expect("a subscriber"); // which nobody empties
   auto start = Clock::now();
-  while (!full.gateway.wait(10ms).blocked && seconds_since(start) < 60) {}
+  while (!full.gateway.wait(10ms).blocked && is_patient(start)) {}
   std::this_thread::sleep_for(300ms);
   auto other = iox2ps::Domain<Bytes>::create(config_of<Bytes>(options, 64)).expect("a domain");
   std::uint64_t opened = 0;
@@ -213,7 +213,7 @@ int threads_role(const Options &options) {
   });
   Checks checks;
   auto start = Clock::now();
-  while ((checks.good < count || own < count) && seconds_since(start) < 60) {
+  while ((checks.good < count || own < count) && is_patient(start)) {
     auto sample = subscriber.timed_receive(100ms).expect("a receive");
     if (!sample) continue;
     Head head;
@@ -224,9 +224,9 @@ int threads_role(const Options &options) {
   double all = seconds_since(start);
   if (own < count || checks.good < count) domain.stop_waits(); // so that the sender ends
   sender.join();
-  bool flushed = gateway->flush(10s);
+  bool flushed = gateway->flush(patience);
   // The last one is counted once the gateway's own subscriber, which may be full, has taken it too.
-  while (gateway->counts().received < count && seconds_since(start) < 60) std::this_thread::sleep_for(1ms);
+  while (gateway->counts().received < count && is_patient(start)) std::this_thread::sleep_for(1ms);
   gateway->stop();
   std::printf("{\"own_seen\": %llu, \"all_s\": %.3f, \"flushed\": %d, ", static_cast<unsigned long long>(own), all, flushed);
   checks.print();
@@ -238,7 +238,7 @@ int threads_role(const Options &options) {
 
 /* What a child has of its parent's gateway: nothing moves, and what it closes stays its parent's. */
 int child_of(iox2ps_dds_gateways_t *gateways, iox2ps_dds_gateway_t *gateway) {
-  alarm(30);
+  alarm(static_cast<unsigned>(patience.count()));
   iox2ps_dds_forwarded_t now{1, 1, 1, 1, 1, 0};
   iox2ps_dds_forward(gateways, 10, &now);
   if (now.sent + now.received + now.dropped + now.held + now.blocked > 0) return 1;

@@ -10,14 +10,16 @@ import os, re, shutil, subprocess, sys, tempfile, time
 
 here = os.path.dirname(os.path.abspath(__file__))
 source = os.path.dirname(here)
-its_page = os.path.join(source, "..", "DDS.md")
+sys.path.insert(0, os.path.join(source, "../../tools"))
+sys.dont_write_bytecode = True
+from binding_steps.page_texts import GATEWAY_COMMANDS, GATEWAY_PROGRAM
 out = os.path.abspath(sys.argv[1])
 part = sys.argv[2] if len(sys.argv) > 2 else ""
 work = tempfile.mkdtemp()
 passed = failed = 0
 loopback = ("<CycloneDDS><Domain Id='any'><General><Interfaces><NetworkInterface name='lo'/></Interfaces><AllowMulticast>false"
             "</AllowMulticast></General><Discovery><ParticipantIndex>auto</ParticipantIndex><Peers><Peer Address='127.0.0.1'/>"
-            "</Peers></Discovery></Domain></CycloneDDS>")
+            "</Peers><LeaseDuration>60s</LeaseDuration><SPDPInterval>2s</SPDPInterval></Discovery></Domain></CycloneDDS>")
 sanitizers = "-fsanitize=address,undefined -fno-sanitize-recover=all -g -O1"
 suppressions = "--suppressions=" + os.path.join(here, "cyclonedds.supp")
 grind = "valgrind --quiet --leak-check=full --error-exitcode=9 --errors-for-leak-kinds=definite,indirect " + suppressions
@@ -27,7 +29,10 @@ few = ["small", "several", "large", "overflow", "both_ways", "late_joiner", "rec
        "threads", "c_calls", "with_security", "leaves_full", "nobody_takes_it", "forked"]
 ground = ["typed_values", "several", "bad_frames", "many_domains", "c_calls"]
 
-def run(words, limit=600, **more):
+# No test fails by how fast the machine is: so long nothing takes that goes on.
+patience = 3600
+
+def run(words, limit=patience, **more):
     done = subprocess.run(words, stdout=subprocess.PIPE, stderr=subprocess.STDOUT, text=True, timeout=limit,
                           env=dict(os.environ, CYCLONEDDS_URI=loopback), **more)
     if done.returncode != 0: raise AssertionError("%s\n%s" % (" ".join(words), done.stdout[-4000:]))
@@ -48,7 +53,7 @@ def step(name, what):
 def build(name, prefix, *options):
     folder = os.path.join(work, name)
     run(["cmake", "-S", source, "-B", folder, "-DCMAKE_PREFIX_PATH=" + prefix] + list(options))
-    run(["cmake", "--build", folder], 3600)
+    run(["cmake", "--build", folder])
     return folder
 
 def programs(name, *options):
@@ -91,13 +96,15 @@ def pkg_config():
     return version[0] + ", " + two(program, "from elsewhere")
 
 def two(program, words):
-    """Two processes of a program that ends by itself, each of which has to print these words of the other."""
-    both = [subprocess.Popen([program], stdout=subprocess.PIPE, text=True, env=dict(os.environ, CYCLONEDDS_URI=loopback)) for _ in "ab"]
-    try: said = [one.communicate(timeout=180)[0] for one in both]
-    finally:
-        for one in both: one.kill()
-    for text in said: assert words in text, text[:500]
-    return "each of two processes prints the other's readings"
+    """Two processes of a program that ends by itself after some seconds, each of which has to print these words of the other. Where they
+    haven't met by then, two others try."""
+    for _ in range(30):
+        both = [subprocess.Popen([program], stdout=subprocess.PIPE, text=True, env=dict(os.environ, CYCLONEDDS_URI=loopback)) for _ in "ab"]
+        try: said = [one.communicate(timeout=patience)[0] for one in both]
+        finally:
+            for one in both: one.kill()
+        if all(words in text for text in said): return "each of two processes prints the other's readings"
+    raise AssertionError("\n".join(text[:500] for text in said))
 
 def example():
     moved, folder = os.path.join(work, "moved"), os.path.join(work, "example")
@@ -107,16 +114,14 @@ def example():
 
 def page():
     """The program of the page, and its own lines: in a folder with links, where bindings/out is a copy."""
-    text, tree = open(its_page).read(), os.path.join(work, "page")
-    program = re.search(r"^```c\+\+\n(.*?)^```$", text, re.M | re.S).group(1)
-    lines = re.search(r"((?:^    cmake .*\n)+)^    (g\+\+ .*first_dds.*) && \./first_dds$", text, re.M)
+    program, lines, tree = GATEWAY_PROGRAM.find().group(1), GATEWAY_COMMANDS.find(), os.path.join(work, "page")
     os.makedirs(tree + "/bindings/dds")
     os.symlink(os.path.join(source, "../include"), tree + "/bindings/include")
     shutil.copytree(out, tree + "/bindings/out")
     for name in os.listdir(source):
         if name != "build": os.symlink(os.path.join(source, name), os.path.join(tree, "bindings/dds", name))
     with open(tree + "/first_dds.cpp", "w") as file: file.write(program)
-    run(["bash", "-e", "-c", (lines.group(1) + lines.group(2)).replace("/tmp/dds_build", tree + "/build")], 600, cwd=tree)
+    run(["bash", "-e", "-c", (lines.group(1) + lines.group(2)).replace("/tmp/dds_build", tree + "/build")], cwd=tree)
     return two(tree + "/first_dds", "from another process")
 
 def rust(plain):
@@ -125,14 +130,14 @@ def rust(plain):
                        IOX2PS_DDS_CASES=os.path.join(plain, "cases"), CYCLONEDDS_URI=loopback)
     words = ["cargo", "test", "-j1", "--offline", "--quiet", "--features", "dds", "--test", "dds"]
     done = subprocess.run(words, cwd=os.path.join(source, "..", "rust"), stdout=subprocess.PIPE, stderr=subprocess.STDOUT, text=True,
-                          timeout=900, env=environment)
+                          timeout=patience, env=environment)
     assert done.returncode == 0, done.stdout[-4000:]
     return re.search(r"test result: (.*?);", done.stdout).group(1)
 
 def tests(folder, names=(), **environment):
     def what():
         done = subprocess.run([sys.executable, os.path.join(here, "run.py"), folder] + list(names), stdout=subprocess.PIPE, text=True,
-                              env=dict(os.environ, **environment), timeout=3600)
+                              env=dict(os.environ, **environment), timeout=patience)
         print("".join("  " + line + "\n" for line in done.stdout.splitlines()[:-1]), end="", flush=True)
         assert done.returncode == 0, done.stdout.splitlines()[-1]
         return done.stdout.splitlines()[-1]

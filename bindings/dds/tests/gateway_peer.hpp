@@ -62,7 +62,7 @@ template <typename G> bool wait_for_peers(G &gateway, const Options &options) {
   for (;;) {
     auto peers = gateway.peers();
     if (peers.readers >= wanted && peers.writers >= wanted) return true;
-    if (seconds_since(start) > 60) return false;
+    if (!is_patient(start)) return false;
     gateway.wait(20ms);
   }
 }
@@ -71,7 +71,7 @@ template <typename G> bool wait_for_peers(G &gateway, const Options &options) {
 template <typename G> void stay(G &gateway, const Options &options) {
   Flag until = options.flag("until");
   auto start = Clock::now();
-  while (!until.path.empty() && !until.is_up() && seconds_since(start) < 120) gateway.wait(10ms);
+  while (!until.path.empty() && !until.is_up() && is_patient(start)) gateway.wait(10ms);
 }
 
 inline void print_counts(const iox2ps::dds::Counts &counts) {

@@ -41,7 +41,12 @@ uint32_t iox2ps_dds_gateway_open(iox2ps_dds_gateways_t *gateways, iox2ps_domain_
   return IOX2PS_DDS_REFUSED;
 }
 
-/* No gateway was opened, so that nobody calls this. */
+/* No gateway was opened, so that nobody calls these. */
+iox2ps_wide_t iox2ps_dds_publisher(const iox2ps_dds_gateway_t *gateway) {
+  (void)gateway;
+  abort();
+}
+
 void iox2ps_dds_gateway_close(iox2ps_dds_gateway_t *gateway) {
   (void)gateway;
   abort();

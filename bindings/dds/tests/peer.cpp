@@ -45,14 +45,14 @@ int send_role(const Options &options) {
     if (every > 0) usleep(static_cast<useconds_t>(every));
   }
   double sending = seconds_since(start);
-  bool acknowledged = peer.gateway.flush(std::chrono::seconds(options.number("flush", 20)));
+  bool acknowledged = peer.gateway.flush(std::chrono::seconds(options.number("flush", patience.count())));
   double all = seconds_since(start);
   cpu = cpu_seconds() - cpu;
   options.tell("sent");
   if (options.number("late", 0) != 0) {
     if (!wait_for_peers(peer.gateway, Options(options).with("peers", "1"))) return 4;
     send(peer, publishers[0], len, Head{static_cast<std::uint64_t>(getpid()), 0, count / publishers.size() + 1});
-    acknowledged = peer.gateway.flush(std::chrono::seconds(options.number("flush", 20)));
+    acknowledged = peer.gateway.flush(std::chrono::seconds(options.number("flush", patience.count())));
   }
   stay(peer.gateway, options);
   std::printf("{\"count\": %llu, \"sending_s\": %.3f, \"acknowledged\": %d, \"all_s\": %.3f, \"cpu_s\": %.4f, \"most_held\": %zu, ",
@@ -74,7 +74,7 @@ int receive_role(const Options &options) {
   std::uint64_t expect = options.number("expect", 1000), die_after = options.number("die_after", 0), slow = options.number("slow_us", 0);
   std::uint64_t stall_after = options.number("stall_after", 0), stall = options.number("stall_s", 0);
   std::uint64_t seen_after = options.number("seen_after", 0);
-  double idle = static_cast<double>(options.number("idle", 30)), first_idle = static_cast<double>(options.number("first", 60));
+  double idle = static_cast<double>(options.number("idle", patience.count())), first_idle = static_cast<double>(options.number("first", patience.count()));
   auto start = Clock::now(), last = start, first = start;
   double cpu = 0;
   while (checks.good < expect && seconds_since(last) < (checks.good == 0 ? first_idle : idle) && !until.is_up()) {
@@ -126,7 +126,7 @@ int both_role(const Options &options) {
   Origins own_origins, origins;
   std::optional<iox2ps::BlockedSend<Bytes>> blocked;
   auto start = Clock::now(), last = start;
-  while ((checks.good < count || own < count || blocked) && seconds_since(last) < 10) {
+  while ((checks.good < count || own < count || blocked) && is_patient(last)) {
     peer.gateway.wait(1ms);
     while (auto sample = subscriber.receive().expect("a receive")) {
       Head head;
@@ -152,7 +152,7 @@ int both_role(const Options &options) {
   double all = seconds_since(start);
   auto now = peer.gateway.forward();
   auto peers = peer.gateway.peers();
-  peer.gateway.flush(10s);
+  peer.gateway.flush(patience);
   std::printf("{\"held\": %zu, \"blocked\": %u, \"readers\": %u, \"writers\": %u, \"all_s\": %.3f, \"published\": %llu, \"own_seen\": %llu, ",
               now.held, now.blocked, peers.readers, peers.writers, all, static_cast<unsigned long long>(number),
               static_cast<unsigned long long>(own));

@@ -17,6 +17,11 @@
 
 using Clock = std::chrono::steady_clock;
 
+/* So long a program waits for another before it ends by itself, and says what it has. No machine takes that, so no test fails by how
+ * fast it is. */
+constexpr std::chrono::seconds patience{900};
+inline bool is_patient(Clock::time_point since) { return Clock::now() - since < patience; }
+
 inline double seconds_since(Clock::time_point start) { return std::chrono::duration<double>(Clock::now() - start).count(); }
 
 /* Processor time of the whole process, with the threads of DDS. */

@@ -19,7 +19,7 @@ struct Plain {
     participant = dds_create_participant(DDS_DOMAIN_DEFAULT, nullptr, nullptr);
     topic = dds_create_topic(participant, type, options.word("topic", "iox2/00000000000000000000000000000007").c_str(), nullptr, nullptr);
     dds_qos_t *qos = dds_create_qos();
-    dds_qset_reliability(qos, DDS_RELIABILITY_RELIABLE, DDS_SECS(10));
+    dds_qset_reliability(qos, DDS_RELIABILITY_RELIABLE, DDS_SECS(patience.count()));
     if (options.word("mode", "overflow") == "overflow") {
       dds_qset_history(qos, DDS_HISTORY_KEEP_LAST, static_cast<int32_t>(options.number("buffer", 16)));
     } else {
@@ -42,7 +42,7 @@ struct Plain {
   bool wait_for_peers() {
     dds_publication_matched_status_t readers{};
     dds_subscription_matched_status_t writers{};
-    for (int tries = 0; tries < 1200; tries++) {
+    for (auto start = Clock::now(); is_patient(start);) {
       dds_get_publication_matched_status(writer, &readers);
       dds_get_subscription_matched_status(reader, &writers);
       if (readers.current_count > 0 && writers.current_count > 0) return true;
@@ -82,7 +82,7 @@ int send_role(const Options &options) {
     if (number % each == 0) dds_write_flush(plain.writer);
   }
   dds_write_flush(plain.writer);
-  bool acknowledged = dds_wait_for_acks(plain.writer, DDS_SECS(20)) == DDS_RETCODE_OK;
+  bool acknowledged = dds_wait_for_acks(plain.writer, DDS_SECS(patience.count())) == DDS_RETCODE_OK;
   std::printf("{\"all_s\": %.3f, \"cpu_s\": %.4f, \"failed\": %llu, \"acknowledged\": %d}\n", seconds_since(start), cpu_seconds() - cpu, static_cast<unsigned long long>(failed), acknowledged);
   return 0;
 }
@@ -93,7 +93,7 @@ int receive_role(const Options &options) {
   Checks checks;
   auto last = Clock::now(), first = last;
   double cpu = 0;
-  while (checks.good < options.number("expect", 1000) && seconds_since(last) < (checks.good == 0 ? 60 : 30)) {
+  while (checks.good < options.number("expect", 1000) && is_patient(last)) {
     plain.wait();
     while (plain.take()) {
       checks.see(plain.taken.payload._buffer, plain.taken.payload._length);
@@ -166,7 +166,7 @@ int bad_role(const Options &options) {
     written += plain.write(bytes.data(), 0, 0);
     written += plain.write(bytes.data(), 16, 1);
     dds_write_flush(plain.writer);
-    dds_wait_for_acks(plain.writer, DDS_SECS(5)); // so that keep-last keeps all
+    dds_wait_for_acks(plain.writer, DDS_SECS(patience.count())); // so that keep-last keeps all
     dds_sleepfor(DDS_MSECS(20));
   }
   std::printf("{\"written\": %llu}\n", static_cast<unsigned long long>(written));
@@ -183,19 +183,19 @@ int hostile_role(const Options &options) {
     fill(bytes.data(), 64, Head{1, 0, number});
     plain.write(bytes.data(), 64, 64);
     dds_write_flush(plain.writer);
-    dds_wait_for_acks(plain.writer, DDS_SECS(10));
+    dds_wait_for_acks(plain.writer, DDS_SECS(patience.count()));
   }
   std::printf("{}\n");
   return 0;
 }
 
-/* How many participants of DDS there are, once there are that many or the time has passed. */
+/* How many participants of DDS there are, once there are that many. */
 int participants_role(const Options &options) {
   Plain plain(options, &iox2_msgs_msg_dds__Frame__desc);
   dds_entity_t list = dds_create_reader(plain.participant, DDS_BUILTIN_TOPIC_DCPSPARTICIPANT, nullptr, nullptr);
   auto start = Clock::now();
   dds_return_t count = 0;
-  while (count < static_cast<dds_return_t>(options.number("count", 3)) && seconds_since(start) < static_cast<double>(options.number("wait_s", 20))) {
+  while (count < static_cast<dds_return_t>(options.number("count", 3)) && is_patient(start)) {
     void *samples[64] = {};
     dds_sample_info_t infos[64];
     dds_sleepfor(DDS_MSECS(500));
@@ -210,8 +210,9 @@ int other_role(const Options &options) {
   Plain plain(options, &other_Thing_desc);
   char words[] = "another type";
   Flag until = options.flag("until");
-  for (std::uint64_t at = 0; at < 2400 && !until.is_up(); at++) {
-    other_Thing thing{static_cast<std::int32_t>(at), words};
+  auto start = Clock::now();
+  for (std::int32_t at = 0; is_patient(start) && !until.is_up(); at++) {
+    other_Thing thing{at, words};
     dds_write(plain.writer, &thing);
     dds_sleepfor(DDS_MSECS(50));
   }

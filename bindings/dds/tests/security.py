@@ -50,8 +50,8 @@ def program(folder, name, topics):
     sign(folder, name + "_permissions", permissions % (name, topics, topics))
 
 def library(name):
-    """Where Debian has Cyclone's plugins, which the loader finds elsewhere by their names."""
-    found = glob.glob("/usr/lib/*/libddsc0debian/libdds_security_%s.so" % name)
+    """Where Debian has Cyclone's plugins for this processor, which the loader finds elsewhere by their names."""
+    found = glob.glob("/usr/lib/%s-linux-*/libddsc0debian/libdds_security_%s.so" % (os.uname().machine, name))
     return found[0] if found else "dds_security_" + name
 
 def settings(folder, name):

@@ -10,9 +10,6 @@ use std::sync::atomic::{AtomicUsize, Ordering};
 use std::sync::{mpsc, Arc};
 use std::task::{Context, Poll, Wake, Waker};
 use std::thread::{self, Thread};
-use std::time::Duration;
-
-const MOMENT: Duration = Duration::from_millis(20);
 
 fn domain() -> SharedDomain<u64> {
     Domain::<u64>::builder(1)
@@ -43,12 +40,20 @@ impl Task {
 }
 
 fn run<F: Future>(future: F) -> F::Output {
+    run_counted(future, &AtomicUsize::new(0))
+}
+
+// The same, and counts how often it waits, for who asks on another thread.
+fn run_counted<F: Future>(future: F, waits: &AtomicUsize) -> F::Output {
     let mut future = Box::pin(future);
     let waker = Waker::from(Task::new());
     loop {
         match future.as_mut().poll(&mut Context::from_waker(&waker)) {
             Poll::Ready(output) => return output,
-            Poll::Pending => thread::park(),
+            Poll::Pending => {
+                waits.fetch_add(1, Ordering::SeqCst);
+                thread::park();
+            }
         }
     }
 }
@@ -90,12 +95,8 @@ fn a_task_gets_each_message_in_order_until_waits_are_stopped() {
         })
     });
     for number in 0..2000 {
-        if number % 500 == 0 {
-            thread::sleep(MOMENT);
-        }
         publisher.blocking_send_copy(number).unwrap().delivered();
     }
-    thread::sleep(MOMENT);
     domain.stop_waits(true);
     assert!(task.join().unwrap().into_iter().eq(0..2000));
 }
@@ -106,15 +107,20 @@ fn a_send_wakes_a_stream_that_waits() {
     let publisher = domain.publisher().unwrap();
     let mut messages = SubscriberStream::new(domain.subscriber().unwrap());
     let (tell, told) = mpsc::channel();
+    let waits = Arc::new(AtomicUsize::new(0));
+    let counted = waits.clone();
     let task = thread::spawn(move || {
-        run(async move {
+        let receive = async move {
             while let Some(sample) = Next(&mut messages).await {
                 tell.send(*sample.unwrap()).unwrap();
             }
-        })
+        };
+        run_counted(receive, &counted);
     });
     for number in 0..20 {
-        thread::sleep(Duration::from_millis(2)); // it has parked
+        while waits.load(Ordering::SeqCst) <= number as usize {
+            thread::yield_now();
+        }
         publisher.send_copy(number).unwrap().delivered();
         assert_eq!(told.recv(), Ok(number));
     }

@@ -11,6 +11,9 @@ use std::mem::size_of;
 
 #[cfg(feature = "dds")]
 pub mod dds;
+#[cfg(feature = "processes")]
+pub mod processes;
+pub mod shared;
 #[cfg(iox2ps_stand_in)]
 mod stand_in;
 
@@ -86,6 +89,11 @@ pub const WARNING_PUBLISHER_PARTLY_CONNECTED: u32 = 101;
 pub const WARNING_SUBSCRIBER_PARTLY_CONNECTED: u32 = 102;
 pub const WARNING_CONNECTION_NOT_MADE: u32 = 103;
 pub const WARNING_EXPIRED_DATA_DISCARDED: u32 = 104;
+
+pub const BRINGS_MESSAGE: u32 = 1;
+pub const BRINGS_ROOM: u32 = 2;
+pub const BRINGS_FREE: u32 = 4;
+pub const BRINGS_LOAN: u32 = 8;
 
 pub const CHANNEL_STATE_OPEN: u64 = 0;
 pub const CHANNEL_STATE_CLOSED: u64 = u64::MAX;
@@ -216,8 +224,21 @@ pub struct Warning {
     pub failure: u32,
 }
 
+#[repr(C)]
+#[derive(Clone, Copy, Debug)]
+pub struct Allocator {
+    pub allocate: unsafe extern "C" fn(*mut c_void, usize, usize) -> *mut c_void,
+    pub reallocate:
+        unsafe extern "C" fn(*mut c_void, *mut c_void, usize, usize, usize) -> *mut c_void,
+    pub deallocate: unsafe extern "C" fn(*mut c_void, *mut c_void),
+    pub context: *mut c_void,
+}
+
 extern "C" {
     pub fn iox2ps_version() -> u32;
+    pub fn iox2ps_set_allocator(allocator: *const Allocator) -> u32;
+    pub fn iox2ps_allocate(size: usize, alignment: usize) -> *mut c_void;
+    pub fn iox2ps_deallocate(block: *mut c_void);
     pub fn iox2ps_config_defaults_sized(
         config: *mut Config,
         struct_size: usize,
@@ -481,6 +502,23 @@ pub unsafe fn iox2ps_publisher_options_of(config: *const Config, options: *mut P
 #[inline]
 pub unsafe fn iox2ps_subscriber_options_of(config: *const Config, options: *mut SubscriberOptions) {
     iox2ps_subscriber_options_of_sized(config, options, size_of::<SubscriberOptions>());
+}
+
+/// As the header's function.
+#[inline]
+#[must_use]
+pub const fn iox2ps_brought_by(brings: u32, code: u32) -> u32 {
+    match code {
+        OK
+        | SEND_ERROR_UNABLE_TO_DELIVER
+        | SEND_ERROR_CONNECTION_OUT_OF_MEMORY
+        | CONNECTION_FAILURE_OUT_OF_MEMORY
+        | CONNECTION_FAILURE_EXPIRED_BUFFER_FULL => brings,
+        BLOCKED => brings & BRINGS_MESSAGE,
+        TOO_SMALL => brings & BRINGS_ROOM,
+        SEND_ERROR_CONNECTION_BROKEN_SINCE_SENDER_NO_LONGER_EXISTS => brings & BRINGS_LOAN,
+        _ => 0,
+    }
 }
 
 /// # Safety

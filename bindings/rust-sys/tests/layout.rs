@@ -1,8 +1,9 @@
 // SPDX-License-Identifier: Apache-2.0 OR MIT
-//! How the archive has the structs of the header in memory, on each of its processors. `tools/bindings layouts` makes this file.
+//! How the archive has the structs of the headers in memory, on each of its processors. `tools/bindings layouts` makes this file.
 use std::mem::{align_of, size_of, MaybeUninit};
 use std::ptr::addr_of;
 
+use iox2_pubsub_sys::shared::{Joined, SharedDomain};
 use iox2_pubsub_sys::*;
 
 /// Holds a struct to its size and alignment, when it is compiled, and its fields to their offsets.
@@ -121,4 +122,55 @@ lies_so! {
     subscriber 16
     kind 32
     failure 36
+}
+lies_so! {
+    allocator, Allocator, 32, 8,
+    allocate 0
+    reallocate 8
+    deallocate 16
+    context 24
+}
+lies_so! {
+    joined, Joined, 48, 8,
+    struct_size 0
+    wake 8
+    connect 16
+    waits_are_stopped 24
+    reserved 28
+    before 32
+    after 40
+}
+lies_so! {
+    shared_domain, SharedDomain, 80, 8,
+    struct_size 0
+    version 8
+    is_slice 12
+    element_size 16
+    element_alignment 24
+    call 32
+    join 40
+    leave 48
+    stop_waits 56
+    keep 64
+    release 72
+}
+
+#[test]
+fn codes_say_what_calls_have_brought() {
+    let all = [
+        (0, 15),
+        (6, 1),
+        (9, 2),
+        (20, 8),
+        (22, 15),
+        (25, 15),
+        (45, 15),
+        (46, 15),
+    ];
+    for code in 0..256 {
+        let found = all.iter().find(|pair| pair.0 == code);
+        let brings = found.map_or(0, |pair| pair.1);
+        assert_eq!(iox2ps_brought_by(15, code), brings, "{code}");
+        assert_eq!(iox2ps_brought_by(0, code), 0, "{code}");
+    }
 }

@@ -36,7 +36,7 @@
 //! # }
 //! ```
 
-use crate::domain::Domain;
+use crate::domain::{read_config, Domain};
 use crate::errors::{text, PublisherCreateError, SubscriberCreateError, AFTER_FORK};
 use crate::ids::{number, wide, UniquePublisherId};
 use crate::lock::DomainLock;
@@ -56,26 +56,8 @@ use std::rc::Rc;
 use std::sync::Arc;
 use std::time::{Duration, Instant};
 
+pub use crate::any_bytes::AnyBytes;
 pub use crate::sys::dds::{Counts, Forwarded};
-
-/// Values that any bytes are, so that bytes of another process may be read as one.
-///
-/// # Safety
-///
-/// Each pattern of bits of this size is a value: no `bool`, `char`, enum, reference, pointer or box in it.
-/// Both sides have the same layout, so a struct is `repr(C)`.
-pub unsafe trait AnyBytes: Copy + 'static {}
-
-macro_rules! any_bytes {
-    ($($number:ty),*) => { $(
-        // SAFETY: any bytes are one.
-        unsafe impl AnyBytes for $number {}
-    )* };
-}
-any_bytes!(u8, u16, u32, u64, u128, usize, i8, i16, i32, i64, i128, isize, f32, f64);
-
-// SAFETY: it has such values alone, without anything between them.
-unsafe impl<T: AnyBytes, const N: usize> AnyBytes for [T; N] {}
 
 /// Why a gateway wasn't opened.
 #[non_exhaustive]
@@ -98,7 +80,7 @@ impl GatewayError {
     // The words are C's, and a port's code says all of them.
     fn of(code: u32, why: &[c_char]) -> GatewayError {
         match code {
-            c::AFTER_FORK | AFTER_FORK => GatewayError::AfterFork,
+            c::AFTER_FORK | AFTER_FORK | sys::NO_DOMAIN => GatewayError::AfterFork,
             50..=59 => GatewayError::Publisher(PublisherCreateError::of(code)),
             60..=69 => GatewayError::Subscriber(SubscriberCreateError::of(code)),
             _ => GatewayError::Refused(words(why)),
@@ -430,7 +412,7 @@ pub struct Gateway<P: Payload + ?Sized, M: Owning = OneThread> {
     handle: *mut c::Gateway,
     // Both live longer than what the handle names.
     polled: Polled,
-    _hold: M::Hold,
+    hold: M::Hold,
     messages: PhantomData<P>,
 }
 
@@ -454,7 +436,12 @@ where
     ///
     /// As [`Gateways::add`].
     pub fn open(domain: &Domain<P, M>, settings: Settings) -> Result<Self, GatewayError> {
-        let longest = settings.max_message_size.max(domain.config().payload_size);
+        let mut config = sys::Config::default();
+        match read_config(&*domain.hold, &mut config) {
+            sys::OK => {}
+            code => return Err(GatewayError::of(code, &[0])),
+        }
+        let longest = settings.max_message_size.max(config.payload_size);
         let group = Group::open(settings.dds_domain, longest)?;
         Gateway::open_in(Polled(PhantomData, group), domain, &settings)
     }
@@ -483,10 +470,11 @@ where
             wait: Some(wait::<M::Place>),
             context: place as *const M::Place as *mut c_void,
         };
-        let mut key = null_mut();
-        let code = place.call(Brings::NOTHING, |shared| {
+        let (mut key, mut config) = (null_mut(), sys::Config::default());
+        // SAFETY: see `Shared::at`.
+        let code = place.call(Brings::NOTHING, |shared| unsafe {
             key = shared.at();
-            sys::OK
+            sys::iox2ps_domain_config(key, &mut config)
         });
         if code != sys::OK {
             return Err(GatewayError::of(code, &[0]));
@@ -498,26 +486,39 @@ where
         let code = unsafe {
             c::iox2ps_dds_gateway_open(polled.1 .0, key, &plain, &mut handle, why.as_mut_ptr(), 256)
         };
-        // The gateway has made a subscriber.
-        if code == sys::OK && M::Place::IS_SHARED {
-            place.call(Brings::SEND, |shared| {
-                shared.update_publishers();
-                sys::OK
-            });
+        if code != sys::OK {
+            return Err(GatewayError::of(code, &why));
         }
-        match code {
-            sys::OK => Ok(Gateway {
-                handle,
-                polled,
-                _hold: hold,
-                messages: PhantomData,
-            }),
-            code => Err(GatewayError::of(code, &why)),
-        }
+        let made = Gateway {
+            handle,
+            polled,
+            hold,
+            messages: PhantomData,
+        };
+        made.join(config.service_id);
+        Ok(made)
     }
 }
 
 impl<P: Payload + ?Sized, M: Owning> Gateway<P, M> {
+    // The gateway has made a subscriber and a publisher. Where threads share the domain, they are connected as those of its own
+    // handles are.
+    fn join(&self, service_id: sys::Wide) {
+        if !M::Place::IS_SHARED {
+            return;
+        }
+        let publisher = sys::Publisher {
+            service_id,
+            id: wide(self.publisher().value()),
+            ..sys::Publisher::default()
+        };
+        self.hold.call(Brings::SEND, |shared| {
+            shared.update_publishers();
+            shared.keep_publisher(&publisher);
+            sys::OK
+        });
+    }
+
     /// Moves what is there, both ways, and never waits. The same of all gateways that were added to the same
     /// [`Gateways`], as the two below.
     pub fn forward(&self) -> Forwarded {
@@ -611,8 +612,15 @@ impl<P: Payload + ?Sized, L: DomainLock> Gateway<P, ManyThreads<L>> {
 
 impl<P: Payload + ?Sized, M: Owning> Drop for Gateway<P, M> {
     fn drop(&mut self) {
+        let id = wide(self.publisher().value());
         // SAFETY: it is open, and isn't used again.
         unsafe { c::iox2ps_dds_gateway_close(self.handle) };
+        if M::Place::IS_SHARED {
+            self.hold.call(Brings::NOTHING, |shared| {
+                shared.forget_publisher(id);
+                sys::OK
+            });
+        }
     }
 }
 

@@ -23,7 +23,7 @@ impl Batch {
     pub(crate) fn turn(&mut self, shared: &mut Shared, port: &sys::Subscriber) -> u32 {
         let gave_back = self.give_back(shared);
         let code = self.take(shared, port);
-        if gave_back && code == sys::NO_SAMPLE {
+        if gave_back {
             shared.brings_too = Brings::LOAN;
         }
         code

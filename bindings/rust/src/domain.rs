@@ -1,7 +1,7 @@
 // SPDX-License-Identifier: Apache-2.0 OR MIT
 //! A domain: a service and what is in it.
 
-use crate::errors::{is_after_fork, unexpected, DomainCreateError};
+use crate::errors::{is_after_fork, is_broken, unexpected, DomainCreateError};
 use crate::guarded::Guarded;
 use crate::ids::{number, wide};
 use crate::lock::{DomainLock, StdLock};
@@ -10,6 +10,7 @@ use crate::port_factory::{PortFactoryPublisher, PortFactorySubscriber};
 use crate::publisher::{BackpressureStrategy, Publisher};
 use crate::recording::{Recording, Room};
 use crate::shared::Shared;
+use crate::static_config::StaticConfig;
 use crate::subscriber::Subscriber;
 use crate::sys;
 use crate::threads::{
@@ -62,6 +63,13 @@ impl<T: Copy + 'static> Domain<[T]> {
 }
 
 impl<P: Payload + ?Sized, M: Threads> Domain<P, M> {
+    pub(crate) fn of(hold: M::Hold) -> Self {
+        Domain {
+            hold,
+            messages: PhantomData,
+        }
+    }
+
     /// The same domain with handles that borrow it, and so cost less than those that have a counted part in
     /// it each.
     ///
@@ -127,6 +135,13 @@ impl<P: Payload + ?Sized, M: Threads> Domain<P, M> {
         number(self.config().service_id)
     }
 
+    /// The settings that it was made with.
+    #[must_use]
+    #[track_caller]
+    pub fn static_config(&self) -> StaticConfig {
+        StaticConfig::of(self.config())
+    }
+
     /// The last warnings, 32 at most, the oldest first. Reading forgets none.
     #[must_use]
     pub fn warnings(&self) -> Vec<Warning> {
@@ -137,6 +152,7 @@ impl<P: Payload + ?Sized, M: Threads> Domain<P, M> {
 
     /// How many connections of a publisher and a subscriber the domain has.
     #[must_use]
+    #[track_caller]
     pub fn connection_count(&self) -> usize {
         let mut count = 0;
         // SAFETY: see `Shared::at`.
@@ -147,6 +163,7 @@ impl<P: Payload + ?Sized, M: Threads> Domain<P, M> {
     /// How many books of slots the domain has: that of each publisher, and that of a closed one until
     /// nobody holds a slot of it.
     #[must_use]
+    #[track_caller]
     pub fn book_count(&self) -> usize {
         let mut count = 0;
         // SAFETY: see `Shared::at`.
@@ -156,6 +173,7 @@ impl<P: Payload + ?Sized, M: Threads> Domain<P, M> {
 
     /// How often memory for a connection was refused since the domain was made.
     #[must_use]
+    #[track_caller]
     pub fn refused_connections(&self) -> u64 {
         let mut count = 0;
         // SAFETY: see `Shared::at`.
@@ -178,6 +196,7 @@ impl<P: Payload + ?Sized, M: Threads> Domain<P, M> {
         config(&*self.hold)
     }
 
+    #[track_caller]
     fn ask(&self, question: impl FnOnce(&mut Shared) -> u32) {
         expect(self.hold.call(Brings::NOTHING, question));
     }
@@ -248,7 +267,7 @@ pub(crate) fn config_or_zeros(place: &impl Place) -> sys::Config {
     config
 }
 
-fn read_config(place: &impl Place, config: &mut sys::Config) -> u32 {
+pub(crate) fn read_config(place: &impl Place, config: &mut sys::Config) -> u32 {
     // SAFETY: see `Shared::at`.
     place.call(Brings::NOTHING, |shared| unsafe {
         sys::iox2ps_domain_config(shared.at(), config)
@@ -256,13 +275,15 @@ fn read_config(place: &impl Place, config: &mut sys::Config) -> u32 {
 }
 
 #[inline(always)]
+#[track_caller]
 pub(crate) fn expect(code: u32) {
     if code != sys::OK {
         unexpected(code);
     }
 }
 
-/// The same of a call that does nothing in a child after a fork, as one that gives something back.
+/// The same of a call that does nothing in a child after a fork, or where the domain can only be left, as one that gives something
+/// back.
 #[inline(always)]
 pub(crate) fn expect_here(code: u32) {
     if code != sys::OK {
@@ -272,7 +293,7 @@ pub(crate) fn expect_here(code: u32) {
 
 #[cold]
 fn not_here(code: u32) {
-    if !is_after_fork(code) {
+    if !is_after_fork(code) && !is_broken(code) {
         unexpected(code);
     }
 }
@@ -281,8 +302,8 @@ fn not_here(code: u32) {
 /// buffer of 2 and 2 borrowed samples, no history, overflow.
 #[must_use = "settings make nothing until `create`"]
 pub struct DomainBuilder<P: Payload + ?Sized> {
-    config: sys::Config,
-    recorded: Option<Room>,
+    pub(crate) config: sys::Config,
+    pub(crate) recorded: Option<Room>,
     messages: PhantomData<P>,
 }
 
@@ -412,10 +433,7 @@ impl<P: Payload + ?Sized> DomainBuilder<P> {
     /// See [`DomainCreateError`].
     pub fn create(self) -> Result<Domain<P>, DomainCreateError> {
         let shared = self.shared()?;
-        Ok(Domain {
-            hold: Single::new(shared),
-            messages: PhantomData,
-        })
+        Ok(Domain::of(Single::new(shared)))
     }
 
     /// Makes the domain for several threads. Its messages may be read by many at a time, so that they
@@ -440,11 +458,13 @@ impl<P: Payload + ?Sized> DomainBuilder<P> {
     where
         P: Send + Sync,
     {
-        let shared = self.shared()?;
-        Ok(Domain {
-            hold: Part::new(Arc::new(Guarded::new(shared))),
-            messages: PhantomData,
-        })
+        let guarded = Arc::new(Guarded::new(self.shared()?));
+        // One that stands in for an ordinary domain in a test of processes.
+        #[cfg(feature = "processes")]
+        guarded
+            .watch_others()
+            .map_err(|_| DomainCreateError::OutOfMemory)?;
+        Ok(Domain::of(Part::new(guarded)))
     }
 
     fn shared(&self) -> Result<Shared, DomainCreateError> {

@@ -11,9 +11,31 @@ use std::str;
 /// What calls of a domain that threads share return in a child after a fork, as those of C++ do.
 pub(crate) const AFTER_FORK: u32 = 0xffff_fffd;
 
+const NO_ATTACHMENTS: u32 = 0xffff_fffc;
+
+/// What a receive returns of a message that another process has sent, and that isn't as long as its type.
+#[cfg(feature = "processes")]
+pub(crate) const WRONG_LENGTH: u32 = 0xffff_fffb;
+
+#[cfg(feature = "processes")]
+const WRONG_LENGTH_TEXT: &str =
+    "WrongLength: another process has sent a message that isn't as long as the domain's type: it was given back";
+
 /// Whether a call found itself in a child after a fork, where a domain of one thread has none.
 pub(crate) fn is_after_fork(code: u32) -> bool {
     matches!(code, AFTER_FORK | sys::NO_DOMAIN)
+}
+
+/// Whether a domain that processes share can only be left.
+#[cfg(feature = "processes")]
+pub(crate) fn is_broken(code: u32) -> bool {
+    use sys::processes::{PROCESSES_DAMAGED, PROCESSES_DIVERGED};
+    matches!(code, PROCESSES_DAMAGED | PROCESSES_DIVERGED)
+}
+
+#[cfg(not(feature = "processes"))]
+pub(crate) fn is_broken(_: u32) -> bool {
+    false
 }
 
 const AFTER_FORK_TEXT: &str =
@@ -23,6 +45,10 @@ const AFTER_FORK_TEXT: &str =
 pub(crate) fn text(code: u32) -> &'static str {
     if is_after_fork(code) {
         return AFTER_FORK_TEXT;
+    }
+    #[cfg(feature = "processes")]
+    if code == WRONG_LENGTH {
+        return WRONG_LENGTH_TEXT;
     }
     let mut start = ptr::null();
     let mut len = 0;
@@ -36,6 +62,7 @@ pub(crate) fn text(code: u32) -> &'static str {
 
 /// For a code that no call of this crate gets, since its handles are live while they exist.
 #[cold]
+#[track_caller]
 pub(crate) fn unexpected(code: u32) -> ! {
     panic!("the library answered {code}: {}", text(code))
 }
@@ -49,6 +76,13 @@ macro_rules! errors {
             $($(#[$of])* $variant,)*
             /// This process is a child of the one that made the domain. This library's own.
             AfterFork,
+            /// Of a domain that processes share: its files were written over, or this process was left behind for too long. It can
+            /// only be left.
+            #[cfg(feature = "processes")]
+            Damaged,
+            /// The same: it has replied otherwise in another process than in this one.
+            #[cfg(feature = "processes")]
+            Diverged,
         }
 
         impl $name {
@@ -56,6 +90,10 @@ macro_rules! errors {
                 match code {
                     $(sys::$code => $name::$variant,)*
                     AFTER_FORK | sys::NO_DOMAIN => $name::AfterFork,
+                    #[cfg(feature = "processes")]
+                    sys::processes::PROCESSES_DAMAGED => $name::Damaged,
+                    #[cfg(feature = "processes")]
+                    sys::processes::PROCESSES_DIVERGED => $name::Diverged,
                     _ => unexpected(code),
                 }
             }
@@ -66,6 +104,10 @@ macro_rules! errors {
                 match self {
                     $($name::$variant => sys::$code,)*
                     $name::AfterFork => AFTER_FORK,
+                    #[cfg(feature = "processes")]
+                    $name::Damaged => sys::processes::PROCESSES_DAMAGED,
+                    #[cfg(feature = "processes")]
+                    $name::Diverged => sys::processes::PROCESSES_DIVERGED,
                 }
             }
         }
@@ -90,6 +132,13 @@ pub enum DomainCreateError {
     OtherVersion,
     /// This process is a child of the one that made the domain, whose recording it asks for.
     AfterFork,
+    /// Of a domain that processes share: its files were written over, or this process was left behind for too long. It can
+    /// only be left.
+    #[cfg(feature = "processes")]
+    Damaged,
+    /// The same: it has replied otherwise in another process than in this one.
+    #[cfg(feature = "processes")]
+    Diverged,
     /// Never returned: it would be `OtherVersion`.
     InvalidStructSize,
     /// Never returned: the size is that of the payload's type.
@@ -105,6 +154,10 @@ impl DomainCreateError {
         match code {
             sys::OUT_OF_MEMORY => DomainCreateError::OutOfMemory,
             AFTER_FORK | sys::NO_DOMAIN => DomainCreateError::AfterFork,
+            #[cfg(feature = "processes")]
+            sys::processes::PROCESSES_DAMAGED => DomainCreateError::Damaged,
+            #[cfg(feature = "processes")]
+            sys::processes::PROCESSES_DIVERGED => DomainCreateError::Diverged,
             sys::INVALID_STRUCT_SIZE => DomainCreateError::InvalidStructSize,
             sys::INVALID_PAYLOAD_SIZE => DomainCreateError::InvalidPayloadSize,
             sys::INVALID_PAYLOAD_ALIGNMENT => DomainCreateError::InvalidPayloadAlignment,
@@ -120,6 +173,10 @@ impl DomainCreateError {
             DomainCreateError::OutOfMemory => sys::OUT_OF_MEMORY,
             DomainCreateError::OtherVersion => u32::MAX,
             DomainCreateError::AfterFork => AFTER_FORK,
+            #[cfg(feature = "processes")]
+            DomainCreateError::Damaged => sys::processes::PROCESSES_DAMAGED,
+            #[cfg(feature = "processes")]
+            DomainCreateError::Diverged => sys::processes::PROCESSES_DIVERGED,
             DomainCreateError::InvalidStructSize => sys::INVALID_STRUCT_SIZE,
             DomainCreateError::InvalidPayloadSize => sys::INVALID_PAYLOAD_SIZE,
             DomainCreateError::InvalidPayloadAlignment => sys::INVALID_PAYLOAD_ALIGNMENT,
@@ -229,6 +286,48 @@ errors! {
     }
 }
 
+errors! {
+    /// Why nothing was attached to a [`WaitSet`](crate::WaitSet).
+    WaitSetAttachmentError {
+        /// Memory was refused. This library's own.
+        OutOfMemory = OUT_OF_MEMORY,
+    }
+}
+
+/// Why a [`WaitSet`](crate::WaitSet) didn't wait.
+#[non_exhaustive]
+#[derive(Clone, Copy, Debug, PartialEq, Eq, Hash)]
+pub enum WaitSetRunError {
+    /// Nothing is attached: the wait would have no end.
+    NoAttachments,
+    /// This process is a child of the one that made the domain of a port. This library's own.
+    AfterFork,
+}
+
+impl WaitSetRunError {
+    /// The same code as in C++.
+    #[must_use]
+    pub fn code(self) -> u32 {
+        match self {
+            WaitSetRunError::NoAttachments => NO_ATTACHMENTS,
+            WaitSetRunError::AfterFork => AFTER_FORK,
+        }
+    }
+}
+
+impl fmt::Display for WaitSetRunError {
+    fn fmt(&self, f: &mut fmt::Formatter<'_>) -> fmt::Result {
+        f.write_str(match self {
+            WaitSetRunError::NoAttachments => {
+                "NoAttachments: the WaitSet has nothing to wait for: attach something first, and keep its guard"
+            }
+            WaitSetRunError::AfterFork => AFTER_FORK_TEXT,
+        })
+    }
+}
+
+impl Error for WaitSetRunError {}
+
 /// Why a message wasn't sent, or not to everybody.
 #[non_exhaustive]
 #[derive(Clone, Copy, Debug, PartialEq, Eq, Hash)]
@@ -251,6 +350,13 @@ pub enum SendError {
     NoSuchChannel,
     /// This process is a child of the one that made the domain. This library's own.
     AfterFork,
+    /// Of a domain that processes share: its files were written over, or this process was left behind for too long. It can
+    /// only be left.
+    #[cfg(feature = "processes")]
+    Damaged,
+    /// The same: it has replied otherwise in another process than in this one.
+    #[cfg(feature = "processes")]
+    Diverged,
 }
 
 impl SendError {
@@ -265,6 +371,10 @@ impl SendError {
             sys::PUBLISHER_IS_BLOCKED => SendError::PublisherIsBlocked,
             sys::NO_SUCH_CHANNEL => SendError::NoSuchChannel,
             AFTER_FORK | sys::NO_DOMAIN => SendError::AfterFork,
+            #[cfg(feature = "processes")]
+            sys::processes::PROCESSES_DAMAGED => SendError::Damaged,
+            #[cfg(feature = "processes")]
+            sys::processes::PROCESSES_DIVERGED => SendError::Diverged,
             sys::SEND_ERROR_CONNECTION_INCOMPATIBLE_BUFFER_SIZE
             | sys::SEND_ERROR_CONNECTION_OUT_OF_MEMORY
             | sys::SEND_ERROR_CONNECTION_EXPIRED_BUFFER_FULL
@@ -290,6 +400,10 @@ impl SendError {
             SendError::PublisherIsBlocked => sys::PUBLISHER_IS_BLOCKED,
             SendError::NoSuchChannel => sys::NO_SUCH_CHANNEL,
             SendError::AfterFork => AFTER_FORK,
+            #[cfg(feature = "processes")]
+            SendError::Damaged => sys::processes::PROCESSES_DAMAGED,
+            #[cfg(feature = "processes")]
+            SendError::Diverged => sys::processes::PROCESSES_DIVERGED,
         }
     }
 }
@@ -315,6 +429,10 @@ impl From<LoanError> for SendError {
         match error {
             LoanError::PublisherIsBlocked => SendError::PublisherIsBlocked,
             LoanError::AfterFork => SendError::AfterFork,
+            #[cfg(feature = "processes")]
+            LoanError::Damaged => SendError::Damaged,
+            #[cfg(feature = "processes")]
+            LoanError::Diverged => SendError::Diverged,
             error => SendError::LoanError(error),
         }
     }
@@ -331,6 +449,17 @@ pub enum ReceiveError {
     ConnectionFailure(ConnectionFailure),
     /// This process is a child of the one that made the domain. This library's own.
     AfterFork,
+    /// Of a domain that processes share: its files were written over, or this process was left behind for too long. It can
+    /// only be left.
+    #[cfg(feature = "processes")]
+    Damaged,
+    /// The same: it has replied otherwise in another process than in this one.
+    #[cfg(feature = "processes")]
+    Diverged,
+    /// Of a domain that processes share: another one, in a language without types of messages, has sent one that isn't as long
+    /// as the type. It was given back.
+    #[cfg(feature = "processes")]
+    WrongLength,
 }
 
 impl ReceiveError {
@@ -338,6 +467,12 @@ impl ReceiveError {
         match code {
             sys::RECEIVE_ERROR_EXCEEDS_MAX_BORROWS => ReceiveError::ExceedsMaxBorrows,
             AFTER_FORK | sys::NO_DOMAIN => ReceiveError::AfterFork,
+            #[cfg(feature = "processes")]
+            sys::processes::PROCESSES_DAMAGED => ReceiveError::Damaged,
+            #[cfg(feature = "processes")]
+            sys::processes::PROCESSES_DIVERGED => ReceiveError::Diverged,
+            #[cfg(feature = "processes")]
+            WRONG_LENGTH => ReceiveError::WrongLength,
             _ => ReceiveError::ConnectionFailure(ConnectionFailure::of(code + FROM_RECEIVE)),
         }
     }
@@ -349,6 +484,12 @@ impl ReceiveError {
             ReceiveError::ExceedsMaxBorrows => sys::RECEIVE_ERROR_EXCEEDS_MAX_BORROWS,
             ReceiveError::ConnectionFailure(failure) => failure.code() - FROM_RECEIVE,
             ReceiveError::AfterFork => AFTER_FORK,
+            #[cfg(feature = "processes")]
+            ReceiveError::Damaged => sys::processes::PROCESSES_DAMAGED,
+            #[cfg(feature = "processes")]
+            ReceiveError::Diverged => sys::processes::PROCESSES_DIVERGED,
+            #[cfg(feature = "processes")]
+            ReceiveError::WrongLength => WRONG_LENGTH,
         }
     }
 }
@@ -362,8 +503,8 @@ impl fmt::Display for ReceiveError {
 impl Error for ReceiveError {
     fn source(&self) -> Option<&(dyn Error + 'static)> {
         match self {
-            ReceiveError::ExceedsMaxBorrows | ReceiveError::AfterFork => None,
             ReceiveError::ConnectionFailure(failure) => Some(failure),
+            _ => None,
         }
     }
 }

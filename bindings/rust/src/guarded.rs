@@ -10,8 +10,12 @@ use crate::shared::Shared;
 use crate::sys::{self, Wide};
 use crate::threads::{Brings, Place, Polls, Wait, WaitingPlace, Waits};
 use crate::waiting::{FutureNumber, Listed, WaitingList, Wake, Woken};
+#[cfg(feature = "processes")]
+use crate::watch::{Begun, Told, Watch};
 use std::cell::UnsafeCell;
 use std::hint::spin_loop;
+#[cfg(feature = "processes")]
+use std::io;
 use std::mem::take;
 use std::sync::atomic::{AtomicUsize, Ordering};
 use std::sync::Arc;
@@ -27,6 +31,8 @@ pub struct Guarded<L> {
     state: UnsafeCell<State>,
     changes: Changes,
     process: Process,
+    #[cfg(feature = "processes")]
+    watch: Watch,
 }
 
 // What came so far: messages, and all else. These are read without the lock too, and so lie apart from it.
@@ -42,6 +48,9 @@ struct State {
     waiting: WaitingList,
     desks: Vec<Arc<Desk>>,
     is_stopped: bool,
+    // `None` where no other process can bring anything.
+    #[cfg(feature = "processes")]
+    told: Option<Told>,
 }
 
 // SAFETY: the state is reached by `with` alone, where the lock lets one thread in at a time, and what it has may
@@ -60,9 +69,72 @@ impl<L: DomainLock> Guarded<L> {
                 waiting: WaitingList::default(),
                 desks: Vec::new(),
                 is_stopped: false,
+                #[cfg(feature = "processes")]
+                told: None,
             }),
             changes: Changes::default(),
+            #[cfg(feature = "processes")]
+            watch: Watch::default(),
         }
+    }
+
+    // Of a domain that processes share, before any thread waits: a thread sleeps for all that will.
+    #[cfg(feature = "processes")]
+    pub(crate) fn watch_others(&self) -> io::Result<()> {
+        let is_shared = self.with(|state| {
+            state.told = Told::of(&mut state.shared);
+            state.told.is_some()
+        });
+        match is_shared {
+            Some(true) => self.watch.start(self),
+            _ => Ok(()),
+        }
+    }
+
+    // What the domain's pointer is, for calls that are made without the lock.
+    #[cfg(feature = "processes")]
+    pub(crate) fn handle(&self) -> *mut std::ffi::c_void {
+        // SAFETY: nobody writes it as long as this is there.
+        unsafe { (*Shared::place(std::ptr::addr_of_mut!((*self.state.get()).shared))).domain }
+    }
+
+    // By the thread that sleeps for all. `None` in a child after a fork, which it can't be.
+    #[cfg(feature = "processes")]
+    pub(crate) fn begin_sleep(&self) -> Option<Begun> {
+        self.with(|state| {
+            let wanted = state.waiting.wanted();
+            let told = state.told.as_mut();
+            let (sleep, brings) = told.map_or((None, Brings::NOTHING), |told| {
+                told.begin(&mut state.shared, wanted)
+            });
+            let wake = self.others_brought(state, brings).map(|wake| {
+                let tasks = std::iter::from_fn(|| state.waiting.next_task()).collect();
+                (wake, tasks)
+            });
+            Begun { sleep, wake }
+        })
+    }
+
+    #[cfg(feature = "processes")]
+    fn others_brought(&self, state: &mut State, brings: Brings) -> Option<Wake> {
+        match brings {
+            Brings::NOTHING => None,
+            _ => self.brought(state, brings, sys::OK),
+        }
+    }
+
+    // Under the lock, before anybody waits: from now on calls of other processes are told that bring any of this, and what they
+    // have brought by now is. Returns whom to wake because of it.
+    #[cfg(feature = "processes")]
+    fn listens_to_others(&self, state: &mut State, wanted: Brings) -> Option<Wake> {
+        let (_, brings) = state.told.as_mut()?.begin(&mut state.shared, wanted);
+        self.others_brought(state, brings)
+    }
+
+    #[cfg(not(feature = "processes"))]
+    #[inline(always)]
+    fn listens_to_others(&self, _: &mut State, _: Brings) -> Option<Wake> {
+        None
     }
 
     // What runs here is this crate's alone, and drops nothing of a user's. `None` in a child after a fork, which may not have
@@ -88,15 +160,15 @@ impl<L: DomainLock> Guarded<L> {
         }
     }
 
-    // Under the lock: what a call that returned this code has brought. Returns whom to wake, where anybody waits.
+    // Under the lock: what calls have brought that returned this code. Returns whom to wake, where anybody waits.
     #[inline]
     fn brought(&self, state: &mut State, brings: Brings, code: u32) -> Option<Wake> {
+        let too = take(&mut state.shared.brings_too);
         let mut brings = match code {
-            sys::OK => brings,
-            sys::NO_SAMPLE => take(&mut state.shared.brings_too),
-            _ => brought_by(brings, code),
+            sys::OK => brings.and(too),
+            _ => brings.by(code).and(too),
         };
-        if brings.meets(Brings::MESSAGE) {
+        if brings.meets(Brings::MESSAGE) || waits_for_readers(code) {
             for desk in &state.desks {
                 brings = brings.and(desk.serve(&mut state.shared));
             }
@@ -116,8 +188,40 @@ impl<L: DomainLock> Guarded<L> {
 
     #[cold]
     fn next(state: &mut State, brings: Brings) -> Wake {
+        state.shared.wake_joined(brings);
         state.waiting.bring(brings);
         state.waiting.next(L::WAKES_ALL)
+    }
+
+    // Whether this is the process that made it.
+    pub(crate) fn is_here(&self) -> bool {
+        self.process.is_this()
+    }
+
+    // Another language joins: it stays at its place, and may be called on any thread, until it leaves.
+    pub(crate) fn join(&self, joined: *mut sys::shared::Joined) -> u32 {
+        let mut wake = None;
+        let code = self.with(|state| {
+            let code = state.shared.join(joined);
+            if code == sys::OK {
+                state.waiting.has_joined(true);
+                // SAFETY: it is there.
+                unsafe { (*joined).waits_are_stopped = u32::from(state.is_stopped) };
+                wake = self.listens_to_others(state, Brings::ALL);
+            }
+            code
+        });
+        if let Some(wake) = wake {
+            self.wake(wake);
+        }
+        code.unwrap_or(AFTER_FORK)
+    }
+
+    pub(crate) fn leave(&self, joined: *mut sys::shared::Joined) {
+        self.with(|state| {
+            let has_joined = state.shared.leave(joined);
+            state.waiting.has_joined(has_joined);
+        });
     }
 
     // Looks for a change without the lock, for about as long as it takes to fall asleep.
@@ -137,15 +241,27 @@ impl<L: DomainLock> Guarded<L> {
     // Sleeps, unless something came since then. Then it is in the list of those who wait.
     fn sleep(&self, wait: &Wait, seen: usize, woken: &Woken, listed: &mut Listed) {
         let thread = thread::current();
+        let mut wake = None;
         self.with(|state| {
-            if self.changes(wait.what).load(Ordering::Relaxed) == seen {
+            wake = self.listens_to_others(state, wait.what.helped_by());
+            if wake.is_none() && self.changes(wait.what).load(Ordering::Relaxed) == seen {
                 state.waiting.add(wait.what, wait.port, thread, woken);
                 listed.0 = true;
             }
         });
+        if let Some(wake) = wake {
+            self.wake(wake);
+        }
         if listed.0 {
             woken.sleep(wait.until);
         }
+    }
+}
+
+#[cfg(feature = "processes")]
+impl<L> Drop for Guarded<L> {
+    fn drop(&mut self) {
+        self.watch.end(self.process.is_this());
     }
 }
 
@@ -246,14 +362,18 @@ impl<L: DomainLock> WaitingPlace for Guarded<L> {
                     (Some(waker), last)
                 }
             };
-            (code, waits, wake, gone)
+            let later = match waits {
+                true => self.listens_to_others(state, Brings::MESSAGE),
+                false => None,
+            };
+            (code, waits, [wake, later], gone)
         });
-        let (code, waits, wake, gone) = match polled {
+        let (code, waits, wakes, gone) = match polled {
             Some(polled) => polled,
             None => return Some(AFTER_FORK),
         };
         drop(gone);
-        if let Some(wake) = wake {
+        for wake in wakes.into_iter().flatten() {
             self.wake(wake);
         }
         (!waits).then_some(code)
@@ -270,13 +390,19 @@ impl<L: DomainLock> WaitingPlace for Guarded<L> {
     }
 
     fn listen(&self, port: Wide, listener: Option<Listener>) {
+        let mut wake = None;
         let old = self.with(|state| {
             let none = Listeners::default();
             let listeners = state.waiting.listeners.as_deref().unwrap_or(&none);
             let listeners = listeners.with(port, listener);
-            state.waiting.listen(listeners)
+            let old = state.waiting.listen(listeners);
+            wake = self.listens_to_others(state, Brings::MESSAGE);
+            old
         });
         drop(old);
+        if let Some(wake) = wake {
+            self.wake(wake);
+        }
     }
 
     fn open(&self, desk: &Arc<Desk>) {
@@ -301,6 +427,8 @@ impl<L: DomainLock> WaitingPlace for Guarded<L> {
             state.is_stopped = is_stopped;
             count(&self.changes.messages);
             count(&self.changes.others);
+            state.shared.stop_joined(is_stopped);
+            state.shared.wake_joined(Brings::ALL);
             state.waiting.bring(Brings::ALL);
             state.waiting.next(true)
         });
@@ -314,21 +442,10 @@ impl<L: DomainLock> WaitingPlace for Guarded<L> {
     }
 }
 
-// Of a call that didn't return OK. One that only waits on may not bring anything to others that wait for the same, or
-// they would wake each other without end.
-#[cold]
-fn brought_by(brings: Brings, code: u32) -> Brings {
-    match code {
-        // Those before the full buffer have got the message, and nothing has ended.
-        sys::BLOCKED => brings.only(Brings::MESSAGE),
-        // An update may have been made for it.
-        sys::LOAN_ERROR_OUT_OF_MEMORY => brings.only(Brings::MESSAGE),
-        sys::LOAN_ERROR_EXCEEDS_MAX_LOANS
-        | sys::NOT_LIVE
-        | sys::NO_SUCH_CHANNEL
-        | sys::PUBLISHER_IS_BLOCKED => Brings::NOTHING,
-        _ => brings,
-    }
+// Whether a reader that asks for a turn may have what the call lacks: room, or a slot.
+#[inline]
+fn waits_for_readers(code: u32) -> bool {
+    matches!(code, sys::BLOCKED | sys::LOAN_ERROR_OUT_OF_MEMORY)
 }
 
 // Under the lock, so that nothing is lost between the two.

@@ -84,6 +84,9 @@
 // The build script knows what it sets; older compilers have no such lint.
 #![allow(unknown_lints, unexpected_cfgs)]
 
+mod alarm;
+mod any_bytes;
+mod attachments;
 mod channels;
 #[cfg(feature = "dds")]
 pub mod dds;
@@ -96,11 +99,17 @@ mod guarded;
 mod header;
 mod ids;
 mod in_place;
+mod joined_port;
 mod listeners;
 mod loan;
 mod lock;
+mod memory;
 #[cfg(target_os = "linux")]
 mod message_fd;
+#[cfg(feature = "processes")]
+mod named_domain;
+#[cfg(feature = "processes")]
+mod open_error;
 mod payload;
 mod port_factory;
 mod publisher;
@@ -108,21 +117,29 @@ mod reader;
 mod recording;
 mod sample;
 mod send_outcome;
+mod share;
 mod shared;
+mod static_config;
 mod subscriber;
 mod threads;
 mod timeout;
+mod wait_set;
 mod waiting;
 mod warning;
+#[cfg(feature = "processes")]
+mod watch;
 mod writer;
+#[cfg(feature = "processes")]
+mod zero_copy_send;
 mod zeroable;
 
 pub(crate) use iox2_pubsub_sys as sys;
 
+pub use any_bytes::AnyBytes;
 pub use domain::{Domain, DomainBuilder, SharedDomain};
 pub use errors::{
     ChannelError, ConnectionFailure, DomainCreateError, LoanError, PublisherCreateError,
-    ReceiveError, SendError, SubscriberCreateError,
+    ReceiveError, SendError, SubscriberCreateError, WaitSetAttachmentError, WaitSetRunError,
 };
 pub use events::Receive;
 pub use header::Header;
@@ -135,8 +152,13 @@ pub use in_place::Field;
 pub use in_place::{Unwritten, Written};
 pub use loan::{Loan, LoanUninit, Unsent};
 pub use lock::{DomainLock, StdLock};
+pub use memory::{reset_allocator, set_allocator, SetAllocatorError};
 #[cfg(target_os = "linux")]
 pub use message_fd::MessageFd;
+#[cfg(feature = "processes")]
+pub use named_domain::{DomainInfo, NamedDomainBuilder};
+#[cfg(feature = "processes")]
+pub use open_error::{DomainOpenError, DomainOpenErrorKind};
 pub use payload::{Payload, Value};
 pub use port_factory::{
     AllocationStrategy, DegradationAction, PortFactoryPublisher, PortFactorySubscriber,
@@ -146,8 +168,16 @@ pub use reader::Reader;
 pub use recording::Recording;
 pub use sample::Sample;
 pub use send_outcome::{BlockedSend, SendOutcome};
+pub use share::Share;
+pub use static_config::{PublisherConfig, StaticConfig, SubscriberConfig};
 pub use subscriber::{Incoming, Received, Subscriber};
 pub use threads::{Borrowed, ManyThreads, MayWait, OneThread, Threads};
+pub use wait_set::{
+    CallbackProgression, SynchronousMultiplexing, WaitSet, WaitSetAttachmentId, WaitSetGuard,
+    WaitSetRunResult,
+};
 pub use warning::{Warning, WarningKind};
 pub use writer::Writer;
+#[cfg(feature = "processes")]
+pub use zero_copy_send::ZeroCopySend;
 pub use zeroable::Zeroable;

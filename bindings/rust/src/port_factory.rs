@@ -5,6 +5,7 @@ use crate::domain::{config_or_zeros, Domain};
 use crate::errors::{PublisherCreateError, SubscriberCreateError};
 use crate::payload::Payload;
 use crate::publisher::{BackpressureAction, BackpressureStrategy, Publisher};
+use crate::static_config::{PublisherConfig, SubscriberConfig};
 use crate::subscriber::Subscriber;
 use crate::sys;
 use crate::threads::{Brings, Hold, OneThread, Place, Threads};
@@ -134,7 +135,11 @@ impl<'d, P: Payload + ?Sized, M: Threads> PortFactoryPublisher<'d, P, M> {
             code
         });
         match code {
-            sys::OK => Ok(Publisher::new(hold.of_port(), port)),
+            sys::OK => Ok(Publisher::new(
+                hold.of_port(),
+                port,
+                PublisherConfig::of(self.options),
+            )),
             _ => Err(PublisherCreateError::of(code)),
         }
     }
@@ -193,7 +198,14 @@ impl<'d, P: Payload + ?Sized, M: Threads> PortFactorySubscriber<'d, P, M> {
             code
         });
         match code {
-            sys::OK => Ok(Subscriber::new(hold.of_port(), port)),
+            sys::OK => {
+                let buffer_size = port.buffer_size; // 0 counted as 1
+                let config = SubscriberConfig::of(sys::SubscriberOptions {
+                    buffer_size,
+                    ..self.options
+                });
+                Ok(Subscriber::new(hold.of_port(), port, config))
+            }
             _ => Err(SubscriberCreateError::of(code)),
         }
     }

@@ -8,12 +8,12 @@ use crate::loan::{Loan, LoanUninit};
 use crate::payload::Payload;
 use crate::send_outcome::{outcome, SendOutcome};
 use crate::shared::Shared;
+use crate::static_config::{strategy_of, PublisherConfig};
 use crate::sys;
 use crate::threads::{Brings, MayWait, OneThread, Place, Threads, Wait, Waits};
 use crate::timeout::after;
 use crate::zeroable::Zeroable;
 use std::fmt;
-use std::marker::PhantomData;
 use std::mem::{size_of, MaybeUninit};
 use std::ptr::addr_of_mut;
 use std::time::{Duration, Instant};
@@ -47,16 +47,18 @@ pub enum BackpressureAction {
 pub struct Publisher<P: Payload + ?Sized, M: Threads = OneThread> {
     pub(crate) hold: M::Hold,
     pub(crate) port: sys::Publisher,
-    messages: PhantomData<P>,
+    config: PublisherConfig<P>,
 }
 
 impl<P: Payload + ?Sized, M: Threads> Publisher<P, M> {
-    pub(crate) fn new(hold: M::Hold, port: sys::Publisher) -> Self {
-        Publisher {
-            hold,
-            port,
-            messages: PhantomData,
-        }
+    pub(crate) fn new(hold: M::Hold, port: sys::Publisher, config: PublisherConfig<P>) -> Self {
+        Publisher { hold, port, config }
+    }
+
+    /// What it was made with.
+    #[must_use]
+    pub fn config(&self) -> PublisherConfig<P> {
+        self.config
     }
 
     /// The publisher's id, which no other port of the domain has.
@@ -68,10 +70,7 @@ impl<P: Payload + ?Sized, M: Threads> Publisher<P, M> {
     /// What it does at a full buffer, where there is no overflow.
     #[must_use]
     pub fn backpressure_strategy(&self) -> BackpressureStrategy {
-        match self.port.backpressure_strategy {
-            0 => BackpressureStrategy::RetryUntilDelivered,
-            _ => BackpressureStrategy::DiscardData,
-        }
+        strategy_of(self.port.backpressure_strategy)
     }
 
     /// Whether a send waits for a subscriber whose buffer is full. Nothing is lent or sent meanwhile.
@@ -121,8 +120,7 @@ impl<P: Payload + ?Sized, M: Threads> Publisher<P, M> {
         M: MayWait,
     {
         let mut lent = MaybeUninit::uninit();
-        // The update may bring a history.
-        let wait = self.wait_for_loan(until, Brings::MESSAGE);
+        let wait = self.wait_for_loan(until, Brings::NOTHING);
         let code = self.hold.wait(wait, |shared| {
             let code = lend(shared, &self.port, bytes, &mut lent);
             if !update_for_slots(shared, &self.port, code) {
@@ -165,10 +163,9 @@ pub(crate) fn lend(
 }
 
 // A closed subscriber's slots come back by an update of the connections alone, which a loan doesn't make.
+// A loan says its own result.
 pub(crate) fn update_for_slots(shared: &mut Shared, port: &sys::Publisher, code: u32) -> bool {
-    // SAFETY: see `Shared::at`. A loan says its own result.
-    code == sys::LOAN_ERROR_OUT_OF_MEMORY
-        && unsafe { sys::iox2ps_publisher_update_connections(shared.at(), port) } == sys::OK
+    code == sys::LOAN_ERROR_OUT_OF_MEMORY && shared.update_too(port) == sys::OK
 }
 
 #[inline(always)]

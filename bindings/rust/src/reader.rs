@@ -6,7 +6,7 @@ use crate::domain::config;
 use crate::errors::ReceiveError;
 use crate::payload::Payload;
 use crate::shared::Shared;
-use crate::subscriber::Subscriber;
+use crate::subscriber::{wrong_length, Subscriber};
 use crate::sys;
 use crate::threads::{Brings, MayWait, OneThread, Place, Threads, WaitingPlace};
 use crate::timeout::after;
@@ -94,9 +94,12 @@ impl<P: Payload + ?Sized, M: Threads> Reader<'_, P, M> {
         let batch = unsafe { &mut *self.desk.batch() };
         let got = &batch.taken[batch.read];
         batch.read += 1;
-        // SAFETY: the bytes were sent as a `P`. They stay where they are and aren't written until the message is given
-        // back, by a later call.
-        Ok(Some(unsafe { &*got.payload::<P>() }))
+        match got.payload::<P>() {
+            // SAFETY: the bytes were sent as a `P`. They stay where they are and aren't written until the message is given
+            // back, by a later call.
+            Some(payload) => Ok(Some(unsafe { &*payload })),
+            None => Err(wrong_length()),
+        }
     }
 }
 

@@ -31,11 +31,11 @@ unsafe impl<P: Payload + ?Sized + Send + Sync, M: MayWait> Sync for Sample<P, M>
 
 impl<P: Payload + ?Sized, M: Threads> Sample<P, M> {
     #[inline(always)]
-    pub(crate) fn new(hold: M::Hold, got: &Got) -> Self {
+    pub(crate) fn new(hold: M::Hold, got: &Got, payload: *const P) -> Self {
         Sample {
             hold,
             sample: got.sample,
-            payload: got.payload(),
+            payload,
         }
     }
 

@@ -164,7 +164,7 @@ impl<P: Payload + ?Sized, M: Threads> BlockedSend<P, M> {
     /// [`SendError::UnableToDeliver`], where the publisher's handler failed the send.
     pub fn retry(self, elapsed: Duration) -> Result<SendOutcome<P, M>, SendError> {
         let mut count = 0;
-        let code = self.hold.call(Brings::RETRY, |shared| {
+        let code = self.hold.call(Brings::END, |shared| {
             retry(shared, &self.blocked, elapsed, &mut count)
         });
         self.outcome(code, count)
@@ -177,7 +177,7 @@ impl<P: Payload + ?Sized, M: Threads> BlockedSend<P, M> {
     /// Those of [`retry`](BlockedSend::retry).
     pub fn give_up(self) -> Result<SendOutcome<P, M>, SendError> {
         let mut count = 0;
-        let code = self.hold.call(Brings::RETRY, |shared| {
+        let code = self.hold.call(Brings::GIVE_UP, |shared| {
             give_up(shared, &self.blocked, &mut count)
         });
         self.outcome(code, count)
@@ -232,7 +232,7 @@ impl<P: Payload + ?Sized, M: Threads> BlockedSend<P, M> {
             what: Waits::Room,
             port: self.blocked.publisher,
             until,
-            brings: Brings::RETRY,
+            brings: Brings::END,
         };
         let code = self.hold.wait(wait, |shared| {
             retry(shared, &self.blocked, started.elapsed(), &mut count)
@@ -254,7 +254,7 @@ impl<P: Payload + ?Sized, M: Threads> Drop for BlockedSend<P, M> {
     fn drop(&mut self) {
         let mut count = 0;
         // Each of these passes a subscriber over, so that it ends.
-        let code = self.hold.call(Brings::RETRY, |shared| loop {
+        let code = self.hold.call(Brings::GIVE_UP, |shared| loop {
             let code = give_up(shared, &self.blocked, &mut count);
             if code != sys::BLOCKED {
                 break code;
@@ -298,6 +298,7 @@ fn not_delivered<P: Payload + ?Sized, M: Threads>(
     }
 }
 
+// One that is blocked where it was has reached nobody, and wakes nobody.
 pub(crate) fn retry(
     shared: &mut Shared,
     blocked: &sys::Blocked,
@@ -305,9 +306,21 @@ pub(crate) fn retry(
     count: &mut usize,
 ) -> u32 {
     let nanoseconds = u64::try_from(elapsed.as_nanos()).unwrap_or(u64::MAX);
+    let before = stands_at(shared, blocked);
     // SAFETY: see `Shared::at`.
     let code = unsafe { sys::iox2ps_blocked_retry(shared.at(), blocked, nanoseconds, count) };
+    if code != sys::BLOCKED || stands_at(shared, blocked) != before {
+        shared.brings_too = Brings::MESSAGE.by(code);
+    }
     ended(shared, blocked, code)
+}
+
+// The subscriber whose buffer it waits for.
+fn stands_at(shared: &mut Shared, blocked: &sys::Blocked) -> sys::Wide {
+    let mut id = sys::Wide::default();
+    // SAFETY: see `Shared::at`. One that isn't live waits for nobody.
+    unsafe { sys::iox2ps_blocked_subscriber(shared.at(), blocked, &mut id) };
+    id
 }
 
 fn give_up(shared: &mut Shared, blocked: &sys::Blocked, count: &mut usize) -> u32 {

@@ -18,7 +18,16 @@ pub struct Shared {
     publishers: Vec<sys::Publisher>,
     // What the calls under way have brought beside what their last one says.
     pub(crate) brings_too: Brings,
+    joined: Vec<Joined>,
+    // What an update of a publisher's connections may bring: its history, where one is kept.
+    history: Brings,
 }
+
+// Another language that has joined, which stays at its place until it leaves.
+struct Joined(*mut sys::shared::Joined);
+
+// SAFETY: who joined is called on any thread, as the header says.
+unsafe impl Send for Joined {}
 
 // SAFETY: the archive has no state but its domains: no global, no thread-local, and it asks no thread
 // for its name. So a domain may be called from any thread, one call at a time.
@@ -27,24 +36,36 @@ unsafe impl Send for Shared {}
 impl Shared {
     // The code of a domain that isn't made.
     pub(crate) fn new(config: &sys::Config, recorded: Option<Room>) -> Result<Shared, u32> {
-        let process = Process::this().ok_or(sys::OUT_OF_MEMORY)?;
-        let mut domain = sys::Domain { domain: null_mut() };
         // SAFETY: as below.
-        let code = unsafe {
+        Self::made(config, |domain| unsafe {
             match recorded {
-                None => sys::iox2ps_domain_create(&mut domain, config),
+                None => sys::iox2ps_domain_create(domain, config),
                 Some(Room { commands, bytes }) => {
-                    sys::iox2ps_domain_create_recorded(&mut domain, config, commands, bytes)
+                    sys::iox2ps_domain_create_recorded(domain, config, commands, bytes)
                 }
             }
-        };
-        match code {
+        })
+    }
+
+    // Of what makes or opens one in an empty place.
+    pub(crate) fn made(
+        config: &sys::Config,
+        make: impl FnOnce(&mut sys::Domain) -> u32,
+    ) -> Result<Shared, u32> {
+        let process = Process::this().ok_or(sys::OUT_OF_MEMORY)?;
+        let mut domain = sys::Domain { domain: null_mut() };
+        match make(&mut domain) {
             sys::OK => Ok(Shared {
                 domain,
                 process,
                 orphans: Vec::new(),
                 publishers: Vec::new(),
                 brings_too: Brings::NOTHING,
+                joined: Vec::new(),
+                history: match config.history_size {
+                    0 => Brings::NOTHING,
+                    _ => Brings::MESSAGE,
+                },
             }),
             code => Err(code),
         }
@@ -80,11 +101,65 @@ impl Shared {
             // SAFETY: see `at`.
             unsafe { sys::iox2ps_publisher_update_connections(&mut self.domain, publisher) };
         }
+        for joined in &self.joined {
+            // SAFETY: it has joined, and is called with the lock.
+            unsafe { ((*joined.0).connect)(joined.0, &mut self.domain) };
+        }
+    }
+
+    // Another language joins. It stays at its place until it leaves.
+    pub(crate) fn join(&mut self, joined: *mut sys::shared::Joined) -> u32 {
+        if self.joined.try_reserve(1).is_err() {
+            return sys::OUT_OF_MEMORY;
+        }
+        self.joined.push(Joined(joined));
+        sys::OK
+    }
+
+    // Whether others are left.
+    pub(crate) fn leave(&mut self, joined: *mut sys::shared::Joined) -> bool {
+        self.joined.retain(|one| one.0 != joined);
+        !self.joined.is_empty()
+    }
+
+    pub(crate) fn stop_joined(&mut self, is_stopped: bool) {
+        for joined in &self.joined {
+            // SAFETY: it has joined, and reads this with the lock.
+            unsafe { (*joined.0).waits_are_stopped = u32::from(is_stopped) };
+        }
+    }
+
+    pub(crate) fn wake_joined(&self, brings: Brings) {
+        if brings == Brings::NOTHING {
+            return;
+        }
+        for joined in &self.joined {
+            // SAFETY: it has joined, and is called with the lock.
+            unsafe { ((*joined.0).wake)(joined.0, brings.0.into()) };
+        }
+    }
+
+    // Updates a publisher's connections beside the call that is under way.
+    pub(crate) fn update_too(&mut self, publisher: &sys::Publisher) -> u32 {
+        // SAFETY: see `at`.
+        let code = unsafe { sys::iox2ps_publisher_update_connections(self.at(), publisher) };
+        self.brings_too = self.history.by(code);
+        code
+    }
+
+    // Whether it is open, and its handle wasn't dropped.
+    pub(crate) fn has_publisher(&self, id: sys::Wide) -> bool {
+        self.publishers.iter().any(|one| one.id == id)
+    }
+
+    // It is updated no longer.
+    pub(crate) fn forget_publisher(&mut self, id: sys::Wide) {
+        self.publishers.retain(|one| one.id != id);
     }
 
     // OK, or PUBLISHER_IS_BLOCKED where it closes later.
     pub(crate) fn close_publisher(&mut self, publisher: &sys::Publisher) -> u32 {
-        self.publishers.retain(|one| one.id != publisher.id);
+        self.forget_publisher(publisher.id);
         // SAFETY: see `at`.
         let code = unsafe { sys::iox2ps_publisher_close(self.at(), publisher) };
         if code == sys::PUBLISHER_IS_BLOCKED {

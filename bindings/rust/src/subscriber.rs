@@ -2,11 +2,14 @@
 //! Receives messages.
 
 use crate::domain::expect_here;
+#[cfg(feature = "processes")]
+use crate::errors::WRONG_LENGTH;
 use crate::errors::{ConnectionFailure, ReceiveError};
 use crate::ids::UniqueSubscriberId;
 use crate::payload::Payload;
-use crate::sample::Sample;
+use crate::sample::{release, Sample};
 use crate::shared::Shared;
+use crate::static_config::SubscriberConfig;
 use crate::sys;
 use crate::threads::{Brings, MayWait, OneThread, Place, Threads, Wait, Waits};
 use crate::timeout::after;
@@ -22,14 +25,16 @@ use std::time::{Duration, Instant};
 pub struct Subscriber<P: Payload + ?Sized, M: Threads = OneThread> {
     pub(crate) hold: M::Hold,
     pub(crate) port: sys::Subscriber,
+    config: SubscriberConfig,
     messages: PhantomData<P>,
 }
 
 impl<P: Payload + ?Sized, M: Threads> Subscriber<P, M> {
-    pub(crate) fn new(hold: M::Hold, port: sys::Subscriber) -> Self {
+    pub(crate) fn new(hold: M::Hold, port: sys::Subscriber, config: SubscriberConfig) -> Self {
         Subscriber {
             hold,
             port,
+            config,
             messages: PhantomData,
         }
     }
@@ -38,6 +43,12 @@ impl<P: Payload + ?Sized, M: Threads> Subscriber<P, M> {
     #[must_use]
     pub fn id(&self) -> UniqueSubscriberId {
         UniqueSubscriberId::of(self.port.id)
+    }
+
+    /// What it was made with.
+    #[must_use]
+    pub fn config(&self) -> SubscriberConfig {
+        self.config
     }
 
     /// How many messages of one publisher may wait.
@@ -72,11 +83,22 @@ impl<P: Payload + ?Sized, M: Threads> Subscriber<P, M> {
             sys::OK => {
                 // SAFETY: with this code it is written.
                 let got = unsafe { &*got.as_ptr() };
-                Ok(Some(Sample::new(self.hold.clone(), got)))
+                match got.payload() {
+                    Some(payload) => Ok(Some(Sample::new(self.hold.clone(), got, payload))),
+                    None => Err(self.refuse(got)),
+                }
             }
             sys::NO_SAMPLE => Ok(None),
             _ => Err(ReceiveError::of(code)),
         }
+    }
+
+    // It isn't as long as its type, and goes back.
+    #[cold]
+    fn refuse(&self, got: &Got) -> ReceiveError {
+        let release = |shared: &mut Shared| release(shared, &got.sample);
+        expect_here(self.hold.call(Brings::LOAN, release));
+        wrong_length()
     }
 
     /// Receives what waits, one message after the other, and ends where nothing does or a call is
@@ -150,7 +172,26 @@ fn copy_next<T: Copy + 'static>(
         sample.as_mut_ptr(),
     );
     // SAFETY: see `Shared::at`.
-    unsafe { sys::iox2ps_subscriber_receive_copy(shared.at(), port, bytes, room, &mut len, sample) }
+    let code = unsafe {
+        sys::iox2ps_subscriber_receive_copy(shared.at(), port, bytes, room, &mut len, sample)
+    };
+    checked(code, len, room)
+}
+
+// Another process may have sent less than the type's bytes.
+#[cfg(feature = "processes")]
+#[inline]
+fn checked(code: u32, len: usize, room: usize) -> u32 {
+    match code {
+        sys::OK if len != room => WRONG_LENGTH,
+        _ => code,
+    }
+}
+
+#[cfg(not(feature = "processes"))]
+#[inline(always)]
+fn checked(code: u32, _: usize, _: usize) -> u32 {
+    code
 }
 
 #[inline]
@@ -210,10 +251,21 @@ pub(crate) struct Got {
 }
 
 impl Got {
+    /// `None` where another process has sent bytes that are no `P`.
     #[inline(always)]
-    pub(crate) fn payload<P: Payload + ?Sized>(&self) -> *const P {
-        P::at(self.start as *mut u8, self.len).expect("each message of a domain is of its type")
+    pub(crate) fn payload<P: Payload + ?Sized>(&self) -> Option<*const P> {
+        P::at(self.start as *mut u8, self.len).map(|payload| payload as *const P)
     }
+}
+
+#[cfg(feature = "processes")]
+pub(crate) fn wrong_length() -> ReceiveError {
+    ReceiveError::WrongLength
+}
+
+#[cfg(not(feature = "processes"))]
+pub(crate) fn wrong_length() -> ReceiveError {
+    panic!("each message of a domain is of its type")
 }
 
 #[inline(always)]

@@ -109,19 +109,21 @@ pub struct Brings(pub(crate) u8);
 
 impl Brings {
     pub(crate) const NOTHING: Brings = Brings(0);
-    pub(crate) const MESSAGE: Brings = Brings(1);
-    pub(crate) const ROOM: Brings = Brings(2);
+    pub(crate) const MESSAGE: Brings = Brings(sys::BRINGS_MESSAGE as u8);
+    pub(crate) const ROOM: Brings = Brings(sys::BRINGS_ROOM as u8);
     /// A publisher's send has ended.
-    pub(crate) const FREE: Brings = Brings(4);
+    pub(crate) const FREE: Brings = Brings(sys::BRINGS_FREE as u8);
     /// A loan has ended, or a slot came back.
-    pub(crate) const LOAN: Brings = Brings(8);
+    pub(crate) const LOAN: Brings = Brings(sys::BRINGS_LOAN as u8);
     pub(crate) const ALL: Brings = Brings(15);
     pub(crate) const OTHERS: Brings = Brings(14);
 
     /// Of a loan's send, and of a copy's.
     pub(crate) const SEND: Brings = Brings::MESSAGE.and(Brings::LOAN);
-    /// Of a retry and of a giving up.
-    pub(crate) const RETRY: Brings = Brings::SEND.and(Brings::FREE);
+    /// Of the end of a send that was blocked.
+    pub(crate) const END: Brings = Brings::FREE.and(Brings::LOAN);
+    /// Of a giving up, which reaches others too.
+    pub(crate) const GIVE_UP: Brings = Brings::END.and(Brings::MESSAGE);
     /// Of a receive with its release.
     pub(crate) const COPY: Brings = Brings::ROOM.and(Brings::LOAN);
 
@@ -131,6 +133,12 @@ impl Brings {
 
     pub(crate) const fn only(self, other: Brings) -> Brings {
         Brings(self.0 & other.0)
+    }
+
+    /// What of it a call has brought that returned this code: docs/DECISIONS.md, "Only a call that changed something wakes others".
+    #[inline]
+    pub(crate) const fn by(self, code: u32) -> Brings {
+        Brings(sys::iox2ps_brought_by(self.0 as u32, code) as u8)
     }
 
     #[inline]

@@ -100,6 +100,8 @@ pub(crate) struct WaitingList {
     futures: FutureNumber,
     pub(crate) listeners: Option<Arc<Listeners>>,
     messages_came: bool,
+    // Whether another language has joined the domain.
+    has_joined: bool,
     // Whether any of these is there. It is looked at in each call.
     is_used: bool,
 }
@@ -113,6 +115,7 @@ impl Default for WaitingList {
             futures: 0,
             listeners: None,
             messages_came: false,
+            has_joined: false,
             is_used: false,
         }
     }
@@ -125,8 +128,15 @@ impl WaitingList {
     }
 
     fn look(&mut self) {
-        self.is_used =
-            !self.threads.is_empty() || !self.tasks.is_empty() || self.listeners.is_some();
+        self.is_used = self.has_joined
+            || !self.threads.is_empty()
+            || !self.tasks.is_empty()
+            || self.listeners.is_some();
+    }
+
+    pub(crate) fn has_joined(&mut self, has_joined: bool) {
+        self.has_joined = has_joined;
+        self.look();
     }
 
     /// The listeners of the domain's subscribers are these from now on. Returns those before, which are to be dropped
@@ -158,6 +168,20 @@ impl WaitingList {
             self.awake -= usize::from(self.threads.remove(at).is_awake);
             self.look();
         }
+    }
+
+    /// What would help those who wait.
+    #[cfg(feature = "processes")]
+    pub(crate) fn wanted(&self) -> Brings {
+        if self.has_joined {
+            return Brings::ALL;
+        }
+        let of_tasks = match self.tasks.is_empty() && self.listeners.is_none() {
+            true => Brings::NOTHING,
+            false => Brings::MESSAGE,
+        };
+        let of_threads = self.threads.iter().map(|one| one.what.helped_by());
+        of_threads.fold(of_tasks, Brings::and)
     }
 
     /// Something came that may help those who wait for it. A thread that is awake tries again anyway.

@@ -175,8 +175,7 @@ impl<T: Copy + 'static, M: Threads> Writer<'_, T, M> {
     {
         let Publisher { hold, port, .. } = self.publisher;
         let mut lent = MaybeUninit::uninit();
-        // The update may bring a history.
-        let wait = self.wait_for(Waits::Loan, until, Brings::MESSAGE);
+        let wait = self.wait_for(Waits::Loan, until, Brings::NOTHING);
         let code = hold.wait(wait, |shared| {
             let code = lend(shared, port, size_of::<T>(), &mut lent);
             if !update_for_slots(shared, port, code) {
@@ -198,7 +197,7 @@ impl<T: Copy + 'static, M: Threads> Writer<'_, T, M> {
     {
         let Publisher { hold, port, .. } = self.publisher;
         let (started, mut receivers) = (Instant::now(), 0);
-        let wait = self.wait_for(Waits::Room, until, Brings::RETRY);
+        let wait = self.wait_for(Waits::Room, until, Brings::END);
         let ready = &mut self.ready;
         let code = hold.wait(wait, |shared| {
             let code = retry(shared, &blocked, started.elapsed(), &mut receivers);

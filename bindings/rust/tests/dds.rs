@@ -6,12 +6,14 @@ use iox2_pubsub::dds::{AnyBytes, Gateway, Gateways, Settings};
 use iox2_pubsub::{BackpressureStrategy, Domain, DomainBuilder};
 use std::env;
 use std::process::{id, Child, Command, Stdio};
+use std::sync::mpsc;
 use std::thread;
-use std::time::{Duration, Instant};
+use std::time::Duration;
 
 const LOOPBACK: &str = "<CycloneDDS><Domain Id='any'><General><Interfaces><NetworkInterface name='lo'/></Interfaces>\
     <AllowMulticast>false</AllowMulticast></General><Discovery><ParticipantIndex>auto</ParticipantIndex><Peers>\
-    <Peer Address='127.0.0.1'/></Peers></Discovery></Domain></CycloneDDS>";
+    <Peer Address='127.0.0.1'/></Peers><LeaseDuration>60s</LeaseDuration><SPDPInterval>2s</SPDPInterval></Discovery></Domain>\
+    </CycloneDDS>";
 const COUNT: u64 = 200;
 
 #[derive(Clone, Copy, Debug, PartialEq)]
@@ -84,20 +86,11 @@ fn polled(topic: &str) {
     let gateway = Gateway::open(&domain, Settings::topic(topic)).unwrap();
     let publisher = domain.publisher().unwrap();
     let subscriber = domain.subscriber().unwrap();
-    let started = Instant::now();
     while gateway.peers().readers == 0 || gateway.peers().writers == 0 {
-        assert!(
-            started.elapsed() < Duration::from_secs(60),
-            "nobody is there"
-        );
         gateway.wait(Duration::from_millis(20));
     }
     let (mut sent, mut got) = (0, 0);
     while sent < COUNT || got < COUNT {
-        assert!(
-            started.elapsed() < Duration::from_secs(120),
-            "{sent} sent, {got} came"
-        );
         if sent < COUNT && gateway.forward().held == 0 {
             sent += 1;
             let _ = publisher.send_copy(reading(sent)).unwrap();
@@ -114,7 +107,7 @@ fn polled(topic: &str) {
             assert_eq!(sample.origin(), gateway.publisher());
         }
     }
-    gateway.flush(Duration::from_secs(30)).unwrap();
+    gateway.flush(Duration::MAX).unwrap();
     assert_eq!(gateway.counts().sent, COUNT);
     assert_eq!(gateway.counts().received, COUNT);
 }
@@ -125,12 +118,7 @@ fn with_threads(topic: &str) {
     let subscriber = domain.subscriber().unwrap();
     let publisher = domain.publisher().unwrap();
     let gateway = Gateway::open(&domain, Settings::topic(topic)).unwrap();
-    let started = Instant::now();
     while gateway.peers().readers == 0 || gateway.peers().writers == 0 {
-        assert!(
-            started.elapsed() < Duration::from_secs(60),
-            "nobody is there"
-        );
         gateway.wait(Duration::from_millis(20));
     }
     assert!(gateway.start());
@@ -147,10 +135,7 @@ fn with_threads(topic: &str) {
     });
     let mut got = 0;
     while got < COUNT {
-        let sample = subscriber
-            .timed_receive(Duration::from_secs(60))
-            .unwrap()
-            .expect("a message within a minute");
+        let sample = subscriber.blocking_receive().unwrap().unwrap();
         if gateway.origin(&sample).is_some() {
             got += 1;
             assert_eq!(*sample, reading(got));
@@ -158,7 +143,7 @@ fn with_threads(topic: &str) {
     }
     drop(subscriber); // its own messages still came
     drop(sender.join().unwrap());
-    gateway.flush(Duration::from_secs(30)).unwrap();
+    gateway.flush(Duration::MAX).unwrap();
     gateway.stop();
     assert_eq!(gateway.counts().sent, COUNT);
 }
@@ -219,13 +204,18 @@ fn a_wait_is_ended_by_another_thread() {
     let domain = settings().create().unwrap();
     let gateway = Gateway::open(&domain, Settings::topic(&topic("waker"))).unwrap();
     let waker = gateway.waker();
-    let started = Instant::now();
+    // Each ends one wait, whichever of the two comes first.
+    let (tell, told) = mpsc::channel();
     let other = thread::spawn(move || {
-        thread::sleep(Duration::from_millis(100));
-        waker.wake();
+        for () in told {
+            waker.wake();
+        }
     });
-    gateway.wait(Duration::from_secs(60));
-    assert!(started.elapsed() < Duration::from_secs(10));
+    for _ in 0..20 {
+        tell.send(()).unwrap();
+        gateway.wait(Duration::MAX);
+    }
+    drop(tell);
     other.join().unwrap();
 }
 
@@ -249,9 +239,8 @@ fn a_struct_of_cpp_comes_and_another_does_not() {
             .stdout(Stdio::null())
             .spawn()
             .unwrap();
-        let (mut got, started) = (0, Instant::now());
+        let mut got = 0;
         while gateway.counts().received + gateway.counts().other_type < 50 {
-            assert!(started.elapsed() < Duration::from_secs(60));
             gateway.wait(Duration::from_millis(10));
             while let Some(sample) = subscriber.receive().unwrap() {
                 got += 1;

@@ -1,6 +1,8 @@
 // SPDX-License-Identifier: Apache-2.0 OR MIT
 //! Receives in tasks and event loops, and what is called when a message may have come.
 
+mod turns;
+
 use iox2_pubsub::{Domain, LoanError, ManyThreads, SharedDomain, Subscriber};
 use std::future::Future;
 use std::sync::atomic::{AtomicUsize, Ordering};
@@ -8,6 +10,7 @@ use std::sync::{mpsc, Arc, Mutex};
 use std::task::{Context, Poll, Wake, Waker};
 use std::thread::{self, Thread};
 use std::time::{Duration, Instant};
+use turns::{asleep_after, Watched};
 
 const MOMENT: Duration = Duration::from_millis(20);
 
@@ -53,28 +56,32 @@ fn polls(subscriber: &Subscriber<u64, ManyThreads>, waker: &Waker) -> bool {
 
 #[test]
 fn a_task_waits_for_messages() {
-    let domain = domain();
+    let domain = Domain::<u64>::builder(1).enable_safe_overflow(false);
+    let domain = domain.create_with_lock::<Watched>().unwrap();
     let publisher = domain.publisher().unwrap();
-    let subscriber = domain.subscriber().unwrap();
-    let task = thread::spawn(move || {
-        run(async move {
-            let mut all = Vec::new();
-            while let Some(sample) = subscriber.receive_async().await.unwrap() {
-                all.push(*sample);
-            }
-            all
-        })
-    });
-    for number in 0..50 {
-        if number % 10 == 0 {
-            thread::sleep(MOMENT / 4);
+    let subscriber = &domain.subscriber().unwrap();
+    thread::scope(|scope| {
+        // A poll that finds nothing takes the lock once, and then the task is woken, whether it has parked or not.
+        let task = asleep_after(scope, 1, || {
+            run(async {
+                let mut all = Vec::new();
+                while let Some(sample) = subscriber.receive_async().await.unwrap() {
+                    all.push(*sample);
+                }
+                all
+            })
+        });
+        // Each message by itself: a poll that finds it, its release, and the next poll; and then one behind the other.
+        for number in 0..25 {
+            publisher.send_copy(number).unwrap().delivered();
+            task.has_had(1 + 3 * (number as usize + 1));
         }
-        publisher.blocking_send_copy(number).unwrap().delivered();
-        thread::sleep(Duration::from_micros(300));
-    }
-    thread::sleep(MOMENT);
-    domain.stop_waits(true);
-    assert!(task.join().unwrap().into_iter().eq(0..50));
+        for number in 25..50 {
+            publisher.blocking_send_copy(number).unwrap().delivered();
+        }
+        domain.stop_waits(true);
+        assert!(task.join().into_iter().eq(0..50));
+    });
 }
 
 #[test]
@@ -148,7 +155,6 @@ fn two_tasks_share_a_subscriber_and_a_stop_ends_both() {
             .collect();
         for number in 0..200 {
             publisher.blocking_send_copy(number).unwrap().delivered();
-            thread::sleep(Duration::from_micros(100));
         }
         while subscriber.has_samples().unwrap() {
             thread::yield_now();

@@ -3,11 +3,14 @@
 #![cfg(unix)]
 
 use iox2_pubsub::{
-    BlockedSend, ChannelError, ChannelId, ConnectionFailure, Domain, DomainBuilder,
-    DomainCreateError, DomainLock, Loan, LoanError, Publisher, PublisherCreateError, ReceiveError,
-    Sample, SendError, Subscriber, SubscriberCreateError, Threads, CHANNEL_STATE_OPEN,
+    BlockedSend, CallbackProgression, ChannelError, ChannelId, ConnectionFailure, ConnectionId,
+    Domain, DomainBuilder, DomainCreateError, DomainLock, Loan, LoanError, ManyThreads, Publisher,
+    PublisherCreateError, ReceiveError, Sample, SendError, Subscriber, SubscriberCreateError,
+    Threads, WaitSet, WaitSetAttachmentError, WaitSetRunError, WaitSetRunResult,
+    CHANNEL_STATE_OPEN,
 };
 use std::future::Future;
+use std::ops::ControlFlow;
 use std::panic::{catch_unwind, set_hook, AssertUnwindSafe};
 use std::pin::Pin;
 use std::sync::atomic::{AtomicBool, Ordering};
@@ -19,11 +22,24 @@ use std::time::Duration;
 extern "C" {
     fn fork() -> i32;
     fn waitpid(process: i32, status: *mut i32, options: i32) -> i32;
-    fn alarm(seconds: u32) -> u32;
     fn _exit(status: i32) -> !;
 }
 
-// Runs this in a child, which ends within some seconds, and whose panic is a failure here.
+#[cfg(target_os = "linux")]
+fn end_with_parent() {
+    extern "C" {
+        fn prctl(option: i32, ...) -> i32;
+    }
+    const PR_SET_PDEATHSIG: i32 = 1;
+    const SIGKILL: std::os::raw::c_ulong = 9;
+    // SAFETY: this option takes a number.
+    assert_eq!(unsafe { prctl(PR_SET_PDEATHSIG, SIGKILL) }, 0);
+}
+
+#[cfg(not(target_os = "linux"))]
+fn end_with_parent() {}
+
+// Runs this in a child, whose panic is a failure here. One that waits for good ends when this program is ended.
 #[track_caller]
 fn in_child(run: impl FnOnce()) {
     let mut status = -1;
@@ -32,14 +48,14 @@ fn in_child(run: impl FnOnce()) {
         let child = fork();
         assert!(child >= 0, "a child");
         if child == 0 {
-            alarm(30);
+            end_with_parent();
             // The others may have the lock of what is printed to.
             set_hook(Box::new(|_| {}));
             _exit(i32::from(catch_unwind(AssertUnwindSafe(run)).is_err()));
         }
         assert_eq!(waitpid(child, &mut status, 0), child);
     }
-    assert_eq!(status, 0, "the child failed, or waited for good");
+    assert_eq!(status, 0, "the child failed");
 }
 
 fn keeping() -> DomainBuilder<u64> {
@@ -119,6 +135,37 @@ impl<M: Threads> World<M> {
         // All else is dropped here.
     }
 
+    // Each call on a channel, and each question that has no error to return.
+    fn questions_are_refused(&self) {
+        let (publisher, subscriber) = (&self.publisher, &self.subscriber);
+        let (channel, connection) = (ChannelId::default(), ConnectionId::new(0));
+        let state = CHANNEL_STATE_OPEN;
+        let is_refused = |result: Result<(), ChannelError>| {
+            assert_eq!(result, Err(ChannelError::AfterFork));
+        };
+        let has = publisher.has_channel_state(channel, connection, state);
+        is_refused(has.map(drop));
+        let has = publisher.has_disconnect_hint(channel, connection, state);
+        is_refused(has.map(drop));
+        is_refused(publisher.close_channel(channel, connection, state));
+        let has = subscriber.at_least_one_channel_has_state(channel, state);
+        is_refused(has.map(drop));
+        is_refused(subscriber.set_channel_state(channel, state).map(drop));
+        is_refused(subscriber.set_disconnect_hint(channel, state));
+        let updated = subscriber.update_connections();
+        assert_eq!(updated, Err(ConnectionFailure::AfterFork));
+        let panics = |question: &dyn Fn()| {
+            assert!(catch_unwind(AssertUnwindSafe(question)).is_err());
+        };
+        panics(&|| drop(self.domain.warnings()));
+        panics(&|| assert_eq!(self.domain.book_count(), 0));
+        panics(&|| assert_eq!(self.domain.refused_connections(), 0));
+        panics(&|| assert_eq!(self.blocked.subscriber(), subscriber.id()));
+        panics(&|| assert_eq!(self.sample.header().publisher_id(), publisher.id()));
+        panics(&|| drop(subscriber.reader()));
+        panics(&|| assert_eq!(publisher.get_connection_id_of(subscriber.id()), None));
+    }
+
     // All is as it was.
     fn goes_on(self) {
         assert_eq!((*self.sample, *self.loan), (1, 2));
@@ -140,6 +187,7 @@ fn a_child_is_refused_by_a_domain_of_one_thread() {
     let world = World::of(keeping().create().unwrap());
     // SAFETY: the child has a copy of it, as it is.
     in_child(|| unsafe { std::ptr::read(&world) }.all_is_refused());
+    in_child(|| world.questions_are_refused());
     world.goes_on();
 }
 
@@ -148,6 +196,73 @@ fn a_child_is_refused_by_a_shared_domain() {
     let world = World::of(keeping().create_shared().unwrap());
     // SAFETY: as above.
     in_child(|| unsafe { std::ptr::read(&world) }.all_is_refused());
+    in_child(|| world.questions_are_refused());
+    // On a thread of the child too, which drops what it has of the parent's.
+    in_child(|| {
+        // SAFETY: as above.
+        let copy = unsafe { std::ptr::read(&world) };
+        std::thread::spawn(move || copy.all_is_refused())
+            .join()
+            .unwrap();
+    });
+    world.goes_on();
+}
+
+// What would wait, and has nobody who wakes it: each call that ends a loan or a blocked send once.
+fn waits_are_refused(world: World<ManyThreads>) {
+    let World {
+        publisher,
+        subscriber,
+        loan,
+        blocked,
+        ..
+    } = world;
+    let hour = Duration::from_secs(3600);
+    let refused = ReceiveError::AfterFork;
+    assert_eq!(subscriber.blocking_receive().map(drop), Err(refused));
+    assert_eq!(subscriber.timed_receive(hour).map(drop), Err(refused));
+    let read = subscriber.blocking_for_each(|_| ControlFlow::Continue(()));
+    assert_eq!(read, Err(refused));
+    let mut reader = subscriber.reader_with_capacity(2);
+    assert_eq!(reader.blocking_receive(), Err(refused));
+    assert_eq!(reader.timed_receive(hour), Err(refused));
+    drop(reader);
+    let lent = publisher.timed_loan_uninit(hour).map(drop);
+    assert_eq!(lent, Err(LoanError::AfterFork));
+    let refused = SendError::AfterFork;
+    assert_eq!(publisher.blocking_send_copy(7).map(drop), Err(refused));
+    let sent = publisher.timed_send_copy(7, hour).map(drop);
+    assert_eq!(sent, Err(refused));
+    let mut writer = publisher.writer();
+    assert_eq!(writer.blocking_send(7).map(drop), Err(refused));
+    assert_eq!(writer.timed_send(7, hour).map(drop), Err(refused));
+    drop(writer);
+    assert_eq!(loan.timed_send(hour).unwrap_err().error(), refused);
+    assert_eq!(blocked.blocking_retry().map(drop), Err(refused));
+    subscriber.clear_listener();
+}
+
+#[test]
+fn a_child_waits_for_nobody() {
+    let world = World::of(keeping().create_shared().unwrap());
+    // SAFETY: the child has a copy of it, as it is.
+    in_child(|| waits_are_refused(unsafe { std::ptr::read(&world) }));
+    in_child(|| {
+        // SAFETY: as above.
+        let World { loan, blocked, .. } = unsafe { std::ptr::read(&world) };
+        let sent = loan.blocking_send().map(drop);
+        assert_eq!(sent, Err(SendError::AfterFork));
+        let retried = blocked.timed_retry(Duration::from_secs(3600)).map(drop);
+        assert_eq!(retried, Err(SendError::AfterFork));
+    });
+    in_child(|| {
+        // SAFETY: as above.
+        let World { loan, blocked, .. } = unsafe { std::ptr::read(&world) };
+        let kept = loan.send_or_keep().unwrap_err();
+        assert_eq!(kept.error(), SendError::AfterFork);
+        let given_up = blocked.give_up().map(drop);
+        assert_eq!(given_up, Err(SendError::AfterFork));
+    });
     world.goes_on();
 }
 
@@ -179,6 +294,31 @@ fn a_child_does_not_wait() {
     });
     publisher.send_copy(1).unwrap().delivered();
     assert_eq!(subscriber.blocking_receive_copy(), Ok(Some(1)));
+}
+
+#[test]
+fn a_childs_set_waits_for_nobody() {
+    let domain = keeping().create_shared().unwrap();
+    let (publisher, subscriber) = (domain.publisher().unwrap(), domain.subscriber().unwrap());
+    let set = WaitSet::new();
+    let guard = set.attach_notification(&subscriber).unwrap();
+    let stops = |_| CallbackProgression::Stop;
+    // Where nothing came since, its parent's set wouldn't ask.
+    let nothing = set.wait_and_process_once_with_timeout(stops, Duration::ZERO);
+    assert_eq!(nothing, Ok(WaitSetRunResult::AllEventsHandled));
+    in_child(|| {
+        let refused = WaitSetRunError::AfterFork;
+        assert_eq!(set.wait_and_process(stops), Err(refused));
+        assert_eq!(refused.code(), WaitSetAttachmentError::AfterFork.code());
+        let attached = set.attach_notification(&publisher).map(drop);
+        assert_eq!(attached, Err(WaitSetAttachmentError::AfterFork));
+        // SAFETY: the child has a copy of it, as it is.
+        drop(unsafe { std::ptr::read(&guard) });
+        assert!(set.is_empty());
+    });
+    publisher.send_copy(1).unwrap().delivered();
+    let ended = set.wait_and_process(stops);
+    assert_eq!(ended, Ok(WaitSetRunResult::StopRequest));
 }
 
 // A lock that stays with who has it, as long as this is said.

@@ -1,13 +1,9 @@
 // SPDX-License-Identifier: Apache-2.0 OR MIT
-//! What a program does that leaks, panics, asks for too much or waits in vain: safe code stays safe, and the domain goes on.
+//! What a program does that leaks, panics or asks for too much: safe code stays safe, and the domain goes on.
 
 use iox2_pubsub::{Domain, DomainBuilder, LoanError, PublisherCreateError};
 use std::mem::forget;
 use std::panic::{catch_unwind, AssertUnwindSafe};
-use std::sync::atomic::{AtomicUsize, Ordering};
-use std::sync::Arc;
-use std::thread::{self, sleep};
-use std::time::Duration;
 
 fn panics<R>(run: impl FnOnce() -> R) {
     assert!(catch_unwind(AssertUnwindSafe(run)).is_err());
@@ -129,27 +125,4 @@ fn a_callback_and_a_listener_call_the_domain() {
     publisher.send_copy(1).unwrap().delivered();
     subscriber.clear_listener();
     assert_eq!(subscriber.receive_copy().unwrap(), Some(1));
-}
-
-// Threads that wait for a loan in vain don't wake each other.
-#[test]
-fn threads_that_wait_in_vain_are_quiet() {
-    let domain = Domain::<u64>::builder(1).create_shared().unwrap();
-    let (publisher, subscriber) = (domain.publisher().unwrap(), domain.subscriber().unwrap());
-    let calls = Arc::new(AtomicUsize::new(0));
-    let counted = calls.clone();
-    subscriber.set_listener(move || {
-        counted.fetch_add(1, Ordering::SeqCst);
-    });
-    let held = (publisher.loan().unwrap(), publisher.loan().unwrap());
-    thread::scope(|scope| {
-        for _ in 0..4 {
-            scope.spawn(|| publisher.blocking_send_copy(1).map(|sent| sent.delivered()));
-        }
-        sleep(Duration::from_millis(200));
-        // Each may have tried some times before it slept.
-        assert!(calls.load(Ordering::SeqCst) < 100);
-        domain.stop_waits(true);
-    });
-    drop(held);
 }

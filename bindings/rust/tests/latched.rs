@@ -1,11 +1,14 @@
 // SPDX-License-Identifier: Apache-2.0 OR MIT
 //! Where threads share a domain, a subscriber that comes late gets what its publishers keep at once.
 
+mod turns;
+
 use iox2_pubsub::{DegradationAction, Domain, DomainBuilder};
 use std::sync::atomic::{AtomicUsize, Ordering};
 use std::sync::Arc;
 use std::thread;
 use std::time::Duration;
+use turns::{asleep_after, Watched, TO_SLEEP};
 
 fn latching(history: usize) -> DomainBuilder<u64> {
     Domain::<u64>::builder(1)
@@ -24,9 +27,9 @@ fn a_latched_message_comes_to_who_waits() {
     thread::scope(|scope| {
         let waits = scope.spawn(|| {
             let later = domain.subscriber().unwrap();
-            later.timed_receive_copy(Duration::from_secs(20))
+            later.blocking_receive_copy()
         });
-        assert_eq!(waits.join().unwrap().unwrap(), Some(7));
+        assert_eq!(waits.join().unwrap(), Ok(Some(7)));
     });
 }
 
@@ -96,6 +99,34 @@ fn a_publisher_whose_send_waits_refuses_no_subscriber() {
     assert_eq!(blocked.retry(Duration::ZERO).unwrap().delivered(), Some(1));
     publisher.update_connections().unwrap();
     assert_eq!(late.receive_copy().unwrap(), Some(3));
+}
+
+// A publisher that couldn't connect to a late subscriber does so where a loan of it waits for a slot. The loan doesn't get one, and
+// who waits gets the history.
+#[test]
+fn an_update_for_a_loan_wakes_who_waits() {
+    let domain = latching(1).enable_safe_overflow(false);
+    let domain = domain.subscriber_max_buffer_size(1);
+    let domain = domain.create_with_lock::<Watched>().unwrap();
+    let two_slots = domain.publisher_builder();
+    let two_slots = two_slots.override_sample_preallocation(|_| 2);
+    let publisher = two_slots.create().unwrap();
+    let first = domain.subscriber().unwrap();
+    publisher.send_copy(1).unwrap().delivered();
+    let blocked = publisher.send_copy(2).unwrap().blocked().unwrap();
+    let late = domain.subscriber().unwrap();
+    let sample = first.receive().unwrap().unwrap();
+    assert_eq!(blocked.retry(Duration::ZERO).unwrap().delivered(), Some(1));
+    thread::scope(|scope| {
+        let receive = || late.blocking_receive_copy().unwrap();
+        let receives = asleep_after(scope, TO_SLEEP, receive);
+        let lends = asleep_after(scope, TO_SLEEP, || {
+            publisher.blocking_loan_uninit().map(drop)
+        });
+        assert_eq!(receives.join(), Some(2));
+        drop(sample);
+        assert_eq!(lends.join(), Ok(()));
+    });
 }
 
 // A connection with a buffer of this length needs more memory than there are addresses.

@@ -10,9 +10,9 @@ use iox2_pubsub::{
 use std::cell::UnsafeCell;
 use std::ffi::c_void;
 use std::sync::atomic::{AtomicUsize, Ordering};
-use std::sync::Barrier;
+use std::sync::{mpsc, Arc, Barrier};
 use std::thread;
-use std::time::{Duration, Instant};
+use std::time::Duration;
 use turns::{asleep_after, Watched, TO_SLEEP};
 
 extern "C" {
@@ -30,6 +30,11 @@ const PTHREAD_PRIO_INHERIT: i32 = 1;
 
 // Lends its holder the priority of whoever waits for it. The C library's mutex has 40 bytes, and stays where it is.
 struct Inheriting(Box<UnsafeCell<[u64; 16]>>);
+
+thread_local! {
+    // How often this thread has had one, for who asks on another thread.
+    static TURNS: Arc<AtomicUsize> = Arc::default();
+}
 
 // SAFETY: a mutex is for many threads.
 unsafe impl Send for Inheriting {}
@@ -69,6 +74,7 @@ unsafe impl DomainLock for Inheriting {
         // SAFETY: it was made.
         assert_eq!(unsafe { pthread_mutex_lock(self.0.get().cast()) }, 0);
         let _unlock = Unlock(self);
+        TURNS.with(|turns| turns.fetch_add(1, Ordering::SeqCst));
         run()
     }
 }
@@ -131,8 +137,16 @@ fn a_lock_with_inheritance_is_brought() {
     let waits = Duration::from_millis(5);
     assert!(subscriber.timed_receive(waits).unwrap().is_none());
     thread::scope(|scope| {
-        let receives = scope.spawn(|| subscriber.blocking_receive().unwrap().is_none());
-        thread::sleep(waits);
+        let (tell, told) = mpsc::channel();
+        let subscriber = &subscriber;
+        let receives = scope.spawn(move || {
+            tell.send(TURNS.with(Arc::clone)).unwrap();
+            subscriber.blocking_receive().unwrap().is_none()
+        });
+        let turns = told.recv().unwrap();
+        while turns.load(Ordering::SeqCst) < TO_SLEEP {
+            thread::yield_now();
+        }
         domain.stop_waits(true);
         assert!(receives.join().unwrap());
     });
@@ -203,9 +217,8 @@ fn a_lock_lets_in_one_thread_at_a_time() {
         come.wait();
         lock.hold(|| {
             assert_eq!(inside.fetch_add(1, Ordering::SeqCst), 0);
-            // The others are on their way, and have time to come in.
-            let started = Instant::now();
-            while started.elapsed() < Duration::from_millis(20) {
+            // The others are on their way, and have turns to come in.
+            for _ in 0..200 {
                 assert_eq!(inside.load(Ordering::SeqCst), 1);
                 thread::yield_now();
             }

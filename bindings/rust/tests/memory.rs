@@ -2,7 +2,10 @@
 //! No call that passes a message takes memory, whether it waits or not. What is counted here is what this crate takes; the
 //! archive's own is counted by `tools/memory_of_messages`.
 
-use iox2_pubsub::{Domain, DomainBuilder, MayWait, Publisher, SendOutcome, Subscriber};
+use iox2_pubsub::{
+    CallbackProgression, Domain, DomainBuilder, MayWait, Publisher, SendOutcome, Subscriber,
+    WaitSet, WaitSetRunResult,
+};
 use std::alloc::{GlobalAlloc, Layout, System};
 use std::cell::Cell;
 use std::future::Future;
@@ -154,6 +157,33 @@ fn a_writer_takes_none_nor_does_a_reader_that_was_made() {
             writer.send(number).unwrap().delivered();
             assert_eq!(reader.blocking_receive().unwrap(), Some(&number));
         }
+    });
+}
+
+#[test]
+fn a_set_takes_none_where_it_waits() {
+    let domain = Domain::<u64>::builder(1).create_shared().unwrap();
+    let (publisher, subscriber) = (domain.publisher().unwrap(), domain.subscriber().unwrap());
+    let set = WaitSet::new();
+    let moment = Duration::from_millis(1);
+    let of_subscriber = set.attach_deadline(&subscriber, moment).unwrap();
+    let _of_publisher = set.attach_notification(&publisher).unwrap();
+    let _of_time = set.attach_interval(moment).unwrap();
+    let (mut events, mut missed) = (0, 0);
+    takes_none(|| {
+        publisher.send_copy(1).unwrap().delivered();
+        let ended = set.wait_and_process(|id| {
+            if id.has_event_from(&of_subscriber) {
+                assert_eq!(subscriber.receive_copy(), Ok(Some(1)));
+            }
+            missed += usize::from(id.has_missed_deadline(&of_subscriber));
+            events += 1;
+            match events < 20 || missed == 0 {
+                true => CallbackProgression::Continue,
+                false => CallbackProgression::Stop,
+            }
+        });
+        assert_eq!(ended, Ok(WaitSetRunResult::StopRequest));
     });
 }
 

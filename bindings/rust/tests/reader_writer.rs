@@ -244,10 +244,8 @@ fn a_reader_waits_for_so_long_and_until_waits_are_stopped() {
             (all, reader)
         });
         for number in 0..3 {
-            thread::sleep(MOMENT / 4);
             assert!(is_delivered(publisher.send_copy(number)));
         }
-        thread::sleep(MOMENT);
         domain.stop_waits(true);
         let (all, mut reader) = reads.join().unwrap();
         assert_eq!(all, [0, 1, 2]);

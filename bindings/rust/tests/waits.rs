@@ -252,21 +252,20 @@ fn threads_of_one_subscriber_get_each_message_once_though_their_time_is_up() {
 
 #[test]
 fn one_message_wakes_no_thread_for_good() {
-    let domain = keeping(4);
+    let domain = watched(4);
     let publisher = domain.publisher().unwrap();
     let subscriber = domain.subscriber().unwrap();
     let (tell, told) = mpsc::channel();
     thread::scope(|scope| {
         for _ in 0..3 {
             let (tell, subscriber) = (tell.clone(), &subscriber);
-            scope.spawn(move || {
+            asleep_after(scope, TO_SLEEP, move || {
                 while let Some(number) = subscriber.blocking_receive_copy().unwrap() {
                     tell.send(number).unwrap();
                 }
             });
         }
         for number in 0..100 {
-            thread::sleep(Duration::from_micros(500));
             publisher.send_copy(number).unwrap().delivered();
             assert_eq!(told.recv(), Ok(number));
         }
@@ -373,7 +372,7 @@ fn a_loan_comes_back_where_the_time_is_up() {
         SendError::PublisherIsBlocked
     );
     drop(blocked);
-    // That loan is spent, so that two may be lent.
+    // That loan is consumed, so that two may be lent.
     let _two = [publisher.loan().unwrap(), publisher.loan().unwrap()];
     assert_eq!(subscriber.receive_copy().unwrap(), Some(1));
 }

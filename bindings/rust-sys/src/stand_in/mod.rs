@@ -5,6 +5,7 @@
 //! It has neither texts, recordings nor warnings, and memory is refused by the system alone.
 
 mod domains;
+mod memory;
 mod message;
 mod model;
 mod ports;

@@ -182,6 +182,18 @@ pub fn asleep_after<'s, T: Send + 's>(
     watch
 }
 
+/// Starts a thread, and returns when it sleeps in its first wait. Where it is woken it stops before the lock, until it is told
+/// to go on.
+#[track_caller]
+pub fn asleep_and_stopped<'s, T: Send + 's>(
+    scope: &'s Scope<'s, '_>,
+    run: impl FnOnce() -> T + Send + 's,
+) -> Watch<'s, T> {
+    let watch = start(scope, TO_SLEEP, run);
+    watch.has_had(TO_SLEEP);
+    watch
+}
+
 /// Starts a thread, and returns when it has had the lock that often. The thread waits before the lock then,
 /// until it is told to go on.
 #[track_caller]

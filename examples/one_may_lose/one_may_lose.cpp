@@ -1,6 +1,7 @@
 // SPDX-License-Identifier: Apache-2.0 OR MIT
 /** One subscriber may lose messages, another may not. The domain has no overflow, and a display closes its channel while it is
- * busy, so that sends pass it over. Fails if a recorder misses a frame. */
+ * busy, so that sends pass it over. A send still waits for it if two messages arrive between its opening and its next receive.
+ * Fails if a recorder misses a frame. */
 #include "iox2_pubsub_shared.hpp"
 #include <cstdio>
 #include <thread>

@@ -1,43 +1,46 @@
 // SPDX-License-Identifier: Apache-2.0 OR MIT
 //! Records what it calls, and prints the recording, which `tools/replay` runs again.
-
 use iox2_pubsub::{Domain, Publisher, SendOutcome, Subscriber};
 use std::error::Error;
+use std::mem::size_of;
 use std::time::Duration;
+
+#[derive(Clone, Copy, Default)]
+struct Reading {
+    number: u32,
+    millidegrees: u32,
+}
 
 // Sends two readings. The second waits for a subscriber that is full.
 fn send(
-    publisher: &Publisher<[u16]>,
-    subscriber: &Subscriber<[u16]>,
+    publisher: &Publisher<Reading>,
+    subscriber: &Subscriber<Reading>,
 ) -> Result<(), Box<dyn Error>> {
-    let mut loan = publisher.loan_slice(3)?;
-    loan[1] = 205;
-    eprintln!("sent to {:?}", loan.send()?.delivered());
-    let sent = publisher.send_slice_copy(&[210, 215])?;
-    for sample in subscriber {
-        eprintln!("read {:?}", &*sample?);
-    }
+    let mut loan = publisher.loan()?;
+    loan.number = 1;
+    loan.millidegrees = 20500;
+    drop(loan.send()?);
+    let sent = publisher.send_copy(Reading {
+        number: 2,
+        millidegrees: 21000,
+    })?;
+    drop(subscriber.receive()?);
     if let SendOutcome::Blocked(blocked) = sent {
-        let taken = blocked.retry(Duration::from_millis(3))?.delivered();
-        eprintln!("retried for {taken:?}");
+        drop(blocked.retry(Duration::ZERO)?);
     }
     Ok(())
 }
 
 fn main() -> Result<(), Box<dyn Error>> {
-    let domain = Domain::<[u16]>::slice_builder(7)
-        .max_slice_len(4)
+    let domain = Domain::<Reading>::builder(7)
         .subscriber_max_buffer_size(1)
         .enable_safe_overflow(false)
-        .record(200, 8)
+        .record(200, size_of::<Reading>())
         .create()?;
-    let publisher = domain.publisher()?;
-    let subscriber = domain.subscriber()?;
+    let (subscriber, publisher) = (domain.subscriber()?, domain.publisher()?);
     send(&publisher, &subscriber)?;
-    assert!(subscriber.has_samples()?);
-    let late = domain.subscriber()?;
+    let _late = domain.subscriber()?;
     publisher.update_connections()?;
-    drop((publisher, subscriber, late));
     let recording = domain.recording()?;
     assert_eq!(recording.missed, 0);
     print!("{}", recording.text);

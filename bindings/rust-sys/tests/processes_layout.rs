@@ -1,0 +1,44 @@
+// SPDX-License-Identifier: Apache-2.0 OR MIT
+//! How the library for processes has the structs of its header in memory. `tools/processes rust` holds C to these lines, too.
+#![cfg(feature = "processes")]
+
+use iox2_pubsub_sys::processes::{DomainInfo, Options};
+use std::mem::{align_of, size_of, MaybeUninit};
+use std::ptr::addr_of;
+
+macro_rules! lies_so {
+    ($test:ident, $type:ident, $size:literal, $alignment:literal, $($field:ident $offset:literal)*) => {
+        const _: () = assert!(size_of::<$type>() == $size && align_of::<$type>() == $alignment);
+
+        #[test]
+        fn $test() {
+            let value = MaybeUninit::<$type>::uninit();
+            let start = value.as_ptr();
+            // SAFETY: an address inside of the value is taken, and nothing is read.
+            $(assert_eq!(unsafe { addr_of!((*start).$field) } as usize - start as usize, $offset, stringify!($field));)*
+        }
+    };
+}
+
+lies_so! {
+    processes_options, Options, 48, 8,
+    struct_size 0
+    max_processes 8
+    calls 12
+    book_room 16
+    payload_room 24
+    permissions 32
+    reap_every_ms 36
+    spins 40
+    reserved 44
+}
+lies_so! {
+    domain_info, DomainInfo, 416, 8,
+    name 0
+    type_name 256
+    payload_size 384
+    payload_alignment 392
+    max_processes 400
+    processes 404
+    domains 408
+}
