@@ -1,5 +1,5 @@
 # SPDX-License-Identifier: Apache-2.0 OR MIT
-"""What stands in a file of an edit: lines 'file:', 'old:' and 'new:', and whom it is for ('proof: CRATE', 'tests: CRATE')."""
+"""What stands in a file of an edit: lines 'file:', 'old:' and 'new:', and whom it is for ('proof: CRATE', 'tests: CRATE', 'prints: CRATE')."""
 
 
 def read(path):

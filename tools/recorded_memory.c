@@ -5,32 +5,12 @@
  *   recorded_memory ROOM CALLS
  *
  * The recording has room for ROOM commands. CALLS calls are made on each domain, from the ports on: more than there is room for, if
- * you like. It prints how many they are, and its status is 0 where each call succeeds and makes as many allocations on both.
- *
- * It is linked with -Wl,--wrap=malloc -Wl,--wrap=realloc. */
+ * you like. It prints how many they are, and its status is 0 where each call succeeds and makes as many allocations on both. */
+#include "../bindings/c/allocations.h"
 #include "../bindings/include/iox2_pubsub.h"
 #include <stdio.h>
-#include <stdlib.h>
 
 enum { LOANS = 40, KINDS = 5 };
-
-/* How many allocations were made. */
-static size_t allocations;
-
-void *__real_malloc(size_t size);
-void *__real_realloc(void *old, size_t size);
-void *__wrap_malloc(size_t size);
-void *__wrap_realloc(void *old, size_t size);
-
-void *__wrap_malloc(size_t size) {
-  allocations++;
-  return __real_malloc(size);
-}
-
-void *__wrap_realloc(void *old, size_t size) {
-  allocations++;
-  return __real_realloc(old, size);
-}
 
 /* A domain, and what its calls made. */
 typedef struct {

@@ -79,6 +79,7 @@ REFUSED = (
     ("domain.subscriber().unwrap().blocking_receive().unwrap();", "make it by `create_shared`"),
     ("domain.publisher().unwrap().blocking_send_copy(1).unwrap();", "one of a domain that threads share"),
     ("Domain::<[u8]>::builder(7);", "made by `Domain::slice_builder`"),
+    ("let _ = iox2_pubsub::WaitSet::new().attach_notification(&domain.subscriber().unwrap());", "ports of a domain that threads share"),
 )
 
 

@@ -1,29 +1,33 @@
 # SPDX-License-Identifier: Apache-2.0 OR MIT
-"""What is compiled here for another processor, and run by an emulator: all programs of C and C++, projects of CMake and cargo, the crates."""
+"""What is compiled here for another processor, and run by an emulator: all programs of C and C++, projects of CMake and
+cargo, the crates, the wheel for Python."""
 import os
 import re
 import shutil
 import subprocess
 from pathlib import Path
 
-from . import layouts, recordings
+from . import build_sums, determinism, emulated_dds, layouts, python_wheels, recordings
 from .headers import same_functions
-from .places import BINDINGS, is_here
-from .programs import OWN_MALLOC, ROWS, WRAPS, check_example, compile_program
+from .page_texts import BOARDS, OTHER_LINKER, words
+from .places import FIRST_C, is_here
+from .programs import OTHER_VERSION, OWN_MALLOC, ROWS, WRAPS, compile_program, run_source
 from .random_calls import compare_with_run
 from .steps import Failed, said
 from .targets import X86_64
 
 SEEDS = range(1, 4)
+ARCHIVE = "lib/libiox2_pubsub.a"
 READING = "aarch64: 12 readings, the last is 11\n"
 # Where Debian's own Rust has the standard library for other targets, and its programs.
 NO_RUST = "Rust for {} (Debian's cargo, rustc and libstd-rust-dev:arm64, or rustup's)"
 STANDARD_LIBRARIES, DEBIANS = Path("/usr/lib/rustlib"), Path("/usr/bin")
 
 
-# Debian 12's emulator never returns from a dynamically linked program that starts a thread, where the kernel is new (6.18). So programs are
-# linked with -static, and none runs longer than this.
-MOST_SECONDS = 600
+# Programs are linked with -static, so that this machine's libraries don't matter, and none runs longer than this.
+MOST_SECONDS = 3600
+# These have a malloc of their own, which a static program can't have beside that of the C library.
+DYNAMIC = ("cpp/allocations.cpp", "c/own_memory.c", "cpp/own_memory.cpp")
 
 
 class Emulated:
@@ -36,7 +40,8 @@ class Emulated:
         """A file of bindings as a program that can be called here: a line of shell that has the emulator run what was compiled."""
         compiler = self.target.compilers[standard.startswith("c++")]
         program = self.work / (name or f"{source}_{standard}".replace("/", "_").replace(".", "_"))
-        compile_program(compiler, source, standard, program.with_suffix(".elf"), "-static", *flags, out=self.target.out)
+        linked = () if source in DYNAMIC else ("-static",)
+        compile_program(compiler, source, standard, program.with_suffix(".elf"), *linked, *flags, out=self.target.out)
         program.write_text(f'#!/bin/sh\nexec timeout {MOST_SECONDS} {" ".join(self.target.emulator)} "$0.elf" "$@"\n')
         program.chmod(0o755)
         return program
@@ -44,10 +49,17 @@ class Emulated:
     def run(self, source, standard, *flags):
         """Compiles a program and runs it."""
         program = self.compile(source, standard, *flags)
-        return check_example(program, work=self.work) if "thermometer" in source else said(program)
+        return run_source(source, program, work=self.work)
 
 
 # ---- C and C++
+
+
+def run_dynamic(emulated):
+    """A program that starts threads over the cross compiler's C library, as the page has it run."""
+    compiler, program = emulated.target.compilers[0], emulated.work / "dynamic"
+    compile_program(compiler, "c/threads.c", "c11", program, "-O1", out=emulated.target.out)
+    return said("timeout", MOST_SECONDS, *emulated.target.emulator, program)
 
 
 def run_programs(steps, emulated):
@@ -55,11 +67,15 @@ def run_programs(steps, emulated):
     c, cpp = emulated.target.compilers
     nm = c.removesuffix("gcc") + "nm"
     steps.run("the archive has the functions of the header", same_functions, emulated.target.out / "lib/libiox2_pubsub.a", nm)
+    steps.run("the archive says its build's sum", build_sums.says_it, emulated.target.out / "lib/libiox2_pubsub.a", emulated.target, emulated.work)
+    steps.run("what decides a call", determinism.run, emulated.target.out / "lib/libiox2_pubsub.a", emulated.target, emulated.work)
     steps.run(f"how structs lie in memory, {c}", layouts.holds, (c, cpp), emulated.target.out / "include")
     for source, standard, _ in ROWS:
         steps.run(f"{source}, {emulated.target.name} {standard}", emulated.run, source, standard, "-O1")
     for source in ("c/heap.c", *OWN_MALLOC):
         steps.run(f"{source}, {emulated.target.name} c11", emulated.run, source, "c11", "-O1", *WRAPS)
+    steps.run(f"c/threads.c, {emulated.target.name} c11, dynamic", run_dynamic, emulated)
+    steps.run(f"cpp/version.cpp, {emulated.target.name} c++17", emulated.run, "cpp/version.cpp", "c++17", *OTHER_VERSION)
 
 
 def run_random(steps, emulated, script_of_run):
@@ -101,8 +117,8 @@ def same_random_recording(emulated, seed):
 
 def run_recordings(steps, emulated, replayer):
     """What was recorded by the emulator is replayed on this machine, and is what this machine records."""
-    if (X86_64.out / "lib/libiox2_pubsub.a").exists():
-        for source, standard in (("c/recorded.c", "c11"), ("cpp/recorded.cpp", "c++17")):
+    if (X86_64.out / ARCHIVE).exists():
+        for source, standard in (("c/recorded.c", "c11"), (recordings.EXAMPLE, "c++17")):
             steps.run(f"{source}, recorded on both processors", same_recording, emulated, source, standard)
         for seed in SEEDS:
             steps.run(f"c/random_calls.c, recorded on both processors, seed {seed}", same_random_recording, emulated, seed)
@@ -113,7 +129,7 @@ def run_recordings(steps, emulated, replayer):
         return
     for source, standard, received in (
         ("c/recorded.c", "c11", recordings.RECEIVED_IN_C),
-        ("cpp/recorded.cpp", "c++17", recordings.RECEIVED_IN_CPP),
+        (recordings.EXAMPLE, "c++17", recordings.RECEIVED_IN_EXAMPLE),
     ):
         program = emulated.compile(source, standard, "-O1")
         steps.run(f"{source}, {emulated.target.name}, replayed here", recordings.record_and_replay, emulated.work, replayer, received, program)
@@ -177,6 +193,17 @@ def other_cmake(emulated):
     return words
 
 
+def no_plain(emulated):
+    """A project that asks for the archive for every x86-64 processor is told that there is none."""
+    folder = project(emulated)
+    toolchain = folder / "cross" / f"{emulated.target.triple.replace('-unknown', '')}.cmake"
+    words = (f"-DCMAKE_TOOLCHAIN_FILE={toolchain}", f"-DCMAKE_PREFIX_PATH={folder}", "-DIOX2PS_PLAIN=ON")
+    written = said("cmake", "-S", folder / "cross", "-B", emulated.work / "plain", *words, fails=True)
+    if "IOX2PS_PLAIN asks for the archive for every x86-64 processor" not in " ".join(written.split()):
+        raise Failed(written)
+    return "there is none"
+
+
 def rust_for(target):
     """Where the compiler and cargo are that have a standard library for a target: Debian's, or those on the path. None where none has."""
     if (STANDARD_LIBRARIES / target.triple).exists() and (DEBIANS / "cargo").exists():
@@ -188,12 +215,12 @@ def rust_for(target):
     return None
 
 
-def cargo(emulated, folder, rust, *words, fails=False, **more):
+def cargo(emulated, folder, rust, *words, fails=False, both=True, **more):
     """What a cargo writes that has the target's standard library."""
     places = {"CARGO_TARGET_DIR": str(emulated.work / "target"), "PATH": f"{rust}:{os.environ['PATH']}"}
     environment = {**os.environ, **places, **more}
     environment.pop("IOX2_PUBSUB_LIB_DIR", None)
-    return said("cargo", *words, cwd=folder, env=environment, fails=fails)
+    return said("cargo", *words, cwd=folder, env=environment, fails=fails, both=both)
 
 
 def by_cargo(emulated, rust):
@@ -212,32 +239,46 @@ def other_cargo(emulated, rust):
     return f"no archive for {X86_64.triple}"
 
 
-def tests_of_cargo(emulated, rust, crate):
-    """The tests of a crate, whose harness starts threads."""
-    target = emulated.target
+def by_emulator(target):
+    """How cargo is told by whom a target's programs are linked, and who runs them."""
     name = f"CARGO_TARGET_{target.triple.upper().replace('-', '_')}"
-    places = {
+    return {
         f"{name}_LINKER": target.compilers[0],
         f"{name}_RUNNER": f"timeout {MOST_SECONDS} {' '.join(target.emulator)}",
         f"{name}_RUSTFLAGS": "-C target-feature=+crt-static",
     }
-    written = cargo(emulated, project(emulated) / crate, rust, "test", "--offline", "--tests", "--target", target.triple, **places)
+
+
+def tests_of_cargo(emulated, rust, crate):
+    """The tests of a crate, whose harness starts threads."""
+    target = emulated.target
+    words = ("test", "--offline", "--tests", "--target", target.triple)
+    written = cargo(emulated, project(emulated) / crate, rust, *words, **by_emulator(target))
     results = re.findall(r"^test result: .* (\d+) passed; (\d+) failed", written, re.M)
     return f"{sum(int(passed) for passed, _ in results)} passed, {sum(int(failed) for _, failed in results)} failed"
 
 
+def same_recording_in_rust(emulated, rust):
+    """The same calls in Rust give the same bytes of a recording on both processors."""
+    words, target = ("run", "--offline", "--quiet", "--bin", "recording"), emulated.target
+    mine = cargo(emulated, X86_64.out / "examples", rust, *words, both=False)
+    theirs = cargo(emulated, project(emulated) / "examples", rust, *words, "--target", target.triple, both=False, **by_emulator(target))
+    if mine != theirs:
+        raise Failed(f"{X86_64.name} records\n{mine[:2000]}\nand {target.name}\n{theirs[:2000]}")
+    return f"{len(mine)} bytes on both"
+
+
 def other_linker(emulated):
     """This machine's linker says of the archive that it is another's: the page has its words."""
-    folder, page = emulated.target.out, (BINDINGS / "AARCH64.md").read_text()
-    first = ("gcc", "-I", folder / "include", BINDINGS / "c/first.c", "-o", emulated.work / "other_first")
-    for library, words in (
-        ([folder / "lib/libiox2_pubsub.a"], (f"Relocations in generic ELF (EM: {emulated.target.machine})", "error adding symbols: file in wrong format")),
-        (["-L", folder / "lib", "-liox2_pubsub"], ("skipping incompatible", "cannot find -liox2_pubsub")),
-    ):
+    folder = emulated.target.out
+    first = ("gcc", "-I", folder / "include", FIRST_C, "-o", emulated.work / "other_first")
+    libraries = ([folder / "lib/libiox2_pubsub.a"], ["-L", folder / "lib", "-liox2_pubsub"])
+    for library, texts in zip(libraries, OTHER_LINKER):
         written = said(*first, *library, fails=True)
-        for line in words:
-            if line not in written or line not in page:
-                raise Failed(f"AARCH64.md or the linker doesn't say {line!r}:\n{written}")
+        for text in texts:
+            words(BOARDS, text).find()
+            if text not in written:
+                raise Failed(f"the linker doesn't say {text!r}, as {BOARDS} does:\n{written}")
     return "as AARCH64.md says"
 
 
@@ -248,6 +289,7 @@ def run_projects(steps, emulated):
     if is_here("cmake"):
         steps.run(f"cross, cmake for {name}", by_cmake, emulated)
         steps.run(f"cross, cmake for another processor than {name}", other_cmake, emulated)
+        steps.run(f"cross, cmake for {name} with IOX2PS_PLAIN", no_plain, emulated)
     else:
         steps.skip(f"cross, cmake for {name}", "cmake")
     rust = rust_for(emulated.target)
@@ -258,6 +300,8 @@ def run_projects(steps, emulated):
     steps.run(f"cross, cargo for another processor than {name}", other_cargo, emulated, rust)
     for crate in ("rust-sys", "rust"):
         steps.run(f"{crate}, cargo test for {name}", tests_of_cargo, emulated, rust, crate)
+    if (X86_64.out / ARCHIVE).exists():
+        steps.run("rust, recorded on both processors", same_recording_in_rust, emulated, rust)
 
 
 def run_emulated(steps, work, target, script_of_run, replayer):
@@ -271,3 +315,5 @@ def run_emulated(steps, work, target, script_of_run, replayer):
     run_recordings(steps, emulated, replayer)
     steps.run(f"a message from C, {target.name}", cost_of_message, emulated)
     run_projects(steps, emulated)
+    python_wheels.run_crossed(steps, work, target)
+    emulated_dds.run_gateway(steps, emulated)

@@ -4,17 +4,23 @@ import re
 import subprocess
 from pathlib import Path
 
-from . import layouts
+from . import build_sums, determinism, layouts
 from .places import BINDINGS, CRATES, OUT, is_here, version
 from .programs import ARCHIVE, PAIRS, WARNINGS
 from .steps import Failed, said
+from .targets import X86_64
 
 INCLUDE = OUT / "include"
 ICEORYX = Path("/usr/include/iceoryx/v2.0.3")
-CPP_HEADERS = ("iox2_pubsub.hpp", "iox2_pubsub_results.hpp", "iox2_pubsub_settings.hpp", "iox2_pubsub_events.hpp", "iox2_pubsub_shared.hpp")
+CPP_HEADERS = ("iox2_pubsub.hpp", "iox2_pubsub_results.hpp", "iox2_pubsub_settings.hpp", "iox2_pubsub_events.hpp", "iox2_pubsub_shared.hpp",
+               "iox2_pubsub_wait_set.hpp", "iox2_pubsub_memory.hpp", "iox2_pubsub_processes.hpp")
 ALONE = (
     ("iox2_pubsub.h", "c", ("c99", "c11", "c17", "gnu2x")),
     ("iox2_pubsub.h", "c++", ("c++11", "c++14", "c++17", "c++20")),
+    ("iox2_pubsub_shared.h", "c", ("c99", "c11", "c17", "gnu2x")),
+    ("iox2_pubsub_shared.h", "c++", ("c++11", "c++14", "c++17", "c++20")),
+    ("iox2_pubsub_processes.h", "c", ("c99", "c11", "c17", "gnu2x")),
+    ("iox2_pubsub_processes.h", "c++", ("c++11", "c++14", "c++17", "c++20")),
     *((header, "c++", ("c++17", "c++20")) for header in CPP_HEADERS),
 )
 
@@ -23,8 +29,8 @@ def same_functions(archive=ARCHIVE, nm="nm"):
     """The archive defines what the header declares, and no other function of this name."""
     symbols = said(nm, "-g", "--defined-only", archive, both=False)
     defined = set(re.findall(r" T (iox2\w*)", symbols))
-    text = (INCLUDE / "iox2_pubsub.h").read_text()
-    declared = set(re.findall(r"^(?:IOX2PS_NODISCARD iox2ps_status_t|IOX2PS_NODISCARD uint32_t|iox2ps_status_t|void) (iox2ps_\w+)\(", text, re.M))
+    text = (archive.parent.parent / "include/iox2_pubsub.h").read_text()
+    declared = set(re.findall(r"^(?:IOX2PS_NODISCARD iox2ps_status_t|IOX2PS_NODISCARD uint32_t|iox2ps_status_t|void) \*?(iox2ps_\w+)\(", text, re.M))
     if defined != declared:
         raise Failed(f"in the archive alone: {sorted(defined - declared)}; in the header alone: {sorted(declared - defined)}")
     return f"{len(defined)} functions"
@@ -78,6 +84,7 @@ struct Sized {{ explicit Sized(int given) : size(given) {{}} int size; }};
 using namespace iox2ps;
 int main() {{ auto domain = Domain<int>::create(Config<int>(1)).expect("a domain"); {} return 0; }}
 """
+WAIT_SET = CPP.replace("iox2_pubsub.hpp", "iox2_pubsub_wait_set.hpp")
 # What a compiler has to warn about or refuse, and a part of what it says.
 REFUSED = (
     ("c11", C, "iox2ps_subscriber_t subscriber; iox2ps_subscriber_create(&domain, &subscriber);", "unused"),
@@ -110,11 +117,17 @@ REFUSED = (
     ("c++17", CPP, "iox2ps::text(Error::NotLive);", "nodiscard"),
     ("c++17", CPP, "domain.stop_waits();", "SharedDomain"),
     ("c++17", CPP, "return domain.waits_are_stopped();", "SharedDomain"),
+    ("c++17", CPP, "(void)domain.share();", "SharedDomain"),
     ("c++17", CPP, "(void)domain.subscriber()->set_listener([] {});", "SharedDomain"),
     ("c++17", CPP, "domain.subscriber()->clear_listener();", "SharedDomain"),
     ("c++17", CPP, "(void)domain.subscriber()->message_fd();", "SharedDomain"),
     ("c++17", CPP, "(void)domain.subscriber()->blocking_receive();", "SharedDomain"),
     ("c++17", CPP, "(void)domain.publisher()->timed_loan({});", "SharedDomain"),
+    ("c++17", WAIT_SET, "(void)WaitSet::create()->attach_notification(*domain.subscriber());", "SharedDomain"),
+    ("c++17", WAIT_SET, "(void)WaitSet::create()->attach_deadline(*domain.publisher(), {});", "SharedDomain"),
+    ("c++17", WAIT_SET, "WaitSet::create()->attach_interval({});", "nodiscard"),
+    ("c++17", WAIT_SET, "auto set = *WaitSet::create(); auto other = set;", "deleted"),
+    ("c++17", WAIT_SET, "auto guard = *WaitSet::create()->attach_interval({}); auto other = guard;", "deleted"),
     ("c++17", CPP, "iox2ps::Waits::Message;", ""),
     ("c++14", '#include "iox2_pubsub.hpp"\n{}', "int x;", "iox2_pubsub.hpp is for C++17"),
 )
@@ -150,7 +163,7 @@ def compiled(compiler_of, standard, text):
 
 def refuses(compiler_of):
     """Each is refused, and the texts without it are not."""
-    for standard, text in (("c11", C), ("c++11", C), ("c++17", C), ("c++17", CPP)):
+    for standard, text in (("c11", C), ("c++11", C), ("c++17", C), ("c++17", CPP), ("c++17", WAIT_SET)):
         if compiled(compiler_of, standard, text.format("")).returncode:
             raise Failed(f"as {standard} nothing compiles")
     for standard, text, line, words in REFUSED:
@@ -195,6 +208,8 @@ def doxygen(work):
 def run_headers(steps, work):
     """All of these."""
     steps.run("the archive has the functions of the header", same_functions)
+    steps.run("the archive says its build's sum", build_sums.says_it, ARCHIVE, X86_64, work)
+    steps.run("what decides a call", determinism.run, ARCHIVE, X86_64, work)
     steps.run("one version", same_versions)
     steps.run("the table of structs", layouts.is_of_the_header, work)
     for c, cpp in PAIRS:

@@ -4,10 +4,10 @@ import os
 import re
 import shutil
 
-from .places import BINDINGS, OUT, is_here, version
+from .places import BINDINGS, EXAMPLES, OUT, is_here, version
 from .programs import PAIRS, WARNINGS, check_example
 from .steps import Failed, said
-from .targets import AARCH64
+from .targets import AARCH64, PLAIN
 
 # Where distributions have their libraries.
 LIBDIRS = ("lib", "lib/x86_64-linux-gnu")
@@ -22,7 +22,7 @@ get_target_property(links iox2_pubsub::iox2_pubsub INTERFACE_LINK_LIBRARIES)
 if(NOT links STREQUAL "Threads::Threads")
   message(FATAL_ERROR "it links ${{links}}")
 endif()
-add_executable(thermometer_c {bindings}/c/thermometer.c)
+add_executable(thermometer_c {examples}/thermometer/thermometer.c)
 target_link_libraries(thermometer_c PRIVATE iox2_pubsub::{target})
 """
 
@@ -32,7 +32,7 @@ def taken(work, name, taking, compilers, *flags, target="iox2_pubsub"):
     folder = work / f"taken_{name}_{compilers[0]}"
     shutil.rmtree(folder, ignore_errors=True)
     folder.mkdir()
-    (folder / "CMakeLists.txt").write_text(PROJECT.format(taking=taking, bindings=BINDINGS, target=target))
+    (folder / "CMakeLists.txt").write_text(PROJECT.format(taking=taking, examples=EXAMPLES, target=target))
     said("cmake", "-S", folder, "-B", folder / "build", f"-DCMAKE_C_COMPILER={compilers[0]}", *flags)
     said("cmake", "--build", folder / "build")
     check_example(folder / "build/thermometer_c", work=work)
@@ -56,10 +56,12 @@ def in_libdir(work, libdir, compilers):
 
     name = libdir.replace("/", "_")
     prefix = installed(work, f"{name}_{compilers[0]}", compilers, f"-DCMAKE_INSTALL_LIBDIR={libdir}")
+    has_plain = (OUT / "lib" / PLAIN.archive).exists()
     there = sorted(path.relative_to(prefix).as_posix() for path in (prefix / libdir).rglob("*") if path.is_file())
     wanted = [f"{libdir}/{part}" for part in (
         "cmake/iox2_pubsub/iox2_pubsubConfig.cmake", "cmake/iox2_pubsub/iox2_pubsubConfigVersion.cmake",
-        "libiox2_pubsub.a", "pkgconfig/iox2_pubsub.pc",
+        "libiox2_pubsub.a", "pkgconfig/iox2_pubsub.pc", *(("libiox2_pubsub_plain.a", "pkgconfig/iox2_pubsub_plain.pc") if has_plain else ()),
+        "libiox2_pubsub_processes.a", "pkgconfig/iox2_pubsub_processes.pc",
     )]
     if there != sorted(wanted):
         raise Failed(f"there is {there}")

@@ -7,6 +7,7 @@ import shutil
 
 from . import registry
 from .installed import MINOR, run_installed
+from .page_texts import PROGRAMS
 from .places import BINDINGS, OUT, is_here
 from .programs import ARCHIVE, GRIND, PAIRS, check_example
 from .steps import Failed, said
@@ -50,7 +51,7 @@ def project_of(work, languages, extension, version=MINOR, fails=False):
     folder = work / f"project_{languages}_{version}"
     folder.mkdir(exist_ok=True)
     (folder / "CMakeLists.txt").write_text(PROJECT.format(languages=languages, version=version, extension=extension))
-    (folder / f"one.{extension}").write_text(block("c" if extension == "c" else "cpp"))
+    (folder / f"one.{extension}").write_text(PROGRAMS["c" if extension == "c" else "cpp"].find()[1])
     words = ["cmake", "-S", folder, "-B", folder / "build", f"-DCMAKE_PREFIX_PATH={moved(work)}"]
     if extension == "cpp" and is_here("clang++"):
         words.append("-DCMAKE_CXX_COMPILER=clang++") # whose own standard is older than 17
@@ -61,15 +62,23 @@ def project_of(work, languages, extension, version=MINOR, fails=False):
     return prints_reading(folder / "build/one")
 
 
-def pkg_config(work, prefix=None, libdir="lib", name="by_pkg_config"):
+def pkg_config(work, prefix=None, libdir="lib", name="by_pkg_config", package="iox2_pubsub"):
     """The page's program in C, compiled by what pkg-config says, and told where a shared library lies."""
     folder = (prefix or moved(work)) / libdir
     environment = {**os.environ, "PKG_CONFIG_PATH": str(folder / "pkgconfig")}
-    flags = said("pkg-config", "--cflags", "--libs", "iox2_pubsub", both=False, env=environment)
-    version = said("pkg-config", "--modversion", "iox2_pubsub", both=False, env=environment).strip()
-    (work / "first.c").write_text(block("c"))
+    flags = said("pkg-config", "--cflags", "--libs", package, both=False, env=environment)
+    version = said("pkg-config", "--modversion", package, both=False, env=environment).strip()
+    (work / "first.c").write_text(PROGRAMS["c"].find()[1])
     said("sh", "-c", f"gcc '{work}/first.c' {flags.strip()} -o '{work}/{name}'")
     return f"{version}, {prints_reading(work / name, env={**os.environ, 'LD_LIBRARY_PATH': str(folder)})}"
+
+
+def board_here(work):
+    """The project that has programs for boards, compiled for this machine."""
+    build = work / "board_here"
+    said("cmake", "-S", moved(work) / "cross", "-B", build, f"-DCMAKE_PREFIX_PATH={moved(work)}")
+    said("cmake", "--build", build)
+    return re.search(r"100% tests passed.*", said("ctest", "--test-dir", build))[0]
 
 
 def run_packages(steps, work):
@@ -86,15 +95,11 @@ def run_packages(steps, work):
     steps.run("cmake, a project of C", project_of, work, "C", "c")
     steps.run("cmake, a project of C++", project_of, work, "CXX", "cpp")
     steps.run("cmake, a later version", project_of, work, "C", "c", LATER, True)
+    steps.run("cmake, the project for boards on this machine", board_here, work)
     run_installed(steps, work)
 
 
-# ---- the programs of bindings/README.md
-
-def block(language):
-    """The page's block of code of this language."""
-    return re.search(rf"^```{re.escape(language)}\n(.*?)^```$", (BINDINGS / "README.md").read_text(), re.M | re.S)[1]
-
+# ---- the programs of pages
 
 def prints_reading(*words, **more):
     """The program has to print its reading."""
@@ -107,16 +112,16 @@ def prints_reading(*words, **more):
 def readme_program(work, language, *compiler):
     """One of them, compiled as the page says."""
     source, program = work / f"first.{language}", work / f"first_{language}"
-    source.write_text(block(language))
+    source.write_text(PROGRAMS[language].find()[1])
     said(*compiler, "-I", OUT / "include", source, ARCHIVE, "-o", program)
     return prints_reading(program)
 
 
 def readme_rust(work):
-    """The one in Rust."""
+    """The one in Rust, which is on the first page."""
     folder = work / "first_rust"
     (folder / "src").mkdir(parents=True, exist_ok=True)
-    (folder / "src/main.rs").write_text(block("rust"))
+    (folder / "src/main.rs").write_text(PROGRAMS["rust"].find()[1])
     (folder / "Cargo.toml").write_text(f'[package]\nname = "first"\nedition = "2021"\n[dependencies]\niox2_pubsub = {{ path = "{OUT}/rust" }}\n')
     words = ("cargo", "run", "--offline", "--quiet", "--manifest-path", folder / "Cargo.toml")
     return prints_reading(*words, env={**os.environ, "CARGO_TARGET_DIR": str(work / "target")})
@@ -124,10 +129,10 @@ def readme_rust(work):
 
 def run_readme(steps, work):
     """All of these."""
-    steps.run("bindings/README.md, C", readme_program, work, "c", "gcc")
-    steps.run("bindings/README.md, C++", readme_program, work, "cpp", "g++", "-std=c++17")
+    steps.run("first_message.c", readme_program, work, "c", "gcc")
+    steps.run("first_message.cpp", readme_program, work, "cpp", "g++", "-std=c++17")
     if is_here("cargo"):
-        steps.run("bindings/README.md, Rust", readme_rust, work)
+        steps.run("README.md, Rust", readme_rust, work)
 
 
 # ---- the crates of Rust
@@ -184,6 +189,22 @@ def other_processor(work):
     return f"no archive for {X86_64.triple}"
 
 
+def other_byte_order(work):
+    """The build script refuses the archive to a processor that has its bytes in the other order."""
+    script, folder = work / "build script", work / "other order"
+    folder.mkdir()
+    (folder / ARCHIVE.name).write_bytes(stand_in(AARCH64.machine))
+    of_cargo = {"CARGO_PKG_VERSION": "0", "CARGO_MANIFEST_DIR": str(work), "IOX2_PUBSUB_LIB_DIR": str(folder)}
+    environment = {**os.environ, **of_cargo, "CARGO_CFG_TARGET_OS": "linux", "CARGO_CFG_TARGET_POINTER_WIDTH": "64", "CARGO_CFG_TARGET_ARCH": AARCH64.name}
+    said("rustc", "--edition=2021", OUT / "rust-sys/build.rs", "-o", script, env=environment)
+    said(script, env={**environment, "CARGO_CFG_TARGET_ENDIAN": "little", "TARGET": AARCH64.triple})
+    other = AARCH64.triple.replace(AARCH64.name, f"{AARCH64.name}_be")
+    written = said(script, env={**environment, "CARGO_CFG_TARGET_ENDIAN": "big", "TARGET": other}, fails=True)
+    if f"has no archive for {other}" not in written:
+        raise Failed(written)
+    return f"no archive for {other}"
+
+
 def builds_once(work):
     """A second build of the folder, as others have it, compiles nothing."""
     folder = shutil.copytree(OUT, work / "folder of crates", dirs_exist_ok=True)
@@ -196,12 +217,6 @@ def builds_once(work):
     if sorted(fresh) != ["iox2_pubsub", "iox2_pubsub-sys"]:
         raise Failed(again[-3000:])
     return "nothing is compiled"
-
-
-def cargo_example(work):
-    """The example, which has to print what those of C and C++ print."""
-    cargo(work, "build", "--offline", "--quiet", "--example", "thermometer")
-    return check_example(work / "target/debug/examples/thermometer", work=work)
 
 
 def rust_under_valgrind(work, name):
@@ -222,8 +237,8 @@ def run_cargo(steps, work):
     steps.run("rust, a second cargo build", builds_once, work)
     steps.run("rust, an archive of another version", other_version, work)
     steps.run("rust, an archive for another processor", other_processor, work)
+    steps.run("rust, a processor with another order of bytes", other_byte_order, work)
     steps.run("rust-sys, cargo test", lambda: cargo_test(work, crate="rust-sys"))
-    steps.run("rust, cargo run --example thermometer", cargo_example, work)
     steps.run("rust, cargo check without the archive", without_archive, work, "check", "--all-targets")
     if is_here("cargo-clippy"):
         steps.run("rust, cargo clippy without the archive", without_archive, work, "clippy", "--all-targets")

@@ -6,6 +6,8 @@ from pathlib import Path
 
 TOP = Path(__file__).resolve().parents[2]
 BINDINGS = TOP / "bindings"
+EXAMPLES = TOP / "examples"
+FIRST_C = EXAMPLES / "first_message/first_message.c"
 OUT = BINDINGS / "out"
 HEADER = BINDINGS / "include/iox2_pubsub.h"
 LICENCES = ("LICENSE-APACHE", "LICENSE-MIT")

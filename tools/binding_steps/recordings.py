@@ -5,7 +5,6 @@ import re
 import struct
 import subprocess
 
-from .packages import cargo
 from .places import is_here
 from .programs import PAIRS, SANITIZERS, compile_program
 from .steps import Failed, said
@@ -13,10 +12,13 @@ from .steps import Failed, said
 REPLAY_CRATE = "recording_replay"
 # So many commands have no room in a recording of so few.
 FEW = 20
+# The commands that name no earlier one.
+MAKERS = ("pub", "sub", "nothing")
 # What the programs receive, message by message.
 RECEIVED_IN_C = [b"reading\0", b"second\0", b"reading\0"]
-RECEIVED_IN_CPP = [struct.pack("<2I", 1, 20500)]
-RECEIVED_IN_RUST = [struct.pack("<3H", 0, 205, 0)]
+RECEIVED_IN_EXAMPLE = [struct.pack("<2I", 1, 20500)]
+# The example in C++; those of all languages print the same recording.
+EXAMPLE = "../examples/recording/recording.cpp"
 
 
 def replay(recording, replayer):
@@ -64,18 +66,69 @@ def record_program(work, replayer, messages, compiler, source, standard, *flags)
     return record_and_replay(work, replayer, messages, compile_program(compiler, source, standard, work / "recorded", *flags))
 
 
-def find_faults(work):
-    """A recording without a read, or with another value, is seen not to have what was received."""
-    whole = said(work / "recorded", both=False)
-    reads = re.findall(r"^read .*\n", whole, re.M)
-    faulty = [whole.replace(line, "", 1) for line in reads] + [whole.replace(line, line.replace("value 1", "value 2"), 1) for line in reads if "value 1" in line]
-    for text in [re.sub(r"^read .*\n", "", whole, flags=re.M), *faulty]:
-        try:
-            has_received(text, RECEIVED_IN_C)
-        except Failed:
-            continue
-        raise Failed(f"{text}\nit passes")
-    return f"{len(faulty) + 1} faults are seen"
+def without_line(lines, number):
+    """The commands without one of them, which is counted from 1. Later ones name what they named before."""
+
+    def renamed(line):
+        word, *words = line.split(" ")
+        if word not in MAKERS and int(words[0]) > number:
+            words[0] = str(int(words[0]) - 1)
+        return " ".join([word, *words])
+
+    return lines[: number - 1] + [renamed(line) for line in lines[number:]]
+
+
+def recording_of(head, commands):
+    """The recording with these lines, and the last one that fits them."""
+    text = "".join(f"{line}\n" for line in [*head, *commands])
+    total = 0xCBF29CE484222325
+    for byte in text.encode():
+        total = (total ^ byte) * 0x100000001B3 % 2**64
+    return f"{text}end {len(commands)} {total:016x}\n"
+
+
+def find_faults(work, replayer):
+    """The replay of a recording in which a read is left out, or has another value, fails, and says which. So it does without any read, unless
+    the recording doesn't promise them."""
+    head, commands = split_lines(said(work / "recorded", both=False))
+    reads = [number for number, line in enumerate(commands, 1) if line.startswith("read ")]
+    for number in reads:
+        line = commands[number - 1]
+        finds(replayer, recording_of(head, without_line(commands, number)), f"missing line {number + 3}: {line}")
+        command, value = line.split(" = value ")
+        other = [*commands[: number - 1], f"{command} = value {int(value) ^ 1}", *commands[number:]]
+        finds(replayer, recording_of(head, other), f"line {number + 3}: {command}")
+    none = commands
+    for number in reversed(reads):
+        none = without_line(none, number)
+    finds(replayer, recording_of(head, none), f"missing line {reads[0] + 3}: {commands[reads[0] - 1]}")
+    work.joinpath("recording").write_text(recording_of([re.sub(r" reads \d+$", "", line) for line in head], none))
+    replay(work / "recording", replayer)
+    return f"{2 * len(reads) + 1} faults are found"
+
+
+def split_lines(text):
+    """The first three lines of a recording, and its commands with their replies."""
+    lines = text.splitlines()
+    return lines[:3], lines[3:-1]
+
+
+def is_whole(text):
+    """Whether the recording reads what the program in C received."""
+    try:
+        has_received(text, RECEIVED_IN_C)
+    except Failed:
+        return False
+    return True
+
+
+def finds(replayer, text, expected):
+    """This recording doesn't read what was received, and its replay fails, and says so."""
+    if is_whole(text):
+        raise Failed(f"{text[:4000]}\nit reads all that was received")
+    ran = subprocess.run([replayer, "replay"], input=text, stdout=subprocess.PIPE, stderr=subprocess.STDOUT, text=True)
+    if ran.returncode != 1 or expected not in ran.stdout:
+        raise Failed(f"{text[:4000]}\nits replay ended with {ran.returncode}, and doesn't say '{expected}':\n{ran.stdout}")
 
 
 def record_too_much(work, replayer):
@@ -98,22 +151,14 @@ def record_random_calls(work, replayer, seed):
     return replay(recording, replayer)
 
 
-def record_rust(work, replayer):
-    """The example in Rust."""
-    cargo(work, "build", "--offline", "--quiet", "--example", "recorded")
-    return record_and_replay(work, replayer, RECEIVED_IN_RUST, work / "target/debug/examples/recorded")
-
-
 def run_recordings(steps, work, replayer):
     """All of these."""
     for c, cpp in (pair for pair in PAIRS if is_here(pair[0]) and is_here(pair[1])):
         steps.run(f"c/recorded.c, {c} c11", record_program, work, replayer, RECEIVED_IN_C, c, "c/recorded.c", "c11", "-O2")
-        steps.run(f"c/recorded.c, {c} c11, reads that are left out or another", find_faults, work)
+        steps.run(f"c/recorded.c, {c} c11, reads that are left out or another", find_faults, work, replayer)
         steps.run(f"c/recorded.c, {c} c11, too little room", record_too_much, work, replayer)
-        steps.run(f"cpp/recorded.cpp, {cpp} c++17", record_program, work, replayer, RECEIVED_IN_CPP, cpp, "cpp/recorded.cpp", "c++17", "-O2")
+        steps.run(f"{EXAMPLE}, {cpp} c++17", record_program, work, replayer, RECEIVED_IN_EXAMPLE, cpp, EXAMPLE, "c++17", "-O2")
     steps.run("c/recorded.c, sanitizers", record_program, work, replayer, RECEIVED_IN_C, "gcc", "c/recorded.c", "c11", "-O1", *SANITIZERS)
     compile_program("gcc", "c/random_calls.c", "c11", work / "random_recorded", "-O1", *SANITIZERS)
     for seed in range(21, 26):
         steps.run(f"c/random_calls.c, recorded, seed {seed}", record_random_calls, work, replayer, seed)
-    if is_here("cargo"):
-        steps.run("rust, cargo run --example recorded", record_rust, work, replayer)

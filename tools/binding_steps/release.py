@@ -11,17 +11,16 @@ import tempfile
 from contextlib import nullcontext
 from pathlib import Path
 
-from .folder import ARCHIVE_CRATE, NO_PROOF, PROOF, crates_below, fill, join_archives, made_of_proof
+from .folder import ARCHIVE_CRATE, NO_PROOF, PROOF, archives_of, crates_below, fill, join_archives, joined_archives, kinds_of
 from .places import TOP, version
+from .process_library import LIBRARY, made_library
 from .steps import Failed, said
-from .targets import TARGETS, X86_64, is_for
+from .targets import PLAIN, TARGETS, X86_64, is_for
 
 DIST = TOP / "dist"
 SUMS, PROOFS = "SHA256SUMS", "PROOFS"
-ARCHIVE = "lib/libiox2_pubsub.a"
 PARTS = ("src", "specs", "proofs", "must-fail")
 PAGES = ("README.md", "THREADS.md", "DDS.md", "AARCH64.md", "TESTED.md")
-EXAMPLES = ("c/first.c", "cpp/first.cpp")
 
 HOW = """\
 # What this release was proved from, and how to check it
@@ -29,12 +28,12 @@ HOW = """\
 # 1. That nothing was changed on its way: in this folder
 #        sha256sum --check --quiet SHA256SUMS
 # 2. That it is that of the commit and of the proofs: in a clone of the repository, with the Rattle kit on the path
-#        git checkout {commit} && tools/release --check <this folder>
-#    It compares each file with the commit's, proves the crates (some twenty minutes on four cores), builds the archive anew, and
-#    compares its bytes with lib/libiox2_pubsub.a.
-# The proof's line is the last one that the kit says of the archive's own crate, over the crates below it. A crate's sum is that of its
-# files in src, specs, proofs and must-fail, by name. The headers, the classes of C++, the crates of Rust and the files of bindings/archive
-# are not proved: TESTED.md says what is tested.
+#        git checkout {commit} && tools/release --check <this folder> --target <x86_64 or aarch64>
+#    It compares each file with the commit's, proves the crates (some twenty minutes on four cores), builds the archives anew, and
+#    compares their bytes with those in lib/.
+# The proof's line is the last one that the kit says of the archive's own crate, over the crates below it, and the plain line is that of
+# the archive for every x86-64 processor. A crate's sum is that of its files in src, specs, proofs and must-fail, by name. The headers, the classes of C++, the crates of Rust, the files of bindings/archive
+# and the C around the archive in libiox2_pubsub_processes.a are not proved: TESTED.md says what is tested.
 
 version {version}
 commit {commit}
@@ -114,28 +113,48 @@ def proofs(commit_, kit_, lines, top):
     return HOW.format(commit=commit_, version=version(top), kit=kit_) + lines + "\n".join(crate_lines(top)) + "\n"
 
 
-def lines_of(target, proof):
-    """What a release says of its archive: for what it is, and what the last line of its proof is."""
-    return f"target {target.triple}\nproof {proof.strip()}\n"
+def archives_in(folder, target):
+    """The archives of a folder for a target, which has to have all of them."""
+    archives = [folder / "lib" / kind.archive for kind in kinds_of(target)]
+    for archive in archives:
+        if not archive.exists():
+            raise Failed(f"{archive} isn't there")
+    return archives
 
 
-def proof_of(folder):
-    """The last line of the proof that a folder's archive comes of."""
-    return (folder / PROOF).read_text() if (folder / PROOF).exists() else NO_PROOF
+def libraries_in(folder, target):
+    """Those archives, and the library for processes, which is made of the first of them."""
+    library = folder / "lib" / LIBRARY
+    if not library.exists():
+        raise Failed(f"{library} isn't there")
+    return [*archives_in(folder, target), library]
 
 
-def make(to, commit_, kit_, archive, target, proof, work):
-    """Makes the folder of a release, of the files of a commit and of the archive."""
+# How the lines of a release begin that say what its archives are proved by.
+PROOF_WORDS = ("proof", "plain")
+
+
+def lines_of(target, proofs_):
+    """What a release says of its archives: for what they are, and what the last lines of their proofs are."""
+    lines = [f"{word} {proof.strip()}\n" for word, proof in zip(PROOF_WORDS, proofs_)]
+    return f"target {target.triple}\n{''.join(lines)}"
+
+
+def proofs_of(folder, target):
+    """The last lines of the proofs that a folder's archives come of."""
+    return (folder / PROOF).read_text().splitlines() if (folder / PROOF).exists() else [NO_PROOF] * len(kinds_of(target))
+
+
+def make(to, commit_, kit_, archives, target, proofs_, work):
+    """Makes the folder of a release, of the files of a commit and of the archives."""
     top = files_of(commit_, work)
-    fill(to, archive, target, top)
+    fill(to, archives, target, top)
     shutil.copytree(top / "bindings/dds", to / "dds", ignore=shutil.ignore_patterns("tests"))
-    (to / "examples").mkdir()
-    for name in EXAMPLES:
-        shutil.copyfile(top / "bindings" / name, to / "examples" / Path(name).name)
     for name in PAGES:
         (to / name).write_text(page((top / "bindings" / name).read_text()))
+    (to / "examples/README.md").write_text(page((top / "examples/README.md").read_text()))
     (to / "CHANGELOG.md").write_text(page((top / "CHANGELOG.md").read_text()))
-    (to / PROOFS).write_text(proofs(commit_, kit_, lines_of(target, proof), top))
+    (to / PROOFS).write_text(proofs(commit_, kit_, lines_of(target, proofs_), top))
     write_sums(to)
 
 
@@ -163,11 +182,11 @@ def name_of(target):
     return f"iox2_pubsub-{version()}-{target.name}"
 
 
-def made(folder, archive, commit_, target=X86_64, proof=NO_PROOF):
+def made(folder, archives, commit_, target, proofs_):
     """Makes a release in a folder of its own, and returns the packed file."""
     name = name_of(target)
     folder.mkdir()
-    make(folder / name, commit_, kit(), archive, target, proof, folder / "source")
+    make(folder / name, commit_, kit(), archives, target, proofs_, folder / "source")
     packed = folder / f"{name}.tar.gz"
     pack(folder, [folder / name, *sorted((folder / name).rglob("*"))], packed, seconds_of(commit_))
     return packed
@@ -175,20 +194,22 @@ def made(folder, archive, commit_, target=X86_64, proof=NO_PROOF):
 
 def twice(work, target):
     """Makes it twice in two folders, which has to give the same bytes."""
-    commit_, archive, proof = commit(), target.out / ARCHIVE, proof_of(target.out)
-    is_for(archive, target)
-    first, second = (made(work / f"{name}_{target.name}", archive, commit_, target, proof) for name in ("once", "again"))
+    commit_, archives, proofs_ = commit(), libraries_in(target.out, target), proofs_of(target.out, target)
+    for archive in archives:
+        is_for(archive, target)
+    first, second = (made(work / f"{name}_{target.name}", archives, commit_, target, proofs_) for name in ("once", "again"))
     if first.read_bytes() != second.read_bytes():
         raise Failed("made twice, it isn't the same")
     return first
 
 
 def archive_twice(work, target):
-    """The static library that is built anew from the proofs, in another folder, has the bytes of the one that is released."""
+    """The static libraries that are built anew from the proofs, in another folder, have the bytes of those that are released."""
     joined = work / f"again_{target.name}.a"
-    join_archives(built_anew(work, target), joined, target)
-    if joined.read_bytes() != (target.out / ARCHIVE).read_bytes():
-        raise Failed("built twice, the archive isn't the same")
+    for kind, archive in zip(kinds_of(target), archives_in(target.out, target)):
+        join_archives(built_anew(work, kind), joined, kind)
+        if joined.read_bytes() != archive.read_bytes():
+            raise Failed(f"built twice, {archive.name} isn't the same")
     return f"{joined.stat().st_size} bytes"
 
 
@@ -206,16 +227,18 @@ def built_anew(work, target):
         raise Failed(f"it isn't built again, since rt ci hasn't kept what it stands on: {lacking}") from lacking
 
 
-def publish(packed):
-    """Puts the releases of all targets into dist/, in place of those that are there, with what they say of their proofs on one page."""
-    lines = "".join(lines_of(target, proof_of(target.out)) for target in packed)
+def publish(packed, wheels):
+    """Puts the releases of all targets and the wheels into dist/, in place of those that are there, with what they say of their proofs on
+    one page."""
+    lines = "".join(lines_of(target, proofs_of(target.out, target)) for target in packed)
     said = proofs(commit(), kit(), lines, TOP)
     shutil.rmtree(DIST, ignore_errors=True)
     DIST.mkdir()
-    for file in packed.values():
+    files = [*packed.values(), *wheels]
+    for file in files:
         shutil.copyfile(file, DIST / file.name)
     (DIST / PROOFS).write_text(said)
-    (DIST / SUMS).write_text("".join(f"{sum_of(file.read_bytes())}  {file.name}\n" for file in packed.values()))
+    (DIST / SUMS).write_text("".join(f"{sum_of(file.read_bytes())}  {file.name}\n" for file in files))
 
 
 def latest():
@@ -226,13 +249,14 @@ def latest():
 # ---- what is compared
 
 
-def check(steps, folder, work, archive=None, target=None):
-    """Compares a release with its commit, with this clone, and with the proofs. With a target, it has to be for that."""
+def check(steps, folder, work, archive, target):
+    """Compares a release with its commit, with this clone, and with the proofs. It has to be for the target."""
     steps.run("no file was changed on its way", same_sums, folder)
     steps.run("its archive is for the processor that it names", same_target, folder, target)
     steps.run("each file is the commit's", same_files, folder, work)
     steps.run("the crates are those of this clone", same_crates, folder)
-    steps.run("the archive is that of the proofs", same_archive, folder, work, archive)
+    steps.run("the archives are those of the proofs", same_archive, folder, work, archive)
+    compare_library(steps, folder, work)
 
 
 def same_sums(folder):
@@ -246,6 +270,11 @@ def told(folder, word):
     if not found:
         raise Failed(f"{PROOFS} says no {word}")
     return found[1]
+
+
+def told_proofs(folder, target):
+    """The last lines of the proofs of its archives, as the release says."""
+    return [told(folder, word) for word, _ in zip(PROOF_WORDS, kinds_of(target))]
 
 
 def target_of(folder):
@@ -265,18 +294,24 @@ def same_target(folder, wanted=None):
     named = re.fullmatch(r"iox2_pubsub-[\d.]+-(\w+)", folder.name)
     if named and named[1] != target.name:
         raise Failed(f"it is called {folder.name}, and is for {target.name}")
-    proved_for = re.search(r"\btarget=(\S+)", told(folder, "proof"))
-    if proved_for and proved_for[1] != target.triple:
-        raise Failed(f"it is for {target.triple}, and what was proved is for {proved_for[1]}")
-    return is_for(folder / ARCHIVE, target)
+    for archive, proof in zip(archives_in(folder, target), told_proofs(folder, target)):
+        proved_for = re.search(r"\btarget=(\S+)", proof)
+        if proved_for and proved_for[1] != target.triple:
+            raise Failed(f"it is for {target.triple}, and what was proved is for {proved_for[1]}")
+        is_for(archive, target)
+        if archive.name == PLAIN.archive and " cpu=" in proof:
+            raise Failed(f"{archive.name} is for every x86-64 processor, and what was proved isn't: {proof}")
+    is_for(libraries_in(folder, target)[-1], target)
+    return target.name
 
 
 def same_files(folder, work):
     """The release has the files of its commit, byte for byte, and no others. Its archive is compared with the proofs."""
     if not re.fullmatch(r"[0-9a-f]{40}", told(folder, "commit")):
         raise Failed(f"{PROOFS} names no commit")
-    wanted = work / "wanted"
-    make(wanted, told(folder, "commit"), told(folder, "kit"), folder / ARCHIVE, target_of(folder), told(folder, "proof"), work / "source")
+    wanted, target = work / "wanted", target_of(folder)
+    archives, proofs_ = libraries_in(folder, target), told_proofs(folder, target)
+    make(wanted, told(folder, "commit"), told(folder, "kit"), archives, target, proofs_, work / "source")
     here, there = names_of(folder), names_of(wanted)
     faults = [f"{name} isn't the commit's" for name in sorted(here - there)] + [f"{name} is missing" for name in sorted(there - here)]
     # The sums were made anew by whoever changed something else: they come last.
@@ -309,12 +344,48 @@ def same_crates(folder):
 
 
 def same_archive(folder, work, archive):
-    """The archive has the bytes of one that is made here."""
-    joined, target = work / "made.a", target_of(folder)
-    join_archives(archive or made_of_proof(ARCHIVE_CRATE, target), joined, target)
-    if joined.read_bytes() != (folder / ARCHIVE).read_bytes():
-        raise Failed("its bytes aren't those of the archive that is made here; the kit may be another")
-    return f"{joined.stat().st_size} bytes"
+    """The archives have the bytes of those that are made here."""
+    target, here = target_of(folder), work / "made"
+    here.mkdir(exist_ok=True)
+    joined = joined_archives(archives_of(archive, target), here)
+    archives = archives_in(folder, target)
+    if len(joined) != len(archives):
+        raise Failed(f"{PLAIN.archive} isn't beside the archive that was given")
+    for made_here, released in zip(joined, archives):
+        if made_here.read_bytes() != released.read_bytes():
+            raise Failed(f"the bytes of {released.name} aren't those of the archive that is made here; the kit may be another")
+    return ", ".join(f"{released.name} of {released.stat().st_size} bytes" for released in archives)
+
+
+def compilers_of(library, target, work):
+    """What the compilers of a library's code call themselves."""
+    folder = work / "compilers"
+    folder.mkdir(exist_ok=True)
+    said("ar", "x", library.resolve(), cwd=folder)
+    return said("readelf", "--string-dump=.comment", folder / f"{LIBRARY[3:-2]}.o", both=False)
+
+
+def compare_library(steps, folder, work):
+    """The library for processes has the bytes of the one that is made here of the release's archive and this clone's sources, where the
+    same compiler is here."""
+    target = target_of(folder)
+    released = libraries_in(folder, target)[-1]
+    if lacking := target.lacking()[:1]:
+        steps.skip(f"{LIBRARY} beside the one that is made here", lacking[0])
+        return
+    made_here = made_library(work, archives_in(folder, target)[0], target)
+    here, there = (compilers_of(library, target, work) for library in (made_here, released))
+    if here == there:
+        steps.run("the library for processes is made of its archive", same_library, made_here, released)
+    else:
+        steps.skip(f"{LIBRARY} beside the one that is made here", f"the compiler that made it: {there}")
+
+
+def same_library(made_here, released):
+    """Byte for byte."""
+    if made_here.read_bytes() != released.read_bytes():
+        raise Failed(f"the bytes of {released.name} aren't those of the one that is made here by the same compiler")
+    return f"{released.name} of {released.stat().st_size} bytes"
 
 
 def unpacked(packed, work):

@@ -4,11 +4,13 @@ import io
 import re
 import tarfile
 
-from . import abi, release
+from . import abi
+from .folder import kinds_of
 from .places import HEADER, is_here, version
+from .process_library import LIBRARY
 from .release import PROOFS, head, made, name_of, same_archive, same_crates, same_files, same_sums, same_target, unpacked, write_sums
 from .steps import Failed
-from .targets import AARCH64, TARGETS, X86_64, stand_in
+from .targets import AARCH64, PLAIN, TARGETS, X86_64, asked_for, stand_in
 
 NAME = name_of(X86_64)
 
@@ -41,6 +43,8 @@ FAULTS = {
     "a line more in the gateway": add_line("dds/CMakeLists.txt", "# more\n"),
     "a file more": lambda folder: (folder / "include/more.h").write_text("int more;\n"),
     "a file less": lambda folder: (folder / "include/iox2_pubsub_events.hpp").unlink(),
+    "an archive less": lambda folder: (folder / "lib" / PLAIN.archive).unlink(),
+    "a library less": lambda folder: (folder / "lib" / LIBRARY).unlink(),
     "a crate less": drop_crate,
     "a file that is a link": link_out,
 }
@@ -76,11 +80,13 @@ def refused(what, call, *given):
 
 
 def whole_release(work, target):
-    """A release of the clone's commit, packed, with another archive than the proved one."""
-    archive = work / f"{target.name}.a"
-    archive.write_bytes(stand_in(target.machine)) # in the place of the proved one: these compare all else
-    proof = f"logic=proved target={target.triple}\n"
-    first, second = (made(work / f"{name}_{target.name}", archive, head(), target, proof) for name in ("once", "again"))
+    """A release of the clone's commit, packed, with other archives than the proved ones."""
+    archives = [work / target.name / name for name in (*(kind.archive for kind in kinds_of(target)), LIBRARY)]
+    (work / target.name).mkdir()
+    for archive in archives:
+        archive.write_bytes(stand_in(target.machine)) # in the place of the proved one: these compare all else
+    proofs = [f"logic=proved target={target.triple}\n"] * len(kinds_of(target))
+    first, second = (made(work / f"{name}_{target.name}", archives, head(), target, proofs) for name in ("once", "again"))
     if first.read_bytes() != second.read_bytes():
         raise Failed("made twice, it isn't the same")
     return first
@@ -109,9 +115,9 @@ def is_seen(work, packed, what, change):
     return refused(what, same_files, *changed(work, packed, what, change))
 
 
-def put_archive(machine):
+def put_archive(machine, archive=X86_64.archive):
     """A fault: an archive for another processor."""
-    return lambda folder: (folder / release.ARCHIVE).write_bytes(stand_in(machine))
+    return lambda folder: (folder / "lib" / archive).write_bytes(stand_in(machine))
 
 
 def say(word, old, new):
@@ -129,6 +135,11 @@ def say(word, old, new):
 OTHER_PROCESSORS = {
     "an archive for another target": (put_archive(AARCH64.machine), f"for {AARCH64.name}, not for {X86_64.name}"),
     "an archive for a processor that nobody knows": (put_archive(243), "for ELF's machine 243"),
+    "a library for another target": (put_archive(AARCH64.machine, LIBRARY), f"for {AARCH64.name}, not for {X86_64.name}"),
+    "a plain archive for another target": (put_archive(AARCH64.machine, PLAIN.archive), f"for {AARCH64.name}, not for {X86_64.name}"),
+    "a plain archive for newer processors alone": (
+        say("plain", X86_64.triple, f"{X86_64.triple} cpu=x86-64-v2"), f"{PLAIN.archive} is for every x86-64 processor",
+    ),
     "a page of proofs for another target": (say("target", X86_64.triple, AARCH64.triple), f"is for {AARCH64.name}"),
     "a page of proofs for a target that nobody knows": (say("target", X86_64.triple, "riscv64gc-unknown-linux-gnu"), "it is for riscv64gc"),
     "a proof for another target": (say("proof", X86_64.triple, AARCH64.triple), f"what was proved is for {AARCH64.triple}"),
@@ -145,12 +156,15 @@ def is_for_another(work, packed, what, change, words):
 
 
 def is_asked_for(work, packed):
-    """One for another processor than is asked for is refused, and one for that isn't."""
+    """One for another processor than is asked for is refused, or than this machine's where none is; and one for that isn't."""
     place = work / "asked_for"
     place.mkdir()
-    folder = unpacked(packed, place)
-    same_target(folder, X86_64)
-    return refused("a release for another processor", same_target, folder, AARCH64)
+    folders = {target: unpacked(file, place) for target, file in packed.items()}
+    same_target(folders[X86_64], asked_for(X86_64.name))
+    same_target(folders[asked_for(None)], asked_for(None))
+    other = next(target for target in folders if target is not asked_for(None))
+    refused("a release for another processor than this machine's", same_target, folders[other], asked_for(None))
+    return refused("a release for another processor", same_target, folders[X86_64], asked_for(AARCH64.name))
 
 
 def is_kept_in(work, packed, what, members):
@@ -171,9 +185,13 @@ def is_kept_in(work, packed, what, members):
     return said
 
 
+CALL = "iox2ps_status_t iox2ps_domain_destroy(iox2ps_domain_t *domain);"
 # A change of the header, and whether it changes the binary interface.
 CHANGES = {
     "a comment more": ("#ifndef IOX2_PUBSUB_H", "/* more */\n#ifndef IOX2_PUBSUB_H", False),
+    "an enum more": ("typedef enum iox2ps_warning_e {", "typedef enum iox2ps_more_e { IOX2PS_MORE } iox2ps_more_e;\ntypedef enum iox2ps_warning_e {", False),
+    "a call more": (CALL, f"{CALL}\n{CALL.replace('destroy', 'more')}", False),
+    "a call less": (CALL, "", True),
     "a parameter of another type": ("size_t *receivers,", "uint32_t *receivers,", True),
     "a field more": ("typedef struct iox2ps_wide_t {", "typedef struct iox2ps_wide_t {\n  uint64_t more;", True),
     "a code with another number": ("IOX2PS_NOT_LIVE = 2", "IOX2PS_NOT_LIVE = 99", True),
@@ -224,13 +242,19 @@ def wants_new_version(work, packed):
 
 def other_archive_is_seen(work, packed):
     """An archive with a byte more isn't the one that is made here."""
-    (work / "archives").mkdir()
-    folder = unpacked(packed, work / "archives")
-    given = work / "archives/libiox2_pubsub.a"
-    given.write_bytes(stand_in(X86_64.machine))
-    same_archive(folder, work, given)
-    (folder / release.ARCHIVE).write_bytes(stand_in(X86_64.machine) + b"\n")
-    return refused("an archive with a byte more", same_archive, folder, work, given)
+    place = work / "archives"
+    place.mkdir()
+    folder = unpacked(packed, place)
+    for kind in kinds_of(X86_64):
+        (place / kind.archive).write_bytes(stand_in(X86_64.machine))
+    given = place / X86_64.archive
+    same_archive(folder, place, given)
+    for kind in kinds_of(X86_64):
+        (folder / "lib" / kind.archive).write_bytes(stand_in(X86_64.machine) + b"\n")
+        refused(f"{kind.archive} with a byte more", same_archive, folder, place, given)
+        (folder / "lib" / kind.archive).write_bytes(stand_in(X86_64.machine))
+    (place / PLAIN.archive).unlink()
+    return refused("a plain archive that isn't compared", same_archive, folder, place, given)
 
 
 def other_crate_is_seen(work, packed):
@@ -268,7 +292,7 @@ def run_faults(steps, work):
         steps.run(what, is_seen, work, first, what, change)
     for what, (change, words) in OTHER_PROCESSORS.items():
         steps.run(what, is_for_another, work, first, what, change, words)
-    steps.run("a release for another target than is asked for", is_asked_for, work, first)
+    steps.run("a release for another target than is asked for", is_asked_for, work, packed)
     for what, members in MEMBERS.items():
         steps.run(what, is_kept_in, work, first, what, members)
     steps.run("a file that was changed on its way", changed_byte_is_seen, work, first)

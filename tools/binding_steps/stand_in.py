@@ -4,6 +4,7 @@ import os
 import re
 import subprocess
 
+from .headers import same_functions
 from .packages import cargo
 from .places import BINDINGS, OUT, is_here
 from .programs import WARNINGS
@@ -12,7 +13,7 @@ from .steps import Failed, said
 # The tests that ask for no recording, warning or growth, which the model hasn't, and of these the ones that ask for texts or have memory
 # refused.
 TESTS = ("bounds", "calls", "capacity", "channels", "events", "fork", "futures", "hostile", "in_place", "latched", "locks", "numbers",
-         "panics", "reader_writer", "stops", "threads", "waits")
+         "panics", "reader_writer", "stops", "threads", "wait_set", "waits", "wakes")
 NOT_OVER_IT = ("each_code_has_a_text_that_no_other_has", "errors_have_texts_and_causes", "a_connection_has_channel_0_alone",
                "extreme_settings_are_refused_or_work", "an_update_that_fails_refuses_no_subscriber")
 # Those in which Miri has something to see that no other test shows: bytes that are used too long, and threads that meet in them. It
@@ -30,6 +31,11 @@ def model(work):
     """The model as an archive of C."""
     cargo(work, "rustc", "--offline", "--quiet", "--release", "--lib", "--crate-type", "staticlib", crate="rust-sys", **stood_in(work))
     return work / "target_stand_in/release/libiox2_pubsub_sys.a"
+
+
+def has_all_functions(work):
+    """It has each function that the header declares, and no other."""
+    return same_functions(model(work))
 
 
 def random_channels(work):
@@ -75,6 +81,7 @@ def run_stand_in(steps, work):
     """All of these."""
     if not is_here("cargo"):
         return
+    steps.run("rust-sys, the model's functions are the header's", has_all_functions, work)
     steps.run("rust-sys, the model in place of the archive, c/random_channels.c", random_channels, work)
     steps.run("rust, cargo test over the model", by_tests, work)
     if has_miri():

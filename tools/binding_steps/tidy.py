@@ -11,12 +11,14 @@ BUT = {
     "c/random_channels.c": ("bugprone-macro-parentheses", "bugprone-branch-clone"),
     "cpp/tests.cpp": ("bugprone-use-after-move", "performance-unnecessary-copy-initialization"),
     "cpp/gone.cpp": ("bugprone-use-after-move",),
+    "cpp/joined.cpp": ("bugprone-use-after-move",),
     "cpp/settings.cpp": ("performance-inefficient-vector-operation",),
     "cpp/threads.cpp": ("performance-inefficient-vector-operation",),
+    "cpp/wait_sets.cpp": ("bugprone-use-after-move", "performance-inefficient-vector-operation"),
     "dds/tests/moved.cpp": ("bugprone-use-after-move",),
 }
 # What is said where a program is compiled.
-DEFINES = {"c/wrong_pointers.c": ("-DFAULT=1",)}
+DEFINES = {f"c/wrong_{what}.c": ("-DFAULT=1",) for what in ("answers", "pointers", "recordings")}
 
 
 def programs():

@@ -44,7 +44,8 @@ def c_functions(repository):
     for match in C_FUNCTION.finditer(text):
         doc = plain(match["doc"] or "")
         signature = sentence(re.sub(r"IOX2PS_NODISCARD|static inline", "", match["head"]) + f"{match['name']}({match['inputs']})")
-        archived = C_NAME.search(match["body"])[0] if match["body"] else match["name"]
+        called = C_NAME.search(match["body"] or "")
+        archived = called[0] if called else match["name"]
         found.append(CFunction(match["name"], text.count("\n", 0, match.start("name")) + 1, doc, signature, archived))
     return [one for one in found if not one.name.endswith(BEHIND)]
 

@@ -9,6 +9,7 @@ FOLDERS = (
     "tools/bodies_that_proofs_refuse",
     "tools/bodies_that_give_up",
     "tools/calls_too_often",
+    "tools/faults_in_recordings",
     "tools/faults_in_requests",
     "tools/faults_in_runs",
     "tools/faults_in_scripts",

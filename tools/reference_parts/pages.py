@@ -32,6 +32,11 @@ def code(text):
     return f"<code>{escaped(text)}</code>"
 
 
+def spans_of_c(text):
+    """A comment of C with its names as code spans."""
+    return re.sub(r"\b(?:iox2ps|IOX2PS)_\w+", r"`\g<0>`", text)
+
+
 def inline(text):
     """A line of a comment, with its code spans."""
     parts = re.split(r"(`+)(.+?)\1", text)
@@ -182,7 +187,7 @@ class Pages:
             if function.item
             else "<p class=soft>It is not an export of the proved crate.</p>"
         )
-        return f'<h3 id="{function.name}">{function.name}</h3><pre><code>{escaped(function.signature)}</code></pre>{comment(function.doc)}{contract}{table}'
+        return f'<h3 id="{function.name}">{function.name}</h3><pre><code>{escaped(function.signature)}</code></pre>{comment(spans_of_c(function.doc))}{contract}{table}'
 
     # ---- pages
 
@@ -238,7 +243,10 @@ class Pages:
         table = "".join(
             f'<tr><td class=name><a href="{path}">{escaped(title)}</a></td><td>{escaped(what)}</td></tr>' for path, title, what in rows
         )
-        everything = "".join(f'<a class=to href="{self.places[entry.name]}">{escaped(entry.name)}</a>' for entry in self.model.all())
+        everything = "".join(
+            f'<a class="to{" call" if entry.parent else ""}" href="{self.places[entry.name]}">{escaped(entry.name)}</a>'
+            for entry in self.model.all()
+        )
         body = (
             f"<h1>iox2_pubsub: the reference</h1><p>Made from the sources: the text of each public item, its contract, its original in iceoryx2, its names in C, C++ and Rust, "
             f"the tests that call it, and the mutants of what it calls. {time.strftime('%Y-%m-%d')}.</p><table>{table}</table>"

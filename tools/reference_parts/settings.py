@@ -8,6 +8,7 @@ HEADER = "bindings/include/iox2_pubsub.h"
 SETTINGS_OF_CPP = "bindings/include/iox2_pubsub_settings.hpp"
 DDS = "bindings/dds/include/iox2_pubsub_dds"
 RUST = "bindings/rust/src"
+PYTHON = "bindings/python/iox2_pubsub"
 
 # How a kind of thing is found in its file, and how each of its parts is: by the kind's name.
 STRUCT = (r"^typedef struct {0} \{{(.*?)^\}} {0};", r"^  [\w *]+?\b(\w+);")
@@ -20,6 +21,10 @@ CLASS = (
 FIELDS = (r"^struct {0} \{{(.*?)^\}};", r"^  [\w:]+ (\w+)(?: =|\{{)")
 ENUM_CLASS = (r"^enum class {0} [^{{]*\{{(.*?)\}};", r"\b(\w+) = IOX2PS_")
 IMPL = (r"^impl[^{{\n]*\b{0}\b[^{{]*\{{\n(.*?)^\}}", r"^    pub fn (\w+)")
+PY_CALLS = (r"^class {0}:\n(.*?)(?=^class )", r"^    def ((?!_|close\b)\w+)\(")
+PY_ARGUMENTS = (r"^    def {0}\((.*?)\) -> \w+:", r"\b(\w+): ")
+PY_FIELDS = (r"^class {0}\(NamedTuple\):\n(.*?)(?=^class )", r"^    (\w+): ")
+PY_ENUM = (r"^class {0}\(IntEnum\):\n(.*?)(?=^class )", r"^    ([A-Z_]+) = \d+")
 RUST_ENUM = (r"^pub enum {0} \{{\n(.*?)^\}}", r"^    (\w+)(?: = \d+)?,")
 
 # Where each group of the table stands in the sources, and how.
@@ -50,8 +55,17 @@ GROUPS = {
             IMPL: ("PortFactoryPublisher", "PortFactorySubscriber"),
             RUST_ENUM: ("DegradationAction", "AllocationStrategy"),
         },
+        f"{RUST}/static_config.rs": {IMPL: ("StaticConfig", "PublisherConfig", "SubscriberConfig")},
         f"{RUST}/publisher.rs": {RUST_ENUM: ("BackpressureStrategy", "BackpressureAction")},
         f"{RUST}/warning.rs": {RUST_ENUM: ("WarningKind",)},
+    },
+    "python": {
+        f"{PYTHON}/_core.pyi": {PY_CALLS: ("Domain",)},
+        f"{PYTHON}/domain.py": {PY_ARGUMENTS: ("__new__", "publisher", "subscriber")},
+        f"{PYTHON}/settings.py": {
+            PY_FIELDS: ("DomainSettings", "Warning"),
+            PY_ENUM: ("BackpressureStrategy", "BackpressureHandler", "DegradationAction", "AllocationStrategy", "WarningKind"),
+        },
     },
     "dds_c": {
         f"{DDS}.h": {
@@ -71,6 +85,7 @@ NO_SETTINGS |= {"publisher", "subscriber", "publisher_builder", "subscriber_buil
 FAULTS = (
     ("bindings/include/iox2_pubsub.h", "  size_t history_size; ", "  size_t history_sizes; ", "has no row for history_sizes"),
     ("bindings/rust/src/port_factory.rs", "    Warn = 1,", "    Warns = 1,", "has a row for Warn, which isn't there"),
+    ("bindings/python/iox2_pubsub/settings.py", "    BEST_FIT = 1", "    BEST_FITS = 1", "has no row for BEST_FITS"),
     ("bindings/cpp/settings.cpp", "AllocationStrategy::BestFit", "AllocationStrategy(1)", "doesn't use BestFit"),
     ("bindings/c/settings.c", "  memory_grows_as_the_options_say();\n", "", "memory_grows_as_the_options_say of bindings/c/settings.c isn't run"),
 )
@@ -80,7 +95,7 @@ FUNCTIONS = {
     ".c": (r"^(?:static )?[\w ]+?\b(\w+)\([^;]*?\) \{{$", r"^  {0}\(\);"),
     ".cpp": (r"^(?:template <[^>]*> )?(?:static )?[\w:<>\[\], ]+?\b(\w+)\([^;]*?\) \{{$", r"^  {0}\(\);|^      {0},$"),
     ".rs": (r"^fn (\w+)", r"^#\[test\]\n(?:#\[ignore.*\]\n)?fn {0}\("),
-    ".py": (r"^def (\w+)", r"^tests = \[[^\]]*\b{0}\b"),
+    ".py": (r"^(?:@pytest\.(?:.|\n)*?\n)?def (\w+)", r"^tests = \[[^\]]*\b{0}\b|^def (?=test_){0}\("),
 }
 
 

@@ -32,7 +32,11 @@ def step(name, run):
         Count.failed += 1
 
 
-def sh(*command, seconds=600, **more):
+# So long a command may take that has failed. One that hasn't ends sooner on each machine, so that no step fails by how fast it is.
+PATIENCE = 3600
+
+
+def sh(*command, seconds=PATIENCE, **more):
     """What a command writes. Raises where it fails or takes longer."""
     command = [str(word) for word in command]
     done = subprocess.run(command, stdout=subprocess.PIPE, stderr=subprocess.STDOUT, timeout=seconds, **more)

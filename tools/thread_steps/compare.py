@@ -6,7 +6,7 @@ import statistics
 from binding_steps import registry
 from binding_steps.bench import where
 
-from .base import BINDINGS, STRESS, WORK, Count, env, sh, step
+from .base import BINDINGS, PATIENCE, STRESS, WORK, Count, env, sh, step
 
 CHANNELS = "crossbeam-channel"
 # How many messages are passed to this number of consumers: for long enough that the threads are spread over the processors.
@@ -28,7 +28,7 @@ def stress_program(name, crates=STRESS, rustflags="", target="target", words=())
 def soak(seconds, seed):
     """What the program says after so long."""
     program = stress_program("soak")
-    return sh(program, seconds, seed, seconds=seconds + 120).strip()
+    return sh(program, seconds, seed, seconds=seconds + PATIENCE).strip()
 
 
 def part_soak(seconds=20):

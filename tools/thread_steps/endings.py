@@ -1,22 +1,43 @@
 # SPDX-License-Identifier: Apache-2.0 OR MIT
 """How a program of many threads ends, whatever else the machine does: no clock says that it waits for good."""
 import resource
+import signal
 import subprocess
 import time
 from pathlib import Path
 
-# So long all its threads have to sleep. The longest sleep in a test takes a fiftieth of a second.
+# So long all its threads have to sleep. The longest sleep in a test takes a fifth of a second.
 STILL_SECONDS = 3
-# Processor time; a file of tests takes some seconds of it.
-MOST_SECONDS = 60
+# Processor time; a file of tests takes some seconds of it. Some systems count what a thread waits for a processor too.
+MOST_SECONDS = 1200
+
+
+def words_of(stat):
+    """What a file of the system says of a process or a thread, from its state on."""
+    return stat.read_text().rsplit(")", 1)[1].split()
+
+
+def family_of(process):
+    """The process, its children, and theirs."""
+    family, parents = [str(process)], {}
+    for stat in Path("/proc").glob("[0-9]*/stat"):
+        try:
+            parents.setdefault(words_of(stat)[1], []).append(stat.parent.name)
+        except OSError:  # it has ended
+            continue
+    for one in family:
+        family += parents.get(one, ())
+    return family
 
 
 def threads_of(process):
-    """The state of each thread and the processor time that it took. A thread that could run, but has no processor, doesn't sleep."""
+    """The state of each thread of the process and of its children, and the processor time that it took. A thread that could run, but has
+    no processor, doesn't sleep."""
     seen = {}
-    for stat in Path(f"/proc/{process}/task").glob("*/stat"):
-        words = stat.read_text().rsplit(")", 1)[1].split()
-        seen[stat.parent.name] = (words[0], words[11], words[12])
+    for one in family_of(process):
+        for stat in Path(f"/proc/{one}/task").glob("*/stat"):
+            words = words_of(stat)
+            seen[stat.parent.name] = (words[0], words[11], words[12])
     return seen
 
 
@@ -36,11 +57,11 @@ def stood_still(process):
     return sleeps(before)
 
 
-def how_it_ends(*command, seconds=MOST_SECONDS):
-    """Whether the program passes, fails, or waits for good. It fails where it takes more processor time."""
+def how_it_ends(*command, seconds=MOST_SECONDS, **more):
+    """Whether the program passes, fails, waits for good, or takes more processor time."""
     limit = lambda: resource.setrlimit(resource.RLIMIT_CPU, (seconds, seconds))
     quiet = {"stdin": subprocess.DEVNULL, "stdout": subprocess.DEVNULL, "stderr": subprocess.DEVNULL}
-    with subprocess.Popen([str(word) for word in command], preexec_fn=limit, **quiet) as process:
+    with subprocess.Popen([str(word) for word in command], preexec_fn=limit, **quiet, **more) as process:
         while process.poll() is None:
             time.sleep(0.05)
             try:
@@ -50,4 +71,6 @@ def how_it_ends(*command, seconds=MOST_SECONDS):
             if is_still:
                 process.kill()
                 return "waits for good"
+    if process.returncode in (-signal.SIGXCPU, -signal.SIGKILL):
+        return f"takes more than {seconds} s of processors"
     return "passes" if process.returncode == 0 else "fails"

@@ -16,14 +16,16 @@ IN_RUST = [
     ("a thread that is back still counts as awake", "waiting.rs",
      "            self.awake -= usize::from(self.threads.remove(at).is_awake);", "            self.threads.remove(at);",
      "threads::a_receive_waits_for_a_message"),
-    ("a thread isn't woken after the call", "guarded.rs", "            self.wake(wake);\n        }\n        code.unwrap_or",
-     "            drop(wake);\n        }\n        code.unwrap_or", "threads::a_receive_waits_for_a_message"),
+    ("a thread isn't woken after the call", "guarded.rs",
+     "self.brought(state, brings, code);\n            code\n        });\n        if let Some(wake) = wake {\n            self.wake(wake);",
+     "self.brought(state, brings, code);\n            code\n        });\n        if let Some(wake) = wake {\n            drop(wake);",
+     "threads::a_receive_waits_for_a_message"),
     ("who is woken doesn't wake the next", "guarded.rs", "let wake = self.brought(state, wait.brings, code);",
      "let wake: Option<Wake> = None;", "waits::each_of_sixteen_that_wait_is_woken"),
     ("a stop wakes nobody", "guarded.rs", "            state.waiting.bring(Brings::ALL);", "", "threads::stopping_ends_all_waits"),
     ("a stop isn't looked at", "guarded.rs", "|| state.is_stopped || is_past", "|| is_past", "threads::stopping_ends_all_waits"),
     ("time isn't looked at", "guarded.rs", " || is_past(wait.until)", "", "threads::a_receive_waits_for_so_long"),
-    ("the end of a send frees nobody", "threads.rs", "Brings::SEND.and(Brings::FREE)", "Brings::SEND",
+    ("the end of a send frees nobody", "threads.rs", "Brings::FREE.and(Brings::LOAN)", "Brings::LOAN",
      "locks::the_end_of_a_send_wakes_who_waits_for_it"),
     ("a release frees no slot", "sample.rs", "self.hold.call(Brings::LOAN, release)", "self.hold.call(Brings::NOTHING, release)",
      "waits::a_loan_waits_for_a_slot_that_is_released"),
@@ -82,8 +84,8 @@ IN_RUST = [
      "latched::a_latched_message_comes_to_who_waits"),
     ("what a new subscriber brings wakes nobody", "port_factory.rs", "hold.call(Brings::SEND, |shared|", "hold.call(Brings::NOTHING, |shared|",
      "latched::those_who_wait_are_woken"),
-    ("all publishers but one that goes are forgotten", "shared.rs", "self.publishers.retain(|one| one.id != publisher.id);",
-     "self.publishers.retain(|one| one.id == publisher.id);", "latched::it_comes_from_each_publisher_and_by_borrowed_handles"),
+    ("all publishers but one that goes are forgotten", "shared.rs", "self.publishers.retain(|one| one.id != id);",
+     "self.publishers.retain(|one| one.id == id);", "latched::it_comes_from_each_publisher_and_by_borrowed_handles"),
     ("a child of a fork takes the lock", "guarded.rs", "        if !self.process.is_this() {\n            return None;\n        }\n", "",
      "fork::a_child_does_not_wait_for_the_lock_of_a_thread_that_it_lacks"),
     ("a child of a fork has its parent's domain of one thread", "fork.rs", "(*domain.0).domain = null_mut();", "drop(domain);",
@@ -101,21 +103,61 @@ IN_RUST = [
      "events::a_listener_goes_with_its_subscriber_and_may_own_other_handles"),
     ("a descriptor is raised once", "message_fd.rs", "self.0.is_raised.swap(false, Ordering::AcqRel);", "",
      "events::descriptor::a_descriptor_is_readable_when_a_message_came"),
+    ("a refused call wakes others", "guarded.rs", "_ => brings.by(code).and(too),", "_ => brings.and(too),",
+     "wakes::a_refused_call_wakes_nobody"),
+    ("a loan that waits wakes others where no history is kept", "shared.rs", "self.history.by(code);", "Brings::MESSAGE.by(code);",
+     "wakes::threads_that_wait_for_a_loan_do_not_wake_each_other"),
+    ("a history that an update for a loan hands over wakes nobody", "shared.rs", "self.brings_too = self.history.by(code);", "",
+     "latched::an_update_for_a_loan_wakes_who_waits"),
+    ("a send that is blocked where it was wakes others", "send_outcome.rs", "if code != sys::BLOCKED || stands_at(shared, blocked) != before {",
+     "if true {", "wakes::a_refused_call_wakes_nobody"),
+    ("a message that a retry brings wakes nobody", "send_outcome.rs", "if code != sys::BLOCKED || stands_at(shared, blocked) != before {",
+     "if false {", "wakes::a_retry_wakes_whom_it_reaches"),
+    ("a set isn't woken", "joined_port.rs", "            told.alarm.raise();\n", "", "wait_set::a_set_that_sleeps_is_woken"),
+    ("what comes while a set looks is missed", "wait_set.rs", "            self.alarm.lower();\n            let (found, gone) = self.attachments.borrow_mut().look();",
+     "            let (found, gone) = self.attachments.borrow_mut().look();\n            self.alarm.lower();", "wait_set::what_comes_while_a_set_falls_asleep_is_not_missed"),
+    ("a set that was woken once looks without end", "alarm.rs", "self.is_raised.swap(false, Ordering::AcqRel);", "", "wait_set::sleep::an_idle_set_sleeps_on"),
+    ("a set looks now and then", "wait_set.rs", "self.alarm.sleep(earlier(until, found.next));",
+     "self.alarm.sleep(after(std::time::Duration::from_millis(1)));", "wait_set::sleep::an_idle_set_sleeps_on"),
+    ("a set looks all the time", "wait_set.rs", "            self.alarm.sleep(earlier(until, found.next));\n", "", "wait_set::sleep::an_idle_set_sleeps_on"),
+    ("a message that waits is told of once", "joined_port.rs", "        if let Port::Subscriber(_) = self.port {\n            self.ask_again();\n        }\n", "",
+     "wait_set::subscribers_of_several_domains_have_events_while_messages_wait"),
+    ("a deadline is missed beside a message", "attachments.rs", "if look.has_event {", "if look.has_event && !matches!(attachment.due, Some(due) if due <= found.now) {",
+     "wait_set::a_message_that_is_late_for_its_deadline_is_an_event"),
+    ("ticks come one behind the other", "attachments.rs", "now.checked_add(period - late)", "now.checked_add(Duration::ZERO).map(|_| self.due.unwrap() + period + late - late)",
+     "wait_set::ticks_that_were_due_meanwhile_are_one"),
+    ("those behind what is detached aren't called", "attachments.rs", "        self.due -= usize::from(at < self.due);\n", "",
+     "wait_set::those_behind_what_is_detached_are_called_once"),
+    ("a port that goes is called", "attachments.rs", "if look.is_gone {", "if false {", "wait_set::a_port_that_goes_is_not_called"),
+    ("a stop ends no set's wait", "wait_set.rs", "found.is_stopped || is_listening()", "is_listening()", "wait_set::stopped_waits_end_once_no_port_has_an_event"),
+    ("a stop loses messages", "wait_set.rs", "if found.of_ports || (found.of_times && !is_stopped) {", "if (found.of_ports || found.of_times) && !is_stopped {",
+     "wait_set::stopped_waits_end_once_no_port_has_an_event"),
+    ("what a stop leaves is lost", "joined_port.rs", "        self.told().is_told.store(true, Ordering::Release);\n", "", "wait_set::events_after_a_stop_or_a_panic_stay"),
+    ("a publisher isn't told of room", "joined_port.rs", "Port::Publisher(_) => Brings::OTHERS,", "Port::Publisher(_) => Brings::END,",
+     "wait_set::a_publisher_has_an_event_when_a_blocked_send_may_be_retried"),
+    ("a set waits in a listener", "wait_set.rs", "found.is_stopped || is_listening()", "found.is_stopped", "wait_set::a_listener_does_not_wait"),
+    ("an idle set asks its domains", "joined_port.rs", "|| !self.told().is_told.swap(false, Ordering::AcqRel)", "", "wait_set::an_idle_set_asks_no_domain"),
+    ("a child's set waits", "joined_port.rs", "is_after_fork: !self.hold.is_here(),", "is_after_fork: false,", "fork::a_childs_set_waits_for_nobody"),
 ]
 
 # The same of the headers, which cpp/threads.cpp has to see.
 IN_CPP = [
-    ("nobody is woken for what comes", "shared", "if (!list_.is_empty()) wake.bell = next(brings);", ""),
+    ("nobody is woken for what comes", "shared", "if (!list_.is_empty()) wake.ringer = next(brings);", ""),
     ("a message that comes isn't counted", "shared", "      count(messages_);\n      wake.listeners", "      wake.listeners"),
     ("room that comes isn't counted", "shared", "if ((brings & ~only(Waits::Message)) != 0) count(others_);", ""),
     ("who is woken doesn't wake the next", "shared", "        wake = brought(brings, code);\n        is_over", "        brought(brings, code);\n        is_over"),
-    ("what is given back for the next message frees no loan", "shared", "brings |= std::exchange(too_, 0u);", ""),
-    ("a refused loan wakes others", "shared", "if (code != IOX2PS_OK) brings = brought_by(brings, code);", ""),
+    ("what is given back for the next message frees no loan", "shared", "brought_by(brings, code) | std::exchange(too_, 0u);", "brought_by(brings, code);"),
+    ("a refused call wakes others", "shared", "brings = iox2ps_brought_by(brings, code) |", "brings |="),
+    ("threads that wait for a loan wake each other", "", "bring_too(iox2ps_brought_by(hold_->history, updated));", "bring_too(only(detail::Waits::Loan));"),
+    ("a history that an update for a loan hands over wakes nobody", "", "        hold_.bring_too(iox2ps_brought_by(hold_->history, updated));\n", ""),
+    ("a send that is blocked where it was wakes others", "", "if (code != IOX2PS_BLOCKED || stands_at(domain) != before) hold_.bring_too", "hold_.bring_too"),
+    ("a message that a retry brings wakes nobody", "", "if (code != IOX2PS_BLOCKED || stands_at(domain) != before) hold_.bring_too",
+     "if (code != IOX2PS_BLOCKED && stands_at(domain) == before) hold_.bring_too"),
     ("a listener is called under the lock", "shared", "      wake = brought(brings, code);\n    }\n    wake.wake();",
      "      wake = brought(brings, code);\n      wake.wake();\n    }"),
     ("no listener is called", "shared", "      wake.listeners = listeners_;\n    }\n    if ((brings & ~", "    }\n    if ((brings & ~"),
     ("a stop calls no listener", "shared", "      wake.listeners = listeners_;\n    }\n    wake.wake();", "    }\n    wake.wake();"),
-    ("a call waits in a listener", "shared", "is_over || calling().is_on", "is_over"),
+    ("a call waits in a listener", "shared", "is_past(until) || calling().is_on", "is_past(until)"),
     ("a listener is called inside of itself", "events", "if (mine.is_on) return put_off(mine, std::move(due));", ""),
     ("what is put off isn't called", "events", "due = take(mine);", "due = nullptr;"),
     ("what is put off once isn't put off again", "events", "it->is_put_off_.exchange(false, std::memory_order_acq_rel);", ""),
@@ -123,11 +165,50 @@ IN_CPP = [
     ("a close ends no wait", "", "      shared_->threads.end_waits(port);\n", ""),
     ("a wait for a loan goes on beside a blocked send", "", "        if (!sender_) return IOX2PS_NOT_LIVE;", "       "),
     ("a late subscriber waits for a publisher's next send", "", "    hold_->update_publishers();\n", ""),
-    ("a history that is handed over late wakes nobody", "", "hold_.many().bring_too(have_history", "hold_.many().bring_too(!have_history"),
+    ("a history that is handed over late wakes nobody", "", "hold_.bring_too(hold_->history | detail::Waits::Loan);", ""),
     ("a stop can't be asked about", "shared", "    return is_stopped_;\n", "    return false;\n"),
     ("a thread that is woken sleeps on", "shared", "    one.is_woken.store(true, std::memory_order_release);\n", ""),
     ("a descriptor is raised once", "events", "raised_->is_raised.exchange(false, std::memory_order_acq_rel);", ""),
     ("a descriptor isn't reset", "events", "static_cast<void>(!::read(raised_->fd, &count, sizeof count));", "static_cast<void>(count);"),
+]
+
+# The same of wait sets, which cpp/wait_sets.cpp has to see.
+OF_WAIT_SETS = [
+    ("a set isn't woken", "wait_set", "    told.alarm_.raise();\n", ""),
+    ("what comes while a set looks is missed", "wait_set", "      alarm_.lower();\n      Found found = look_at_all();", "      Found found = look_at_all();\n      alarm_.lower();"),
+    ("a set that was woken once looks without end", "wait_set", "is_raised_.exchange(false, std::memory_order_acq_rel);", ""),
+    ("a message that waits is told of once", "wait_set", "    Member<M>::handle(event, now);\n    this->put_off();", "    Member<M>::handle(event, now);"),
+    ("a deadline goes on where a message came", "wait_set", "  void handle(Event, Clock::time_point now) override { begin_anew(now); }",
+     "  void handle(Event event, Clock::time_point now) override { if (event != Event::Notification) begin_anew(now); }"),
+    ("a deadline is missed once", "wait_set", "  void handle(Event, Clock::time_point now) override { begin_anew(now); }",
+     "  void handle(Event event, Clock::time_point now) override { if (event == Event::Notification) begin_anew(now); else begin_anew(now + std::chrono::hours(1)); }"),
+    ("a deadline is missed beside a message", "wait_set", "    if (answer.has_event) {", "    if (answer.has_event && (!one.due_ || *one.due_ > now_)) {"),
+    ("ticks come one behind the other", "wait_set", "later(now, *period_ - (now - *due_) % *period_)", "later(*due_, *period_)"),
+    ("what is detached is called", "wait_set", "    if (due_ == &one) due_ = one.after_;\n", ""),
+    ("a guard leaves its port there", "wait_set", "  if (set_) set_->remove(*this);\n", ""),
+    ("a port that is closed is called", "wait_set", "    answer_.is_live = code != IOX2PS_NOT_LIVE;\n", ""),
+    ("a publisher that closes later is called", "wait_set", "return has_event ? IOX2PS_OK : IOX2PS_NOT_LIVE;", "return (has_event = true) ? IOX2PS_OK : IOX2PS_NOT_LIVE;"),
+    ("a close wakes no set", "shared", "    list_.each_joined([](iox2ps_joined_t &one) { one.wake(&one, everything); });\n", ""),
+    ("a stop ends no set's wait", "wait_set", "answer_.is_stopped = waits_are_stopped != 0;", ""),
+    ("a stop loses messages", "wait_set", "if (found.of_ports || (found.of_times && !is_stopped))", "if ((found.of_ports || found.of_times) && !is_stopped)"),
+    ("an interval keeps a stopped wait", "wait_set", "(found.of_times && !is_stopped)", "found.of_times"),
+    ("what a stop leaves is lost", "wait_set", "    put_off(); /* what an earlier wait has left, or one that called this */\n", ""),
+    ("a room that comes is told to no publisher", "wait_set", "(Waits::Room | Waits::Free) | Waits::Loan;", "Waits::Free | Waits::Loan;"),
+    ("a loan that comes is told to no publisher", "wait_set", "(Waits::Room | Waits::Free) | Waits::Loan;", "Waits::Room | Waits::Free;"),
+    ("a set waits in a listener", "wait_set", "found.is_stopped || calling().is_on;", "found.is_stopped;"),
+    ("a set looks now and then", "wait_set", "alarm_.sleep(until && found.next ? (std::min)(*until, *found.next) : until ? until : found.next);",
+     "alarm_.sleep(after(std::chrono::milliseconds(1)));"),
+    ("a set looks all the time", "wait_set", "      alarm_.sleep(until && found.next ? (std::min)(*until, *found.next) : until ? until : found.next);\n", ""),
+    ("an idle set asks its domains", "wait_set", "    if (!is_told_.exchange(false, std::memory_order_acq_rel)) return answer_;\n", "    is_told_.exchange(false, std::memory_order_acq_rel);\n"),
+]
+
+# The same of a domain that a gateway joins, which dds/tests/late.cpp has to see.
+BESIDE_A_GATEWAY = [
+    ("a late subscriber waits for the gateway's next message", "", "      hold_->add(sender);\n", ""),
+    ("a late gateway waits for a publisher's next message", "", "      connect_publishers();\n      hold_->add(sender);", "      hold_->add(sender);"),
+    ("a gateway that goes isn't forgotten", "", "      hold_->remove(sender);\n", ""),
+    ("a message that comes while a thread falls asleep is missed", "shared", "if (has_changed(mine.what, seen)) return false;", ""),
+    ("nobody is woken for what comes", "shared", "if (!list_.is_empty()) wake.ringer = next(brings);", ""),
 ]
 
 
@@ -140,7 +221,7 @@ def planted():
     """Each fault, the file in bindings that it is planted into, and what it replaces there."""
     for fault, name, old, _, _ in IN_RUST:
         yield fault, f"rust/src/{name}", old
-    for fault, name, old, _ in IN_CPP:
+    for fault, name, old, _ in IN_CPP + OF_WAIT_SETS + BESIDE_A_GATEWAY:
         yield fault, header_of(name), old
 
 
@@ -181,7 +262,7 @@ def compiled(crate, tests):
 def see_fault(fault):
     """Its test fails, or waits for good."""
     tests, name = fault[4].split("::", 1)
-    ending = how_it_ends(compiled(plant(fault), tests), "--exact", name, seconds=20)
+    ending = how_it_ends(compiled(plant(fault), tests), "--exact", name)
     if ending == "passes":
         raise RuntimeError(f"tests/{tests}.rs: {name} passes")
     return f"{name} {ending}"
@@ -202,39 +283,48 @@ def pass_without(faults):
     return "all tests pass"
 
 
-def compiled_cpp(include):
-    """cpp/threads.cpp over these headers."""
-    program = WORK / "faulty_threads"
-    sh("g++", "-std=c++17", "-O1", "-w", "-I", include, BINDINGS / "cpp/threads.cpp", ARCHIVE / "libiox2_pubsub.a", "-pthread", "-o", program)
+THREADS, SETS, LATE = "cpp/threads.cpp", "cpp/wait_sets.cpp", "dds/tests/late.cpp"
+
+
+def compiled_cpp(include, source):
+    """A program over these headers; that of the gateway with what stands in for it, and a sanitizer that sees what is gone."""
+    program, near = WORK / "faulty_threads", WORK / "near_gateway.o"
+    words = ["g++", "-std=c++17", "-O1", "-w", "-I", include]
+    if source == LATE:
+        includes = ("-I", include, "-I", BINDINGS / "dds/include")
+        sh("gcc", "-std=c11", "-O1", *includes, "-c", BINDINGS / "dds/tests/near_gateway.c", "-o", near)
+        words += ["-fsanitize=address", *includes[2:], near]
+    sh(*words, BINDINGS / source, ARCHIVE / "libiox2_pubsub.a", "-pthread", "-o", program)
     return program
 
 
-def see_fault_cpp(fault):
-    """cpp/threads.cpp fails, or waits for good."""
+def see_fault_cpp(fault, source):
+    """The program fails, or waits for good."""
     _, header, old, new = fault
     include = copied("include") / "include"
     replace(include.parent / header_of(header), old, new)
-    ending = how_it_ends(compiled_cpp(include))
+    ending = how_it_ends(compiled_cpp(include, source))
     if ending == "passes":
-        raise RuntimeError("cpp/threads.cpp passes")
-    return f"cpp/threads.cpp {ending}"
+        raise RuntimeError(f"{source} passes")
+    return f"{source} {ending}"
 
 
-def pass_without_cpp():
+def pass_without_cpp(source):
     """It passes where nothing is planted."""
-    ending = how_it_ends(compiled_cpp(BINDINGS / "include"))
+    ending = how_it_ends(compiled_cpp(BINDINGS / "include", source))
     if ending != "passes":
-        raise RuntimeError(f"cpp/threads.cpp {ending}")
-    return "cpp/threads.cpp passes"
+        raise RuntimeError(f"{source} {ending}")
+    return f"{source} passes"
 
 
-def part_faults(in_rust=IN_RUST, in_cpp=IN_CPP):
+def part_faults(in_rust=IN_RUST, in_cpp=IN_CPP, of_sets=OF_WAIT_SETS, beside=BESIDE_A_GATEWAY):
     """Each in turn."""
     if there("cargo"):
         step("the crate without a fault", lambda: pass_without(in_rust))
         for fault in in_rust:
             step(f"fault of the crate: {fault[0]}", lambda: see_fault(fault))
     if there("g++"):
-        step("the headers without a fault", pass_without_cpp)
-        for fault in in_cpp:
-            step(f"fault of the headers: {fault[0]}", lambda: see_fault_cpp(fault))
+        for source, faults in ((THREADS, in_cpp), (SETS, of_sets), (LATE, beside)):
+            step(f"the headers without a fault, {source}", lambda: pass_without_cpp(source))
+            for fault in faults:
+                step(f"fault of the headers: {fault[0]}", lambda: see_fault_cpp(fault, source))

@@ -3,7 +3,7 @@
 import re
 import subprocess
 
-from .base import WORK, Count, env, sh, step, there
+from .base import PATIENCE, WORK, Count, env, sh, step, there
 from .lists import CALLS, calls_of, random_cpp, random_rust
 
 
@@ -20,7 +20,7 @@ def sanitized(program, seeds, **more):
     calls = warnings = 0
     for seed in seeds:
         done = subprocess.run([str(program), str(seed), str(CALLS), "4", str(WORK / "script"), str(WORK / "replies")],
-                              stdout=subprocess.PIPE, stderr=subprocess.STDOUT, timeout=300,
+                              stdout=subprocess.PIPE, stderr=subprocess.STDOUT, timeout=PATIENCE,
                               env=env(TSAN_OPTIONS=f"exitcode=66 suppressions={suppressions()}", **more))
         said = done.stdout.decode(errors="replace")
         warnings += said.count("WARNING: Thread")
