@@ -66,10 +66,11 @@ def run_programs(steps, emulated):
     """The rows that this machine's compilers run too, and the heap, which is another than that of x86-64."""
     c, cpp = emulated.target.compilers
     nm = c.removesuffix("gcc") + "nm"
-    steps.run("the archive has the functions of the header", same_functions, emulated.target.out / "lib/libiox2_pubsub.a", nm)
-    steps.run("the archive says its build's sum", build_sums.says_it, emulated.target.out / "lib/libiox2_pubsub.a", emulated.target, emulated.work)
-    steps.run("what decides a call", determinism.run, emulated.target.out / "lib/libiox2_pubsub.a", emulated.target, emulated.work)
-    steps.run(f"how structs lie in memory, {c}", layouts.holds, (c, cpp), emulated.target.out / "include")
+    archive, include = emulated.target.out / "lib/libiox2_pubsub.a", emulated.target.out / "include"
+    steps.run("the archive has the functions of the header", same_functions, archive, nm, include)
+    steps.run("the archive says its build's sum", build_sums.says_it, archive, emulated.target, emulated.work)
+    steps.run("what decides a call", determinism.run, archive, emulated.target, emulated.work)
+    steps.run(f"how structs lie in memory, {c}", layouts.holds, (c, cpp), include)
     for source, standard, _ in ROWS:
         steps.run(f"{source}, {emulated.target.name} {standard}", emulated.run, source, standard, "-O1")
     for source in ("c/heap.c", *OWN_MALLOC):

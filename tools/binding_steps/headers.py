@@ -5,7 +5,7 @@ import subprocess
 from pathlib import Path
 
 from . import build_sums, determinism, layouts
-from .places import BINDINGS, CRATES, OUT, is_here, version
+from .places import BINDINGS, CRATES, HEADER, OUT, is_here, version
 from .programs import ARCHIVE, PAIRS, WARNINGS
 from .steps import Failed, said
 from .targets import X86_64
@@ -25,11 +25,11 @@ ALONE = (
 )
 
 
-def same_functions(archive=ARCHIVE, nm="nm"):
+def same_functions(archive=ARCHIVE, nm="nm", include=INCLUDE):
     """The archive defines what the header declares, and no other function of this name."""
     symbols = said(nm, "-g", "--defined-only", archive, both=False)
     defined = set(re.findall(r" T (iox2\w*)", symbols))
-    text = (archive.parent.parent / "include/iox2_pubsub.h").read_text()
+    text = (include / HEADER.name).read_text()
     declared = set(re.findall(r"^(?:IOX2PS_NODISCARD iox2ps_status_t|IOX2PS_NODISCARD uint32_t|iox2ps_status_t|void) \*?(iox2ps_\w+)\(", text, re.M))
     if defined != declared:
         raise Failed(f"in the archive alone: {sorted(defined - declared)}; in the header alone: {sorted(declared - defined)}")
