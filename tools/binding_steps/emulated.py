@@ -13,7 +13,7 @@ from .page_texts import BOARDS, OTHER_LINKER, words
 from .places import FIRST_C, is_here
 from .programs import OTHER_VERSION, OWN_MALLOC, ROWS, WRAPS, compile_program, run_source
 from .random_calls import compare_with_run
-from .steps import Failed, said
+from .steps import Failed, run_side_by_side, said
 from .targets import X86_64
 
 SEEDS = range(1, 4)
@@ -62,7 +62,7 @@ def run_dynamic(emulated):
     return said("timeout", MOST_SECONDS, *emulated.target.emulator, program)
 
 
-def run_programs(steps, emulated):
+def run_programs(steps, emulated, is_whole):
     """The rows that this machine's compilers run too, and the heap, which is another than that of x86-64."""
     c, cpp = emulated.target.compilers
     nm = c.removesuffix("gcc") + "nm"
@@ -71,8 +71,9 @@ def run_programs(steps, emulated):
     steps.run("the archive says its build's sum", build_sums.says_it, archive, emulated.target, emulated.work)
     steps.run("what decides a call", determinism.run, archive, emulated.target, emulated.work)
     steps.run(f"how structs lie in memory, {c}", layouts.holds, (c, cpp), include)
-    for source, standard, _ in ROWS:
-        steps.run(f"{source}, {emulated.target.name} {standard}", emulated.run, source, standard, "-O1")
+    for row in ROWS:
+        if is_whole or not row.is_of_whole:
+            steps.run(f"{row.source}, {emulated.target.name} {row.standard}", emulated.run, row.source, row.standard, "-O1")
     for source in ("c/heap.c", *OWN_MALLOC):
         steps.run(f"{source}, {emulated.target.name} c11", emulated.run, source, "c11", "-O1", *WRAPS)
     steps.run(f"c/threads.c, {emulated.target.name} c11, dynamic", run_dynamic, emulated)
@@ -305,16 +306,27 @@ def run_projects(steps, emulated):
         steps.run("rust, recorded on both processors", same_recording_in_rust, emulated, rust)
 
 
-def run_emulated(steps, work, target, script_of_run, replayer):
-    """All of these."""
+def run_calls(steps, emulated, script_of_run, replayer):
+    """Random calls, recordings and what a message costs."""
+    run_random(steps, emulated, script_of_run)
+    run_recordings(steps, emulated, replayer)
+    steps.run(f"a message from C, {emulated.target.name}", cost_of_message, emulated)
+
+
+def run_emulated(steps, work, target, script_of_run, replayer, is_whole):
+    """All of these, side by side."""
     if lacking := target.lacking():
         steps.skip(f"what is for {target.name}", f"{', '.join(lacking)}")
         return
-    emulated = Emulated(target, work)
-    run_programs(steps, emulated)
-    run_random(steps, emulated, script_of_run)
-    run_recordings(steps, emulated, replayer)
-    steps.run(f"a message from C, {target.name}", cost_of_message, emulated)
-    run_projects(steps, emulated)
+
+    def emulated_in(folder):
+        (work / folder).mkdir()
+        return Emulated(target, work / folder)
+
+    run_side_by_side(
+        (run_programs, steps, emulated_in("programs"), is_whole),
+        (run_calls, steps, emulated_in("calls"), script_of_run, replayer),
+        (run_projects, steps, emulated_in("projects")),
+        (emulated_dds.run_gateway, steps, emulated_in("dds")),
+    )
     python_wheels.run_crossed(steps, work, target)
-    emulated_dds.run_gateway(steps, emulated)

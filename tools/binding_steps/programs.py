@@ -2,6 +2,7 @@
 """The programs of C and C++: compiled and run by gcc and clang, with sanitizers and valgrind."""
 import filecmp
 import subprocess
+from dataclasses import dataclass
 from pathlib import Path
 
 from .places import BINDINGS, EXAMPLES, FIRST_C, OUT, is_here
@@ -19,6 +20,7 @@ AT_LINK_TIME = ("-DAT_LINK_TIME",)
 NO_EXCEPTIONS = ("-O1", "-fno-exceptions", "-fno-rtti")
 # These have a malloc and a realloc of their own, which count calls, and refuse one in a run.
 OWN_MALLOC = ("c/refused_memory.c", "c/recorded_calls.c")
+THREADS_OF_CPP = ("cpp/threads.cpp", "cpp/joined.cpp", "../examples/wait_set/wait_set.cpp", "cpp/wait_sets.cpp")
 WRAPS = ("-Wl,--wrap=malloc", "-Wl,--wrap=realloc")
 GRIND = ("valgrind", "--quiet", "--leak-check=full", "--error-exitcode=9")
 NOTHING_LEFT = ("--show-leak-kinds=all", "--errors-for-leak-kinds=all")
@@ -63,36 +65,51 @@ def compile_and_grind(work, compiler, source, standard, leaks, *flags):
     return said(*GRIND, *leaks, program)
 
 
-# What each compiler of C and C++ runs: the file, the standard, and whether with the sanitizers too.
+@dataclass(frozen=True)
+class Row:
+    """A program that each compiler makes."""
+
+    source: str
+    standard: str = "c11"
+    # Whether the sanitizers have something to see in it.
+    is_sanitized: bool = True
+    # Whether a merge leaves it out, since another row has most of it.
+    is_of_whole: bool = False
+
+    def compiler(self, pair):
+        """That of its language."""
+        return pair[self.standard.startswith("c++")]
+
+
 ROWS = (
-    ("../examples/thermometer/thermometer.c", "c11", True),
-    ("c/calls.c", "c11", True),
-    ("c/bad_input.c", "c11", True),
-    ("c/settings.c", "c11", True),
-    ("c/calls.c", "c++17", True),
-    ("c/bad_input.c", "c++17", True),
-    ("c/settings.c", "c++17", True),
-    ("../examples/thermometer/thermometer.cpp", "c++17", True),
-    ("cpp/tests.cpp", "c++17", True),
-    ("cpp/tests.cpp", "c++20", False),
-    ("cpp/settings.cpp", "c++17", True),
-    ("c/threads.c", "c11", True),
-    ("../examples/wait_set/wait_set.c", "c11", True),
-    ("cpp/threads.cpp", "c++17", True),
-    ("../examples/wait_set/wait_set.cpp", "c++17", True),
-    ("cpp/wait_sets.cpp", "c++17", True),
-    ("cpp/at_exit.cpp", "c++17", True),
-    ("cpp/large.cpp", "c++17", True),
-    ("cpp/gone.cpp", "c++17", True),
-    ("cpp/one_thread.cpp", "c++17", True),
-    ("cpp/forked.cpp", "c++17", True),
-    ("cpp/allocations.cpp", "c++17", False),
-    ("c/own_memory.c", "c11", False),
-    ("cpp/own_memory.cpp", "c++17", False),
-    ("../examples/one_may_lose/one_may_lose.cpp", "c++17", True),
-    ("cpp/joined.cpp", "c++17", True),
-    ("cpp/threads.cpp", "c++20", False),
-    ("cpp/wait_sets.cpp", "c++20", False),
+    Row("../examples/thermometer/thermometer.c"),
+    Row("c/calls.c"),
+    Row("c/bad_input.c"),
+    Row("c/settings.c"),
+    Row("c/calls.c", "c++17"),
+    Row("c/bad_input.c", "c++17"),
+    Row("c/settings.c", "c++17"),
+    Row("../examples/thermometer/thermometer.cpp", "c++17"),
+    Row("cpp/tests.cpp", "c++17"),
+    Row("cpp/tests.cpp", "c++20", is_sanitized=False, is_of_whole=True),
+    Row("cpp/settings.cpp", "c++17"),
+    Row("c/threads.c"),
+    Row("../examples/wait_set/wait_set.c"),
+    Row("cpp/threads.cpp", "c++17"),
+    Row("../examples/wait_set/wait_set.cpp", "c++17"),
+    Row("cpp/wait_sets.cpp", "c++17"),
+    Row("cpp/at_exit.cpp", "c++17"),
+    Row("cpp/large.cpp", "c++17"),
+    Row("cpp/gone.cpp", "c++17"),
+    Row("cpp/one_thread.cpp", "c++17"),
+    Row("cpp/forked.cpp", "c++17"),
+    Row("cpp/allocations.cpp", "c++17", is_sanitized=False),
+    Row("c/own_memory.c", is_sanitized=False),
+    Row("cpp/own_memory.cpp", "c++17", is_sanitized=False),
+    Row("../examples/one_may_lose/one_may_lose.cpp", "c++17"),
+    Row("cpp/joined.cpp", "c++17"),
+    Row("cpp/threads.cpp", "c++20", is_sanitized=False, is_of_whole=True),
+    Row("cpp/wait_sets.cpp", "c++20", is_sanitized=False, is_of_whole=True),
 )
 
 
@@ -122,40 +139,60 @@ def told_of_processor(work):
     return f"{', '.join(TOO_OLD)} are told, and {FIRST} isn't"
 
 
-def run_pair(steps, work, c, cpp):
-    """The rows of one pair of compilers."""
-    for source, standard, is_sanitized in ROWS:
-        compiler = cpp if standard.startswith("c++") else c
-        name = f"{source}, {compiler} {standard}"
-        steps.run(name, compile_and_run, work, compiler, source, standard, "-O2")
-        if is_sanitized:
-            steps.run(f"{name}, sanitizers", compile_and_run, work, compiler, source, standard, "-O1", *SANITIZERS)
+def run_rows(steps, work, pair, is_whole):
+    """The rows of one pair of compilers. In a merge gcc's run as they are, and clang's under the sanitizers, which it compiles sooner."""
+    for row in ROWS:
+        compiler = row.compiler(pair)
+        name = f"{row.source}, {compiler} {row.standard}"
+        runs_checked = row.is_sanitized and (is_whole or pair != PAIRS[0])
+        if is_whole or not (runs_checked or row.is_of_whole):
+            steps.run(name, compile_and_run, work, compiler, row.source, row.standard, "-O2")
+        if runs_checked:
+            steps.run(f"{name}, sanitizers", compile_and_run, work, compiler, row.source, row.standard, "-O1", *SANITIZERS)
+
+
+def run_other_flags(steps, work, pair, is_whole):
+    """What is compiled by other flags. In a merge each compiler has one standard without exceptions."""
+    c, cpp = pair
     for source in OWN_MALLOC:
         steps.run(f"{source}, {c} c11", compile_and_run, work, c, source, "c11", "-O2", *WRAPS)
         steps.run(f"{source}, {c} c11, sanitizers", compile_and_run, work, c, source, "c11", "-O1", *WRAPS, *SANITIZERS)
     steps.run(f"c/own_memory.c, {c} c11, at link time", compile_and_run, work, c, "c/own_memory.c", "c11", "-O2", *AT_LINK_TIME)
     # Not by the sanitizers, which end a program that asks for more memory than there is.
     steps.run(f"c/heap.c, {c} c11", compile_and_run, work, c, "c/heap.c", "c11", "-O2", *WRAPS)
+    standards = ("c++17", "c++20") if is_whole else ("c++20" if pair == PAIRS[0] else "c++17",)
     for source in ("cpp/tests.cpp", "cpp/threads.cpp", "cpp/wait_sets.cpp"):
-        for standard in ("c++17", "c++20"):
+        for standard in standards:
             steps.run(f"{source}, {cpp} {standard}, no exceptions", compile_and_run, work, cpp, source, standard, *NO_EXCEPTIONS)
     steps.run(f"cpp/large.cpp, {cpp} c++17, not optimized", compile_and_run, work, cpp, "cpp/large.cpp", "c++17", "-O0")
     of_dds = ("-I", BINDINGS / "dds/include", *SANITIZERS)
     steps.run(f"dds/tests/moved.cpp, {cpp} c++17, sanitizers", compile_and_run, work, cpp, "dds/tests/moved.cpp", "c++17", "-O1", *of_dds)
     steps.run(f"cpp/version.cpp, {cpp} c++17", compile_and_run, work, cpp, "cpp/version.cpp", "c++17", *OTHER_VERSION)
-    for source in ("c/threads.c", "../examples/wait_set/wait_set.c"):
-        steps.run(f"{source}, {c} c11, thread sanitizer", compile_and_run, work, c, source, "c11", *RACES)
-    for source in ("cpp/threads.cpp", "cpp/joined.cpp", "../examples/wait_set/wait_set.cpp", "cpp/wait_sets.cpp"):
-        steps.run(f"{source}, {cpp} c++17, thread sanitizer", compile_and_run, work, cpp, source, "c++17", *RACES)
 
 
-def run_programs(steps, work):
-    """All of them."""
-    for c, cpp in PAIRS:
-        if is_here(c) and is_here(cpp):
-            run_pair(steps, work, c, cpp)
-        else:
-            steps.skip(f"what is compiled by {c} and {cpp}", c if not is_here(c) else cpp)
+def run_races(steps, work, pair):
+    """What several threads do, under the thread sanitizer."""
+    for row in (Row("c/threads.c"), Row("../examples/wait_set/wait_set.c"), *(Row(source, "c++17") for source in THREADS_OF_CPP)):
+        compiler = row.compiler(pair)
+        name = f"{row.source}, {compiler} {row.standard}, thread sanitizer"
+        steps.run(name, compile_and_run, work, compiler, row.source, row.standard, *RACES)
+
+
+def run_pair(steps, work, pair, is_whole):
+    """All that one pair of compilers makes. In a merge gcc alone has the thread sanitizer."""
+    lacking = next((compiler for compiler in pair if not is_here(compiler)), None)
+    if lacking:
+        steps.skip(f"what is compiled by {' and '.join(pair)}", lacking)
+        return
+    work.mkdir()
+    run_rows(steps, work, pair, is_whole)
+    run_other_flags(steps, work, pair, is_whole)
+    if is_whole or pair == PAIRS[0]:
+        run_races(steps, work, pair)
+
+
+def run_on_other_machines(steps, work):
+    """Older processors, and valgrind."""
     if is_here(QEMU):
         steps.run("older processors", told_of_processor, work)
     else:

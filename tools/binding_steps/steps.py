@@ -5,6 +5,7 @@ import subprocess
 import sys
 import threading
 import time
+from concurrent.futures import ThreadPoolExecutor
 
 LAST_LINE = re.compile(r"^(\d+) passed, (\d+) failed$", re.M)
 
@@ -21,6 +22,13 @@ def said(*words, fails=False, both=True, **more):
     if (ran.returncode == 0) == fails:
         raise Failed(f"{' '.join(words)[:300]}\nended with {ran.returncode}:\n{ran.stdout[-4000:]}")
     return ran.stdout
+
+
+def run_side_by_side(*lanes):
+    """Calls functions, each with what it is given, at the same time; returns when all have. Each has a folder of its own."""
+    with ThreadPoolExecutor(len(lanes)) as beside:
+        for called in [beside.submit(*lane) for lane in lanes]:
+            called.result()
 
 
 class Steps:
