@@ -172,6 +172,7 @@ static const char *text_of(uint32_t code) {
   case IOX2PS_PROCESSES_FORKED: return "the domain belongs to the parent process";
   case IOX2PS_PROCESSES_TIMED_OUT: return "nothing came in time";
   case IOX2PS_PROCESSES_NOT_SHARED: return "the domain is of one process";
+  case IOX2PS_NOTIFIER_NOTIFY_ERROR_EVENT_ID_OUT_OF_BOUNDS: return "NotifierNotifyError::EventIdOutOfBounds";
   }
   return NULL;
 }

@@ -243,7 +243,10 @@ static const struct { make_t *make; domain_traits_t traits; } OPERATIONS[DOMAIN_
   [SUBSCRIBER_SET_CHANNEL] = {set_channel, {0, NONE, NONE}},
   [SUBSCRIBER_CLOSE_CHANNEL] = {close_channel, {ROOM, NONE, NONE}},
   [SUBSCRIBER_SET_HINT] = {set_hint, {0, NONE, NONE}},
-  [DOMAIN_LEAVE] = {NULL, {MESSAGE | ROOM | FREE | LOAN, NONE, NONE}} /* in domain_memory.c */
+  [DOMAIN_LEAVE] = {NULL, {MESSAGE | ROOM | FREE | LOAN, NONE, NONE}}, /* in domain_memory.c, as the next three */
+  [LISTENER_CREATE] = {NULL, {0, NONE, NONE}},
+  [LISTENER_CLOSE] = {NULL, {0, NONE, NONE}},
+  [NOTIFY] = {NULL, {0, NONE, NONE}}
 };
 
 domain_traits_t domain_traits(uint64_t operation) { return OPERATIONS[operation < DOMAIN_OPERATIONS ? operation : 0].traits; }

@@ -29,6 +29,9 @@ typedef enum domain_operation_t {
   SUBSCRIBER_CLOSE_CHANNEL,
   SUBSCRIBER_SET_HINT,
   DOMAIN_LEAVE,           /* gives back all that the caller has of the domain */
+  LISTENER_CREATE,        /* this and the next two in event_numbers.c */
+  LISTENER_CLOSE,
+  NOTIFY,                 /* with the id in EVENT_WORD */
   DOMAIN_OPERATIONS
 } domain_operation_t;
 
@@ -39,7 +42,8 @@ enum {
   SUBSCRIBER_CHANNEL = 3, SUBSCRIBER_STATE, /* behind a subscriber's */
   /* The first in the place of a length that no call on channels asks for. */
   PUBLISHER_CHANNEL = 2, PUBLISHER_CONNECTION = 4, PUBLISHER_STATE,
-  DELIVER_WORD = 5
+  DELIVER_WORD = 5,
+  EVENT_WORD = 0
 };
 _Static_assert(CALL_ARGUMENTS == 1 + HANDLE_WORDS, "an entry has room for an operation and a handle");
 
@@ -49,7 +53,7 @@ typedef struct domain_reply_t {
   uint64_t count;                /* receivers, bytes, or an answer */
   char *payload;                 /* where the domain believes the bytes to be; null without any */
   uint64_t handle[HANDLE_WORDS]; /* what the call made */
-  uint32_t brought;              /* what it has brought to others: a sum of iox2ps_brings_e */
+  uint32_t brought;              /* what it has brought to others: a sum of iox2ps_brings_e and IOX2PS_BRINGS_EVENT */
   uint64_t messages;             /* how many calls had brought a message by then; the domain's memory counts them */
 } domain_reply_t;
 

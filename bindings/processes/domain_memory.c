@@ -91,6 +91,12 @@ static domain_reply_t make(domain_memory_t *it, uint32_t place, uint64_t operati
   return reply;
 }
 
+static domain_reply_t make_event(domain_memory_t *it, uint32_t place, uint64_t operation, const uint64_t *words) {
+  domain_reply_t reply = event_numbers_make(&it->events, &it->group->heap, place, operation, words);
+  count_brought(it, reply.brought);
+  return reply;
+}
+
 /* A send of the publisher waits that another process made, which the dead one told of its publisher. */
 static bool end_blocked_send(domain_memory_t *it, uint64_t publisher) {
   const live_handle_t *blocked = live_handles_blocked_of(&it->handles, publisher);
@@ -107,6 +113,7 @@ static void give_back_all(domain_memory_t *it, uint32_t place) {
     [HANDLE_PUBLISHER] = PUBLISHER_CLOSE, [HANDLE_SUBSCRIBER] = SUBSCRIBER_CLOSE
   };
   const live_handle_t *handle;
+  event_numbers_end(&it->events, &it->group->heap, place);
   while ((handle = live_handles_first(&it->handles, place)) != NULL) {
     live_handle_t is = *handle;
     domain_reply_t reply = make(it, place, by[is.kind], is.words);
@@ -128,6 +135,7 @@ static domain_reply_t make_call(group_memory_t *it, uint32_t place, const uint64
   if (which >= it->count) return (domain_reply_t){.code = IOX2PS_NOT_LIVE};
   domain_memory_t *domain = &it->domains[which];
   (void)domain_memory_ask(domain);
+  if (event_numbers_make_it(operation)) return make_event(domain, place, operation, arguments + 1);
   if (operation != DOMAIN_LEAVE) return make(domain, place, operation, arguments + 1);
   give_back_all(domain, place);
   return (domain_reply_t){.code = IOX2PS_OK};

@@ -5,11 +5,11 @@
 #define IOX2PS_DOMAIN_MEMORY_H
 
 #include "book_owners.h"
-#include "domain_calls.h"
+#include "event_numbers.h"
 #include "payload_extents.h"
 #include "replica.h"
 
-enum { DOMAIN_BRINGS = 5, BROUGHT_DEATHS = 4, DEATHS_KEPT = 64 }; /* bits of iox2ps_brings_e and IOX2PS_BRINGS_DEAD_NODE */
+enum { DOMAIN_BRINGS = 6, BROUGHT_DEATHS = 4, DEATHS_KEPT = 64 }; /* bits of iox2ps_brings_e, IOX2PS_BRINGS_DEAD_NODE and IOX2PS_BRINGS_EVENT */
 
 /* One of the domains. */
 typedef struct domain_memory_t {
@@ -18,7 +18,8 @@ typedef struct domain_memory_t {
   iox2ps_wide_t service_id;
   live_handles_t handles;
   book_owners_t owners;
-  uint64_t brought[DOMAIN_BRINGS]; /* how many calls brought each of iox2ps_brings_e, and how many processes died */
+  event_numbers_t events;
+  uint64_t brought[DOMAIN_BRINGS]; /* how many calls brought each of iox2ps_brings_e, how many processes died, and how many notifications came */
 } domain_memory_t;
 
 typedef struct group_memory_t {

@@ -55,7 +55,8 @@ typedef enum iox2ps_processes_status_e {
   IOX2PS_PROCESSES_DIVERGED = 221, /**< the domain of another process has replied otherwise than this one */
   IOX2PS_PROCESSES_FORKED = 222,   /**< the domain belongs to the parent process */
   IOX2PS_PROCESSES_TIMED_OUT = 223, /**< nothing came in time */
-  IOX2PS_PROCESSES_NOT_SHARED = 224 /**< the domain is of one process, where nobody else can bring anything */
+  IOX2PS_PROCESSES_NOT_SHARED = 224, /**< the domain is of one process, where nobody else can bring anything */
+  IOX2PS_NOTIFIER_NOTIFY_ERROR_EVENT_ID_OUT_OF_BOUNDS = 225 /**< the id is above IOX2PS_EVENT_ID_MAX_VALUE */
 } iox2ps_processes_status_e;
 
 /** What the creator of a domain decides, but for the last two, which each process has for itself. */
@@ -65,7 +66,7 @@ typedef struct iox2ps_processes_options_t {
   uint32_t calls;         /**< how many calls the list keeps, a power of two from 8 to 8192; 256 by default. Who is further behind
                                takes a copy of all book-keeping */
   size_t book_room;       /**< bytes for the book-keeping of ports; by default what the settings need. The file has 32 copies of it for 16
-                               processes: 2.7 MB by default settings, beside the payloads */
+                               processes: 2.8 MB by default settings, beside the payloads */
   size_t payload_room;    /**< bytes for payloads; by default those of max_publishers publishers and one more, which don't grow */
   uint32_t permissions;   /**< of the files; 0600 by default */
   uint32_t reap_every_ms; /**< how often a process that waits or polls looks for dead ones; 200 by default */
@@ -149,10 +150,12 @@ const char *iox2ps_processes_why(void);
  * new build. */
 uint64_t iox2ps_processes_build(void);
 
-/** What a wait may be for, beside iox2ps_brings_e. */
+/** What a wait may be for, beside iox2ps_brings_e: that a process died. */
 #define IOX2PS_BRINGS_DEAD_NODE UINT32_C(16)
+/** The same: a notification, which a call of iox2ps_notifier_notify() brings. */
+#define IOX2PS_BRINGS_EVENT UINT32_C(32)
 
-/** How many calls, of all processes, have brought any of these, a sum of iox2ps_brings_e and IOX2PS_BRINGS_DEAD_NODE. It is asked before a call that may find
+/** How many calls, of all processes, have brought any of these, a sum of iox2ps_brings_e and the two above. It is asked before a call that may find
  * nothing, so that a wait afterwards misses nothing that came in between:
  *
  *     uint64_t seen;
@@ -188,8 +191,8 @@ IOX2PS_NODISCARD iox2ps_status_t iox2ps_domain_get_file_descriptor(iox2ps_domain
  * looks for processes that died, and gives back what they had, as a wait does. Without a descriptor it does nothing. */
 IOX2PS_NODISCARD iox2ps_status_t iox2ps_domain_clear_file_descriptor(iox2ps_domain_t *domain);
 
-/** The same for each by itself, the lowest first, and IOX2PS_BRINGS_DEAD_NODE last: with one look at what others have called. */
-IOX2PS_NODISCARD iox2ps_status_t iox2ps_domain_brought_each(iox2ps_domain_t *domain, uint64_t counts[5]);
+/** As iox2ps_domain_brought() for each by itself, the lowest first: with one look at what others have called. */
+IOX2PS_NODISCARD iox2ps_status_t iox2ps_domain_brought_each(iox2ps_domain_t *domain, uint64_t counts[6]);
 
 /** For threads that share a domain under a lock of the program's. One of them sleeps for all: with the lock it says so, and asks
  * iox2ps_domain_brought_by_others() what has come; without the lock it sleeps, and then does the same again.
@@ -208,6 +211,96 @@ IOX2PS_NODISCARD iox2ps_status_t iox2ps_domain_sleep(const iox2ps_domain_t *doma
 
 /** With the lock or without: ends the sleeps of this process that were begun before. */
 IOX2PS_NODISCARD iox2ps_status_t iox2ps_domain_sleep_end(const iox2ps_domain_t *domain);
+
+/** The largest id of an event. */
+#define IOX2PS_EVENT_ID_MAX_VALUE 255
+
+/** Tells all listeners of a domain, in whichever process, that something happened: by a number, the event's id. It takes no memory, isn't
+ * closed, and is used by whoever has the domain. */
+typedef struct iox2ps_notifier_t {
+  iox2ps_wide_t service_id; /**< of its domain */
+  size_t default_event_id;  /**< of iox2ps_notifier_notify() */
+} iox2ps_notifier_t;
+
+/** Hears of notifications: each id once, however often it came since the listener told of it last, and none is lost. It hears of those
+ * that come after its creation in the list of calls, also of its own process'. Who is told of one finds all that was called before it: a
+ * message that was sent first is there.
+ *
+ *     code = iox2ps_listener_create(&domain, &listener);
+ *     while (code == IOX2PS_OK && (code = iox2ps_listener_blocking_wait_one(&domain, &listener, &event_id)) == IOX2PS_OK) use(event_id);
+ *
+ * Events are C over the list of calls, tested and not proved, and no recording has them. A listener is used by the process that made
+ * it, one call of the domain at a time. Each process has as many as it has memory for. What its process doesn't close ends with the
+ * process, or with its domain. */
+typedef struct iox2ps_listener_t {
+  iox2ps_wide_t service_id; /**< of its domain */
+  iox2ps_wide_t id;         /**< no other listener of the domain has it */
+  uint64_t place_;          /**< where its process has it */
+} iox2ps_listener_t;
+
+/** Some ids: id is among them where words[id / 64] >> id % 64 & 1. */
+typedef struct iox2ps_event_ids_t {
+  uint64_t words[4]; /**< a bit for each id */
+} iox2ps_event_ids_t;
+
+/** Whether the id is among them: 1 or 0. */
+static inline uint32_t iox2ps_event_ids_have(const iox2ps_event_ids_t *event_ids, size_t event_id) {
+  return event_id <= IOX2PS_EVENT_ID_MAX_VALUE && (event_ids->words[event_id / 64] >> event_id % 64 & 1) != 0;
+}
+
+/** Makes a notifier. IOX2PS_NOTIFIER_NOTIFY_ERROR_EVENT_ID_OUT_OF_BOUNDS; IOX2PS_PROCESSES_NOT_SHARED, as all calls on events. */
+IOX2PS_NODISCARD iox2ps_status_t iox2ps_notifier_create(iox2ps_domain_t *domain, size_t default_event_id,
+                                                        iox2ps_notifier_t *notifier);
+
+/** Notifies by the notifier's own id. */
+IOX2PS_NODISCARD iox2ps_status_t iox2ps_notifier_notify(iox2ps_domain_t *domain, const iox2ps_notifier_t *notifier, size_t *listeners);
+
+/** Notifies all listeners of the domain by this id, wakes those that wait, and says how many there are; listeners may be null. With another
+ * code than IOX2PS_OK nobody is notified, but of IOX2PS_PROCESSES_... that isn't known. IOX2PS_NOTIFIER_NOTIFY_ERROR_EVENT_ID_OUT_OF_BOUNDS;
+ * IOX2PS_NOT_LIVE where the notifier is another domain's. */
+IOX2PS_NODISCARD iox2ps_status_t iox2ps_notifier_notify_with_custom_event_id(iox2ps_domain_t *domain, const iox2ps_notifier_t *notifier,
+                                                                             size_t event_id, size_t *listeners);
+
+/** Makes a listener. IOX2PS_OUT_OF_MEMORY. */
+IOX2PS_NODISCARD iox2ps_status_t iox2ps_listener_create(iox2ps_domain_t *domain, iox2ps_listener_t *listener);
+
+/** Ends it. IOX2PS_NOT_LIVE where it isn't this process' or was closed. */
+IOX2PS_NODISCARD iox2ps_status_t iox2ps_listener_close(iox2ps_domain_t *domain, const iox2ps_listener_t *listener);
+
+/** Takes the id of an event that came, of several by turns; or sleeps until one comes, or for so many nanoseconds, as iox2ps_domain_wait():
+ * 0 looks once, UINT64_MAX is for ever. IOX2PS_PROCESSES_TIMED_OUT: none came. IOX2PS_NOT_LIVE as of iox2ps_listener_close(). For event loops and
+ * threads: iox2ps_domain_get_file_descriptor(), iox2ps_domain_sleep_begin() and the like with IOX2PS_BRINGS_EVENT. */
+IOX2PS_NODISCARD iox2ps_status_t iox2ps_listener_timed_wait_one(iox2ps_domain_t *domain, const iox2ps_listener_t *listener,
+                                                                uint64_t timeout_ns, size_t *event_id);
+
+/** The same, and takes the ids of all events that came. */
+IOX2PS_NODISCARD iox2ps_status_t iox2ps_listener_timed_wait_all(iox2ps_domain_t *domain, const iox2ps_listener_t *listener,
+                                                                uint64_t timeout_ns, iox2ps_event_ids_t *event_ids);
+
+/** Looks once. */
+IOX2PS_NODISCARD static inline iox2ps_status_t iox2ps_listener_try_wait_one(iox2ps_domain_t *domain, const iox2ps_listener_t *listener,
+                                                                            size_t *event_id) {
+  return iox2ps_listener_timed_wait_one(domain, listener, 0, event_id);
+}
+
+/** Looks once. */
+IOX2PS_NODISCARD static inline iox2ps_status_t iox2ps_listener_try_wait_all(iox2ps_domain_t *domain, const iox2ps_listener_t *listener,
+                                                                            iox2ps_event_ids_t *event_ids) {
+  return iox2ps_listener_timed_wait_all(domain, listener, 0, event_ids);
+}
+
+/** Waits for ever. */
+IOX2PS_NODISCARD static inline iox2ps_status_t iox2ps_listener_blocking_wait_one(iox2ps_domain_t *domain,
+                                                                                 const iox2ps_listener_t *listener, size_t *event_id) {
+  return iox2ps_listener_timed_wait_one(domain, listener, UINT64_MAX, event_id);
+}
+
+/** Waits for ever. */
+IOX2PS_NODISCARD static inline iox2ps_status_t iox2ps_listener_blocking_wait_all(iox2ps_domain_t *domain,
+                                                                                 const iox2ps_listener_t *listener,
+                                                                                 iox2ps_event_ids_t *event_ids) {
+  return iox2ps_listener_timed_wait_all(domain, listener, UINT64_MAX, event_ids);
+}
 
 /** Whether a process lives. */
 typedef enum iox2ps_node_state_e {

@@ -330,7 +330,7 @@ public:
   }
 
 private:
-  using Counts = std::array<std::uint64_t, 5>;
+  using Counts = std::array<std::uint64_t, 6>;
 
   iox2ps_domain_t *domain() { return &shared_.domain; }
 

@@ -63,7 +63,7 @@ static size_t doubled(size_t first, size_t count) {
 /* A sixth more than was counted, for all ports, loans and samples that may be there at a time. A list that doubles is there twice as it
  * does. */
 static size_t book_room_of(const iox2ps_config_t *config, size_t slots) {
-  enum { DOMAIN = 4096, PUBLISHER = 1024, SUBSCRIBER = 208, SLOT = 256, CONNECTION = 640, MESSAGE = 4, HANDLES = 32, EXTENTS = 64 };
+  enum { DOMAIN = 4096, EVENTS = (EVENT_IDS + 2) * sizeof(uint64_t), PUBLISHER = 1024, SUBSCRIBER = 208, SLOT = 256, CONNECTION = 640, MESSAGE = 4, HANDLES = 32, EXTENTS = 64 };
   size_t publishers = publishers_of(config), subscribers = config->max_subscribers, borrowed = config->subscriber_max_borrowed_samples;
   size_t messages = times(config->number_of_channels, plus(config->subscriber_max_buffer_size, borrowed));
   size_t connections = times(times(publishers, subscribers), plus(CONNECTION, times(MESSAGE, messages)));
@@ -71,7 +71,7 @@ static size_t book_room_of(const iox2ps_config_t *config, size_t slots) {
   size_t lists = plus(times(2 * (sizeof(live_handle_t) + sizeof(uint32_t)), doubled(HANDLES, handles)),
                       times(2 * sizeof(payload_extent_t), doubled(EXTENTS, plus(1, times(publishers, slots)))));
   size_t ports = plus(times(publishers, plus(PUBLISHER, times(SLOT, slots))), times(SUBSCRIBER, subscribers));
-  return plus(DOMAIN, plus(ports, plus(connections, lists)));
+  return plus(DOMAIN + EVENTS, plus(ports, plus(connections, lists)));
 }
 
 /* More than was counted for commands, their replies, and names by which calls are found. */
@@ -255,6 +255,7 @@ void shared_domain_close(shared_domain_t *it) {
   domain_reply_t reply;
   if (--it->group->open == 0) leave(it->group);
   else (void)shared_domain_call(it, DOMAIN_LEAVE, (const uint64_t[HANDLE_WORDS]){0}, &reply);
+  free(it->listeners);
   free(it);
 }
 

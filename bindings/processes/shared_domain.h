@@ -37,6 +37,8 @@ typedef struct shared_domain_t {
   uint64_t brought[DOMAIN_BRINGS]; /* how many of the calls that brought each are this process' own */
   /* Subscribers that found nothing, and how many calls had brought a message by then, and 1. */
   struct { uint64_t id, messages; } empty[EMPTY_SUBSCRIBERS];
+  struct event_listener_t *listeners; /* of events, those of this process; in a block of the heap, or null */
+  size_t listener_count;
 } shared_domain_t;
 
 /* A domain of one process is a pointer of the archive's, and one of several has its lowest bit set. Null where it is of one. */
@@ -52,6 +54,8 @@ void shared_domain_close(shared_domain_t *it);
 iox2ps_status_t shared_domain_call(shared_domain_t *it, domain_operation_t operation, const uint64_t words[HANDLE_WORDS], domain_reply_t *reply);
 /* What a call returns that the list didn't make, and each one after it: the memory may be spoilt. */
 iox2ps_status_t shared_group_break(shared_group_t *it, replica_status_t status);
+/* Waits for any of these until it is there, or for so many ns. IOX2PS_PROCESSES_TIMED_OUT. */
+iox2ps_status_t shared_domain_wait(shared_domain_t *it, uint32_t brings, member_is_there_t *is_there, void *waiter, uint64_t timeout_ns);
 /* Makes the calls that others have added. */
 iox2ps_status_t shared_domain_follow(shared_domain_t *it);
 /* There is nothing better to do: makes the copy that will be due, and looks for the dead now and then. */

@@ -15,7 +15,7 @@
 #define SLEEP_PLACES 64
 #endif
 #ifndef SLEEP_REASONS
-#define SLEEP_REASONS 5
+#define SLEEP_REASONS 6
 #endif
 #define SLEEP_ALL_PLACES UINT64_MAX
 

@@ -32,17 +32,21 @@ iox2ps_status_t iox2ps_domain_brought_each(iox2ps_domain_t *domain, uint64_t cou
   return code;
 }
 
+iox2ps_status_t shared_domain_wait(shared_domain_t *it, uint32_t brings, member_is_there_t *is_there, void *waiter, uint64_t timeout_ns) {
+  if (it->group->broken != IOX2PS_OK) return it->group->broken;
+  bool was_there = false;
+  replica_status_t status = member_wait(&it->group->member, brings, is_there, waiter, timeout_ns, &was_there);
+  if (status != REPLICA_OK) return shared_group_break(it->group, status);
+  shared_domain_tell_deaths(it);
+  return was_there ? IOX2PS_OK : IOX2PS_PROCESSES_TIMED_OUT;
+}
+
 iox2ps_status_t iox2ps_domain_wait(iox2ps_domain_t *domain, uint32_t brings, uint64_t count, uint64_t timeout_ns) {
   shared_domain_t *shared = shared_domain_of(domain);
   if (shared == NULL) return domain->domain_ == NULL ? IOX2PS_NO_DOMAIN : IOX2PS_PROCESSES_NOT_SHARED;
   if (!domain_brings_are_known(brings)) return IOX2PS_OPEN_ERROR_INVALID_ARGUMENT;
-  if (shared->group->broken != IOX2PS_OK) return shared->group->broken;
   waiter_t waiter = {shared->memory, brings, count};
-  bool was_there = false;
-  replica_status_t status = member_wait(&shared->group->member, brings, has_more, &waiter, timeout_ns, &was_there);
-  if (status != REPLICA_OK) return shared_group_break(shared->group, status);
-  shared_domain_tell_deaths(shared);
-  return was_there ? IOX2PS_OK : IOX2PS_PROCESSES_TIMED_OUT;
+  return shared_domain_wait(shared, brings, has_more, &waiter, timeout_ns);
 }
 
 /* ---- threads, of which one sleeps for all */

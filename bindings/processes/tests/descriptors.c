@@ -200,7 +200,7 @@ static void refusals(void) {
   of_parent = opened(HOUR_MS);
   CHECK(iox2ps_domain_clear_file_descriptor(&of_parent) == IOX2PS_OK);
   CHECK(iox2ps_domain_get_file_descriptor(&of_parent, 0, &fd) == IOX2PS_OPEN_ERROR_INVALID_ARGUMENT && count_files("wake.*") == 0);
-  CHECK(iox2ps_domain_get_file_descriptor(&of_parent, 32, &fd) == IOX2PS_OPEN_ERROR_INVALID_ARGUMENT);
+  CHECK(iox2ps_domain_get_file_descriptor(&of_parent, 64, &fd) == IOX2PS_OPEN_ERROR_INVALID_ARGUMENT);
   fd = descriptor_of(&of_parent, IOX2PS_BRINGS_MESSAGE);
   CHECK(status_of(run_child(forked)) == 0 && is_readable(fd));
   destroy(&of_parent);

@@ -46,6 +46,7 @@ static void all_ports(const iox2ps_config_t *config) {
   iox2ps_processes_options_of(config, &options);
   options.max_processes = 2, options.calls = 64;
   CHECK(publishers != NULL && subscribers != NULL && iox2ps_domain_create_named(&domain, name, "bytes", config, &options) == IOX2PS_OK);
+  CHECK(iox2ps_listener_create(&domain, &(iox2ps_listener_t){0}) == IOX2PS_OK);
   for (size_t i = 0; i < config->max_subscribers; i++) CHECK(iox2ps_subscriber_create(&domain, &subscribers[i]) == IOX2PS_OK);
   CHECK(iox2ps_publisher_create(&domain, &closed) == IOX2PS_OK);
   hold(&domain, config, &closed, subscribers);
@@ -151,7 +152,7 @@ static void file_by_default(void) {
   CHECK(iox2ps_domain_create_named(&domain, name, "bytes", &config, NULL) == IOX2PS_OK);
   size_t size = shared_domain_of(&domain)->group->member.files.size;
   printf("by default a domain has a file of %zu KB beside its payloads\n", size / 1024);
-  CHECK(size < 2800 * 1024);
+  CHECK(size < 2900 * 1024);
   CHECK(iox2ps_domain_destroy(&domain) == IOX2PS_OK);
 }
 

@@ -174,7 +174,7 @@ static void time_is_over(void) {
   CHECK(now() - begun >= SECOND / 20);
   CHECK(iox2ps_domain_wait(&domain, IOX2PS_BRINGS_MESSAGE, seen, 0) == IOX2PS_PROCESSES_TIMED_OUT);
   CHECK(iox2ps_domain_wait(&domain, IOX2PS_BRINGS_MESSAGE, seen + 1, UINT64_MAX) == IOX2PS_OK);
-  CHECK(iox2ps_domain_wait(&domain, 0, seen, 0) == IOX2PS_OPEN_ERROR_INVALID_ARGUMENT && iox2ps_domain_wait(&domain, 32, seen, 0) == IOX2PS_OPEN_ERROR_INVALID_ARGUMENT);
+  CHECK(iox2ps_domain_wait(&domain, 0, seen, 0) == IOX2PS_OPEN_ERROR_INVALID_ARGUMENT && iox2ps_domain_wait(&domain, 64, seen, 0) == IOX2PS_OPEN_ERROR_INVALID_ARGUMENT);
   CHECK(iox2ps_domain_wait(&ordinary, 1, 0, 0) == IOX2PS_NO_DOMAIN && iox2ps_domain_create(&ordinary, &config) == IOX2PS_OK);
   CHECK(iox2ps_domain_wait(&ordinary, 1, 0, 0) == IOX2PS_PROCESSES_NOT_SHARED && iox2ps_domain_brought(&ordinary, 1, &seen) == IOX2PS_PROCESSES_NOT_SHARED);
   destroy(&ordinary), destroy(&domain);
@@ -276,7 +276,7 @@ static void what_ends_no_sleep(void) {
   CHECK(iox2ps_domain_sleep(&domain, begun, 1000) == IOX2PS_OK && iox2ps_domain_sleep_end(&domain) == IOX2PS_OK);
   CHECK(iox2ps_domain_sleep(&domain, begun, UINT64_MAX) == IOX2PS_OK); /* it has ended already */
   CHECK(iox2ps_domain_sleep_begin(&domain, 0, &again) == IOX2PS_OK && again == begun + 1);
-  CHECK(iox2ps_domain_sleep_begin(&domain, 32, &again) == IOX2PS_OPEN_ERROR_INVALID_ARGUMENT);
+  CHECK(iox2ps_domain_sleep_begin(&domain, 64, &again) == IOX2PS_OPEN_ERROR_INVALID_ARGUMENT);
   CHECK(iox2ps_domain_sleep_begin(&ordinary, 1, &again) == IOX2PS_NO_DOMAIN && iox2ps_domain_create(&ordinary, &config) == IOX2PS_OK);
   CHECK(iox2ps_domain_sleep_begin(&ordinary, 1, &again) == IOX2PS_PROCESSES_NOT_SHARED);
   CHECK(iox2ps_domain_sleep(&ordinary, 0, 1) == IOX2PS_PROCESSES_NOT_SHARED && iox2ps_domain_sleep_end(&ordinary) == IOX2PS_PROCESSES_NOT_SHARED);
