@@ -469,8 +469,8 @@ int main(void) {
   CHECK(counts != MAP_FAILED);
   a_set_of_ids(), by_turns(), listeners_come_and_go();
   refusals(), nonsense();
-  none_is_lost(), after_a_message();
   left_behind(), stopped();
+  none_is_lost(), after_a_message();
   killed_listener(), killed_notifier(), killed_at_any_time();
   by_descriptor(), as_threads_sleep();
   in_a_group(), not_recorded();
