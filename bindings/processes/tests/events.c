@@ -281,16 +281,17 @@ static void notify_each(uint64_t count) {
 
 static uint64_t calls_made(iox2ps_domain_t *domain) { return shared_domain_of(domain)->group->memory->replica.progress.made; }
 
-/* A process that made no call meanwhile takes a copy of the book-keeping in place of the entries, which are overwritten. */
-static void left_behind(void) {
+/* A process that made no call meanwhile takes a copy of the book-keeping in place of the entries, which are overwritten, and makes those
+ * that came behind the copy: by turns none, one or more. */
+static void left_behind(uint64_t count) {
   iox2ps_domain_t domain = opened(HOUR_MS);
   iox2ps_listener_t listener = listener_of(&domain);
   iox2ps_event_ids_t ids;
   uint64_t before = calls_made(&domain);
-  CHECK(notify(&domain, 77) == 1 && status_of(run_child(notify_each, 70)) == 0 && calls_made(&domain) == before + 1);
-  CHECK(iox2ps_listener_try_wait_all(&domain, &listener, &ids) == IOX2PS_OK && count_ids(&ids) == 71 && iox2ps_event_ids_have(&ids, 77));
-  for (size_t id = 0; id < 70; id++) CHECK(iox2ps_event_ids_have(&ids, id));
-  CHECK(calls_made(&domain) > before + 70 && has_none(&domain, &listener));
+  CHECK(notify(&domain, 77) == 1 && status_of(run_child(notify_each, count)) == 0 && calls_made(&domain) == before + 1);
+  CHECK(iox2ps_listener_try_wait_all(&domain, &listener, &ids) == IOX2PS_OK && count_ids(&ids) == count + 1 && iox2ps_event_ids_have(&ids, 77));
+  for (size_t id = 0; id < count; id++) CHECK(iox2ps_event_ids_have(&ids, id));
+  CHECK(calls_made(&domain) > before + count && has_none(&domain, &listener));
   destroy(&domain);
 }
 
@@ -469,7 +470,8 @@ int main(void) {
   CHECK(counts != MAP_FAILED);
   a_set_of_ids(), by_turns(), listeners_come_and_go();
   refusals(), nonsense();
-  left_behind(), stopped();
+  for (uint64_t count = 5 * CALLS; count < 6 * CALLS; count++) left_behind(count);
+  stopped();
   none_is_lost(), after_a_message();
   killed_listener(), killed_notifier(), killed_at_any_time();
   by_descriptor(), as_threads_sleep();
