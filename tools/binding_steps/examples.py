@@ -4,7 +4,7 @@ import difflib
 import os
 import struct
 
-from . import recordings, two_processes
+from . import gateway_example, recordings, two_processes
 from .places import EXAMPLES, OUT, is_here
 from .programs import compile_program
 from .python_wheels import TESTED_BY, answers, build_wheel, environment, lacking
@@ -17,8 +17,9 @@ CAMERA = "camera"
 
 
 def ideas():
-    """The folders, each by its name."""
-    return sorted(path.name for path in EXAMPLES.iterdir() if (path / "output.txt").exists() and path != two_processes.IDEA)
+    """The folders of one program, each by its name."""
+    of_two = (two_processes.IDEA, gateway_example.IDEA)
+    return sorted(path.name for path in EXAMPLES.iterdir() if (path / "output.txt").exists() and path not in of_two)
 
 
 def source(idea, language):
@@ -120,6 +121,7 @@ def run_examples(steps, work, replayer):
     run_rust(steps, work, between)
     run_python(steps, work, between)
     two_processes.run_examples(steps, work, between)
+    gateway_example.run_gateway(steps, work)
     if replayer is None:
         steps.skip("recording, replayed", "recording_replay (--replay)")
     else:
