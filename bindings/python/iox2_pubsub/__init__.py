@@ -18,16 +18,18 @@ from . import errors
 from ._core import Blocked, Loan, Sample, version
 from .domain import Domain
 from .errors import *  # noqa: F403
+from .nodes import DeadNodes
 from .publisher import Publisher
 from .settings import (
     CHANNEL_STATE_CLOSED, CHANNEL_STATE_OPEN, AllocationStrategy, BackpressureHandler, BackpressureStrategy, DegradationAction,
-    DomainInfo, DomainSettings, Header, Recording, Warning, WarningKind
+    DomainInfo, DomainSettings, Header, Node, NodeState, PortInfo, PortKind, Recording, Warning, WarningKind
 )
 from .subscriber import Subscriber
 
 __version__ = version
 __all__ = [
     "CHANNEL_STATE_CLOSED", "CHANNEL_STATE_OPEN", "AllocationStrategy", "BackpressureHandler", "BackpressureStrategy", "Blocked",
-    "DegradationAction", "Domain", "DomainInfo", "DomainSettings", "Header", "Loan", "Publisher", "Recording", "Sample", "Subscriber", "Warning", "WarningKind"
+    "DeadNodes", "DegradationAction", "Domain", "DomainInfo", "DomainSettings", "Header", "Loan", "Node", "NodeState", "PortInfo", "PortKind", "Publisher",
+    "Recording", "Sample", "Subscriber", "Warning", "WarningKind"
 ]
 __all__ += errors.__all__

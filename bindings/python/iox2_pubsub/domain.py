@@ -5,6 +5,7 @@ from __future__ import annotations
 from typing import Any, Callable
 
 from . import _core
+from .nodes import DeadNodes
 from .publisher import Publisher
 from .settings import AllocationStrategy, BackpressureHandler, BackpressureStrategy, DegradationAction, DomainInfo, DomainSettings
 from .subscriber import Subscriber
@@ -113,7 +114,8 @@ class Domain(_core.Domain):
         >>> import iox2_pubsub as ps
         >>> ps.Domain.open("My/Nobody", bytes, 64)
         Traceback (most recent call last):
-        iox2_pubsub.errors.OpenDoesNotExist: OpenError::DoesNotExist: there is no /dev/shm/iox2ps.My%2fNobody.calls
+        iox2_pubsub.errors.OpenDoesNotExist: no process has a domain with this name: start the one that creates it, or call open_or_create \
+(there is no /dev/shm/iox2ps.My%2fNobody.calls)
         """
         return cls._named("open", name, dtype, max_len, settings)
 
@@ -241,3 +243,12 @@ class Domain(_core.Domain):
         1
         """
         return Subscriber(self, _given(buffer_size=buffer_size, degradation=degradation))
+
+    def dead_nodes(self, since: int | None = None) -> DeadNodes:
+        """Hears of processes that die from now on, or of all but the first `since`. ProcessesNotShared.
+
+        >>> import iox2_pubsub as ps
+        >>> with ps.Domain.create("My/Dead", bytes, 64) as domain:
+        ...     domain.dead_nodes().wait_one(timeout=0.01)
+        """
+        return DeadNodes(self, since)

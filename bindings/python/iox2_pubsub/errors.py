@@ -393,6 +393,13 @@ class ProcessesDiverged(Error, RuntimeError):
     _text = "the domain isn't the same in each process: end all processes that have it"
 
 
+class ProcessesNotShared(Error, RuntimeError):
+    """The domain is of one process."""
+
+    code = 224
+    _text = "the domain is of one process: open it by a name, as Domain.open_or_create does"
+
+
 class AfterFork(Error, RuntimeError):
     """The domain is that of the process that was forked, and this is its child."""
 
@@ -411,7 +418,7 @@ __all__ = [
     "Error", "DomainCreateError", "PublisherCreateError", "SubscriberCreateError", "ConnectionFailure", "LoanError", "SendError",
     "ReceiveError", "ChannelError", "DomainOpenError", "OpenDoesNotExist", "OpenIncompatibleTypes", "OpenIncompatibleSettings",
     "OpenVersionMismatch", "OpenInsufficientPermissions", "OpenServiceInCorruptedState", "OpenExceedsMaxNumberOfNodes",
-    "OpenAddressInUse", "OpenInvalidArgument", "OpenInternalFailure", "CreateAlreadyExists", "ProcessesDamaged", "ProcessesDiverged",
+    "OpenAddressInUse", "OpenInvalidArgument", "OpenInternalFailure", "CreateAlreadyExists", "ProcessesDamaged", "ProcessesDiverged", "ProcessesNotShared",
     "NoDomain", "NotLive", "OutOfMemory", "SendBlocked", "PublisherIsBlocked", "LoanOutOfMemory",
     "LoanExceedsMaxLoans", "LoanExceedsMaxLoanSize", "LoanInternalFailure", "SendConnectionBrokenSinceSenderNoLongerExists",
     "SendUnableToDeliver", "SendConnectionOutOfMemory", "ReceiveExceedsMaxBorrows", "ReceiveConnectionOutOfMemory",

@@ -106,7 +106,56 @@ def _warning(kind: int, publisher: int | None, subscriber: int | None, failure: 
     return Warning(WarningKind(kind), publisher, subscriber, failure)
 
 
-_core.parts.update(Header=Header, Warning=_warning, Recording=Recording)
+class NodeState(IntEnum):
+    """Whether a process lives."""
+
+    ALIVE = 0
+    DEAD = 1
+
+
+class Node(NamedTuple):
+    """A process that has a domain. What it has of a dead one nobody has given back yet. `pid` is the number that it knows itself by:
+    another container has other numbers.
+
+    >>> import iox2_pubsub as ps
+    >>> with ps.Domain.create("My/Node", "f8") as domain:
+    ...     domain.nodes()[0].state
+    <NodeState.ALIVE: 0>
+    """
+
+    node_id: int
+    pid: int
+    state: NodeState
+    number_of_publishers: int
+    number_of_subscribers: int
+    number_of_loans: int
+    number_of_samples: int
+
+
+class PortKind(IntEnum):
+    """Which port it is."""
+
+    PUBLISHER = 0
+    SUBSCRIBER = 1
+
+
+class PortInfo(NamedTuple):
+    """A port of any process, and which has it."""
+
+    id: int
+    node_id: int
+    kind: PortKind
+
+
+def _node(node_id: int, pid: int, state: int, publishers: int, subscribers: int, loans: int, samples: int) -> Node:
+    return Node(node_id, pid, NodeState(state), publishers, subscribers, loans, samples)
+
+
+def _port(port_id: int, node_id: int, kind: int) -> PortInfo:
+    return PortInfo(port_id, node_id, PortKind(kind))
+
+
+_core.parts.update(Header=Header, Warning=_warning, Recording=Recording, Node=_node, PortInfo=_port)
 
 
 class DomainInfo(NamedTuple):

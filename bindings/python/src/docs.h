@@ -52,6 +52,45 @@
 #define DOC_DOMAIN_REFUSED_CONNECTIONS "How often memory for a connection was refused."
 #define DOC_DOMAIN_WARNINGS "Its last warnings, 32 at most, the oldest first. Reading forgets none."
 
+/* Processes. */
+
+#define NAMED(name) ">>> with ps.Domain.create('My/" name "', bytes, 64) as domain:\n"
+
+#define DOC_DOMAIN_NODES \
+  SIGNED("nodes($self, /)") \
+  "The processes that have the domain, each a Node: also the dead, as long as nobody has given back what they had. ProcessesNotShared\n" \
+  "of a domain that wasn't opened by a name, as all calls on nodes.\n" \
+  "\n" NAMED("Nodes") \
+  "...     publisher = domain.publisher()\n" \
+  "...     [(node.node_id == domain.node_id, node.state.name, node.number_of_publishers) for node in domain.nodes()]\n" \
+  "[(True, 'ALIVE', 1)]\n"
+
+#define DOC_DOMAIN_PORTS \
+  SIGNED("ports($self, /)") \
+  "The open publishers and subscribers of all processes, each a PortInfo.\n" \
+  "\n" NAMED("Ports") \
+  "...     publisher = domain.publisher()\n" \
+  "...     [(port.kind.name, port.id == publisher.id) for port in domain.ports()]\n" \
+  "[('PUBLISHER', True)]\n"
+
+#define DOC_DOMAIN_CLEANUP \
+  SIGNED("cleanup_dead_nodes($self, /)") \
+  "Looks for processes that died, gives back what they had, and returns how many there were. Waits do it now and then.\n" \
+  "\n" NAMED("Cleanup") \
+  "...     domain.cleanup_dead_nodes()\n" \
+  "0\n"
+
+#define DOC_DOMAIN_NODE_ID "The id of this process, as in headers of its messages. ProcessesNotShared."
+#define DOC_DOMAIN_DEAD_NODE_COUNT "How many processes died since the domain was made, and have had all given back. ProcessesNotShared."
+
+#define DOC_DEAD_NODES_WAIT_ONE \
+  SIGNED("wait_one($self, /, timeout=0)") \
+  "The next Node that died, once all that it had is given back. None where nobody died within so many seconds; with None it waits for\n" \
+  "good, or until waits are stopped. Only the last 64 are known. NotLive once it was closed.\n" \
+  "\n" NAMED("WaitOne") \
+  "...     domain.dead_nodes().wait_one() is None\n" \
+  "True\n"
+
 /* What publishers and subscribers have. */
 
 #define DOC_PORT_CLOSE \

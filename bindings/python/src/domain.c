@@ -4,6 +4,7 @@
 #include "docs.h"
 #include "errors.h"
 #include "join.h"
+#include "nodes.h"
 #include "ports.h"
 #include "processes.h"
 #include "questions.h"
@@ -164,6 +165,7 @@ static PyObject *domain_wakes(Domain *self, void *closure) {
 
 static PyMethodDef domain_calls[] = {
     DOMAIN_QUESTION_CALLS,
+    DOMAIN_NODE_CALLS,
     METHOD("_shared", domain_shared, METH_O | METH_CLASS, "_shared($type, capsule, /)\n--\n\nWhat a message of a capsule's domain is."),
     METHOD("_join", domain_join, WITH_WORDS | METH_CLASS, "_join($type, /, capsule, unit, values)\n--\n\nJoins a capsule's domain."),
     METHOD("_open", domain_open, WITH_WORDS | METH_CLASS, "_open($type, /, how, name, type_name, unit, is_single, values, settings, options, commands=-1)\n--\n\nOpens a domain by a name."),
@@ -177,6 +179,7 @@ static PyGetSetDef domain_fields[] = {
     FIELD("waiting", domain_waiting, DOC_DOMAIN_WAITING),
     FIELD("_wakes", domain_wakes, "How often one that waits was woken."),
     DOMAIN_QUESTION_FIELDS,
+    DOMAIN_NODE_FIELDS,
     {NULL, NULL, NULL, NULL, NULL}};
 
 static PyType_Slot domain_slots[] = {SLOT(Py_tp_new, domain_new),           SLOT(Py_tp_dealloc, domain_dealloc),

@@ -4,6 +4,7 @@
 
 #include "errors.h"
 #include "loans.h"
+#include "nodes.h"
 #include "processes.h"
 #include "sends.h"
 
@@ -24,6 +25,7 @@ static const Type types[] = {{&domain_spec, &domain_type, NULL},
                              {&port_spec, &port_type, NULL},
                              {&publisher_spec, NULL, &port_type},
                              {&subscriber_spec, NULL, &port_type},
+                             {&dead_nodes_spec, NULL, &port_type},
                              {&loan_spec, &loan_type, NULL},
                              {&sample_spec, &sample_type, NULL},
                              {&blocked_spec, &blocked_type, NULL},

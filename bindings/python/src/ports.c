@@ -6,11 +6,11 @@
 
 PyTypeObject *port_type;
 
-Port *new_port(PyTypeObject *type, Domain *domain, int is_subscriber) {
+Port *new_port(PyTypeObject *type, Domain *domain, PortKind kind) {
   if (domain->is_closed) return (void *)refused(IOX2PS_NO_DOMAIN);
   Port *self = new_object(type);
   if (!self) return NULL;
-  self->is_subscriber = (char)is_subscriber;
+  self->kind = kind;
   self->domain = (Domain *)Py_NewRef((PyObject *)domain);
   return self;
 }
@@ -31,18 +31,26 @@ static void unlist_port(Port *self) {
   else self->domain->ports = self->next;
 }
 
+static iox2ps_status_t close_there(iox2ps_domain_t *handle, const Port *self) {
+  switch (self->kind) {
+  case PORT_PUBLISHER: return iox2ps_publisher_close(handle, &self->publisher);
+  case PORT_SUBSCRIBER: return iox2ps_subscriber_close(handle, &self->subscriber);
+  default: return IOX2PS_OK; /* the domain knows nothing of it */
+  }
+}
+
 static iox2ps_status_t close_made(iox2ps_domain_t *handle, void *what) {
   Port *self = what;
-  iox2ps_status_t code = self->is_subscriber ? iox2ps_subscriber_close(handle, &self->subscriber)
-                                             : iox2ps_publisher_close(handle, &self->publisher);
+  iox2ps_status_t code = close_there(handle, self);
   if (code == IOX2PS_OK) unlist_port(self), end_waits(self->domain, self);
   return code;
 }
 
+static const uint32_t brought_by_close[] = {
+    [PORT_PUBLISHER] = BRINGS_MESSAGE, [PORT_SUBSCRIBER] = BRINGS_ROOM | BRINGS_LOAN, [PORT_DEAD_NODES] = 0};
+
 iox2ps_status_t close_port(Port *self) {
-  if (!self->is_open) return IOX2PS_OK;
-  uint32_t brings = self->is_subscriber ? BRINGS_ROOM | BRINGS_LOAN : BRINGS_MESSAGE;
-  return made(self->domain, brings, close_made, self);
+  return self->is_open ? made(self->domain, brought_by_close[self->kind], close_made, self) : IOX2PS_OK;
 }
 
 static PyObject *port_close(Port *self, PyObject *none) {
@@ -55,7 +63,7 @@ static PyObject *port_close(Port *self, PyObject *none) {
 /* One that waits, or whose update fails, connects at its next send. */
 void connect_publishers(Domain *domain, iox2ps_domain_t *handle) {
   for (Port *port = domain->ports; port; port = port->next) {
-    if (!port->is_subscriber) update_made(handle, port);
+    if (port->kind == PORT_PUBLISHER) update_made(handle, port);
   }
 }
 
@@ -84,12 +92,13 @@ static int port_traverse(Port *self, visitproc visit, void *arg) {
   return 0;
 }
 
-static uint32_t waits_for(const Port *self) { return self->is_subscriber ? BRINGS_MESSAGE : BRINGS_ROOM | BRINGS_FREE | BRINGS_LOAN; }
+static const uint32_t waited_for[] = {
+    [PORT_PUBLISHER] = BRINGS_ROOM | BRINGS_FREE | BRINGS_LOAN, [PORT_SUBSCRIBER] = BRINGS_MESSAGE, [PORT_DEAD_NODES] = BRINGS_DEAD_NODE};
 
 static iox2ps_status_t list_own(iox2ps_domain_t *handle, void *what) {
   Port *self = what;
   (void)handle;
-  list_waiter(self->domain, self->own, waits_for(self));
+  list_waiter(self->domain, self->own, waited_for[self->kind]);
   end_waits(self->domain, self); /* it is raised: something may be there already */
   return IOX2PS_OK;
 }
@@ -99,7 +108,7 @@ static PyObject *port_fileno(Port *self, PyObject *none) {
   if (!is_here(self->domain)) return refused(AFTER_FORK);
   if (!self->is_open) return refused(IOX2PS_NOT_LIVE);
   if (!self->own) {
-    self->own = take_waiter(self, waits_for(self));
+    self->own = take_waiter(self, waited_for[self->kind]);
     if (!self->own) return NULL;
     made(self->domain, 0, list_own, self);
   }
@@ -120,9 +129,9 @@ static PyObject *port_exit(Port *self, PyObject *args) {
   Py_RETURN_NONE;
 }
 
-static PyObject *port_id(Port *self, void *closure) {
+PyObject *port_id(Port *self, void *closure) {
   (void)closure;
-  return int_of(self->is_subscriber ? self->subscriber.id : self->publisher.id);
+  return int_of(self->kind == PORT_SUBSCRIBER ? self->subscriber.id : self->publisher.id);
 }
 
 static PyObject *port_is_open(Port *self, void *closure) {
@@ -142,8 +151,7 @@ static PyMethodDef port_calls[] = {
     METHOD("__exit__", port_exit, METH_VARARGS, DOC_EXIT("Closes it.")),
     {NULL, NULL, 0, NULL}};
 
-static PyGetSetDef port_fields[] = {FIELD("id", port_id, DOC_PORT_ID),
-                                    FIELD("is_open", port_is_open, DOC_PORT_IS_OPEN),
+static PyGetSetDef port_fields[] = {FIELD("is_open", port_is_open, DOC_PORT_IS_OPEN),
                                     FIELD("domain", port_domain, DOC_PORT_DOMAIN),
                                     {NULL, NULL, NULL, NULL, NULL}};
 

@@ -1,21 +1,29 @@
 // SPDX-License-Identifier: Apache-2.0 OR MIT
-/* Publishers and subscribers. */
+/* Publishers and subscribers, and what else of a domain is waited at. */
 #ifndef IOX2_PUBSUB_PORTS_H
 #define IOX2_PUBSUB_PORTS_H
 
 #include "domain.h"
 #include "waits.h"
 
+typedef enum PortKind {
+  PORT_PUBLISHER,
+  PORT_SUBSCRIBER,
+  PORT_DEAD_NODES /* hears of processes that died */
+} PortKind;
+
 typedef struct Port {
   PyObject_HEAD
   Domain *domain;
   struct Port *next, *before; /* in its domain, while it is open; used under the lock */
   Waiter *own;                /* for event loops, once its descriptor was asked for */
-  char is_subscriber, is_open;
+  PortKind kind;
+  char is_open;
   char is_left; /* it is closed once the send has ended that waits */
   union {
     iox2ps_publisher_t publisher;
     iox2ps_subscriber_t subscriber;
+    uint64_t deaths; /* how many it has heard of */
   };
 } Port;
 
@@ -23,10 +31,13 @@ extern PyType_Spec port_spec, publisher_spec, subscriber_spec;
 extern PyTypeObject *port_type; /* the base of both */
 
 /* A port that isn't made yet, in its domain. Null with an exception. */
-Port *new_port(PyTypeObject *type, Domain *domain, int is_subscriber);
+Port *new_port(PyTypeObject *type, Domain *domain, PortKind kind);
 
 /* Under the lock: it was made, and is open from now on. */
 void list_port(Port *port);
+
+/* A field of ports that have one. */
+PyObject *port_id(Port *self, void *closure);
 
 /* Closes it if it is open; refused where an earlier send of it waits. */
 iox2ps_status_t close_port(Port *port);

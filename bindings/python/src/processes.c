@@ -1,6 +1,8 @@
 // SPDX-License-Identifier: Apache-2.0 OR MIT
 #include "processes.h"
 
+#include <string.h>
+
 #include "errors.h"
 #include "settings.h"
 #include "waits.h"
@@ -8,8 +10,21 @@
 #ifdef IOX2PS_HAS_PROCESSES
 #include "iox2_pubsub_processes.h"
 
+/* What each brings is called here and there. */
+static const struct Kind {
+  uint32_t here, there;
+} kinds[DOMAIN_KINDS] = {{BRINGS_MESSAGE, IOX2PS_BRINGS_MESSAGE},
+                         {BRINGS_ROOM, IOX2PS_BRINGS_ROOM},
+                         {BRINGS_FREE, IOX2PS_BRINGS_FREE},
+                         {BRINGS_LOAN, IOX2PS_BRINGS_LOAN},
+                         {BRINGS_DEAD_NODE, IOX2PS_BRINGS_DEAD_NODE}};
+
 iox2ps_status_t others_fd(Domain *domain, uint32_t waits, int *fd) {
-  return iox2ps_domain_get_file_descriptor(&domain->handle, waits, fd);
+  uint32_t brings = 0;
+  for (unsigned kind = 0; kind < DOMAIN_KINDS; kind++) {
+    if (waits & kinds[kind].here) brings |= kinds[kind].there;
+  }
+  return iox2ps_domain_get_file_descriptor(&domain->handle, brings, fd);
 }
 
 /* All of it where the domain can only be closed: whoever waits then finds out why. */
@@ -17,26 +32,31 @@ static uint32_t brought_by_others(Domain *domain) {
   uint32_t brings = 0;
   for (unsigned kind = 0; kind < DOMAIN_KINDS; kind++) {
     uint64_t count;
-    if (iox2ps_domain_brought_by_others(&domain->handle, UINT32_C(1) << kind, &count) != IOX2PS_OK) return UINT32_MAX;
-    if (domain->told[kind] != count) brings |= UINT32_C(1) << kind;
+    if (iox2ps_domain_brought_by_others(&domain->handle, kinds[kind].there, &count) != IOX2PS_OK) return UINT32_MAX;
+    if (domain->told[kind] != count) brings |= kinds[kind].here;
     domain->told[kind] = count;
   }
   return brings;
 }
 
+void tell_of_others(Domain *domain) { bring(domain, brought_by_others(domain)); }
+
 void listen_to_others(Domain *domain) {
   if (!domain->is_named || !is_here(domain) || !domain->handle.domain_) return;
   /* Before the look: what comes after it makes the descriptor readable again. */
   if (iox2ps_domain_clear_file_descriptor(&domain->handle) != IOX2PS_OK) bring(domain, UINT32_MAX);
-  else bring(domain, brought_by_others(domain));
+  else tell_of_others(domain);
 }
 
 PyObject *not_opened(iox2ps_status_t code) {
   if (code == IS_RAISED) return NULL;
   PyObject *key = PyLong_FromUnsignedLong(code), *type = key ? PyDict_GetItemWithError(errors, key) : NULL;
   Py_XDECREF(key);
+  PyObject *text = type ? PyObject_GetAttrString(type, "_text") : NULL;
   if (PyErr_Occurred()) return NULL;
-  PyErr_Format(type ? type : PyExc_RuntimeError, "%s: %s", iox2ps_error_text(code), iox2ps_processes_why());
+  if (text) PyErr_Format(type, "%U (%s)", text, iox2ps_processes_why());
+  else PyErr_Format(PyExc_RuntimeError, "%s: %s", iox2ps_error_text(code), iox2ps_processes_why());
+  Py_XDECREF(text);
   return NULL;
 }
 
@@ -94,8 +114,10 @@ PyObject *domain_open(PyTypeObject *type, PyObject *args, PyObject *names) {
 static PyObject *module_exists(PyObject *module, PyObject *name) {
   uint32_t exists = 0;
   (void)module;
-  const char *text = PyUnicode_AsUTF8AndSize(name, NULL);
+  Py_ssize_t len;
+  const char *text = PyUnicode_AsUTF8AndSize(name, &len);
   if (!text) return NULL;
+  if (strlen(text) != (size_t)len) return PyErr_SetString(PyExc_ValueError, "a name has no zero in it"), NULL;
   iox2ps_status_t code = iox2ps_domain_exists(text, &exists);
   return code == IOX2PS_OK ? PyBool_FromLong((long)exists) : not_opened(code);
 }
@@ -129,6 +151,7 @@ iox2ps_status_t others_fd(Domain *domain, uint32_t waits, int *fd) {
   return IOX2PS_OK;
 }
 
+void tell_of_others(Domain *domain) { (void)domain; }
 void listen_to_others(Domain *domain) { (void)domain; }
 PyObject *not_opened(iox2ps_status_t code) { return refused(code); }
 

@@ -13,6 +13,9 @@ iox2ps_status_t others_fd(Domain *domain, uint32_t waits, int *fd);
  * Of an ordinary domain it does nothing. */
 void listen_to_others(Domain *domain);
 
+/* Under the GIL: the same of what has come by a call of this process, which gave back what the dead had. */
+void tell_of_others(Domain *domain);
+
 /* Sets the exception of a domain that wasn't opened, with why in words, and returns null. */
 PyObject *not_opened(iox2ps_status_t code);
 

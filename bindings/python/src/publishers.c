@@ -36,7 +36,7 @@ static PyObject *publisher_new(PyTypeObject *type, PyObject *args, PyObject *nam
   if (!PyArg_ParseTupleAndKeywords(args, names, "O!O!:Publisher", words, domain_type, &domain, &PyDict_Type, &options)) return NULL;
   iox2ps_publisher_options_of(&domain->config, &making.options);
   if (!write_fields(options, publisher_fields, &making.options)) return NULL;
-  making.port = new_port(type, domain, 0);
+  making.port = new_port(type, domain, PORT_PUBLISHER);
   if (!making.port) return NULL;
   iox2ps_status_t code = made(domain, BRINGS_MESSAGE, create_made, &making);
   if (code == IOX2PS_OK) return (PyObject *)making.port;
@@ -153,6 +153,7 @@ static PyMethodDef publisher_calls[] = {
     {NULL, NULL, 0, NULL}};
 
 static PyGetSetDef publisher_gets[] = {
+    FIELD("id", port_id, DOC_PORT_ID),
     FIELD("is_blocked", publisher_is_blocked, DOC_PUBLISHER_IS_BLOCKED),
     FIELD("initial_max_slice_len", publisher_initial_max_slice_len, DOC_PUBLISHER_INITIAL_MAX_SLICE_LEN),
     FIELD("_backpressure_strategy", publisher_backpressure_strategy, DOC_PUBLISHER_STRATEGY),

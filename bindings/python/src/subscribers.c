@@ -27,7 +27,7 @@ static PyObject *subscriber_new(PyTypeObject *type, PyObject *args, PyObject *na
   if (!PyArg_ParseTupleAndKeywords(args, names, "O!O!:Subscriber", words, domain_type, &domain, &PyDict_Type, &options)) return NULL;
   iox2ps_subscriber_options_of(&domain->config, &making.options);
   if (!write_fields(options, subscriber_fields, &making.options)) return NULL;
-  making.port = new_port(type, domain, 1);
+  making.port = new_port(type, domain, PORT_SUBSCRIBER);
   if (!making.port) return NULL;
   uint32_t brings = BRINGS_SUBSCRIBER | BRINGS_LOAN | (domain->config.history_size > 0 ? BRINGS_MESSAGE : 0);
   iox2ps_status_t code = made(domain, brings, create_made, &making);
@@ -125,7 +125,7 @@ static PyMethodDef subscriber_calls[] = {
     {NULL, NULL, 0, NULL}};
 
 static PyGetSetDef subscriber_gets[] = {
-    FIELD("buffer_size", subscriber_buffer_size, DOC_SUBSCRIBER_BUFFER_SIZE), {NULL, NULL, NULL, NULL, NULL}};
+    FIELD("id", port_id, DOC_PORT_ID), FIELD("buffer_size", subscriber_buffer_size, DOC_SUBSCRIBER_BUFFER_SIZE), {NULL, NULL, NULL, NULL, NULL}};
 
 static PyType_Slot subscriber_slots[] = {SLOT(Py_tp_new, subscriber_new), SLOT(Py_tp_methods, subscriber_calls),
                                          SLOT(Py_tp_getset, subscriber_gets), {0, NULL}};

@@ -12,7 +12,8 @@ typedef enum Brings {
   BRINGS_ROOM = 2,       /* in a buffer: IOX2PS_BLOCKED */
   BRINGS_FREE = 4,       /* the end of a publisher's earlier send: IOX2PS_PUBLISHER_IS_BLOCKED */
   BRINGS_LOAN = 8,       /* a slot to lend: a refused loan */
-  BRINGS_SUBSCRIBER = 16 /* all publishers connect to it, with their history */
+  BRINGS_SUBSCRIBER = 16, /* all publishers connect to it, with their history */
+  BRINGS_DEAD_NODE = 64   /* a process that died, by what others bring alone: NOBODY_DIED */
 } Brings;
 
 typedef struct Waiter {

@@ -3,6 +3,8 @@
 import threading
 import time
 
+import pytest
+
 import iox2_pubsub as ps
 
 PATIENCE = 120  # seconds, after which a thread that should have ended has failed
@@ -54,3 +56,34 @@ def value(sample):
     """Of a domain of single numbers."""
     with sample:
         return sample.array.item()
+
+
+def wants_processes():
+    """Passes a file of tests over where the package was built without the library for processes."""
+    try:
+        ps.Domain.exists("nobody")
+    except NotImplementedError as missing:
+        pytest.skip(str(missing), allow_module_level=True)
+
+
+def go_on(process):
+    """Lets another process go on."""
+    process.stdin.write("go on\n")
+    process.stdin.flush()
+
+
+def hear(process):
+    """What it says next."""
+    return process.stdout.readline().strip()
+
+
+def end(process):
+    """Lets it end."""
+    go_on(process)
+    assert process.wait() == 0
+
+
+def kill(process):
+    """It is dead when this returns."""
+    process.kill()
+    process.wait()

@@ -60,6 +60,18 @@ def keeps(name):
     wait_for_parent()
 
 
+def has_some(name):
+    """A publisher, a subscriber and a loan; it has sent a message."""
+    domain = opened(name)
+    publisher, subscriber = domain.publisher(), domain.subscriber()
+    publisher.send_copy(5, timeout=0)
+    kept = publisher.loan(), subscriber
+    say(domain.node_id)
+    wait_for_parent()
+    del kept
+    domain.close()
+
+
 def has_all(name):
     domain = opened(name)
     publishers = [domain.publisher(), domain.publisher()]
@@ -89,4 +101,4 @@ def waits_for_good(name):
 
 
 if __name__ == "__main__":
-    {call.__name__: call for call in (sends, sends_many, receives, keeps, has_all, has_it, waits_for_good)}[sys.argv[1]](sys.argv[2])
+    {call.__name__: call for call in (sends, sends_many, receives, keeps, has_some, has_all, has_it, waits_for_good)}[sys.argv[1]](sys.argv[2])

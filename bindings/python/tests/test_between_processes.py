@@ -1,61 +1,18 @@
 # SPDX-License-Identifier: Apache-2.0 OR MIT
 """Domains that processes share by a name. None of the tests looks at a clock."""
 import asyncio
-import itertools
 import os
 import select
 import signal
-import subprocess
-import sys
 from pathlib import Path
 
 import pytest
-from helpers import PATIENCE, Beside, until, value, waiting
+from helpers import PATIENCE, Beside, end, go_on, hear, until, value, waiting, wants_processes
 
 import iox2_pubsub as ps
 from other_process import SETTINGS, opened
 
-try:
-    ps.Domain.exists("nobody")
-except NotImplementedError as missing:
-    pytest.skip(str(missing), allow_module_level=True)
-
-names = itertools.count()
-
-
-@pytest.fixture
-def name():
-    return f"test_python/{next(names)}.{os.getpid()}"
-
-
-@pytest.fixture
-def start():
-    """Starts other processes, which are killed at the end."""
-    started = []
-
-    def start(role, name):
-        words = (sys.executable, Path(__file__).with_name("other_process.py"), role, name)
-        started.append(subprocess.Popen(words, stdin=subprocess.PIPE, stdout=subprocess.PIPE, text=True, bufsize=1))
-        return started[-1]
-
-    yield start
-    for process in started:
-        process.kill()
-        process.communicate()
-
-
-def go_on(process):
-    process.stdin.write("go on\n")
-    process.stdin.flush()
-
-
-def hear(process):
-    return process.stdout.readline().strip()
-
-
-def end(process):
-    go_on(process)
-    assert process.wait() == 0
+wants_processes()
 
 
 def test_messages_come_from_another_process(name, start):
@@ -226,6 +183,8 @@ def test_each_cause_is_said(name, start):
         (ps.OpenIncompatibleTypes, lambda: ps.Domain.open(name, "f8", **SETTINGS)),
         (ps.OpenIncompatibleTypes, lambda: ps.Domain.open(name, "i8", type_name="Reading", **SETTINGS)),
         (ps.OpenIncompatibleTypes, lambda: ps.Domain.open(name, "i4", type_name="i64", **SETTINGS)),
+        (ps.OpenIncompatibleTypes, lambda: ps.Domain.open(name, "i8", 3, type_name="i64", **SETTINGS)),
+        (ps.OpenIncompatibleTypes, lambda: ps.Domain.open(name, "i8", alignment=4, **SETTINGS)),
         (ps.OpenIncompatibleSettings, lambda: ps.Domain.open(name, "i8", **SETTINGS, max_subscribers=3)),
         (ps.OpenIncompatibleSettings, lambda: ps.Domain.open(name, "i8", enable_safe_overflow=False)),
     ):
@@ -241,17 +200,104 @@ def test_each_cause_is_said(name, start):
     assert not ps.Domain.exists(name)
 
 
-@pytest.mark.parametrize("wrong", ["", "..", "My/../Service", "n" * 300])
+@pytest.mark.parametrize(
+    "wrong", ["", ".", "..", "My/../Service", "My/./Service", "../Service", "My/..", "n" * 256, "n" * 300, "\N{SNOWMAN}" * 86, "ä" * 128]
+)
 def test_what_is_no_name_is_refused(wrong):
     for call in (ps.Domain.open_or_create, ps.Domain.open, ps.Domain.create):
-        with pytest.raises(ps.OpenInvalidArgument):
+        with pytest.raises(ps.OpenInvalidArgument, match="name|bytes|part"):
             call(wrong, "i8")
     assert not ps.Domain.exists(wrong)
 
 
+@pytest.mark.parametrize("wrong, kind", [(b"bytes", TypeError), (7, TypeError), (None, TypeError), ("zero\0inside", ValueError), ("\ud800", UnicodeEncodeError)])
+def test_what_is_no_text_is_no_name(wrong, kind):
+    for call in (ps.Domain.open_or_create, ps.Domain.open, ps.Domain.create):
+        with pytest.raises(kind):
+            call(wrong, "i8")
+    with pytest.raises((kind, ValueError)):
+        ps.Domain.exists(wrong)
+
+
+@pytest.mark.parametrize("right", ["My/Service", "/My//Service/", "...", "My/..Service", "Käfig/测试/\N{SNOWMAN}", " \n%2f.calls", "n" * 255, "ä" * 127])
+def test_what_is_a_name_is_taken(right):
+    right = f"{os.getpid()}{right}"[:255] if right.isascii() else right
+    with ps.Domain.create(right, "i8", service_id=7) as domain:
+        assert ps.Domain.exists(right) and [one.name for one in ps.Domain.list() if one.name == right] == [right]
+        domain.publisher().send_copy(1)
+    assert not ps.Domain.exists(right)
+
+
+def refused_as_another_user(call, path):
+    """In a child that may not read the file: whether the call is refused, and nobody is said to have the domain."""
+    child = os.fork()
+    if child == 0:
+        try:
+            if os.geteuid() == 0:
+                os.setgroups([]), os.setgid(65534), os.setuid(65534)
+            else:
+                path.chmod(0)
+            with pytest.raises(ps.OpenInsufficientPermissions, match="create it with wider permissions|belong") as refused:
+                call()
+            os._exit(0 if isinstance(refused.value, PermissionError) and refused.value.code == 204 else 2)
+        finally:
+            os._exit(1)
+    return os.waitpid(child, 0)[1] == 0
+
+
+@pytest.mark.parametrize("call", [ps.Domain.open, ps.Domain.open_or_create, ps.Domain.create])
+def test_without_permission_it_is_refused(name, call):
+    with opened(name):
+        (path,) = [path for path in Path("/dev/shm").iterdir() if name.split("/")[1] in path.name and path.name.endswith(".calls")]
+        assert refused_as_another_user(lambda: call(name, "i8", **SETTINGS), path)
+    assert not ps.Domain.exists(name)
+
+
+def test_who_was_refused_leaves_nothing_behind(name, start):
+    with opened(name) as domain:
+        for refused in (lambda: ps.Domain.open(name, "f8", **SETTINGS), lambda: ps.Domain.create(name, "i8", **SETTINGS)):
+            with pytest.raises(ps.DomainOpenError):
+                refused()
+        subscriber = domain.subscriber()
+        process = start("sends", name)
+        assert hear(process) == "is here"
+        go_on(process)
+        assert value(subscriber.receive(timeout=None)) == 1
+
+
+@pytest.mark.parametrize("close", ["port", "domain"])
+def test_a_close_by_another_thread_ends_all_waits(name, start, close):
+    domain = opened(name)
+    publisher, subscriber = domain.publisher(preallocated_samples=1), domain.subscriber()
+    kept = publisher.loan()
+    process = start("has_it", name)  # which goes on with the domain
+    assert hear(process) == "has it"
+    calls = (lambda: subscriber.receive(None), lambda: list(subscriber.follow()), lambda: publisher.loan(timeout=None), lambda: publisher.send_copy(1),
+             lambda: asyncio.run(subscriber.receive_async()), lambda: asyncio.run(publisher.loan_async()))
+    threads = [waiting(domain, call) for call in calls]
+    if close == "domain":
+        domain.close()
+    else:
+        subscriber.close(), publisher.close()
+    for thread in threads:
+        with pytest.raises(ps.NotLive, match="make another one"):
+            thread.result()
+    assert domain.waiting == 0
+    del kept
+    end(process)
+
+
+def test_a_close_by_another_thread_ends_a_send_that_waits(name):
+    domain = opened(name)
+    publisher, subscriber = domain.publisher(), domain.subscriber()
+    publisher.send_copy(1), publisher.send_copy(2)
+    sends = waiting(domain, publisher.send_copy, 3)
+    domain.close()
+    assert sends.result() == 0 and not subscriber.is_open
+
+
 def test_what_cant_be_is_refused(name):
     for call, kind in (
-        (lambda: ps.Domain.create("zero\0inside", "i8"), ValueError),
         (lambda: ps.Domain.create(name, "O"), TypeError),
         (lambda: ps.Domain.create(name, "i8", max_processes=65), ps.OpenInvalidArgument),
         (lambda: ps.Domain.create(name, "i8", calls=100), ps.OpenInvalidArgument),
