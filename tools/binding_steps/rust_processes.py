@@ -13,15 +13,29 @@ from .steps import Failed, said
 CRATES = ("rust", "rust-sys")
 LAYOUT = BINDINGS / "rust-sys/tests/processes_layout.rs"
 LIBRARY = "libiox2_pubsub_processes.a"
-# Tests of ordinary domains that are shared here, and of these what isn't so: a header names a process. Those that count memory, or ask for
-# more than a domain of processes has room for, stay out.
-TESTS = ("bounds", "calls", "capacity", "channels", "events", "fork", "futures", "hostile", "in_place", "joined", "latched", "locks", "panics",
+# The tests of domains that processes share.
+BETWEEN = ("processes", "nodes", "refused")
+# Tests of ordinary domains that are shared here, and of these what isn't so: a header names a process. Those that count memory, ask for
+# more than a domain of processes has room for, or hand a domain to another language, stay out.
+TESTS = ("bounds", "calls", "capacity", "channels", "events", "fork", "futures", "hostile", "in_place", "latched", "locks", "panics",
          "reader_writer", "stops", "threads", "wait_set", "waits", "wakes")
 NOT_SHARED = ("a_header_says_where_a_message_comes_from", "a_message_is_written_field_by_field", "zeros_are_lent_of_what_has_no_default")
 # The comments whose lines are tests of their own.
-DOCUMENTED = ("named_domain", "zero_copy_send")
+DOCUMENTED = ("named_domain", "nodes", "zero_copy_send")
+# Types of messages, and in which words they are refused when they are compiled; the first isn't.
+OF_FIELDS = "iox2_pubsub::zero_copy_send! {{ #[derive(Clone, Copy)] struct T {{ field: {} }} }}"
+REFUSED = (
+    (OF_FIELDS.format("[u64; 2]"), None),
+    (OF_FIELDS.format("*const u8"), "can't share values of the type `\\*const u8`"),
+    (OF_FIELDS.format("&'static str"), "can't share values of the type `&'static str`"),
+    (OF_FIELDS.format("String"), "can't share values of the type `String`"),
+    ("type T = &'static u64;", "can't share values of the type `&u64`(.|\n)*`zero_copy_send!` declares a struct"),
+    ("type T = Box<u64>;", "`Box<u64>: Copy` is not satisfied"),
+    ("#[derive(Clone, Copy)] struct T(u64);", "can't share values of the type `T`"),
+    ("iox2_pubsub::zero_copy_send! { struct T { field: u64 } } impl Drop for T { fn drop(&mut self) {} }", "`T: Copy` is not satisfied"),
+)
 # The names of structs in C by those in Rust.
-STRUCTS = {"Options": "iox2ps_processes_options_t", "DomainInfo": "iox2ps_domain_info_t"}
+STRUCTS = {"Options": "iox2ps_processes_options_t", "DomainInfo": "iox2ps_domain_info_t", "Node": "iox2ps_node_t", "Port": "iox2ps_port_t"}
 
 
 def oldest():
@@ -37,11 +51,11 @@ class Crates:
         for name in CRATES:
             shutil.copytree(BINDINGS / name, work / "crates" / name, ignore=shutil.ignore_patterns("target"))
 
-    def cargo(self, *words, crate="rust", library=None, target="target", **more):
+    def cargo(self, *words, crate="rust", library=None, target="target", fails=False, **more):
         """What cargo says of a crate."""
         places = {"IOX2_PUBSUB_LIB_DIR": str(library or self.library.work), "CARGO_TARGET_DIR": str(self.work / target), "RUST_BACKTRACE": "0"}
         words = (more.pop("cargo", "cargo"), words[0], "--offline", "--quiet", "--features", "processes", *words[1:])
-        return said("timeout", "-s", "KILL", "3600", *words, cwd=self.work / "crates" / crate, env={**os.environ, **places, **more})
+        return said("timeout", "-s", "KILL", "3600", *words, cwd=self.work / "crates" / crate, env={**os.environ, **places, **more}, fails=fails)
 
     def test(self, *words, **more):
         """How many tests passed."""
@@ -68,6 +82,18 @@ class Crates:
         """What clippy finds."""
         self.cargo("clippy", "--all-targets", "--", "-D", "warnings")
         return "nothing is found"
+
+
+def refuses(crates):
+    """Types that processes can't share, in words that name the way out."""
+    example = crates.work / "crates/rust/examples/refused.rs"
+    for code, words in REFUSED:
+        example.write_text(f"{code}\nfn main() {{ drop(iox2_pubsub::Domain::<T>::builder(7).name(\"a\")) }}\n")
+        written = crates.cargo("check", "--example", "refused", fails=words is not None)
+        if words is not None and not re.search(words, written):
+            raise Failed(f"cargo of\n{code}\nsays {written[-3000:]}")
+    example.unlink()
+    return f"{len(REFUSED)} types"
 
 
 def instead(library, work):
@@ -106,7 +132,9 @@ def run_rust(steps, work, library):
     crates = Crates(work, library)
     steps.run("rust, structs of C", layouts_of_c, library, work)
     steps.run("rust-sys, cargo test", lambda: crates.test("--test", "processes_layout", crate="rust-sys"))
-    steps.run("rust, tests/processes.rs", lambda: crates.test("--test", "processes"))
+    for name in BETWEEN:
+        steps.run(f"rust, tests/{name}.rs", lambda name=name: crates.test("--test", name))
+    steps.run("rust, types that are refused", refuses, crates)
     for name in DOCUMENTED:
         steps.run(f"rust, comments of {name}.rs", lambda name=name: crates.test("--doc", name))
     steps.run("rust, tests of ordinary domains, over shared ones", crates.over_shared)

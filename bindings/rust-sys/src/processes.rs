@@ -2,7 +2,7 @@
 //! The declarations of the C header `iox2_pubsub_processes.h`, which says what each is.
 #![allow(missing_docs)]
 
-use crate::{Config, Domain};
+use crate::{Config, Domain, Wide};
 use std::ffi::c_void;
 use std::fmt;
 use std::os::raw::{c_char, c_int};
@@ -23,6 +23,15 @@ pub const PROCESSES_DIVERGED: u32 = 221;
 pub const PROCESSES_FORKED: u32 = 222;
 pub const PROCESSES_TIMED_OUT: u32 = 223;
 pub const PROCESSES_NOT_SHARED: u32 = 224;
+
+/// Beside `BRINGS_MESSAGE` and the others of `iox2_pubsub.h`.
+pub const BRINGS_DEAD_NODE: u32 = 16;
+
+pub const NODE_STATE_ALIVE: u32 = 0;
+pub const NODE_STATE_DEAD: u32 = 1;
+
+pub const PORT_PUBLISHER: u32 = 0;
+pub const PORT_SUBSCRIBER: u32 = 1;
 
 #[repr(C)]
 #[derive(Clone, Copy, Debug, Default, PartialEq, Eq)]
@@ -59,6 +68,28 @@ impl fmt::Debug for DomainInfo {
     }
 }
 
+#[repr(C)]
+#[derive(Clone, Copy, Debug, Default, PartialEq, Eq)]
+pub struct Node {
+    pub node_id: Wide,
+    pub pid: u32,
+    pub state: u32,
+    pub number_of_publishers: usize,
+    pub number_of_subscribers: usize,
+    pub number_of_loans: usize,
+    pub number_of_samples: usize,
+}
+
+#[repr(C)]
+#[derive(Clone, Copy, Debug, Default, PartialEq, Eq)]
+pub struct Port {
+    pub id: Wide,
+    pub node_id: Wide,
+    pub kind: u32,
+}
+
+pub type NodeList = unsafe extern "C" fn(node: *const Node, context: *mut c_void) -> c_int;
+pub type PortList = unsafe extern "C" fn(port: *const Port, context: *mut c_void) -> c_int;
 pub type List = unsafe extern "C" fn(info: *const DomainInfo, context: *mut c_void) -> c_int;
 
 /// `iox2ps_domain_open_or_create`, and those that open or create alone.
@@ -128,6 +159,25 @@ extern "C" {
     pub fn iox2ps_domain_sleep_begin(domain: *mut Domain, brings: u32, begun: *mut u64) -> u32;
     pub fn iox2ps_domain_sleep(domain: *const Domain, begun: u64, timeout_ns: u64) -> u32;
     pub fn iox2ps_domain_sleep_end(domain: *const Domain) -> u32;
+    pub fn iox2ps_domain_node_id(domain: *mut Domain, node_id: *mut Wide) -> u32;
+    pub fn iox2ps_domain_nodes(
+        domain: *mut Domain,
+        callback: NodeList,
+        context: *mut c_void,
+    ) -> u32;
+    pub fn iox2ps_domain_ports(
+        domain: *mut Domain,
+        callback: PortList,
+        context: *mut c_void,
+    ) -> u32;
+    pub fn iox2ps_domain_dead_node_count(domain: *mut Domain, count: *mut u64) -> u32;
+    pub fn iox2ps_domain_dead_node(domain: *mut Domain, index: u64, node: *mut Node) -> u32;
+    pub fn iox2ps_domain_set_dead_node_listener(
+        domain: *mut Domain,
+        callback: Option<NodeList>,
+        context: *mut c_void,
+    ) -> u32;
+    pub fn iox2ps_domain_cleanup_dead_nodes(domain: *mut Domain, cleanups: *mut usize) -> u32;
     pub fn iox2ps_domain_exists(name: *const c_char, exists: *mut u32) -> u32;
     pub fn iox2ps_domain_list(callback: List, context: *mut c_void) -> u32;
 }

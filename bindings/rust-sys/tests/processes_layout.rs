@@ -2,7 +2,7 @@
 //! How the library for processes has the structs of its header in memory. `tools/processes rust` holds C to these lines, too.
 #![cfg(feature = "processes")]
 
-use iox2_pubsub_sys::processes::{DomainInfo, Options};
+use iox2_pubsub_sys::processes::{DomainInfo, Node, Options, Port};
 use std::mem::{align_of, size_of, MaybeUninit};
 use std::ptr::addr_of;
 
@@ -41,4 +41,20 @@ lies_so! {
     max_processes 400
     processes 404
     domains 408
+}
+lies_so! {
+    node, Node, 56, 8,
+    node_id 0
+    pid 16
+    state 20
+    number_of_publishers 24
+    number_of_subscribers 32
+    number_of_loans 40
+    number_of_samples 48
+}
+lies_so! {
+    port, Port, 40, 8,
+    id 0
+    node_id 16
+    kind 32
 }

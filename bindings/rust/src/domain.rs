@@ -3,7 +3,7 @@
 
 use crate::errors::{is_after_fork, is_broken, unexpected, DomainCreateError};
 use crate::guarded::Guarded;
-use crate::ids::{number, wide};
+use crate::ids::{number, wide, NodeId};
 use crate::lock::{DomainLock, StdLock};
 use crate::payload::{Payload, Value};
 use crate::port_factory::{PortFactoryPublisher, PortFactorySubscriber};
@@ -337,9 +337,10 @@ impl<P: Payload + ?Sized> DomainBuilder<P> {
         }
     }
 
-    /// The node that the header of each message names; 0 unless it is set.
-    pub fn node_id(mut self, value: u128) -> Self {
-        self.config.node_id = wide(value);
+    /// The node that the header of each message names. Unless it is set: 0, and the process of the publisher in a domain that processes
+    /// share.
+    pub fn node_id(mut self, value: NodeId) -> Self {
+        self.config.node_id = wide(value.value());
         self
     }
 

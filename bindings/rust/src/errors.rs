@@ -13,9 +13,11 @@ pub(crate) const AFTER_FORK: u32 = 0xffff_fffd;
 
 const NO_ATTACHMENTS: u32 = 0xffff_fffc;
 
+const OF_PROCESSES: u32 = 0xffff_fffb;
+
 /// What a receive returns of a message that another process has sent, and that isn't as long as its type.
 #[cfg(feature = "processes")]
-pub(crate) const WRONG_LENGTH: u32 = 0xffff_fffb;
+pub(crate) const WRONG_LENGTH: u32 = 0xffff_fffa;
 
 #[cfg(feature = "processes")]
 const WRONG_LENGTH_TEXT: &str =
@@ -68,7 +70,7 @@ pub(crate) fn unexpected(code: u32) -> ! {
 }
 
 macro_rules! errors {
-    ($(#[$meta:meta])* $name:ident { $($(#[$of:meta])* $variant:ident = $code:ident,)* }) => {
+    ($(#[$meta:meta])* $name:ident { $($(#[$of:meta])* $variant:ident = $($code:ident)::+,)* }) => {
         $(#[$meta])*
         #[non_exhaustive]
         #[derive(Clone, Copy, Debug, PartialEq, Eq, Hash)]
@@ -88,7 +90,7 @@ macro_rules! errors {
         impl $name {
             pub(crate) fn of(code: u32) -> $name {
                 match code {
-                    $(sys::$code => $name::$variant,)*
+                    $(sys::$($code)::+ => $name::$variant,)*
                     AFTER_FORK | sys::NO_DOMAIN => $name::AfterFork,
                     #[cfg(feature = "processes")]
                     sys::processes::PROCESSES_DAMAGED => $name::Damaged,
@@ -102,7 +104,7 @@ macro_rules! errors {
             #[must_use]
             pub fn code(self) -> u32 {
                 match self {
-                    $($name::$variant => sys::$code,)*
+                    $($name::$variant => sys::$($code)::+,)*
                     $name::AfterFork => AFTER_FORK,
                     #[cfg(feature = "processes")]
                     $name::Damaged => sys::processes::PROCESSES_DAMAGED,
@@ -293,6 +295,50 @@ errors! {
         OutOfMemory = OUT_OF_MEMORY,
     }
 }
+
+#[cfg(feature = "processes")]
+errors! {
+    /// Why nobody says which processes have a domain.
+    NodeListFailure {
+        /// One process has it, since it has no name. This library's own.
+        NotShared = processes::PROCESSES_NOT_SHARED,
+    }
+}
+
+/// Why a domain wasn't handed to another language of the process. This library's own.
+#[non_exhaustive]
+#[derive(Clone, Copy, Debug, PartialEq, Eq, Hash)]
+pub enum ShareError {
+    /// Processes share the domain. The other language opens it by its name, in another process than this one.
+    OfProcesses,
+    /// This process is a child of the one that made the domain.
+    AfterFork,
+}
+
+impl ShareError {
+    /// The same code as in C++.
+    #[must_use]
+    pub fn code(self) -> u32 {
+        match self {
+            ShareError::OfProcesses => OF_PROCESSES,
+            ShareError::AfterFork => AFTER_FORK,
+        }
+    }
+}
+
+impl fmt::Display for ShareError {
+    fn fmt(&self, f: &mut fmt::Formatter<'_>) -> fmt::Result {
+        f.write_str(match self {
+            ShareError::OfProcesses => {
+                "OfProcesses: no other language of this process joins a domain that processes share: it opens the domain by its name in \
+                 another process"
+            }
+            ShareError::AfterFork => AFTER_FORK_TEXT,
+        })
+    }
+}
+
+impl Error for ShareError {}
 
 /// Why a [`WaitSet`](crate::WaitSet) didn't wait.
 #[non_exhaustive]

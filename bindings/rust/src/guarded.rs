@@ -1,12 +1,16 @@
 // SPDX-License-Identifier: Apache-2.0 OR MIT
 //! A domain under its lock, and those who wait in it.
 
+#[cfg(feature = "processes")]
+use crate::dead_nodes::DeadNodeListener;
 use crate::desk::Desk;
 use crate::errors::AFTER_FORK;
 use crate::fork::Process;
 use crate::listeners::{is_listening, Listener, Listeners};
 use crate::lock::DomainLock;
 use crate::shared::Shared;
+#[cfg(feature = "processes")]
+use crate::sys::processes::PROCESSES_NOT_SHARED;
 use crate::sys::{self, Wide};
 use crate::threads::{Brings, Place, Polls, Wait, WaitingPlace, Waits};
 use crate::waiting::{FutureNumber, Listed, WaitingList, Wake, Woken};
@@ -111,7 +115,13 @@ impl<L: DomainLock> Guarded<L> {
                 let tasks = std::iter::from_fn(|| state.waiting.next_task()).collect();
                 (wake, tasks)
             });
-            Begun { sleep, wake }
+            let (told, shared) = (&mut state.told, &mut state.shared);
+            let deaths = told.as_mut().and_then(|told| told.dead_nodes.calls(shared));
+            Begun {
+                sleep,
+                wake,
+                deaths,
+            }
         })
     }
 
@@ -196,6 +206,17 @@ impl<L: DomainLock> Guarded<L> {
     // Whether this is the process that made it.
     pub(crate) fn is_here(&self) -> bool {
         self.process.is_this()
+    }
+
+    // Whether processes share it. `None` in a child after a fork.
+    #[cfg(feature = "processes")]
+    pub(crate) fn is_of_processes(&self) -> Option<bool> {
+        self.with(|state| state.told.is_some())
+    }
+
+    #[cfg(not(feature = "processes"))]
+    pub(crate) fn is_of_processes(&self) -> Option<bool> {
+        self.with(|_| false)
     }
 
     // Another language joins: it stays at its place, and may be called on any thread, until it leaves.
@@ -402,6 +423,25 @@ impl<L: DomainLock> WaitingPlace for Guarded<L> {
         drop(old);
         if let Some(wake) = wake {
             self.wake(wake);
+        }
+    }
+
+    #[cfg(feature = "processes")]
+    fn listen_to_deaths(&self, listener: Option<DeadNodeListener>) -> u32 {
+        let mut wake = None;
+        let listened = self.with(|state| {
+            let told = state.told.as_mut().ok_or(PROCESSES_NOT_SHARED)?;
+            let before = told.dead_nodes.listen(&mut state.shared, listener)?;
+            wake = self.listens_to_others(state, Brings::NOTHING);
+            Ok(before)
+        });
+        if let Some(wake) = wake {
+            self.wake(wake);
+        }
+        match listened {
+            Some(Ok(_)) => sys::OK,
+            Some(Err(code)) => code,
+            None => AFTER_FORK,
         }
     }
 

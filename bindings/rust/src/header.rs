@@ -1,13 +1,13 @@
 // SPDX-License-Identifier: Apache-2.0 OR MIT
 //! Where a message comes from.
 
-use crate::ids::{number, UniquePublisherId};
+use crate::ids::{NodeId, UniquePublisherId};
 use crate::sys;
 
 /// Where a message comes from, and how many elements it has.
 #[derive(Clone, Copy, Debug, PartialEq, Eq, Hash)]
 pub struct Header {
-    node_id: u128,
+    node_id: NodeId,
     publisher_id: UniquePublisherId,
     number_of_elements: usize,
 }
@@ -17,15 +17,16 @@ impl Header {
     pub(crate) fn of(header: &sys::Header, size: usize) -> Header {
         let bytes = header.number_of_elements as usize;
         Header {
-            node_id: number(header.node_id),
+            node_id: NodeId::of(header.node_id),
             publisher_id: UniquePublisherId::of(header.publisher),
             number_of_elements: bytes.checked_div(size).unwrap_or(1),
         }
     }
 
-    /// The node that the settings of the domain name.
+    /// The node that the settings of the domain name; or, where they name none, the process that sent it, of a domain that processes
+    /// share.
     #[must_use]
-    pub fn node_id(&self) -> u128 {
+    pub fn node_id(&self) -> NodeId {
         self.node_id
     }
 

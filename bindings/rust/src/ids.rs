@@ -1,5 +1,5 @@
 // SPDX-License-Identifier: Apache-2.0 OR MIT
-//! Which port, channel, connection or state is meant. Each is a type of its own, so that none is taken for another.
+//! Which process, port, channel, connection or state is meant. Each is a type of its own, so that none is taken for another.
 
 use crate::sys::{self, Wide};
 use std::fmt;
@@ -33,6 +33,10 @@ macro_rules! names {
 }
 
 names! {
+    /// The node that the settings of a domain name, 0 unless they do; or a process that shares a domain with others, which are named by
+    /// themselves. Headers of messages have it.
+    NodeId of u128, from_value;
+
     /// The id of a publisher, which no other port of its domain has.
     ///
     /// ```
@@ -89,6 +93,13 @@ pub const CHANNEL_STATE_OPEN: ChannelState = ChannelState::new(sys::CHANNEL_STAT
 
 /// The state of a channel that takes no message.
 pub const CHANNEL_STATE_CLOSED: ChannelState = ChannelState::new(sys::CHANNEL_STATE_CLOSED);
+
+impl NodeId {
+    #[inline]
+    pub(crate) fn of(id: Wide) -> Self {
+        NodeId(number(id))
+    }
+}
 
 impl UniquePublisherId {
     #[inline]

@@ -90,6 +90,8 @@ mod attachments;
 mod channels;
 #[cfg(feature = "dds")]
 pub mod dds;
+#[cfg(feature = "processes")]
+mod dead_nodes;
 mod desk;
 mod domain;
 mod errors;
@@ -108,6 +110,8 @@ mod memory;
 mod message_fd;
 #[cfg(feature = "processes")]
 mod named_domain;
+#[cfg(feature = "processes")]
+mod nodes;
 #[cfg(feature = "processes")]
 mod open_error;
 mod payload;
@@ -137,14 +141,17 @@ pub(crate) use iox2_pubsub_sys as sys;
 
 pub use any_bytes::AnyBytes;
 pub use domain::{Domain, DomainBuilder, SharedDomain};
+#[cfg(feature = "processes")]
+pub use errors::NodeListFailure;
 pub use errors::{
     ChannelError, ConnectionFailure, DomainCreateError, LoanError, PublisherCreateError,
-    ReceiveError, SendError, SubscriberCreateError, WaitSetAttachmentError, WaitSetRunError,
+    ReceiveError, SendError, ShareError, SubscriberCreateError, WaitSetAttachmentError,
+    WaitSetRunError,
 };
 pub use events::Receive;
 pub use header::Header;
 pub use ids::{
-    ChannelId, ChannelState, ConnectionId, UniquePublisherId, UniqueSubscriberId,
+    ChannelId, ChannelState, ConnectionId, NodeId, UniquePublisherId, UniqueSubscriberId,
     CHANNEL_STATE_CLOSED, CHANNEL_STATE_OPEN,
 };
 #[doc(hidden)]
@@ -157,6 +164,8 @@ pub use memory::{reset_allocator, set_allocator, SetAllocatorError};
 pub use message_fd::MessageFd;
 #[cfg(feature = "processes")]
 pub use named_domain::{DomainInfo, NamedDomainBuilder};
+#[cfg(feature = "processes")]
+pub use nodes::{NodeState, NodeView, PublisherDetails, SubscriberDetails};
 #[cfg(feature = "processes")]
 pub use open_error::{DomainOpenError, DomainOpenErrorKind};
 pub use payload::{Payload, Value};

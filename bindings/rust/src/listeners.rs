@@ -64,6 +64,13 @@ impl Calling {
 }
 
 impl Listeners {
+    /// Of no subscriber.
+    #[cfg(feature = "processes")]
+    pub(crate) fn of(listeners: impl Iterator<Item = Listener>) -> Arc<Listeners> {
+        let listeners = listeners.map(|listener| (Wide::default(), listener));
+        Arc::new(Listeners(listeners.collect()))
+    }
+
     /// With this one in place of the subscriber's earlier one, or without any of it. `None` where none is left.
     pub(crate) fn with(&self, port: Wide, listener: Option<Listener>) -> Option<Arc<Listeners>> {
         let mut all = self.clone();

@@ -21,11 +21,7 @@ use std::ptr;
 use std::sync::Arc;
 use std::time::Duration;
 
-impl<P> DomainBuilder<P>
-where
-    P: Payload + ?Sized,
-    P::Element: ZeroCopySend,
-{
+impl<P: Payload + ?Sized> DomainBuilder<P> {
     /// The domain is one that processes share by this name, of 1 to 255 bytes, as `My/Service`, without a part `.` or `..`
     /// between two `/`. Its messages lie in shared memory, where each process reads them.
     ///
@@ -49,7 +45,10 @@ where
     /// All processes have the same settings, type of messages and build of the library; else it isn't opened. Where
     /// [`record`](DomainBuilder::record) asks for a recording, [`create`](NamedDomainBuilder::create) begins it: of the calls of all
     /// processes, without the bytes of messages.
-    pub fn name(self, name: &str) -> NamedDomainBuilder<P> {
+    pub fn name(self, name: &str) -> NamedDomainBuilder<P>
+    where
+        P::Element: ZeroCopySend,
+    {
         NamedDomainBuilder {
             domain: self,
             name: name.into(),

@@ -3,6 +3,7 @@
 
 use crate::any_bytes::AnyBytes;
 use crate::domain::SharedDomain;
+use crate::errors::ShareError;
 use crate::guarded::Guarded;
 use crate::lock::DomainLock;
 use crate::payload::Payload;
@@ -26,7 +27,7 @@ use std::sync::Arc;
 /// use iox2_pubsub::{Domain, Share};
 ///
 /// let domain = Domain::<u64>::builder(7).create_shared()?;
-/// let pointer = domain.share().into_raw();
+/// let pointer = domain.share()?.into_raw();
 /// // PyCapsule_New(pointer, Share::CAPSULE_NAME.as_ptr(), a function that drops what `from_raw` gives)
 /// drop(unsafe { Share::from_raw(pointer) });
 /// # Ok(())
@@ -102,8 +103,16 @@ where
 {
     /// The domain for another language of this process, whose calls are made under the same lock and wake those who wait here.
     /// What it writes into a message is any bytes.
-    #[must_use]
-    pub fn share(&self) -> Share {
+    ///
+    /// # Errors
+    ///
+    /// See [`ShareError`].
+    pub fn share(&self) -> Result<Share, ShareError> {
+        match self.hold.is_of_processes() {
+            Some(false) => {}
+            Some(true) => return Err(ShareError::OfProcesses),
+            None => return Err(ShareError::AfterFork),
+        }
         let handed = Handed {
             domain: c::SharedDomain {
                 struct_size: size_of::<c::SharedDomain>(),
@@ -123,7 +132,9 @@ where
         };
         let pointer = Arc::into_raw(Arc::new(handed));
         // SAFETY: it isn't null.
-        Share(unsafe { NonNull::new_unchecked(pointer as *mut c::SharedDomain) })
+        Ok(Share(unsafe {
+            NonNull::new_unchecked(pointer as *mut c::SharedDomain)
+        }))
     }
 }
 

@@ -1,7 +1,7 @@
 // SPDX-License-Identifier: Apache-2.0 OR MIT
 //! Settings that are read back: what a domain, a publisher and a subscriber were made with.
 
-use crate::ids::number;
+use crate::ids::{number, NodeId};
 use crate::payload::Payload;
 use crate::port_factory::{AllocationStrategy, DegradationAction};
 use crate::publisher::{BackpressureAction, BackpressureStrategy};
@@ -36,8 +36,8 @@ impl StaticConfig {
 
     /// The node that the header of each message names.
     #[must_use]
-    pub fn node_id(&self) -> u128 {
-        number(self.read.node_id)
+    pub fn node_id(&self) -> NodeId {
+        NodeId::from_value(number(self.read.node_id))
     }
 
     /// How many bytes a message of a publisher may have that says nothing else.

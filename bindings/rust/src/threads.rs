@@ -1,6 +1,8 @@
 // SPDX-License-Identifier: Apache-2.0 OR MIT
 //! For which threads the handles of a domain are, and how they hold it.
 
+#[cfg(feature = "processes")]
+use crate::dead_nodes::DeadNodeListener;
 use crate::desk::Desk;
 use crate::fork;
 use crate::guarded::Guarded;
@@ -299,6 +301,10 @@ pub trait WaitingPlace: Place {
 
     /// This is called from now on when a message may have come for the subscriber, in place of what was before.
     fn listen(&self, port: sys::Wide, listener: Option<Listener>);
+
+    /// This is called from now on with each process that died, in place of what was before. Returns the code of the domain.
+    #[cfg(feature = "processes")]
+    fn listen_to_deaths(&self, listener: Option<DeadNodeListener>) -> u32;
 
     /// Whoever has the lock when a message comes serves this desk from now on.
     fn open(&self, desk: &Arc<Desk>);

@@ -1,7 +1,9 @@
 // SPDX-License-Identifier: Apache-2.0 OR MIT
 //! The thread that sleeps for all others of a domain that processes share, until a call of another process brings something.
 
+use crate::dead_nodes::DeadNodes;
 use crate::guarded::Guarded;
+use crate::listeners::Listeners;
 use crate::lock::DomainLock;
 use crate::shared::Shared;
 use crate::sys;
@@ -20,7 +22,10 @@ use std::task::Waker;
 use std::thread::{Builder, JoinHandle};
 
 /// What other processes have brought to a domain that they share, as far as those who wait here were told. Used under the lock.
-pub(crate) struct Told([u64; KINDS]);
+pub(crate) struct Told {
+    counts: [u64; KINDS],
+    pub(crate) dead_nodes: DeadNodes,
+}
 
 // Of `Brings`.
 const KINDS: usize = 4;
@@ -28,7 +33,10 @@ const KINDS: usize = 4;
 impl Told {
     /// `None` where no other process can bring anything.
     pub(crate) fn of(shared: &mut Shared) -> Option<Told> {
-        let mut told = Told([0; KINDS]);
+        let mut told = Told {
+            counts: [0; KINDS],
+            dead_nodes: DeadNodes::default(),
+        };
         let mut begun = 0;
         // SAFETY: see `Shared::at`.
         match unsafe { c::iox2ps_domain_sleep_begin(shared.at(), 0, &mut begun) } {
@@ -44,8 +52,9 @@ impl Told {
     /// only be left; and what came that nobody was told of.
     pub(crate) fn begin(&mut self, shared: &mut Shared, wanted: Brings) -> (Option<u64>, Brings) {
         let mut begun = 0;
+        let wanted = u32::from(wanted.0) | self.dead_nodes.wants();
         // SAFETY: see `Shared::at`.
-        match unsafe { c::iox2ps_domain_sleep_begin(shared.at(), wanted.0.into(), &mut begun) } {
+        match unsafe { c::iox2ps_domain_sleep_begin(shared.at(), wanted, &mut begun) } {
             sys::OK => (Some(begun), self.look(shared)),
             _ => (None, Brings::ALL),
         }
@@ -54,7 +63,7 @@ impl Told {
     // All of it where the domain can only be left: whoever waits then finds out why.
     fn look(&mut self, shared: &mut Shared) -> Brings {
         let mut brings = Brings::NOTHING;
-        for (kind, told) in self.0.iter_mut().enumerate() {
+        for (kind, told) in self.counts.iter_mut().enumerate() {
             let (one, mut count) = (Brings(1 << kind), 0);
             // SAFETY: see `Shared::at`.
             let code = unsafe {
@@ -77,6 +86,28 @@ pub(crate) struct Begun {
     /// `None` where the domain can only be left.
     pub(crate) sleep: Option<u64>,
     pub(crate) wake: Option<(Wake, Vec<Waker>)>,
+    /// What is called because processes died.
+    pub(crate) deaths: Option<Arc<Listeners>>,
+}
+
+impl Begun {
+    // Whether anybody is to be woken or called.
+    fn has_news(&self) -> bool {
+        self.wake.is_some() || self.deaths.is_some()
+    }
+
+    // Without the lock.
+    fn tell(self) {
+        if let Some((wake, mut tasks)) = self.wake {
+            // A waker's panic has been reported, and is none of the others'.
+            drop(catch_unwind(AssertUnwindSafe(|| {
+                wake.wake(|| tasks.pop());
+            })));
+        }
+        if let Some(deaths) = self.deaths {
+            deaths.call();
+        }
+    }
 }
 
 // Where the thread is: it reaches the domain, or calls what a program has brought, or the domain is about to go.
@@ -132,14 +163,11 @@ impl<L: DomainLock> At<L> {
                 None => return,
             };
             sleep = begun.sleep;
-            if let Some((wake, mut tasks)) = begun.wake {
+            if begun.has_news() {
                 if !passes(phase, HERE, AWAY) {
                     return;
                 }
-                // A waker's panic has been reported, and is none of the others'.
-                drop(catch_unwind(AssertUnwindSafe(|| {
-                    wake.wake(|| tasks.pop());
-                })));
+                begun.tell();
                 // Whoever was called may have dropped the domain, or another thread meanwhile.
                 if !passes(phase, AWAY, HERE) {
                     return;

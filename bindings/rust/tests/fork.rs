@@ -5,10 +5,12 @@
 use iox2_pubsub::{
     BlockedSend, CallbackProgression, ChannelError, ChannelId, ConnectionFailure, ConnectionId,
     Domain, DomainBuilder, DomainCreateError, DomainLock, Loan, LoanError, ManyThreads, Publisher,
-    PublisherCreateError, ReceiveError, Sample, SendError, Subscriber, SubscriberCreateError,
-    Threads, WaitSet, WaitSetAttachmentError, WaitSetRunError, WaitSetRunResult,
+    PublisherCreateError, ReceiveError, Sample, SendError, ShareError, Subscriber,
+    SubscriberCreateError, Threads, WaitSet, WaitSetAttachmentError, WaitSetRunError, WaitSetRunResult,
     CHANNEL_STATE_OPEN,
 };
+#[cfg(feature = "processes")]
+use iox2_pubsub::NodeListFailure;
 use std::future::Future;
 use std::ops::ControlFlow;
 use std::panic::{catch_unwind, set_hook, AssertUnwindSafe};
@@ -164,6 +166,19 @@ impl<M: Threads> World<M> {
         panics(&|| assert_eq!(self.sample.header().publisher_id(), publisher.id()));
         panics(&|| drop(subscriber.reader()));
         panics(&|| assert_eq!(publisher.get_connection_id_of(subscriber.id()), None));
+        #[cfg(feature = "processes")]
+        self.nodes_are_refused();
+    }
+
+    #[cfg(feature = "processes")]
+    fn nodes_are_refused(&self) {
+        let (domain, refused) = (&self.domain, NodeListFailure::AfterFork);
+        assert_eq!(domain.node_id(), Err(refused));
+        assert_eq!(domain.nodes().err(), Some(refused));
+        assert_eq!(domain.list_publishers().err(), Some(refused));
+        assert_eq!(domain.list_subscribers().err(), Some(refused));
+        assert_eq!(domain.dead_nodes().err(), Some(refused));
+        assert_eq!(domain.cleanup_dead_nodes(), Err(refused));
     }
 
     // All is as it was.
@@ -215,8 +230,15 @@ fn waits_are_refused(world: World<ManyThreads>) {
         subscriber,
         loan,
         blocked,
+        domain,
         ..
     } = world;
+    assert_eq!(domain.share().err(), Some(ShareError::AfterFork));
+    #[cfg(feature = "processes")]
+    {
+        let listened = domain.set_dead_node_listener(|_| {});
+        assert_eq!(listened, Err(NodeListFailure::AfterFork));
+    }
     let hour = Duration::from_secs(3600);
     let refused = ReceiveError::AfterFork;
     assert_eq!(subscriber.blocking_receive().map(drop), Err(refused));

@@ -196,7 +196,7 @@ fn keeping(buffer: usize) -> DomainBuilder<u64> {
 
 #[test]
 fn it_says_what_a_message_is() {
-    let one = keeping(1).create_shared().unwrap().share();
+    let one = keeping(1).create_shared().unwrap().share().unwrap();
     // SAFETY: the share keeps it.
     let domain = unsafe { &*one.as_ptr().cast::<c::SharedDomain>() };
     assert_eq!(domain.struct_size, size_of::<c::SharedDomain>());
@@ -206,7 +206,8 @@ fn it_says_what_a_message_is() {
         .max_slice_len(4)
         .create_shared()
         .unwrap()
-        .share();
+        .share()
+        .unwrap();
     assert_eq!(
         format!("{many:?}"),
         "Share { element_size: 2, is_slice: true, .. }"
@@ -220,7 +221,7 @@ fn it_says_what_a_message_is() {
 #[test]
 fn messages_cross_in_place_both_ways() {
     let domain = keeping(2).create_shared().unwrap();
-    let other = Other::new(domain.share());
+    let other = Other::new(domain.share().unwrap());
     let publisher = domain.publisher().unwrap();
     other.make_subscriber();
     let loan = publisher.loan_uninit().unwrap().write_payload(11);
@@ -244,7 +245,10 @@ fn each_wakes_the_other_for_messages() {
         asked.create_shared().unwrap(),
         answered.create_shared().unwrap(),
     );
-    let (asks, answers) = (Other::new(asked.share()), Other::new(answered.share()));
+    let (asks, answers) = (
+        Other::new(asked.share().unwrap()),
+        Other::new(answered.share().unwrap()),
+    );
     let (publisher, subscriber) = (asked.publisher().unwrap(), answered.subscriber().unwrap());
     asks.make_subscriber();
     answers.make_publisher();
@@ -264,7 +268,7 @@ fn each_wakes_the_other_for_messages() {
 #[test]
 fn each_wakes_the_other_for_room() {
     let domain = keeping(1).create_shared().unwrap();
-    let other = Other::new(domain.share());
+    let other = Other::new(domain.share().unwrap());
     let publisher = domain.publisher().unwrap();
     other.make_subscriber();
     scope(|scope| {
@@ -282,7 +286,7 @@ fn each_wakes_the_other_for_room() {
         }
     });
     let domain = keeping(1).create_shared().unwrap();
-    let other = Other::new(domain.share());
+    let other = Other::new(domain.share().unwrap());
     let subscriber = domain.subscriber().unwrap();
     other.make_publisher();
     scope(|scope| {
@@ -300,7 +304,7 @@ fn each_wakes_the_other_for_room() {
 #[test]
 fn a_reader_gets_what_the_other_side_sends() {
     let domain = keeping(4).create_shared().unwrap();
-    let other = Other::new(domain.share());
+    let other = Other::new(domain.share().unwrap());
     let subscriber = domain.subscriber().unwrap();
     let mut reader = subscriber.reader();
     other.make_publisher();
@@ -322,7 +326,7 @@ fn a_subscriber_gets_the_history_of_the_other_side() {
         .history_size(1)
         .create_shared()
         .unwrap();
-    let other = Other::new(domain.share());
+    let other = Other::new(domain.share().unwrap());
     let publisher = domain.publisher().unwrap();
     assert_eq!(publisher.send_copy(5).unwrap().delivered(), Some(0));
     other.make_subscriber();
@@ -341,7 +345,7 @@ fn a_subscriber_gets_the_history_of_the_other_side() {
 #[test]
 fn waits_are_stopped_by_both() {
     let domain = keeping(1).create_shared().unwrap();
-    let other = Other::new(domain.share());
+    let other = Other::new(domain.share().unwrap());
     let subscriber = domain.subscriber().unwrap();
     other.make_subscriber();
     for by_rust in [true, false] {
@@ -355,7 +359,7 @@ fn waits_are_stopped_by_both() {
             }
         });
         assert!(domain.waits_are_stopped());
-        let later = Other::new(domain.share());
+        let later = Other::new(domain.share().unwrap());
         later.make_subscriber();
         assert_eq!(later.receive(), None);
         other.stop(false);
@@ -365,7 +369,7 @@ fn waits_are_stopped_by_both() {
 
 #[test]
 fn a_share_keeps_the_domain() {
-    let share = keeping(2).create_shared().unwrap().share();
+    let share = keeping(2).create_shared().unwrap().share().unwrap();
     let pointer = share.clone().into_raw();
     let other = Other::new(share);
     // SAFETY: it is taken back once.
@@ -388,7 +392,7 @@ fn a_child_has_nothing_of_it() {
         OK
     }
     let domain = keeping(1).create_shared().unwrap();
-    let other = Other::new(domain.share());
+    let other = Other::new(domain.share().unwrap());
     let calls = || {
         let shared = other.domain();
         // SAFETY: nothing is called there.

@@ -7,7 +7,7 @@ mod children;
 use children::{in_child, name_of, say, wait_for_parent, Process};
 use iox2_pubsub::{
     AllocationStrategy, BackpressureStrategy, Domain, DomainOpenErrorKind, LoanError,
-    NamedDomainBuilder, PublisherCreateError, ReceiveError, SendError, SharedDomain,
+    NamedDomainBuilder, NodeListFailure, PublisherCreateError, ReceiveError, SendError, SharedDomain,
 };
 use std::fs;
 use std::thread::{self, sleep};
@@ -679,6 +679,8 @@ fn waits_end_where_the_files_are_written_over() {
         .publisher_builder()
         .allocation_strategy(AllocationStrategy::Static);
     assert_eq!(growing.create().err(), Some(PublisherCreateError::Damaged));
+    assert_eq!(domain.node_id(), Err(NodeListFailure::Damaged));
+    assert_eq!(domain.set_dead_node_listener(|_| {}), Err(NodeListFailure::Damaged));
     drop((publisher, subscriber, domain));
     drop(shared(&name));
 }

@@ -2,7 +2,7 @@
 //! What a domain and its ports were made with is read back.
 
 use iox2_pubsub::{
-    AllocationStrategy, BackpressureAction, BackpressureStrategy, DegradationAction, Domain,
+    AllocationStrategy, BackpressureAction, BackpressureStrategy, DegradationAction, Domain, NodeId,
 };
 
 #[derive(Clone, Copy)]
@@ -11,7 +11,8 @@ struct Pose([u8; 48]);
 
 #[test]
 fn settings_of_a_domain() {
-    let builder = Domain::<Pose>::builder(7 << 64 | 8).node_id(9 << 64 | 10);
+    let node = NodeId::from_value(9 << 64 | 10);
+    let builder = Domain::<Pose>::builder(7 << 64 | 8).node_id(node);
     let builder = builder.max_publishers(11).max_subscribers(12);
     let builder = builder
         .subscriber_max_buffer_size(13)
@@ -27,10 +28,7 @@ fn settings_of_a_domain() {
         let domain = builder.clone().enable_safe_overflow(overflow);
         let domain = domain.backpressure_strategy(strategy).create().unwrap();
         let read = domain.static_config();
-        assert_eq!(
-            (read.service_id(), read.node_id()),
-            (7 << 64 | 8, 9 << 64 | 10)
-        );
+        assert_eq!((read.service_id(), read.node_id()), (7 << 64 | 8, node));
         assert_eq!((read.payload_size(), read.payload_alignment()), (48, 16));
         assert_eq!((read.max_publishers(), read.max_subscribers()), (11, 12));
         assert_eq!(read.subscriber_max_buffer_size(), 13);

@@ -1,5 +1,6 @@
 // SPDX-License-Identifier: Apache-2.0 OR MIT
 //! Other processes for a test: the test's own program, started again for one of its tests that are ignored otherwise.
+#![allow(dead_code)] // a test needs some of it
 
 use std::env;
 use std::io::{stdin, stdout, BufRead, BufReader, Write};
@@ -53,6 +54,11 @@ impl Process {
                 return line[at + SAYS.len()..].trim_end().into();
             }
         }
+    }
+
+    /// Its process identifier.
+    pub fn id(&self) -> u32 {
+        self.child.id()
     }
 
     /// Lets it go on behind `wait_for_parent`.

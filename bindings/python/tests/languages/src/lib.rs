@@ -51,7 +51,7 @@ pub extern "C" fn camera_open(buffer: usize, history: usize) -> *mut c_void {
         .history_size(history)
         .create_shared()
         .unwrap();
-    let pointer = domain.share().into_raw();
+    let pointer = domain.share().unwrap().into_raw();
     *CAMERA.lock().unwrap() = Some(Arc::new(Camera {
         publisher: domain.publisher().unwrap(),
         subscriber: Mutex::default(),
