@@ -13,7 +13,10 @@
  * what the default constructor of a message's own type throws; then the loan is given back. No destructor throws. It compiles
  * without exceptions.
  *
- * What a Domain<P> makes is for one thread at a time. iox2_pubsub_shared.hpp has domains for several threads. */
+ * What a Domain<P> makes is for one thread at a time. iox2_pubsub_shared.hpp has domains for several threads, and
+ * iox2_pubsub_processes.hpp those that processes share by a name. blocking_.. and timed_.. calls are for these: where a thread has the
+ * domain for itself it waits for other processes alone. So what its own handles keep from it is refused at once, and in a domain of one
+ * process such a call returns Error::ProcessesNotShared, and does nothing. */
 #ifndef IOX2_PUBSUB_HPP
 #define IOX2_PUBSUB_HPP
 
@@ -25,6 +28,7 @@
 #include "iox2_pubsub_settings.hpp"
 
 #include <algorithm>
+#include <array>
 #include <atomic>
 #include <cassert>
 #include <chrono>
@@ -66,6 +70,9 @@ template <typename P, typename M = OneThread> class Subscriber;
 template <typename P, typename M = OneThread> class Loan;
 template <typename P, typename M = OneThread> class Sample;
 template <typename P, typename M = OneThread> class BlockedSend;
+
+/** What a thread waits for of other processes, as iox2_pubsub_processes.hpp says. */
+enum class WaitFor : std::uint32_t;
 
 inline constexpr std::uint64_t channel_state_open = IOX2PS_CHANNEL_STATE_OPEN;     /**< the state of a new channel */
 inline constexpr std::uint64_t channel_state_closed = IOX2PS_CHANNEL_STATE_CLOSED; /**< that of one which takes no message */
@@ -117,8 +124,20 @@ private:
 /* What a call returns in a child: the archive isn't called, since another thread may have been in it when the process was forked. */
 inline constexpr iox2ps_status_t after_fork = static_cast<iox2ps_status_t>(Error::AfterFork);
 
+/* What a call returns that waits in a domain of one thread and one process. */
+inline constexpr iox2ps_status_t not_shared = static_cast<iox2ps_status_t>(Error::ProcessesNotShared);
+
 /* How the calls of a domain are made for these threads. */
 template <typename M> class Threads;
+
+/* How the only thread of a domain waits for what other processes bring; and what it asks of these. iox2_pubsub_processes.hpp has both. */
+template <typename M, typename = void> struct WaitsAlone {
+  static_assert(!std::is_same_v<M, M>, "a domain of one thread waits for other processes alone: #include \"iox2_pubsub_processes.hpp\", and open "
+                                       "it by a name; or make it by SharedDomain<P>::create() of iox2_pubsub_shared.hpp");
+};
+template <typename M, typename = void> struct Nodes {
+  static_assert(!std::is_same_v<M, M>, "processes that have a domain are asked about where #include \"iox2_pubsub_processes.hpp\" comes first");
+};
 
 /* By one at a time. */
 template <> class Threads<OneThread> {
@@ -203,6 +222,8 @@ template <typename M> struct Shared : InOwnMemory {
   Brings history = 0;
   Sender *open = nullptr;
   std::unique_ptr<Sender> orphans;
+  /* How many calls of other processes had brought each of what Domain::wait() is for, when it was last called for that. */
+  std::array<std::uint64_t, 6> seen = {};
 
   Shared() = default;
   Shared(const Shared &) = delete;
@@ -282,7 +303,7 @@ public:
 
   /* How several threads make calls. The type is deduced, so that a compiler says these words before any others. */
   auto &many() const {
-    static_assert(is_shared<M>, "only a domain for several threads waits, calls listeners and has descriptors: "
+    static_assert(is_shared<M>, "only a domain for several threads calls listeners, has descriptors and is waited for by sets: "
                                 "make it by SharedDomain<P>::create() of iox2_pubsub_shared.hpp");
     return shared_->threads;
   }
@@ -328,7 +349,9 @@ public:
   template <typename Call>
   iox2ps_status_t wait(Waits what, const iox2ps_wide_t &port, Brings brings, Until until, Call &&make) const {
     if (!shared_->process.is_here()) return after_fork;
-    return many().wait(what, id_of(port), brings, until, [&] { return make(&shared_->domain); });
+    auto one = [&] { return make(&shared_->domain); };
+    if constexpr (is_shared<M>) return shared_->threads.wait(what, id_of(port), brings, until, one);
+    else return WaitsAlone<M>::wait(*shared_, what, until, one);
   }
 
 private:
@@ -491,7 +514,7 @@ public:
     return ended(code, count);
   }
 
-  /** For several threads alone: tries again whenever there may be room, until the send has ended or, where a time is
+  /** For shared domains alone: tries again whenever there may be room, until the send has ended or, where a time is
    * given, that has passed, or until waits are stopped. */
   Result<std::optional<std::size_t>> blocking_retry(Until until = {}) {
     if (!hold_) return Error::NotLive;
@@ -549,6 +572,7 @@ private:
 
   Result<std::optional<std::size_t>> ended(iox2ps_status_t code, std::size_t count) {
     if (code == IOX2PS_BLOCKED) return std::optional<std::size_t>();
+    if (code == detail::not_shared) return Error::ProcessesNotShared;
     hold_ = detail::Hold<M>();
     if (code != IOX2PS_OK) return detail::error_of(code);
     return std::optional<std::size_t>(count);
@@ -596,7 +620,7 @@ public:
     return sent(code, count, blocked);
   }
 
-  /** For several threads alone: waits until no earlier send of its publisher waits, and then until the message has
+  /** For shared domains alone: waits until no earlier send of its publisher waits, and then until the message has
    * reached everybody; or, where a time is given, until that has passed, or until waits are stopped. */
   Result<Sent<P, M>> blocking_send(Until until = {}) {
     if (!hold_) return Error::NotLive;
@@ -640,7 +664,7 @@ private:
   Loan(detail::Hold<M> hold, const iox2ps_loan_t &loan) : hold_(std::move(hold)), loan_(loan) {}
 
   Result<Sent<P, M>> sent(iox2ps_status_t code, std::size_t count, const iox2ps_blocked_t &blocked) {
-    if (code == IOX2PS_PUBLISHER_IS_BLOCKED) return Error::PublisherIsBlocked;
+    if (code == IOX2PS_PUBLISHER_IS_BLOCKED || code == detail::not_shared) return detail::error_of(code);
     this->see_nothing();
     detail::Hold<M> hold = std::move(hold_);
     if (code == IOX2PS_OK) return Sent<P, M>(count);
@@ -776,7 +800,7 @@ public:
     return copied(values, len, at_once(sends));
   }
 
-  /** For several threads alone: lends a message with its default value. Waits while an earlier send of the publisher does,
+  /** For shared domains alone: lends a message with its default value. Waits while an earlier send of the publisher does,
    * while as many loans are out as it may have, or while no slot is free; or, where a time is given, until that has passed, or
    * until waits are stopped. The error then is that of the last try. What is too long is refused at once, and
    * so is a message for which memory is to grow and can't. */
@@ -808,7 +832,7 @@ public:
     return blocking_loan_slice(len, detail::after(timeout));
   }
 
-  /** For several threads alone: sends a copy as soon as there is a loan for it, and waits until it has reached everybody;
+  /** For shared domains alone: sends a copy as soon as there is a loan for it, and waits until it has reached everybody;
    * or, where a time is given, until that has passed, or until waits are stopped. */
   template <typename Q = P, std::enable_if_t<!detail::is_slice<Q>, int> = 0>
   Result<Sent<P, M>> blocking_send_copy(const Element &value, Until until = {}) {
@@ -1009,7 +1033,7 @@ public:
     return received(code, got);
   }
 
-  /** For several threads alone: waits for a message; or, where a time is given, until that has passed, or until waits
+  /** For shared domains alone: waits for a message; or, where a time is given, until that has passed, or until waits
    * are stopped. */
   Result<std::optional<Sample<P, M>>> blocking_receive(Until until = {}) {
     if (!hold_) return Error::NotLive;
@@ -1032,7 +1056,7 @@ public:
     return copy.of(hold_.call(copies, [&](iox2ps_domain_t *domain) { return copy.next(domain, port_); }));
   }
 
-  /** For several threads alone: waits as blocking_receive does. */
+  /** For shared domains alone: waits as blocking_receive does. */
   template <typename Q = P, std::enable_if_t<!detail::is_slice<Q>, int> = 0>
   Result<std::optional<Element>> blocking_receive_copy(Until until = {}) {
     if (!hold_) return Error::NotLive;
@@ -1046,7 +1070,7 @@ public:
     return blocking_receive_copy(detail::after(timeout));
   }
 
-  /** For several threads alone: waits for one message after the other, and gives each to read as a const Sample, which reads
+  /** For shared domains alone: waits for one message after the other, and gives each to read as a const Sample, which reads
    * it where it lies and without the lock. Ends where read returns false, or waits are stopped. A message is given back
    * in the call that asks for the next, so that each takes the lock once. */
   template <typename Read> Done blocking_for_each(Read &&read) {
@@ -1059,7 +1083,7 @@ public:
         if (!std::exchange(is_held, false)) return next(domain, got);
         static_cast<void>(iox2ps_sample_release(domain, &last->sample_));
         iox2ps_status_t received = next(domain, got);
-        if (received == IOX2PS_NO_SAMPLE) hold_.many().bring_too(only(detail::Waits::Loan));
+        if (received == IOX2PS_NO_SAMPLE) hold_.bring_too(only(detail::Waits::Loan));
         return received;
       });
       if (last) last->hold_ = detail::Hold<M>(); // it was released
@@ -1368,6 +1392,48 @@ public:
    * time that has passed. True where there is no domain, and in a child of the process that made it, where no call waits. */
   [[nodiscard]] bool waits_are_stopped() const {
     return !hold_.is_here() || hold_.many().is_stopped();
+  }
+
+  /** Of domains that processes share, as all from here to clear_dead_node_listener(), which else return Error::ProcessesNotShared: what
+   * names this process in headers, where the settings name no node. */
+  template <typename N = M> Result<Id> node_id() const { return detail::Nodes<N>::own(*this); }
+  /** A NodeView of each process that has the domain now; also the dead, as long as nobody has given back what they had. */
+  template <typename N = M> Result<std::vector<typename detail::Nodes<N>::Node>> nodes() const { return detail::Nodes<N>::all(*this); }
+  /** PublisherDetails of the open publishers of all processes, by their ids. */
+  template <typename N = M> Result<std::vector<typename detail::Nodes<N>::OfPublisher>> list_publishers() const {
+    return detail::Nodes<N>::publishers(*this);
+  }
+  /** SubscriberDetails of the open subscribers of all processes, by their ids. */
+  template <typename N = M> Result<std::vector<typename detail::Nodes<N>::OfSubscriber>> list_subscribers() const {
+    return detail::Nodes<N>::subscribers(*this);
+  }
+  /** The processes that died since the domain was made, and have had all given back: the last 64, the oldest first. */
+  template <typename N = M> Result<std::vector<typename detail::Nodes<N>::Node>> dead_nodes() const { return detail::Nodes<N>::dead(*this); }
+  /** Looks for processes that died, and gives back what they had. Whoever waits does so each reap_every. */
+  template <typename N = M> Result<typename detail::Nodes<N>::Cleanup> cleanup_dead_nodes() const { return detail::Nodes<N>::clean_up(*this); }
+
+  /** For several threads alone: calls this with the NodeView of each process that dies from now on, in place of what was set before,
+   * when all that it had is given back. It is called as a listener of Subscriber::set_listener() is, with the same errors; once
+   * for each death. Where as many as dead_nodes() tells of wait to be told, the oldest is passed over. */
+  template <typename F, typename N = M> Done set_dead_node_listener(F &&listener) const {
+    return detail::Nodes<N>::listen(*this, std::forward<F>(listener));
+  }
+  /** For several threads alone: calls nothing any longer. A call that has begun may still run. */
+  template <typename N = M> void clear_dead_node_listener() const { detail::Nodes<N>::listen_no_longer(*this); }
+
+  /** For one thread, in a domain that processes share: sleeps until another process has brought any of these, as
+   * WaitFor::Message | WaitFor::DeadNode, since this was last called for it; or, where a time is given, until that has passed. Returns
+   * whether something has come: perhaps for another port, or before the first call of this. So a loop looks at all of its ports, and then
+   * waits. Error::ProcessesNotShared; Error::OpenInvalidArgument where it is for nothing. */
+  template <typename N = M> Result<bool> wait(WaitFor what, Until until = {}) const {
+    static_assert(!detail::is_shared<N>, "threads that share a domain wait by the calls of its ports, or in a WaitSet");
+    if (!hold_) return Error::NotLive;
+    if (!hold_.is_here()) return Error::AfterFork;
+    return detail::WaitsAlone<N>::wait(*hold_.operator->(), what, until);
+  }
+  /** The same, for so long. */
+  template <typename N = M> Result<bool> timed_wait(WaitFor what, std::chrono::nanoseconds timeout) const {
+    return wait<N>(what, detail::after(timeout));
   }
 
   /** For several threads alone: the domain for another language of this process, as iox2_pubsub_shared.h says. What is returned,

@@ -262,8 +262,8 @@ public:
   OtherProcesses &operator=(const OtherProcesses &) = delete;
   virtual ~OtherProcesses() = default;
 
-  /* What calls of all processes have brought since this was asked last. */
-  virtual Brings news() = 0;
+  /* What calls of all processes have brought since this was asked last; and what is due for those that died meanwhile. */
+  virtual Brings news(std::shared_ptr<Due> &deaths) = 0;
   /* A thread is to sleep until other processes bring one of these, or of those said before. It asks for news afterwards. */
   virtual std::uint64_t begin_sleep(Brings brings) = 0;
   /* Without the lock: sleeps until they have done so since then, or ring() was called, or for a while. */
@@ -399,6 +399,17 @@ public:
     list_.end_watch();
   }
 
+  /* Changes what is told of the others, for which this process may have to be woken from now on. */
+  template <typename Change> void change_others(Change &&change) {
+    Wake wake;
+    {
+      std::lock_guard<Lock> lock(lock_);
+      change(*processes_);
+      wake = begin_to_want(0);
+    }
+    wake.wake();
+  }
+
   /* Makes a call, and wakes those whom it may help. */
   template <typename Call> iox2ps_status_t call(Brings brings, Call &&make) {
     Wake wake;
@@ -526,10 +537,12 @@ private:
     Ringer *ringer = nullptr;
     Brings brings = 0;
     std::shared_ptr<Listeners<Lock>> listeners;
+    std::shared_ptr<Due> deaths;
 
     void wake() {
       if (ringer) ringer->ring();
       if (listeners) Due::call(std::move(listeners));
+      if (deaths) Due::call(std::move(deaths));
     }
   };
 
@@ -537,7 +550,7 @@ private:
   Wake brought(Brings brings, iox2ps_status_t code) {
     Wake wake;
     brings = iox2ps_brought_by(brings, code) | std::exchange(too_, 0u);
-    if (processes_) brings |= processes_->news();
+    if (processes_) brings |= processes_->news(wake.deaths);
     wake.brings = brings;
     if ((brings & only(Waits::Message)) != 0) {
       count(messages_);

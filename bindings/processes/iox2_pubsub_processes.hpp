@@ -27,6 +27,7 @@
 #ifndef IOX2_PUBSUB_PROCESSES_HPP
 #define IOX2_PUBSUB_PROCESSES_HPP
 
+#include "iox2_pubsub_nodes.hpp"
 #include "iox2_pubsub_processes.h"
 #include "iox2_pubsub_shared.hpp"
 
@@ -248,6 +249,82 @@ inline Result<std::vector<ServiceInfo>> list_services() {
   return all;
 }
 
+/* ---- waits of one thread */
+
+/** What other processes bring that Domain::wait() is for, by itself or added by |. */
+enum class WaitFor : std::uint32_t {
+  Message = IOX2PS_BRINGS_MESSAGE,   /**< a message, or a publisher that goes */
+  Room = IOX2PS_BRINGS_ROOM,         /**< room in a subscriber's buffer */
+  Loan = IOX2PS_BRINGS_LOAN,         /**< a slot that may be lent again */
+  DeadNode = IOX2PS_BRINGS_DEAD_NODE /**< that a process died, and what it had is given back */
+};
+/** Both. */
+constexpr WaitFor operator|(WaitFor one, WaitFor other) { return static_cast<WaitFor>(static_cast<std::uint32_t>(one) | static_cast<std::uint32_t>(other)); }
+
+namespace detail {
+
+/* Whether a call that waits for this tries again after this code: where another process may help. What the thread's own handles keep from
+ * it nobody else gives it. */
+inline bool others_may_help(Waits what, iox2ps_status_t code) {
+  switch (what) {
+  case Waits::Message: return code == IOX2PS_NO_SAMPLE;
+  case Waits::Room: return code == IOX2PS_BLOCKED;
+  case Waits::Loan: return code == IOX2PS_LOAN_ERROR_OUT_OF_MEMORY;
+  case Waits::Nothing:
+  case Waits::Free: break;
+  }
+  return false;
+}
+
+/* How many nanoseconds are left. */
+inline std::uint64_t left_until(Until until) { return until ? elapsed_of(*until - std::chrono::steady_clock::now()) : UINT64_MAX; }
+
+template <> struct WaitsAlone<OneThread> {
+  /* Makes calls as long as their code says that another process may help, each time when one may have done so. */
+  template <typename Call> static iox2ps_status_t wait(Shared<OneThread> &shared, Waits what, Until until, Call &&make) {
+    iox2ps_status_t waited = IOX2PS_OK;
+    while (waited == IOX2PS_OK || waited == IOX2PS_PROCESSES_TIMED_OUT) {
+      std::uint64_t seen = 0;
+      iox2ps_status_t code = shared.threads.call(0, [&] {
+        iox2ps_status_t asked = iox2ps_domain_brought(&shared.domain, helped_by(what), &seen);
+        return asked == IOX2PS_OK ? make() : asked;
+      });
+      std::uint64_t left = left_until(until);
+      if (!others_may_help(what, code) || left == 0) return code;
+      waited = iox2ps_domain_wait(&shared.domain, helped_by(what), seen, left);
+    }
+    return waited;
+  }
+
+  static Result<bool> wait(Shared<OneThread> &shared, WaitFor what, Until until) {
+    const auto brings = static_cast<std::uint32_t>(what);
+    while (true) {
+      bool has_come = false;
+      std::uint64_t seen = 0;
+      iox2ps_status_t code = shared.threads.call(0, [&] { return look(shared, brings, seen, has_come); });
+      std::uint64_t left = left_until(until);
+      if (code == IOX2PS_OK && !has_come && left > 0) code = iox2ps_domain_wait(&shared.domain, brings, seen, left);
+      if (code != IOX2PS_OK && code != IOX2PS_PROCESSES_TIMED_OUT) return error_of(code);
+      if (has_come || left == 0) return has_come;
+    }
+  }
+
+private:
+  /* What all have brought, and then whether others have brought something since the last time: so nothing comes unseen between the two. */
+  static iox2ps_status_t look(Shared<OneThread> &shared, std::uint32_t brings, std::uint64_t &seen, bool &has_come) {
+    iox2ps_status_t code = iox2ps_domain_brought(&shared.domain, brings, &seen);
+    for (std::size_t which = 0; which < shared.seen.size() && code == IOX2PS_OK; which++) {
+      std::uint64_t &before = shared.seen[which];
+      std::uint64_t count = before;
+      if ((brings >> which & 1) != 0) code = iox2ps_domain_brought_by_others(&shared.domain, 1u << which, &count);
+      has_come |= std::exchange(before, count) != count;
+    }
+    return code;
+  }
+};
+
+} // namespace detail
+
 /* ---- domains */
 
 namespace detail {
@@ -264,7 +341,8 @@ static_assert(static_cast<std::uint32_t>(Error::OpenDoesNotExist) == IOX2PS_OPEN
                   && static_cast<std::uint32_t>(Error::OpenInternalFailure) == IOX2PS_OPEN_ERROR_INTERNAL_FAILURE
                   && static_cast<std::uint32_t>(Error::CreateAlreadyExists) == IOX2PS_CREATE_ERROR_ALREADY_EXISTS
                   && static_cast<std::uint32_t>(Error::ProcessesDamaged) == IOX2PS_PROCESSES_DAMAGED
-                  && static_cast<std::uint32_t>(Error::ProcessesDiverged) == IOX2PS_PROCESSES_DIVERGED,
+                  && static_cast<std::uint32_t>(Error::ProcessesDiverged) == IOX2PS_PROCESSES_DIVERGED
+                  && static_cast<std::uint32_t>(Error::ProcessesNotShared) == IOX2PS_PROCESSES_NOT_SHARED,
               "the errors of iox2_pubsub_results.hpp are those of iox2_pubsub_processes.h");
 
 /* The name as C has it. One that C would take for a shorter one is none. */
@@ -280,24 +358,38 @@ private:
 };
 
 /* The other processes of a domain that threads of this one share. */
-template <typename M> class NamedProcesses final : public OtherProcesses {
+template <typename Lock> class NamedProcesses<ManyThreadsWith<Lock>> final : public OtherProcesses {
 public:
-  NamedProcesses(Shared<M> &shared, unsigned looks) : shared_(shared), looks_(looks) {}
+  using M = ManyThreadsWith<Lock>;
+  using Deaths = DeadNodes<Lock>;
 
-  Brings news() override {
+  /* Nobody is told of what came before. */
+  NamedProcesses(Shared<M> &shared, unsigned looks) : shared_(shared), looks_(looks) {
+    static_cast<void>(!iox2ps_domain_brought_each(domain(), counts_.data()));
+  }
+
+  Brings news(std::shared_ptr<Due> &deaths) override {
     Counts counts;
     if (iox2ps_domain_brought_each(domain(), counts.data()) != IOX2PS_OK) return everything; /* each call says why */
     Brings brings = 0;
     for (unsigned which = 0; which < counts.size(); which++) brings |= counts[which] != counts_[which] ? 1u << which : 0u;
+    if ((brings & IOX2PS_BRINGS_DEAD_NODE) != 0 && deaths_) {
+      note_deaths(counts_.back(), counts.back());
+      deaths = deaths_;
+    }
     counts_ = counts;
     return brings & everything;
   }
 
   std::uint64_t begin_sleep(Brings brings) override {
     std::uint64_t begun = 0;
+    if (deaths_) brings |= IOX2PS_BRINGS_DEAD_NODE;
     static_cast<void>(!iox2ps_domain_sleep_begin(domain(), brings, &begun)); /* where it is refused, there are news */
     return begun;
   }
+
+  /* This is told of processes that die from now on, or nobody is. Gives back what was told before. */
+  void tell_of_deaths(std::shared_ptr<Deaths> &listener) { std::swap(deaths_, listener); }
 
   void sleep(std::uint64_t begun, Until until) override {
     std::uint64_t most = until ? elapsed_of(*until - std::chrono::steady_clock::now()) : UINT64_MAX;
@@ -333,6 +425,13 @@ private:
   using Counts = std::array<std::uint64_t, 6>;
 
   iox2ps_domain_t *domain() { return &shared_.domain; }
+
+  /* Those from this number on up to that one. */
+  void note_deaths(std::uint64_t from, std::uint64_t to) {
+    iox2ps_node_t node;
+    for (std::uint64_t index = (std::max)(from, to - (std::min<std::uint64_t>)(to, deaths_kept)); index < to; index++)
+      if (iox2ps_domain_dead_node(domain(), index, &node) == IOX2PS_OK) deaths_->note(node_of(node));
+  }
 
   /* Those for which this thread sleeps, where it is theirs. */
   static NamedProcesses *&own() {
@@ -372,6 +471,7 @@ private:
   Shared<M> &shared_;
   const unsigned looks_;
   Counts counts_ = {};
+  std::shared_ptr<Deaths> deaths_;
   std::mutex starts_;
   bool is_watched_ = false;
   pthread_t thread_ = {};

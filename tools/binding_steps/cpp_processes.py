@@ -10,6 +10,7 @@ from .steps import Failed, said
 COMPILERS = tuple(cpp for _, cpp in PAIRS)
 TESTS = BINDINGS / "processes/tests"
 FOR_SO_LONG = ("timeout", "-s", "KILL", "3600")
+BETWEEN = ("processes", "one_thread", "nodes")
 # Calls that make a domain, in a test that knows nothing of several processes.
 CREATES = re.compile(r"((?:iox2ps::)?(?:Shared)?Domain(?:<[^()=;]*?>)?)::create\(")
 # The tests of which a merge runs the first, and what is otherwise over shared domains: what stands there, and what stands in its place.
@@ -33,6 +34,7 @@ TYPES = """#include "iox2_pubsub_processes.hpp"
 #include <string>
 {}
 """
+CALLS = "\nvoid call() {{ (void)iox2ps::Domain<int>::create(iox2ps::Config<int>(7))->{}; }}"
 OPENS = "\nvoid open() {{ (void)iox2ps::Domain<{0}>::open_or_create(\"a\", iox2ps::Config<{0}>(7)); }}"
 OF_FIELDS = "template <> struct iox2ps::ZeroCopySend<T> : iox2ps::Fields<{}> {{}};"
 PROMISED = "template <> struct iox2ps::ZeroCopySend<T> : std::true_type {};"
@@ -48,9 +50,11 @@ REFUSED = (
     ("struct T { int a; };" + OPENS.format("T"), "plain bytes without pointers"),
     (OPENS.format("std::reference_wrapper<int>"), "plain bytes without pointers"),
     (OPENS.format("std::string"), "is ever destroyed"),
-    ("void wait() { (void)iox2ps::Domain<int>::open(\"a\", iox2ps::Config<int>(7))->subscriber()->blocking_receive(); }", "SharedDomain"),
+    (CALLS.format("subscriber()->set_listener([] {})"), "SharedDomain"),
+    (CALLS.format("set_dead_node_listener([](const iox2ps::NodeView &) {})"), "SharedDomain"),
+    ("void wait(const iox2ps::SharedDomain<int> &domain) { (void)domain.wait(iox2ps::WaitFor::Message); }", "threads that share a domain wait"),
 )
-WITHOUT_HEADER = '#include "iox2_pubsub.hpp"' + OPENS.format("int")
+WITHOUT_HEADER = (OPENS.format("int"), *(CALLS.format(call) for call in ("nodes()", "dead_nodes()", "cleanup_dead_nodes()", "timed_wait({}, {})", "subscriber()->blocking_receive()")))
 
 
 def compiled(library, compiler, source, program, *flags):
@@ -60,9 +64,9 @@ def compiled(library, compiler, source, program, *flags):
     return program
 
 
-def run_between(library, compiler, *flags):
-    """The test between processes."""
-    return said(*FOR_SO_LONG, compiled(library, compiler, TESTS / "processes.cpp", library.work / "processes_cpp", *flags))
+def run_between(library, compiler, name, *flags):
+    """A test between processes."""
+    return said(*FOR_SO_LONG, compiled(library, compiler, TESTS / f"{name}.cpp", library.work / f"{name}_cpp", *flags))
 
 
 def over_shared(library, compiler, name, *flags):
@@ -87,19 +91,21 @@ def run_over_shared(library, compiler, name, *flags):
 
 def refuses(library, compiler):
     """Types that processes can't share, and calls without the header."""
-    for text, words in (*((TYPES.format(code), words) for code, words in REFUSED), (WITHOUT_HEADER, "iox2_pubsub_processes.hpp")):
+    without = (('#include "iox2_pubsub.hpp"' + code, 'include "iox2_pubsub_processes.hpp"') for code in WITHOUT_HEADER)
+    for text, words in (*((TYPES.format(code), words) for code, words in REFUSED), *without):
         ran = subprocess.run([compiler, "-x", "c++", "-std=c++17", "-fsyntax-only", *map(str, library.includes()), "-"],
                              input=text, capture_output=True, text=True)
         if (ran.returncode == 0) != (words is None) or not re.search(words or "", ran.stderr):
             raise Failed(f"{compiler} of\n{text}\nsays {ran.stderr[-3000:]}")
-    return f"{len(REFUSED)} programs"
+    return f"{len(REFUSED) + len(WITHOUT_HEADER)} programs"
 
 
 def run_cpp(steps, library, whole):
     """What a merge runs, or all."""
     compilers = [compiler for compiler in COMPILERS if is_here(compiler)]
     for compiler in compilers if whole else compilers[:1]:
-        steps.run(f"tests/processes.cpp, {compiler}", run_between, library, compiler, "-std=c++17", "-O1")
+        for name in BETWEEN:
+            steps.run(f"tests/{name}.cpp, {compiler}", run_between, library, compiler, name, "-std=c++17", "-O1")
         steps.run(f"types that are refused, {compiler}", refuses, library, compiler)
         for name in WHOLE if whole else SHORT:
             steps.run(f"bindings/cpp/{name}.cpp, {compiler}", run_over_shared, library, compiler, name, "-std=c++17", "-O1" if whole else "-O0")
@@ -110,7 +116,8 @@ def run_cpp(steps, library, whole):
 
 def run_checked(steps, library, compiler):
     """Under the sanitizers, as C++20, and under valgrind."""
-    steps.run(f"tests/processes.cpp, {compiler} c++20, sanitizers", run_between, library, compiler, "-std=c++20", "-O1", *SANITIZERS)
+    for name in BETWEEN:
+        steps.run(f"tests/{name}.cpp, {compiler} c++20, sanitizers", run_between, library, compiler, name, "-std=c++20", "-O1", *SANITIZERS)
     for name in WHOLE:
         if name != "allocations":  # which counts those of the program
             steps.run(f"bindings/cpp/{name}.cpp, {compiler} c++20, sanitizers", run_over_shared, library, compiler, name, "-std=c++20", "-O1", *SANITIZERS)

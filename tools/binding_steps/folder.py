@@ -224,7 +224,7 @@ def fill(to, archives, target=X86_64, top=TOP):
     for archive in archives:
         shutil.copyfile(archive, to / "lib" / archive.name)
     if process_library.LIBRARY in names:
-        for header in (process_library.HEADER, process_library.CPP_HEADER):
+        for header in (process_library.HEADER, *process_library.CPP_HEADERS):
             shutil.copyfile(top / "bindings/processes" / header, to / "include" / header)
     fill_cmake(to, top, target, PLAIN.archive in names, process_library.LIBRARY in names)
     shutil.copytree(top / "bindings/cross", to / "cross", ignore=shutil.ignore_patterns("target"))

@@ -4,7 +4,7 @@ import re
 import subprocess
 from pathlib import Path
 
-from . import build_sums, determinism, layouts
+from . import build_sums, determinism, layouts, process_library
 from .places import BINDINGS, CRATES, HEADER, OUT, is_here, version
 from .programs import ARCHIVE, PAIRS, WARNINGS
 from .steps import Failed, said
@@ -13,7 +13,7 @@ from .targets import X86_64
 INCLUDE = OUT / "include"
 ICEORYX = Path("/usr/include/iceoryx/v2.0.3")
 CPP_HEADERS = ("iox2_pubsub.hpp", "iox2_pubsub_results.hpp", "iox2_pubsub_settings.hpp", "iox2_pubsub_events.hpp", "iox2_pubsub_shared.hpp",
-               "iox2_pubsub_wait_set.hpp", "iox2_pubsub_memory.hpp", "iox2_pubsub_processes.hpp")
+               "iox2_pubsub_wait_set.hpp", "iox2_pubsub_memory.hpp", *process_library.CPP_HEADERS)
 ALONE = (
     ("iox2_pubsub.h", "c", ("c99", "c11", "c17", "gnu2x")),
     ("iox2_pubsub.h", "c++", ("c++11", "c++14", "c++17", "c++20")),

@@ -1,96 +1,21 @@
 // SPDX-License-Identifier: Apache-2.0 OR MIT
 /* Processes that share domains by the classes of C++: threads that wait, listeners, descriptors and wait sets hear of what others bring,
- * and of their deaths. The other processes are this program, started anew as ROLE NAME. */
-#include "children.h"
-#include "iox2_pubsub_processes.hpp"
+ * and of their deaths. */
 #include "iox2_pubsub_wait_set.hpp"
+#include "roles.hpp"
 #include <atomic>
 #include <condition_variable>
-#include <cstdio>
-#include <cstdlib>
 #include <memory>
 #include <optional>
 #include <poll.h>
-#include <string>
-#include <sys/wait.h>
-#include <thread>
 #include <vector>
 
-using namespace std::chrono_literals;
-using iox2ps::Error;
-
-struct Reading {
-  std::uint64_t number;
-  double celsius[2];
-};
-template <> struct iox2ps::ZeroCopySend<Reading> : iox2ps::Fields<&Reading::number, &Reading::celsius> {};
-
-using Config = iox2ps::Config<Reading>;
 using Domain = iox2ps::SharedDomain<Reading>;
-using Publisher = iox2ps::Publisher<Reading, iox2ps::ManyThreads>;
 using Subscriber = iox2ps::Subscriber<Reading, iox2ps::ManyThreads>;
 
 namespace {
 
-#define CHECK(it) check((it), #it, __LINE__)
-void check(bool is_so, const char *what, int line) {
-  if (is_so) return;
-  std::fprintf(stderr, "processes.cpp:%d: %s; %s\n", line, what, iox2ps::why_refused());
-  std::abort();
-}
-
-constexpr std::uint64_t messages = 300;
-/* None looks by itself, so that only a wake-up ends a sleep. */
-const auto by_wakes = iox2ps::ProcessesOptions().reap_every(1h).spins(10);
-const auto by_looks = iox2ps::ProcessesOptions().reap_every(20ms).spins(10);
-
-Config settings() { return Config(7).enable_safe_overflow(false).subscriber_max_buffer_size(2); }
-Domain opened(const std::string &name, const iox2ps::ProcessesOptions &options = by_wakes) {
-  return Domain::open_or_create(name, settings(), options).expect("a domain");
-}
-
-/* A name of this test that no other run has: with parts, and of UTF-8. */
-std::string name_of(const char *what) { return "test_cpp." + std::to_string(getpid()) + "/" + what + "/\u00e4"; }
-
-/* This program in another role. */
-pid_t started(const char *role, const std::string &name) {
-  pid_t child = fork_child();
-  CHECK(child >= 0);
-  if (child > 0) return child;
-  execl("/proc/self/exe", "processes", role, name.c_str(), static_cast<char *>(nullptr));
-  _exit(127);
-}
-int status_of(pid_t child) {
-  int status = 0;
-  CHECK(waitpid(child, &status, 0) == child);
-  return status;
-}
-void kill_it(pid_t child) {
-  CHECK(kill(child, SIGKILL) == 0);
-  CHECK(WIFSIGNALED(status_of(child)));
-}
-
-template <typename IsSo> void until(IsSo is_so) {
-  while (!is_so()) std::this_thread::sleep_for(1ms);
-}
-/* Until another process has a subscriber. */
-void connect(const Domain &domain, Publisher &publisher) {
-  until([&] { return publisher.update_connections().has_value() && domain.connection_count() == 1; });
-}
-
-void send_all(Publisher &publisher) {
-  for (std::uint64_t number = 1; number <= messages; number++) {
-    if (number % 100 == 0) std::this_thread::sleep_for(20ms); /* so that those who wait sleep */
-    CHECK(*publisher.blocking_send_copy({number, {0.5, 1.5}}).expect("a send").delivered() > 0);
-  }
-}
-void receive_all(Subscriber &subscriber, std::uint64_t first, std::uint64_t last) {
-  for (std::uint64_t number = first; number <= last; number++) {
-    if (number % 70 == 0) std::this_thread::sleep_for(20ms); /* so that the publisher sleeps */
-    auto sample = std::move(*subscriber.blocking_receive().expect("a receive"));
-    CHECK(sample->number == number && sample->celsius[1] == 1.5);
-  }
-}
+Domain opened(const std::string &name, const iox2ps::ProcessesOptions &options = by_wakes) { return open_by<Domain>(name, options); }
 
 /* ---- other roles */
 
@@ -107,7 +32,7 @@ void receives(const std::string &name) {
 void sends_one(const std::string &name) {
   auto domain = opened(name);
   auto publisher = domain.publisher().expect("a publisher");
-  CHECK(publisher.send_copy({1, {}}).expect("a send").delivered() == 1u);
+  CHECK(publisher.send_copy({1, {}}).has_value());
   pause();
 }
 void has_a_publisher(const std::string &name) {
@@ -355,19 +280,10 @@ void types_have_names() {
   static_assert(!iox2ps::ZeroCopySend<int *>::value && !iox2ps::ZeroCopySend<std::string>::value && !iox2ps::ZeroCopySend<std::array<char *, 2>>::value);
 }
 
-constexpr struct Role {
-  const char *name;
-  void (*run)(const std::string &);
-} roles[] = {{"sends", sends}, {"receives", receives}, {"sends_one", sends_one}, {"has_a_publisher", has_a_publisher}, {"has_a_subscriber", has_a_subscriber}, {"throws", throws}};
-
 } // namespace
 
 int main(int count, char **words) {
-  for (const Role &role : roles) {
-    if (count < 3 || std::string(words[1]) != role.name) continue;
-    role.run(words[2]);
-    return 0;
-  }
+  if (has_played(count, words, {{"sends", sends}, {"receives", receives}, {"sends_one", sends_one}, {"has_a_publisher", has_a_publisher}, {"has_a_subscriber", has_a_subscriber}, {"throws", throws}})) return 0;
   types_have_names();
   names_are_refused_and_taken();
   messages_come_and_make_room();
