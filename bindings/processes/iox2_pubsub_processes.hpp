@@ -18,7 +18,8 @@
  *
  * Each process has the same settings, as Config says them, and the same build of the library. Calls that wait, listeners, descriptors
  * and wait sets are those of SharedDomain, and hear of what other processes bring. One thread that waits sleeps for all of its process;
- * where there are listeners or wait sets, a thread of the library's does. What is otherwise than in a domain of one process:
+ * where there are listeners or wait sets, a thread of the library's does. Domain has the calls that wait too, for its only thread.
+ * What is otherwise than in a domain of one process:
  *
  *  - a subscriber gets the history of publishers of other processes at their next send or update;
  *  - each call may also return Error::ProcessesDamaged or Error::ProcessesDiverged. Then the domain can only be given back;
@@ -253,10 +254,11 @@ inline Result<std::vector<ServiceInfo>> list_services() {
 
 /** What other processes bring that Domain::wait() is for, by itself or added by |. */
 enum class WaitFor : std::uint32_t {
-  Message = IOX2PS_BRINGS_MESSAGE,   /**< a message, or a publisher that goes */
-  Room = IOX2PS_BRINGS_ROOM,         /**< room in a subscriber's buffer */
-  Loan = IOX2PS_BRINGS_LOAN,         /**< a slot that may be lent again */
-  DeadNode = IOX2PS_BRINGS_DEAD_NODE /**< that a process died, and what it had is given back */
+  Message = IOX2PS_BRINGS_MESSAGE,    /**< a message, or a publisher that goes */
+  Room = IOX2PS_BRINGS_ROOM,          /**< room in a subscriber's buffer */
+  Loan = IOX2PS_BRINGS_LOAN,          /**< a slot that may be lent again */
+  DeadNode = IOX2PS_BRINGS_DEAD_NODE, /**< that a process died, and what it had is given back */
+  Event = IOX2PS_BRINGS_EVENT         /**< a notification */
 };
 /** Both. */
 constexpr WaitFor operator|(WaitFor one, WaitFor other) { return static_cast<WaitFor>(static_cast<std::uint32_t>(one) | static_cast<std::uint32_t>(other)); }
@@ -374,7 +376,7 @@ public:
     Brings brings = 0;
     for (unsigned which = 0; which < counts.size(); which++) brings |= counts[which] != counts_[which] ? 1u << which : 0u;
     if ((brings & IOX2PS_BRINGS_DEAD_NODE) != 0 && deaths_) {
-      note_deaths(counts_.back(), counts.back());
+      note_deaths(counts_[dead_nodes], counts[dead_nodes]);
       deaths = deaths_;
     }
     counts_ = counts;
@@ -423,6 +425,8 @@ public:
 
 private:
   using Counts = std::array<std::uint64_t, 6>;
+  static constexpr std::size_t dead_nodes = 4;
+  static_assert(1u << dead_nodes == IOX2PS_BRINGS_DEAD_NODE);
 
   iox2ps_domain_t *domain() { return &shared_.domain; }
 

@@ -89,7 +89,9 @@ void who_leaves() {
   std::string name = name_of("leaves");
   auto domain = open_by<Alone>(name);
   CHECK(status_of(started("leaves", name)) == 0);
-  CHECK(domain.cleanup_dead_nodes()->cleanups == 0 && domain.dead_nodes()->empty() && domain.nodes()->size() == 1);
+  CHECK(domain.cleanup_dead_nodes()->cleanups == 0 && domain.dead_nodes()->empty());
+  auto nodes = domain.nodes().expect("the processes");
+  CHECK(nodes.size() == 1 && nodes[0].id == *domain.node_id());
 }
 
 /* There may be more ports than a list has room for at first. */
@@ -121,7 +123,7 @@ private:
   std::vector<pid_t> pids_;
 };
 
-/* A process of which no thread waits is told of each death once, and of none before or after. */
+/* A process of which no thread waits is told of each death once, and of none before. */
 void a_listener_is_told() {
   std::string name = name_of("told");
   auto domain = open_by<Shared>(name, by_looks);
@@ -136,15 +138,22 @@ void a_listener_is_told() {
   until([&] { return told->pids() == all; });
   all.push_back(dead_of("sends_and_dies", name));
   until([&] { return told->pids() == all; });
-  auto instead = std::make_shared<Told>();
-  CHECK(domain.set_dead_node_listener([instead](const NodeView &node) { instead->add(node); }).has_value());
-  pid_t last = dead_of("dies", name);
-  until([&] { return instead->pids() == std::vector<pid_t>{last}; });
+}
+
+/* Another is told in place of the first, and then nobody. What they had is dropped. */
+void a_listener_is_set_anew_and_cleared() {
+  std::string name = name_of("anew");
+  auto domain = open_by<Shared>(name, by_looks);
+  auto first = std::make_shared<Told>(), second = std::make_shared<Told>();
+  CHECK(domain.set_dead_node_listener([first](const NodeView &node) { first->add(node); }).has_value());
+  CHECK(domain.set_dead_node_listener([second](const NodeView &node) { second->add(node); }).has_value());
+  pid_t dead = dead_of("dies", name);
+  until([&] { return second->pids() == std::vector<pid_t>{dead}; });
   domain.clear_dead_node_listener();
   dead_of("dies", name);
-  until([&] { return domain.cleanup_dead_nodes().has_value() && domain.dead_nodes()->size() == 5; });
-  CHECK(told->pids() == all && instead->pids().size() == 1);
-  until([&] { return told.use_count() == 1 && instead.use_count() == 1; });
+  until([&] { return domain.cleanup_dead_nodes().has_value() && domain.dead_nodes()->size() == 2; });
+  CHECK(first->pids().empty() && second->pids().size() == 1);
+  until([&] { return first.use_count() == 1 && second.use_count() == 1; });
 }
 
 /* A death that another process has found, and given back what was had, wakes a process that doesn't look. */
@@ -239,6 +248,7 @@ int main(int count, char **words) {
   who_leaves();
   many_ports();
   a_listener_is_told();
+  a_listener_is_set_anew_and_cleared();
   others_find_the_dead();
   many_deaths();
   a_listener_drops_all();

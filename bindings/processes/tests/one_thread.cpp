@@ -183,7 +183,7 @@ void waits_are_told_apart() {
   CHECK(status_of(child) == 0);
   while (*domain.timed_wait(WaitFor::Room, 0ms)) {}
   CHECK(*domain.timed_wait(WaitFor::Loan, 0ms) && !*domain.timed_wait(WaitFor::Loan, 0ms) && !*domain.timed_wait(WaitFor::DeadNode, 0ms));
-  CHECK(domain.wait(static_cast<WaitFor>(0)).error() == Error::OpenInvalidArgument && domain.wait(static_cast<WaitFor>(32)).error() == Error::OpenInvalidArgument);
+  CHECK(domain.wait(static_cast<WaitFor>(0)).error() == Error::OpenInvalidArgument && domain.wait(static_cast<WaitFor>(64)).error() == Error::OpenInvalidArgument);
 }
 
 /* Who waits for room, or for a death, is told when the other process dies. */
