@@ -103,7 +103,18 @@ static uint64_t time_of_day(void) {
   return (uint64_t)now.tv_sec * 1000000000u + (uint64_t)now.tv_nsec;
 }
 
+/* A file that nobody has. Another user's could be opened by that one, whatever its permissions are; and these are as they are asked for,
+ * whatever the process' mask of new files is. */
+static shared_status_t own(shared_files_t *it, const shared_settings_t *is, int fd) {
+  struct stat file;
+  if (!file_status(fd, &file)) return refuse_by_system(it, CALLS);
+  if (file.st_uid != geteuid()) return refuse(it, SHARED_NO_PERMISSION, "%s belongs to another user, and nobody has it", it->path[CALLS]);
+  return fchmod(fd, is->permissions) == 0 ? SHARED_OK : refuse_by_system(it, CALLS);
+}
+
 static shared_status_t create(shared_files_t *it, const shared_settings_t *is, int fd, rooms_t *rooms) {
+  shared_status_t status = own(it, is, fd);
+  if (status != SHARED_OK) return status;
   it->is_new = true;
   *rooms = (rooms_t){is->places, is->length, is->room};
   it->size = file_size(*rooms);
@@ -144,7 +155,7 @@ static shared_status_t look(shared_files_t *it, int fd, size_t size, rooms_t *ro
   if (is_ours) *rooms = (rooms_t){header->places, header->length, header->room};
   bool is_whole = is_ready && are_good(rooms->places, rooms->length) && rooms->room <= size && file_size(*rooms) == size;
   if (header != NULL) munmap(header, PAGE);
-  if (!is_ours && !is_begun) return refuse(it, SHARED_FOREIGN, "%s is of another program", it->path[CALLS]);
+  if (!is_ours && !is_begun) return refuse(it, SHARED_FOREIGN, "%s is of another program, or was cut short", it->path[CALLS]);
   if (!is_had) return SHARED_NO_SUCH;
   return is_whole ? SHARED_EXISTS : refuse(it, SHARED_FOREIGN, "%s was cut short or written over", it->path[CALLS]);
 }
@@ -164,7 +175,7 @@ static shared_status_t open_payloads(shared_files_t *it, const shared_settings_t
   shared_status_t status = SHARED_OK;
   struct stat file;
   it->payload_size = it->header->payload_room;
-  if (it->is_new && !fill(fd, it->payload_size)) status = refuse_by_system(it, PAYLOADS);
+  if (it->is_new && (fchmod(fd, is->permissions) != 0 || !fill(fd, it->payload_size))) status = refuse_by_system(it, PAYLOADS);
   else if (!file_status(fd, &file)) status = refuse_by_system(it, PAYLOADS);
   else if ((uint64_t)file.st_size != it->payload_size) status = refuse(it, SHARED_FOREIGN, "%s was cut short", it->path[PAYLOADS]);
   else if ((it->payloads = map(fd, it->payload_size, is->writes_payloads ? PROT_READ | PROT_WRITE : PROT_READ)) == NULL) status = refuse_by_system(it, PAYLOADS);
@@ -203,10 +214,20 @@ static shared_status_t open_locked(shared_files_t *it, const shared_settings_t *
   return it->number != 0 ? SHARED_OK : refuse(it, SHARED_FULL, "%s has %u processes", it->path[CALLS], is.places);
 }
 
-/* The file by its name, locked: not one that was removed while this process waited for the lock. */
+/* The file by its name. One that is there isn't asked to be created: systems refuse that where another user has it. */
+static int open_calls(const char *path, const shared_settings_t *settings, shared_mode_t mode) {
+  int fd;
+  do {
+    fd = open(path, O_RDWR | O_CLOEXEC | O_NOFOLLOW);
+    if (fd < 0 && errno == ENOENT && mode != SHARED_OPEN) fd = open(path, O_RDWR | O_CREAT | O_EXCL | O_CLOEXEC | O_NOFOLLOW, settings->permissions);
+  } while (fd < 0 && errno == EEXIST);
+  return fd;
+}
+
+/* The same, locked: not one that was removed while this process waited for the lock. */
 static shared_status_t open_and_lock(shared_files_t *it, const shared_settings_t *settings, shared_mode_t mode, struct stat *file) {
   while (true) {
-    it->places.lock_fd = open(it->path[CALLS], O_RDWR | O_CLOEXEC | O_NOFOLLOW | (mode == SHARED_OPEN ? 0 : O_CREAT), settings->permissions);
+    it->places.lock_fd = open_calls(it->path[CALLS], settings, mode);
     if (it->places.lock_fd < 0 && errno == ENOENT) return refuse(it, SHARED_NO_SUCH, "there is no %s", it->path[CALLS]);
     if (it->places.lock_fd < 0) return refuse_by_system(it, CALLS);
     if (!places_lock_file(it->places.lock_fd) || !file_status(it->places.lock_fd, file)) return refuse_by_system(it, CALLS);

@@ -99,7 +99,7 @@ static bool attack(uint32_t which, uint64_t seed, part_t *part, int outcomes[OUT
 
 int main(int count, char **words) {
   int rounds = count > 1 && strcmp(words[1], "whole") == 0 ? WHOLE : 1;
-  part_t part = {NULL, NULL, 0};
+  part_t part = {NULL, NULL, 0, false};
   snprintf(name, sizeof name, "test_domain_hostile.%d", (int)getpid());
   iox2ps_config_defaults(&config, 7, WORDS * sizeof(uint64_t), _Alignof(uint64_t));
   config.max_publishers = 4, config.max_subscribers = 4;
@@ -107,6 +107,7 @@ int main(int count, char **words) {
     int outcomes[OUTCOMES] = {0};
     for (int round = 0; round < rounds; round++)
       if (!attack(which, which * 1000 + (uint64_t)round, &part, outcomes)) return 0;
+    CHECK(!part.is_harmless || outcomes[1] == 0);
     printf("nonsense in %s: %d ended well, %d were told an error\n", part.name, outcomes[0], outcomes[1]);
     fflush(stdout);
   }

@@ -92,17 +92,111 @@ static void other_files(void) {
   CHECK(unlink(path[0]) == 0);
 }
 
+/* Has the mailbox, and touches it no more: whoever did would end. */
+static pid_t keep(const char *named) {
+  int ready[2];
+  char byte;
+  CHECK(pipe(ready) == 0);
+  pid_t child = fork_child();
+  if (child == 0) {
+    member_t it;
+    CHECK(join_mailbox(&it, named, SHARED_OPEN_OR_CREATE, true) == SHARED_OK && write(ready[1], "", 1) == 1);
+    while (true) pause();
+  }
+  CHECK(child > 0 && read(ready[0], &byte, 1) == 1 && close(ready[0]) == 0 && close(ready[1]) == 0);
+  return child;
+}
+
+static void end(pid_t child) { CHECK(kill(child, SIGKILL) == 0 && waitpid(child, NULL, 0) == child); }
+
+/* Longer and shorter, whatever is left. When nobody has them any more, all that has a header is made anew. */
 static void cut_files(void) {
-  member_t it;
   shared_settings_t good = settings_of(name, true);
+  member_t it;
   for (int which = 0; which < 2; which++) {
-    CHECK(join_mailbox(&it, name, SHARED_CREATE, true) == SHARED_OK);
     struct stat is;
-    CHECK(stat(path[which], &is) == 0 && truncate(path[which], is.st_size + 4096) == 0);
-    refused(good, SHARED_OPEN, SHARED_FOREIGN, "was cut short");
-    CHECK(truncate(path[which], is.st_size) == 0);
+    pid_t keeper = keep(name);
+    CHECK(stat(path[which], &is) == 0);
+    const off_t sizes[] = {is.st_size + 4096, is.st_size - 1, is.st_size / 2, 4097, 4096, 4095, 1, 0};
+    for (size_t i = 0; i < sizeof sizes / sizeof *sizes; i++) {
+      if (sizes[i] == is.st_size) continue;
+      CHECK(truncate(path[which], sizes[i]) == 0);
+      refused(good, SHARED_OPEN_OR_CREATE, SHARED_FOREIGN, "was cut short");
+      struct stat left;
+      CHECK(stat(path[which], &left) == 0 && left.st_size == sizes[i]);
+    }
+    end(keeper);
+    CHECK(join_mailbox(&it, name, SHARED_OPEN_OR_CREATE, true) == SHARED_OK && it.files.is_new);
     leave_mailbox(&it);
   }
+}
+
+static mode_t mode_of(int which) {
+  struct stat is;
+  CHECK(stat(path[which], &is) == 0);
+  return is.st_mode & 0777;
+}
+
+/* As they are asked for, also of what a creator left that died. */
+static void permissions(void) {
+  static const mode_t all[] = {0600, 0666, 0640, 0660};
+  shared_settings_t settings = settings_of(name, true);
+  mode_t mask = umask(077);
+  for (size_t i = 0; i < sizeof all / sizeof *all; i++) {
+    member_t it;
+    put_file(0, "", 0), put_file(1, "", 0);
+    settings.permissions = all[i];
+    CHECK(join_with(&it, &settings, SHARED_OPEN_OR_CREATE) == SHARED_OK && mode_of(0) == all[i] && mode_of(1) == all[i]);
+    leave_mailbox(&it);
+  }
+  umask(mask);
+}
+
+static void check_ends_well(pid_t child) {
+  int status;
+  CHECK(waitpid(child, &status, 0) == child && status == 0);
+}
+
+/* A process of another user. */
+static pid_t start_as(uid_t user, void (*runs)(void)) {
+  pid_t child = fork_child();
+  CHECK(child >= 0);
+  if (child > 0) return child;
+  CHECK(setresuid(user, user, user) == 0);
+  runs();
+  _exit(0);
+}
+
+static int ready[2];
+static void has_it_for_all(void) {
+  member_t it;
+  shared_settings_t settings = settings_of(name, true);
+  settings.permissions = 0666;
+  CHECK(join_with(&it, &settings, SHARED_OPEN_OR_CREATE) == SHARED_OK && write(ready[1], "", 1) == 1);
+  while (true) pause();
+}
+static void opens_it(void) {
+  member_t it;
+  CHECK(join_mailbox(&it, name, SHARED_OPEN_OR_CREATE, true) == SHARED_OK && !it.files.is_new);
+  leave_mailbox(&it);
+}
+static void may_not_create_it(void) { refused(settings_of(name, true), SHARED_OPEN_OR_CREATE, SHARED_NO_PERMISSION, "belongs to another user"); }
+
+/* Whom the permissions let in opens the mailbox. Where nobody has it, nobody uses another user's file: that one might write over it. */
+static void other_users(void) {
+  enum { ONE = 65534, OTHER = 65533 };
+  char byte;
+  if (getuid() != 0) return;
+  CHECK(pipe(ready) == 0);
+  pid_t keeper = start_as(ONE, has_it_for_all);
+  CHECK(read(ready[0], &byte, 1) == 1);
+  check_ends_well(start_as(OTHER, opens_it));
+  end(keeper);
+  check_ends_well(start_as(OTHER, may_not_create_it));
+  may_not_create_it();
+  CHECK(is_there(0) && is_there(1) && mode_of(0) == 0666);
+  for (int which = 0; which < 2; which++) CHECK(unlink(path[which]) == 0);
+  CHECK(close(ready[0]) == 0 && close(ready[1]) == 0);
 }
 
 /* Another user's file, in a child that isn't root any more. */
@@ -235,6 +329,8 @@ int main(void) {
   other_files();
   cut_files();
   no_permission();
+  permissions();
+  other_users();
   protected_payloads();
   names();
   no_room();

@@ -83,7 +83,7 @@ static void count_ends(pid_t victims[VICTIMS], part_t part, uint64_t *random, in
 
 static bool attack(uint32_t which, int rounds) {
   int outcomes[OUTCOMES] = {0}, ready[2];
-  part_t part = {NULL, NULL, 0};
+  part_t part = {NULL, NULL, 0, false};
   for (int round = 0; round < rounds; round++) {
     uint64_t random = (uint64_t)which * 1000 + (uint64_t)round;
     pid_t victims[VICTIMS];
@@ -103,6 +103,7 @@ static bool attack(uint32_t which, int rounds) {
     unlink(keeper.files.path[0]), unlink(keeper.files.path[1]);
     if (part.name == NULL) return false;
   }
+  CHECK(!part.is_harmless || outcomes[1] == 0);
   printf("nonsense in %s: %d ended well, %d were told an error\n", part.name, outcomes[0], outcomes[1]);
   return true;
 }

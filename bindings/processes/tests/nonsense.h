@@ -6,7 +6,8 @@
 #include "random.h"
 #include "shared_header.h"
 
-typedef struct part_t { const char *name; char *at; size_t size; } part_t;
+/* Of a harmless one nobody is told: no call depends on it. */
+typedef struct part_t { const char *name; char *at; size_t size; bool is_harmless; } part_t;
 
 /* A little of it at a time, and all of it. */
 static void write_nonsense(part_t part, uint64_t *random) {
@@ -19,18 +20,18 @@ static part_t part_of(const shared_files_t *is, uint32_t which) {
   shared_header_t *header = is->header;
   char *order = (char *)is->list.order, *entries = (char *)is->list.entries, *heads = (char *)is->copies.newest, *buffers = (char *)is->copies.buffers, *end = (char *)header + is->size;
   const part_t parts[] = {
-    {"payloads", is->payloads, is->payload_size},
-    {"the settings in the header", (char *)header, offsetof(shared_header_t, who)},
-    {"the places", (char *)&header->who, sizeof header->who},
-    {"those who sleep", (char *)is->sleepers, sizeof *is->sleepers},
-    {"announcements", (char *)is->list.announcements, (size_t)(order - (char *)is->list.announcements)},
-    {"order", order, is->list.length * sizeof(uint64_t)},
-    {"entries", entries, (size_t)(heads - entries)},
-    {"heads of copies", heads, (size_t)(buffers - heads)},
-    {"copies", buffers, (size_t)(end - buffers)},
-    {"all of it", (char *)header, is->size}
+    {"payloads", is->payloads, is->payload_size, true},
+    {"the settings in the header", (char *)header, offsetof(shared_header_t, who), false},
+    {"the places", (char *)&header->who, sizeof header->who, false},
+    {"those who sleep", (char *)is->sleepers, sizeof *is->sleepers, true},
+    {"announcements", (char *)is->list.announcements, (size_t)(order - (char *)is->list.announcements), false},
+    {"order", order, is->list.length * sizeof(uint64_t), false},
+    {"entries", entries, (size_t)(heads - entries), false},
+    {"heads of copies", heads, (size_t)(buffers - heads), false},
+    {"copies", buffers, (size_t)(end - buffers), false},
+    {"all of it", (char *)header, is->size, false}
   };
-  return which < sizeof parts / sizeof *parts ? parts[which] : (part_t){NULL, NULL, 0};
+  return which < sizeof parts / sizeof *parts ? parts[which] : (part_t){NULL, NULL, 0, false};
 }
 
 #endif

@@ -132,13 +132,32 @@ static void name_in_use(void) {
   destroy(&domain);
 }
 
+/* Has the domain, and touches it no more: whoever did would end. */
+static pid_t keep(void) {
+  int ready[2];
+  CHECK(pipe(ready) == 0);
+  pid_t child = fork_child();
+  if (child == 0) {
+    iox2ps_domain_t domain = opened();
+    CHECK(domain.domain_ != NULL && write(ready[1], "", 1) == 1);
+    while (true) pause();
+  }
+  CHECK(child > 0 && read(ready[0], &(char){0}, 1) == 1 && close(ready[0]) == 0 && close(ready[1]) == 0);
+  return child;
+}
+
 static void files_cut_short(void) {
   for (int which = 0; which < 2; which++) {
-    iox2ps_domain_t domain = opened();
     struct stat file;
-    CHECK(stat(path[which], &file) == 0 && truncate(path[which], file.st_size + 4096) == 0);
-    refused("reading", &good, IOX2PS_OPEN_ERROR_SERVICE_IN_CORRUPTED_STATE, "was cut short");
-    CHECK(truncate(path[which], file.st_size) == 0);
+    pid_t keeper = keep();
+    CHECK(stat(path[which], &file) == 0);
+    const off_t sizes[] = {file.st_size + PAGE, file.st_size - 1, PAGE - 1, 0};
+    for (size_t i = 0; i < sizeof sizes / sizeof *sizes; i++) {
+      CHECK(truncate(path[which], sizes[i]) == 0);
+      refused("reading", &good, IOX2PS_OPEN_ERROR_SERVICE_IN_CORRUPTED_STATE, "was cut short");
+    }
+    CHECK(kill(keeper, SIGKILL) == 0 && waitpid(keeper, NULL, 0) == keeper);
+    iox2ps_domain_t domain = opened(); /* made anew */
     destroy(&domain);
   }
 }
