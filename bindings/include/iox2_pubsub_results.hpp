@@ -96,7 +96,7 @@ enum class Error : std::uint32_t {
   OpenIncompatibleTypes = 201u,           /**< those who have it have messages of another type, size or alignment */
   OpenIncompatibleSettings = 202u,        /**< they have other settings */
   OpenVersionMismatch = 203u,             /**< they have another version or build of the library */
-  OpenInsufficientPermissions = 204u,     /**< the files belong to somebody else */
+  OpenInsufficientPermissions = 204u,     /**< another user has the files, or left them */
   OpenServiceInCorruptedState = 205u,     /**< a file with this name is another program's, or was written over or cut short */
   OpenExceedsMaxNumberOfNodes = 206u,     /**< as many processes as there may be have it */
   OpenAddressInUse = 207u,                /**< this process has something at the address where the domain lies, as the domain itself */

@@ -2,14 +2,12 @@
 /** @file
  * Domains that several processes share, by a name: messages go from one process to another without being copied.
  *
- * THIS IS BEING BUILT. It may change in any way, and what is missing is said below.
- *
  *     gcc -I include examples/processes/publisher.c -L lib -liox2_pubsub_processes
  *
  * A domain is opened here, and then used by the calls of iox2_pubsub.h. This library has these, too, and so is linked in the place of
  * libiox2_pubsub.a: on a domain of one process each call is what it is there. A process has its handles for itself: ports, loans and
  * samples are used by the process that made them, and are given back by others when it dies, wherever that happens. No call waits for
- * another process.
+ * another process, but one that opens a domain or destroys it: that waits while another does so, also if it is stopped meanwhile.
  *
  * What a domain of several processes has otherwise than one of a single process:
  *  - the bytes of messages may be read until the sample is released, and lie at another address in each process. A process may
@@ -26,7 +24,8 @@
  *  - a child of a fork has no part in the domain: its calls return IOX2PS_PROCESSES_FORKED. It may destroy it. Until then it may read
  *    what its parent had received, and what it writes there reaches nobody.
  *
- * Not there yet: AArch64. C++ has iox2_pubsub_processes.hpp, Rust the feature `processes` of its crate, and Python Domain.open_or_create().
+ * On AArch64 it was tested under an emulator, and on no board. C++ has iox2_pubsub_processes.hpp, Rust the feature `processes` of its crate,
+ * and Python Domain.open_or_create().
  *
  * Trusted, and not proved: the C of this library, and that no process writes over the files on purpose: whoever may open them may. */
 #ifndef IOX2_PUBSUB_PROCESSES_H
@@ -44,7 +43,7 @@ typedef enum iox2ps_processes_status_e {
   IOX2PS_OPEN_ERROR_INCOMPATIBLE_TYPES = 201,        /**< those who have it have messages of another type, size or alignment */
   IOX2PS_OPEN_ERROR_INCOMPATIBLE_SETTINGS = 202,     /**< they have other settings */
   IOX2PS_OPEN_ERROR_VERSION_MISMATCH = 203,          /**< they have another version or build of the library */
-  IOX2PS_OPEN_ERROR_INSUFFICIENT_PERMISSIONS = 204,  /**< the files belong to somebody else */
+  IOX2PS_OPEN_ERROR_INSUFFICIENT_PERMISSIONS = 204,  /**< another user has the files, or left them */
   IOX2PS_OPEN_ERROR_SERVICE_IN_CORRUPTED_STATE = 205, /**< a file with this name is another program's, or was written over or cut short */
   IOX2PS_OPEN_ERROR_EXCEEDS_MAX_NUMBER_OF_NODES = 206, /**< as many processes as there may be have it */
   IOX2PS_OPEN_ERROR_ADDRESS_IN_USE = 207,            /**< this process has something at the address where the domain lies, as the domain itself */
@@ -68,7 +67,7 @@ typedef struct iox2ps_processes_options_t {
   size_t book_room;       /**< bytes for the book-keeping of ports; by default what the settings need. The file has 32 copies of it for 16
                                processes: 2.8 MB by default settings, beside the payloads */
   size_t payload_room;    /**< bytes for payloads; by default those of max_publishers publishers and one more, which don't grow */
-  uint32_t permissions;   /**< of the files; 0600 by default */
+  uint32_t permissions;   /**< of the files, whatever the process' mask of new files is; 0600 by default */
   uint32_t reap_every_ms; /**< how often a process that waits or polls looks for dead ones; 200 by default */
   uint32_t spins;         /**< how often a wait looks before it sleeps; 2000 by default */
   uint32_t reserved_;     /**< 0 */
