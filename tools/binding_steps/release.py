@@ -20,7 +20,9 @@ from .targets import PLAIN, TARGETS, X86_64, is_for
 DIST = TOP / "dist"
 SUMS, PROOFS = "SHA256SUMS", "PROOFS"
 PARTS = ("src", "specs", "proofs", "must-fail")
-PAGES = ("README.md", "THREADS.md", "DDS.md", "AARCH64.md", "TESTED.md")
+PAGES = ("README.md", "THREADS.md", "PROCESSES.md", "processes/LIST.md", "DDS.md", "AARCH64.md", "TESTED.md", "iceoryx2.toml")
+# Where a page leads to in its folder or the one above.
+LINK = re.compile(r"\]\((?!https?:)([^)#\s]+)[^)]*\)")
 
 HOW = """\
 # What this release was proved from, and how to check it
@@ -102,6 +104,15 @@ def page(text):
     return re.sub(r"\[([^\]]+)\]\((?:\.\./|(?=docs/))([^)#]+)[^)]*\)", named, text)
 
 
+def check_links(folder):
+    """What the pages of a release link to is in it."""
+    pages = sorted(folder.rglob("*.md"))
+    lost = [f"{file.relative_to(folder)} links to {link}" for file in pages for link in LINK.findall(file.read_text()) if not (file.parent / link).exists()]
+    if lost:
+        raise Failed("what isn't in the release:\n" + "\n".join(lost))
+    return f"{len(pages)} pages"
+
+
 def write_sums(folder):
     """Writes a sum of each file but itself."""
     files = sorted(file for file in folder.rglob("*") if file.is_file())
@@ -151,9 +162,11 @@ def make(to, commit_, kit_, archives, target, proofs_, work):
     fill(to, archives, target, top)
     shutil.copytree(top / "bindings/dds", to / "dds", ignore=shutil.ignore_patterns("tests"))
     for name in PAGES:
+        (to / name).parent.mkdir(exist_ok=True)
         (to / name).write_text(page((top / "bindings" / name).read_text()))
     (to / "examples/README.md").write_text(page((top / "examples/README.md").read_text()))
-    (to / "CHANGELOG.md").write_text(page((top / "CHANGELOG.md").read_text()))
+    (to / "CHANGELOG.md").write_text(page((top / "CHANGELOG.md").read_text()).replace("](bindings/", "]("))
+    check_links(to)
     (to / PROOFS).write_text(proofs(commit_, kit_, lines_of(target, proofs_), top))
     write_sums(to)
 

@@ -8,7 +8,7 @@ from . import abi
 from .folder import kinds_of
 from .places import HEADER, is_here, version
 from .process_library import LIBRARY
-from .release import PROOFS, head, made, name_of, same_archive, same_crates, same_files, same_sums, same_target, unpacked, write_sums
+from .release import PROOFS, check_links, head, made, name_of, same_archive, same_crates, same_files, same_sums, same_target, unpacked, write_sums
 from .steps import Failed
 from .targets import AARCH64, PLAIN, TARGETS, X86_64, asked_for, stand_in
 
@@ -276,6 +276,15 @@ def changed_byte_is_seen(work, packed):
     return refused("a changed file", same_sums, folder)
 
 
+def lost_page_is_seen(work, packed):
+    """A page that others link to is in the release."""
+    (work / "pages").mkdir()
+    folder = unpacked(packed, work / "pages")
+    check_links(folder)
+    (folder / "PROCESSES.md").unlink()
+    return refused("a release without a page", check_links, folder)
+
+
 def run_faults(steps, work):
     """All of these."""
     packed = {}
@@ -297,6 +306,7 @@ def run_faults(steps, work):
         steps.run(what, is_kept_in, work, first, what, members)
     steps.run("a file that was changed on its way", changed_byte_is_seen, work, first)
     steps.run("another crate than this clone's", other_crate_is_seen, work, first)
+    steps.run("a link to a page that isn't in the release", lost_page_is_seen, work, first)
     steps.run("another archive than the proved one", other_archive_is_seen, work, first)
     if is_here("abidiff") and is_here("gcc"):
         steps.run("the binary interface is compared", interface_is_compared, work)
