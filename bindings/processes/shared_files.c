@@ -193,6 +193,13 @@ static void unmap(shared_files_t *it) {
   it->payloads = NULL, it->header = NULL;
 }
 
+/* The list last: as long as it has its name, whoever creates another one waits for its lock. */
+static void remove_files(const shared_files_t *it, uint32_t places) {
+  wake_pipes_remove(it->path[CALLS], places);
+  unlink(it->path[PAYLOADS]);
+  unlink(it->path[CALLS]);
+}
+
 /* All behind the lock of the file. */
 static shared_status_t open_locked(shared_files_t *it, const shared_settings_t *settings, shared_mode_t mode, int fd, size_t size) {
   rooms_t is = {0};
@@ -249,7 +256,7 @@ shared_status_t shared_files_open(shared_files_t *it, const shared_settings_t *s
   if (status == SHARED_OK) status = fd < 0 ? refuse_by_system(it, CALLS) : open_locked(it, settings, mode, fd, (size_t)file.st_size);
   if (fd >= 0) close(fd);
   if (status == SHARED_OK) return status;
-  if (it->is_new) unlink(it->path[CALLS]), unlink(it->path[PAYLOADS]);
+  if (it->is_new) remove_files(it, 0);
   unmap(it);
   if (it->places.lock_fd >= 0) close(it->places.lock_fd);
   return status;
@@ -265,10 +272,7 @@ void shared_files_close(shared_files_t *it) {
   bool is_locked = places_lock_file(it->places.lock_fd);
   if (it->dead != 0) places_give_up(&it->places);
   else places_leave(&it->places);
-  if (is_locked && !places_one_lives(&it->places)) {
-    unlink(it->path[CALLS]), unlink(it->path[PAYLOADS]);
-    wake_pipes_remove(it->path[CALLS], it->places.count);
-  }
+  if (is_locked && !places_one_lives(&it->places)) remove_files(it, it->places.count);
   unmap(it);
   close(it->places.lock_fd);
 }
