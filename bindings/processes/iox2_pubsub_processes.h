@@ -356,7 +356,8 @@ IOX2PS_NODISCARD iox2ps_status_t iox2ps_domain_set_dead_node_listener(iox2ps_dom
 /** Looks for processes that died, gives back what they had, and says how many there were; cleanups may be null. */
 IOX2PS_NODISCARD iox2ps_status_t iox2ps_domain_cleanup_dead_nodes(iox2ps_domain_t *domain, size_t *cleanups);
 
-/** How many calls of all processes this one has made; 0 of a domain of one process. With the lock. */
+/** How many calls of all processes this one has made; 0 of a domain of one process, and in a child of a fork. With
+ * the lock. */
 uint64_t iox2ps_domain_calls(const iox2ps_domain_t *domain);
 
 /** Without the lock: 1 where processes have made more calls than that, and else 0. So threads look for what others bring without taking

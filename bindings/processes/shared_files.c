@@ -108,6 +108,7 @@ static uint64_t time_of_day(void) {
 static shared_status_t own(shared_files_t *it, const shared_settings_t *is, int fd) {
   struct stat file;
   if (!file_status(fd, &file)) return refuse_by_system(it, CALLS);
+  if (!S_ISREG(file.st_mode)) return refuse(it, SHARED_FOREIGN, "%s is of another program: it is no file", it->path[CALLS]);
   if (file.st_uid != geteuid()) return refuse(it, SHARED_NO_PERMISSION, "%s belongs to another user, and nobody has it", it->path[CALLS]);
   return fchmod(fd, is->permissions) == 0 ? SHARED_OK : refuse_by_system(it, CALLS);
 }

@@ -73,10 +73,13 @@ iox2ps_status_t iox2ps_domain_brought_by_others(iox2ps_domain_t *domain, uint32_
   return IOX2PS_OK;
 }
 
-/* What these read is as it was opened, whatever other threads call. */
+/* What these read is as it was opened, whatever other threads call. A forked child has no files. */
+static bool has_files(const shared_domain_t *shared) { return shared->group->member.files.header != NULL; }
+
 iox2ps_status_t iox2ps_domain_sleep(const iox2ps_domain_t *domain, uint64_t begun, uint64_t timeout_ns) {
   const shared_domain_t *shared = shared_domain_of(domain);
   if (shared == NULL) return domain->domain_ == NULL ? IOX2PS_NO_DOMAIN : IOX2PS_PROCESSES_NOT_SHARED;
+  if (!has_files(shared)) return IOX2PS_PROCESSES_FORKED;
   uint64_t most = reap_every_ns(shared);
   sleepers_sleep(shared->group->member.files.sleepers, shared->group->member.replica.place, begun, timeout_ns < most ? timeout_ns : most);
   return IOX2PS_OK;
@@ -85,16 +88,17 @@ iox2ps_status_t iox2ps_domain_sleep(const iox2ps_domain_t *domain, uint64_t begu
 iox2ps_status_t iox2ps_domain_sleep_end(const iox2ps_domain_t *domain) {
   const shared_domain_t *shared = shared_domain_of(domain);
   if (shared == NULL) return domain->domain_ == NULL ? IOX2PS_NO_DOMAIN : IOX2PS_PROCESSES_NOT_SHARED;
+  if (!has_files(shared)) return IOX2PS_PROCESSES_FORKED;
   sleepers_wake_place(shared->group->member.files.sleepers, shared->group->member.replica.place);
   return IOX2PS_OK;
 }
 
 uint64_t iox2ps_domain_calls(const iox2ps_domain_t *domain) {
   const shared_domain_t *shared = shared_domain_of(domain);
-  return shared == NULL ? 0 : shared->group->memory->replica.progress.made;
+  return shared == NULL || !has_files(shared) ? 0 : shared->group->memory->replica.progress.made;
 }
 
 uint32_t iox2ps_domain_has_more_calls(const iox2ps_domain_t *domain, uint64_t calls) {
   const shared_domain_t *shared = shared_domain_of(domain);
-  return shared != NULL && call_list_has_more(&shared->group->member.files.list, calls);
+  return shared != NULL && has_files(shared) && call_list_has_more(&shared->group->member.files.list, calls);
 }

@@ -89,6 +89,8 @@ static void other_files(void) {
   refused(good, SHARED_OPEN_OR_CREATE, SHARED_SYSTEM, "Is a directory");
   CHECK(rmdir(path[0]) == 0 && symlink("/dev/null", path[0]) == 0);
   refused(good, SHARED_OPEN_OR_CREATE, SHARED_SYSTEM, "symbolic links");
+  CHECK(unlink(path[0]) == 0 && mkfifo(path[0], 0600) == 0);
+  refused(good, SHARED_OPEN_OR_CREATE, SHARED_FOREIGN, "it is no file");
   CHECK(unlink(path[0]) == 0);
 }
 

@@ -227,6 +227,8 @@ static void forked(void) {
   *lent_to_parent = 'c';
   CHECK(iox2ps_subscriber_receive(&of_parent, &subscriber_of_parent, &sample, &payload, &len) == IOX2PS_PROCESSES_FORKED);
   CHECK(iox2ps_subscriber_close(&of_parent, &subscriber_of_parent) == IOX2PS_PROCESSES_FORKED);
+  CHECK(iox2ps_domain_sleep(&of_parent, 0, UINT64_MAX) == IOX2PS_PROCESSES_FORKED && iox2ps_domain_sleep_end(&of_parent) == IOX2PS_PROCESSES_FORKED);
+  CHECK(iox2ps_domain_calls(&of_parent) == 0 && iox2ps_domain_has_more_calls(&of_parent, 0) == 0);
   destroy(&of_parent);
   iox2ps_domain_t own = opened(); /* a part of its own */
   destroy(&own);
