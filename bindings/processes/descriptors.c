@@ -49,7 +49,7 @@ iox2ps_status_t iox2ps_domain_clear_file_descriptor(iox2ps_domain_t *domain) {
   if (code != IOX2PS_OK || shared->group->pipes.loop == 0) return code;
   bool is_time = wake_pipes_clear(&shared->group->pipes);
   arm(shared);
-  if (is_time) code = shared_domain_reap(shared, NULL);
+  if (is_time) code = shared_domain_look(shared);
   if (code == IOX2PS_OK) shared_domain_tell_deaths(shared);
   return code;
 }

@@ -110,20 +110,20 @@ static iox2ps_status_t discard(iox2ps_domain_t *domain, iox2ps_wide_t id, const 
   return iox2ps_proved_loan_discard(domain, &loan);
 }
 
-/* Whose full buffer it waits for. */
-static uint64_t stands_at(iox2ps_domain_t *domain, const iox2ps_blocked_t *blocked) {
+uint64_t domain_stands_at(iox2ps_domain_t *domain, iox2ps_wide_t service_id, const uint64_t blocked[HANDLE_WORDS]) {
+  iox2ps_blocked_t is = blocked_of_words(blocked, service_id);
   iox2ps_wide_t subscriber = {0};
-  return iox2ps_proved_blocked_subscriber(domain, blocked, &subscriber) == IOX2PS_OK ? subscriber.low : 0;
+  return iox2ps_proved_blocked_subscriber(domain, &is, &subscriber) == IOX2PS_OK ? subscriber.low : 0;
 }
 
 static iox2ps_status_t retry(iox2ps_domain_t *domain, iox2ps_wide_t id, const uint64_t *words, domain_reply_t *reply) {
   iox2ps_blocked_t blocked = blocked_of_words(words, id);
   size_t receivers = 0;
-  uint64_t before = stands_at(domain, &blocked);
+  uint64_t before = domain_stands_at(domain, id, words);
   /* No handler of iox2_pubsub.h asks how long ago it was. */
   iox2ps_status_t code = iox2ps_proved_blocked_retry_counted(domain, &blocked, 0, &receivers);
   reply->count = receivers;
-  if (code == IOX2PS_BLOCKED && stands_at(domain, &blocked) == before) reply->brought = 0;
+  if (code == IOX2PS_BLOCKED && domain_stands_at(domain, id, words) == before) reply->brought = 0;
   return code;
 }
 

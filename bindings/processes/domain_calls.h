@@ -38,7 +38,7 @@ typedef enum domain_operation_t {
 enum {
   LENGTH_WORD = 4,
   NODE_WORD = 5,    /* which process makes a port; also in the handle that it made */
-  BOOK_OF_LOAN = 3, BOOK_OF_SAMPLE = 4,
+  BOOK_OF_LOAN = 3, BOOK_OF_SAMPLE = 4, SAMPLE_PUBLISHER = 0,
   SUBSCRIBER_CHANNEL = 3, SUBSCRIBER_STATE, /* behind a subscriber's */
   /* The first in the place of a length that no call on channels asks for. */
   PUBLISHER_CHANNEL = 2, PUBLISHER_CONNECTION = 4, PUBLISHER_STATE,
@@ -55,6 +55,7 @@ typedef struct domain_reply_t {
   uint64_t handle[HANDLE_WORDS]; /* what the call made */
   uint32_t brought;              /* what it has brought to others: a sum of iox2ps_brings_e and IOX2PS_BRINGS_EVENT */
   uint64_t messages;             /* how many calls had brought a message by then; the domain's memory counts them */
+  uint64_t helps;                /* whom it may help of those who wait with a publisher, a bit for each place: helped_places.c */
 } domain_reply_t;
 
 /* What the list has to know of an operation. */
@@ -75,6 +76,8 @@ uint64_t deliver_word(size_t channel, size_t connection);
 domain_traits_t domain_traits(uint64_t operation);
 /* Whether a call that returned this code has ended the handle that it was given. */
 bool domain_has_ended(domain_traits_t traits, iox2ps_status_t code);
+/* The id of the subscriber whose full buffer a blocked send waits for; 0 where nothing waits. */
+uint64_t domain_stands_at(iox2ps_domain_t *domain, iox2ps_wide_t service_id, const uint64_t blocked[HANDLE_WORDS]);
 /* Makes a call on a domain with this service_id. What is no operation is refused as a handle that isn't live is. */
 domain_reply_t domain_make(iox2ps_domain_t *domain, iox2ps_wide_t service_id, uint64_t operation, const uint64_t words[HANDLE_WORDS]);
 

@@ -1,7 +1,9 @@
 // SPDX-License-Identifier: Apache-2.0 OR MIT
 #include "domain_memory.h"
 #include "archive_memory.h"
+#include "helped_places.h"
 #include "proved_calls.h"
+#include "sleepers.h"
 #include <string.h>
 
 static void note_size(group_memory_t *it) { it->replica.size = (size_t)(it->heap.blocks - (char *)it) + it->heap.used; }
@@ -86,6 +88,7 @@ static domain_reply_t make(domain_memory_t *it, uint32_t place, uint64_t operati
   if (reply.code == IOX2PS_OK && traits.makes != HANDLE_KINDS) live_handles_add(&it->handles, traits.makes, place, reply.handle);
   if (reply.code == IOX2PS_OK && traits.makes == HANDLE_LOAN) book_owners_note(&it->owners, &it->handles, words, reply.handle[BOOK_OF_LOAN]);
   if (reply.code == IOX2PS_BLOCKED && traits.ends == HANDLE_LOAN) live_handles_add(&it->handles, HANDLE_BLOCKED, place, reply.handle);
+  helped_places_note(it, place, operation, words, &reply);
   count_brought(it, reply.brought);
   reply.messages = it->brought[0];
   return reply;
@@ -138,7 +141,7 @@ static domain_reply_t make_call(group_memory_t *it, uint32_t place, const uint64
   if (event_numbers_make_it(operation)) return make_event(domain, place, operation, arguments + 1);
   if (operation != DOMAIN_LEAVE) return make(domain, place, operation, arguments + 1);
   give_back_all(domain, place);
-  return (domain_reply_t){.code = IOX2PS_OK};
+  return (domain_reply_t){.code = IOX2PS_OK, .brought = domain_traits(operation).brings, .helps = SLEEP_ALL_PLACES};
 }
 
 static void end_place(group_memory_t *it, uint32_t place) {

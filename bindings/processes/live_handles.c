@@ -58,7 +58,7 @@ void live_handles_add(live_handles_t *it, handle_kind_t kind, uint32_t place, co
   uint32_t which = it->free, *first = &it->first[place][kind];
   live_handle_t *handle = &it->all[which];
   it->free = handle->next;
-  it->count++;
+  it->count++, it->blocked += kind == HANDLE_BLOCKED;
   *handle = (live_handle_t){.kind = kind, .place = place, .next = *first, .before = NONE};
   memcpy(handle->words, words, sizeof handle->words);
   if (*first != NONE) it->all[*first].before = which;
@@ -90,13 +90,13 @@ void live_handles_remove(live_handles_t *it, handle_kind_t kind, const uint64_t 
   if (handle->next != NONE) it->all[handle->next].before = handle->before;
   handle->next = it->free;
   it->free = which;
-  it->count--;
+  it->count--, it->blocked -= kind == HANDLE_BLOCKED;
 }
 
 bool live_handles_has(const live_handles_t *it, handle_kind_t kind, uint32_t place) { return it->first[place][kind] != NONE; }
 
 const live_handle_t *live_handles_blocked_of(const live_handles_t *it, uint64_t publisher) {
-  for (uint32_t place = 0; place < CALL_PLACES; place++)
+  for (uint32_t place = 0; it->blocked > 0 && place < CALL_PLACES; place++)
     for (uint32_t which = it->first[place][HANDLE_BLOCKED]; which != NONE; which = it->all[which].next)
       if (it->all[which].words[0] == publisher) return &it->all[which];
   return NULL;

@@ -21,7 +21,7 @@ typedef struct live_handle_t {
 typedef struct live_handles_t {
   live_handle_t *all;
   uint32_t *buckets;
-  uint32_t room, count, free;
+  uint32_t room, count, free, blocked; /* of HANDLE_BLOCKED so many */
   uint32_t first[CALL_PLACES][HANDLE_KINDS];
 } live_handles_t;
 

@@ -56,11 +56,11 @@ static replica_status_t call_end(member_t *it, call_end_t end) {
   return status;
 }
 
-replica_status_t member_reap(member_t *it, size_t *found) {
+static replica_status_t reap(member_t *it, uint64_t among, size_t *found) {
   size_t count = 0;
   uint64_t number;
   replica_status_t status = replica_follow(&it->replica, UINT64_MAX, true);
-  for (uint32_t place = 0; status == REPLICA_OK && (place = places_next_dead(&it->files.places, place, &number)) != NO_PLACE; place++, count++) {
+  for (uint32_t place = 0; status == REPLICA_OK && (place = places_next_dead(&it->files.places, among, place, &number)) != NO_PLACE; place++, count++) {
     status = call_end(it, (call_end_t){place, number, true});
     if (status == REPLICA_OK) places_free_dead(&it->files.places, place, number);
   }
@@ -68,6 +68,9 @@ replica_status_t member_reap(member_t *it, size_t *found) {
   tell_deaths(it, false);
   return status;
 }
+
+replica_status_t member_reap(member_t *it, size_t *found) { return reap(it, ALL_PLACES, found); }
+replica_status_t member_look(member_t *it) { return reap(it, places_look(&it->files.places, it->looks), NULL); }
 
 static uint64_t later(uint64_t now, uint64_t ns) { return ns > UINT64_MAX - now ? UINT64_MAX : now + ns; }
 
@@ -95,7 +98,7 @@ static replica_status_t sleep_until(member_t *it, uint32_t reasons, member_is_th
     status = sleep_for(it, reasons, is_there, waiter, (until < reaps_at ? until : reaps_at) - now, was_there);
     now = futex_clock();
     if (now < reaps_at || status != REPLICA_OK || *was_there) continue;
-    status = member_reap(it, NULL);
+    status = member_look(it);
     if (status == REPLICA_OK) status = look(it, is_there, waiter, was_there);
     reaps_at = later(now, every);
   }

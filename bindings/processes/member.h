@@ -21,6 +21,7 @@ typedef struct member_t {
   void (*died)(void *listener, uint32_t place, uint64_t number);
   void *listener;
   uint64_t told[CALL_PLACES];
+  uint64_t looks[PLACES_MAX]; /* of the others, as this process looked last */
   /* Told of places that were woken, a bit each; or null. */
   void (*rouse)(void *rouser, uint64_t places);
   void *rouser;
@@ -39,6 +40,9 @@ replica_status_t member_call(member_t *it, const uint64_t arguments[CALL_ARGUMEN
 void member_wake(member_t *it, uint32_t reasons, uint64_t places);
 /* Gives back what processes had that died, and says how many (`found` may be null). */
 replica_status_t member_reap(member_t *it, size_t *found);
+/* The same now and then, each `reap_every_ms`. The system isn't asked about those that look, too: such a one is found by the second look
+ * after its death. */
+replica_status_t member_look(member_t *it);
 /* Makes the calls of others until something is there, or for so many ns. `is_there` is asked at least once. */
 replica_status_t member_wait(member_t *it, uint32_t reasons, member_is_there_t *is_there, void *waiter, uint64_t timeout_ns, bool *was_there);
 /* Gives back all that this process has, and its place. The object's memory is the caller's. */

@@ -78,9 +78,22 @@ uint64_t places_process(const places_t *places, uint32_t place, bool *is_dead) {
   return number;
 }
 
-uint32_t places_next_dead(const places_t *places, uint32_t from, uint64_t *number) {
+uint64_t places_look(const places_t *places, uint64_t seen[PLACES_MAX]) {
+  uint64_t quiet = 0;
+  /* Relaxed: only numbers. Who is taken for dead in vain is asked about. */
+  atomic_fetch_add_explicit(&places->shared->looks[places->own], 1, memory_order_relaxed);
+  for (uint32_t place = 0; place < places->count; place++) {
+    uint64_t looks = atomic_load_explicit(&places->shared->looks[place], memory_order_relaxed);
+    if (looks == seen[place]) quiet |= UINT64_C(1) << place;
+    seen[place] = looks;
+  }
+  return quiet;
+}
+
+uint32_t places_next_dead(const places_t *places, uint64_t among, uint32_t from, uint64_t *number) {
   bool is_dead = false;
   for (uint32_t place = from; place < places->count; place++) {
+    if (!(among >> place & 1)) continue;
     *number = places_process(places, place, &is_dead);
     if (is_dead) return place;
   }

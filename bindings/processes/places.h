@@ -12,6 +12,7 @@
 #include <stdint.h>
 
 enum { PLACES_MAX = 64, NO_PLACE = PLACES_MAX, PID_BITS = 22 };
+#define ALL_PLACES UINT64_MAX
 
 /* The number of a process: how many had a place by then, and its process identifier, which the system keeps below 2^PID_BITS. */
 static inline uint64_t places_begun(uint64_t number) { return number >> PID_BITS; }
@@ -21,6 +22,7 @@ static inline uint32_t places_pid(uint64_t number) { return (uint32_t)number & (
 typedef struct places_shared_t {
   _Atomic uint64_t begun;               /* how many processes had a place so far */
   _Atomic uint64_t numbers[PLACES_MAX]; /* of the process that has each place, also if it is dead; 0 is free */
+  _Atomic uint64_t looks[PLACES_MAX];   /* how often the processes of each place looked for dead ones, as those that sleep do now and then */
 } places_shared_t;
 
 typedef struct places_t {
@@ -48,8 +50,11 @@ void places_leave(places_t *places);
 void places_give_up(places_t *places);
 /* The process that has a place, or 0; and whether it died. */
 uint64_t places_process(const places_t *places, uint32_t place, bool *is_dead);
-/* The first place from this one on whose process died, or NO_PLACE; and the number of that process. */
-uint32_t places_next_dead(const places_t *places, uint32_t from, uint64_t *number);
+/* Says that this process looks for dead ones, and returns the places, a bit each, where none has looked since this one did last: only
+ * those may have died before that, and so the system needn't be asked of others. `seen` is what it keeps from one look to the next. */
+uint64_t places_look(const places_t *places, uint64_t seen[PLACES_MAX]);
+/* The first of these places, a bit each, from this one on whose process died, or NO_PLACE; and the number of that process. */
+uint32_t places_next_dead(const places_t *places, uint64_t among, uint32_t from, uint64_t *number);
 /* Frees the place of a dead process, when the list says that it died and all that it had is given back. */
 void places_free_dead(const places_t *places, uint32_t place, uint64_t number);
 

@@ -1,6 +1,7 @@
 // SPDX-License-Identifier: Apache-2.0 OR MIT
 #define _GNU_SOURCE
 #include "shared_domain.h"
+#include "helped_places.h"
 #include <time.h>
 
 iox2ps_status_t shared_group_break(shared_group_t *it, replica_status_t status) {
@@ -19,6 +20,12 @@ iox2ps_status_t shared_domain_reap(shared_domain_t *it, size_t *found) {
   return status == REPLICA_OK ? IOX2PS_OK : shared_group_break(it->group, status);
 }
 
+iox2ps_status_t shared_domain_look(shared_domain_t *it) {
+  if (it->group->broken != IOX2PS_OK) return it->group->broken;
+  replica_status_t status = member_look(&it->group->member);
+  return status == REPLICA_OK ? IOX2PS_OK : shared_group_break(it->group, status);
+}
+
 static uint64_t coarse_clock(void) {
   struct timespec now;
   clock_gettime(CLOCK_MONOTONIC_COARSE, &now);
@@ -29,7 +36,7 @@ iox2ps_status_t shared_domain_reap_in_time(shared_domain_t *it) {
   uint64_t now = coarse_clock();
   if (now < it->group->reaps_at) return IOX2PS_OK;
   it->group->reaps_at = now + (uint64_t)it->group->member.reap_every_ms * 1000000u;
-  return shared_domain_reap(it, NULL);
+  return shared_domain_look(it);
 }
 
 iox2ps_status_t shared_domain_idle(shared_domain_t *it) {
@@ -65,6 +72,11 @@ static void protect_without_writer(shared_domain_t *it) {
 /* A thread that sleeps for others of this process isn't woken by their calls. */
 static uint64_t other_places(const shared_domain_t *it) { return SLEEP_ALL_PLACES & ~(UINT64_C(1) << it->group->member.replica.place); }
 
+static void wake(shared_domain_t *it, const domain_reply_t *reply) {
+  member_wake(&it->group->member, reply->brought & ~(uint32_t)HELPS_PUBLISHERS, other_places(it));
+  member_wake(&it->group->member, reply->brought & HELPS_PUBLISHERS, other_places(it) & reply->helps);
+}
+
 static iox2ps_status_t call_once(shared_domain_t *it, domain_operation_t operation, const uint64_t words[HANDLE_WORDS], domain_reply_t *reply) {
   domain_traits_t traits = domain_traits(operation);
   uint64_t arguments[CALL_ARGUMENTS] = {domain_call(it->which, operation)};
@@ -77,7 +89,7 @@ static iox2ps_status_t call_once(shared_domain_t *it, domain_operation_t operati
   if (is_of_writer(traits.makes) || is_of_writer(traits.ends) || operation == DOMAIN_LEAVE) protect_without_writer(it);
   reply->payload = shared_domain_payload(it, reply->payload);
   for (int i = 0; i < DOMAIN_BRINGS; i++) it->brought[i] += reply->brought >> i & 1;
-  member_wake(&it->group->member, reply->brought, other_places(it));
+  wake(it, reply);
   return reply->code;
 }
 

@@ -62,7 +62,8 @@ iox2ps_status_t shared_domain_follow(shared_domain_t *it);
 iox2ps_status_t shared_domain_idle(shared_domain_t *it);
 /* Gives back what processes had that died, and tells of them. `found` may be null. */
 iox2ps_status_t shared_domain_reap(shared_domain_t *it, size_t *found);
-/* The same, if it is time for it. */
+/* The same now and then, as member_look; and if it is time for it. */
+iox2ps_status_t shared_domain_look(shared_domain_t *it);
 iox2ps_status_t shared_domain_reap_in_time(shared_domain_t *it);
 /* Wakes these places by their descriptors, if they have one. */
 void shared_group_rouse(void *of, uint64_t places);

@@ -6,7 +6,7 @@
 #include "places.h"
 #include "shared_files.h"
 
-enum { PAGE = 4096, LAYOUT = 3, IS_READY = 1 };
+enum { PAGE = 4096, LAYOUT = 4, IS_READY = 1 };
 #define MAGIC "iox2ps\x01" /* eight bytes with the last 0 */
 
 typedef struct shared_header_kind_t {

@@ -17,7 +17,7 @@ static uint32_t count_living(const shared_header_t *header, int fd) {
   uint32_t living = 0, dead = 0;
   uint64_t number;
   for (uint32_t place = 0; place < places.count; place++) living += atomic_load_explicit(&places.shared->numbers[place], memory_order_relaxed) != 0;
-  for (uint32_t place = 0; (place = places_next_dead(&places, place, &number)) != NO_PLACE; place++) dead++;
+  for (uint32_t place = 0; (place = places_next_dead(&places, ALL_PLACES, place, &number)) != NO_PLACE; place++) dead++;
   return living > dead ? living - dead : 0;
 }
 

@@ -52,6 +52,7 @@ static uint64_t wake_for(sleepers_shared_t *it, uint32_t reason, uint64_t places
 
 uint64_t sleepers_wake(sleepers_shared_t *it, uint32_t reasons, uint64_t places) {
   uint64_t woken = 0;
+  if (places == 0) return 0;
   for (uint32_t reason = 0; reason < SLEEP_REASONS; reason++)
     if (reasons >> reason & 1) woken |= wake_for(it, reason, places);
   return woken;

@@ -18,8 +18,12 @@ void shared_files_ready(shared_files_t *it) { (void)it; }
 void shared_files_close(shared_files_t *it) { (void)it; }
 void places_take_over(const places_t *places, uint64_t number) { (void)places, (void)number; }
 void places_free_dead(const places_t *places, uint32_t place, uint64_t number) { (void)places, (void)place, (void)number; }
-uint32_t places_next_dead(const places_t *places, uint32_t from, uint64_t *number) {
-  (void)places, (void)from, *number = 0;
+uint64_t places_look(const places_t *places, uint64_t seen[PLACES_MAX]) {
+  (void)places, (void)seen;
+  return 0;
+}
+uint32_t places_next_dead(const places_t *places, uint64_t among, uint32_t from, uint64_t *number) {
+  (void)places, (void)among, (void)from, *number = 0;
   return NO_PLACE;
 }
 
