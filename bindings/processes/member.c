@@ -56,7 +56,7 @@ static replica_status_t call_end(member_t *it, call_end_t end) {
   return status;
 }
 
-static replica_status_t reap(member_t *it, uint64_t among, size_t *found) {
+static replica_status_t reap_among(member_t *it, uint64_t among, size_t *found) {
   size_t count = 0;
   uint64_t number;
   replica_status_t status = replica_follow(&it->replica, UINT64_MAX, true);
@@ -69,8 +69,8 @@ static replica_status_t reap(member_t *it, uint64_t among, size_t *found) {
   return status;
 }
 
-replica_status_t member_reap(member_t *it, size_t *found) { return reap(it, ALL_PLACES, found); }
-replica_status_t member_look(member_t *it) { return reap(it, places_look(&it->files.places, it->looks), NULL); }
+replica_status_t member_reap(member_t *it, size_t *found) { return reap_among(it, ALL_PLACES, found); }
+replica_status_t member_look(member_t *it) { return reap_among(it, places_look(&it->files.places, it->looks), NULL); }
 
 static uint64_t later(uint64_t now, uint64_t ns) { return ns > UINT64_MAX - now ? UINT64_MAX : now + ns; }
 
