@@ -68,7 +68,7 @@ typedef struct iox2ps_processes_options_t {
                                processes: 2.8 MB by default settings, beside the payloads */
   size_t payload_room;    /**< bytes for payloads; by default those of max_publishers publishers and one more, which don't grow */
   uint32_t permissions;   /**< of the files, whatever the process' mask of new files is; 0600 by default */
-  uint32_t reap_every_ms; /**< how often a process that waits or polls looks for dead ones; 200 by default */
+  uint32_t reap_every_ms; /**< how often a process that waits or polls looks for dead ones, which its second look finds at the latest; 200 by default */
   uint32_t spins;         /**< how often a wait looks before it sleeps; 2000 by default */
   uint32_t reserved_;     /**< 0 */
 } iox2ps_processes_options_t;

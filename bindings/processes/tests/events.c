@@ -377,7 +377,7 @@ static void killed_at_any_time(void) {
     uint64_t begun = counts->begun;
     iox2ps_event_ids_t ids;
     pid_t child = run_child(notify_without_end, begun);
-    while (counts->done < begun + 1 + (uint64_t)i % 7) {}
+    while (counts->done < begun + 1 + (uint64_t)i % 7) usleep(20);
     CHECK(kill(child, SIGKILL) == 0 && status_of(child) == SIGKILL && iox2ps_domain_cleanup_dead_nodes(&domain, NULL) == IOX2PS_OK);
     CHECK(iox2ps_domain_brought(&domain, IOX2PS_BRINGS_EVENT, &notified) == IOX2PS_OK && iox2ps_listener_try_wait_all(&domain, &listener, &ids) == IOX2PS_OK);
     for (uint64_t id = begun; id < counts->done; id++) CHECK(iox2ps_event_ids_have(&ids, id % EVENT_IDS));
