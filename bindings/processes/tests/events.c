@@ -11,6 +11,7 @@
 #include <sys/mman.h>
 #include <sys/wait.h>
 
+enum { EVENT_BIT = 5 }; /* that of IOX2PS_BRINGS_EVENT */
 enum { HOUR_MS = 3600000, SHORT_MS = 20, CALLS = 8, NOTIFIERS = 3, LISTENERS = 3, IDS_OF_NOTIFIER = 20, ROUNDS = 15, KILLS = 40 };
 #define SECOND UINT64_C(1000000000)
 #define PATIENCE (600 * SECOND)
@@ -338,7 +339,7 @@ static void dies_in_the_middle(uint64_t is_in_list) {
   iox2ps_domain_t domain = opened(HOUR_MS);
   const shared_group_t *group = shared_domain_of(&domain)->group;
   uint64_t arguments[CALL_ARGUMENTS] = {domain_call(0, NOTIFY), 9};
-  while (group->member.files.sleepers->asleep[5] == 0) usleep(1000);
+  while (group->member.files.sleepers->asleep[EVENT_BIT] == 0) usleep(1000);
   if (is_in_list) CHECK(replica_call((replica_t *)&group->member.replica, arguments) == REPLICA_OK);
   else call_list_announce(&group->member.files.list, &group->memory->replica.progress, group->member.replica.place, arguments);
   raise(SIGKILL);
@@ -423,7 +424,7 @@ static void as_threads_sleep(void) {
     if (count == 0) CHECK(iox2ps_domain_sleep(&domain, begun, PATIENCE) == IOX2PS_OK);
   } while (count == 0);
   uint64_t each[6];
-  CHECK(count == 1 && status_of(child) == 0 && iox2ps_domain_brought_each(&domain, each) == IOX2PS_OK && each[5] == 2 && each[0] == 0);
+  CHECK(count == 1 && status_of(child) == 0 && iox2ps_domain_brought_each(&domain, each) == IOX2PS_OK && each[EVENT_BIT] == 2 && each[0] == 0);
   destroy(&domain);
 }
 
