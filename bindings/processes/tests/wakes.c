@@ -119,6 +119,7 @@ static void receive_all(uint64_t which) {
     if ((number + which) % 4 == 0) usleep(2000); /* so that the publisher sleeps at one or another */
     CHECK(receive_number(&domain, &subscriber) == number);
   }
+  while (!told->is_over) usleep(1000); /* whoever leaves wakes all */
   destroy(&domain);
 }
 
@@ -134,6 +135,7 @@ static void many_subscribers(void) {
   wait_for_ready(SUBSCRIBERS);
   for (uint64_t number = 1; number <= MESSAGES; number++) stops += send_number(&domain, &publisher, number);
   uint64_t wakes = wakes_of(&domain, place_of(&domain));
+  told->is_over = true;
   for (int i = 0; i < SUBSCRIBERS; i++) check_ended(children[i]);
   printf("a publisher with %d subscribers stood at %llu full buffers in %d messages, and was woken %llu times\n", SUBSCRIBERS, (unsigned long long)stops,
          MESSAGES, (unsigned long long)wakes);
@@ -330,6 +332,37 @@ static void dies_after_its_looks(void) {
   destroy(&domain);
 }
 
+/* ---- memory */
+
+/* Of the C library, whose functions these are otherwise. */
+extern void *__libc_malloc(size_t size);
+extern void *__libc_calloc(size_t count, size_t size);
+extern void *__libc_realloc(void *block, size_t size);
+static uint64_t allocations;
+void *malloc(size_t size) { return allocations++, __libc_malloc(size); }
+void *calloc(size_t count, size_t size) { return allocations++, __libc_calloc(count, size); }
+void *realloc(void *block, size_t size) { return allocations++, __libc_realloc(block, size); }
+
+/* A listener takes memory as it is made; who notifies or waits takes none. */
+static void events_take_no_memory(void) {
+  iox2ps_domain_t domain = opened(HOUR_MS);
+  iox2ps_listener_t listener;
+  iox2ps_notifier_t notifier;
+  iox2ps_event_ids_t ids;
+  size_t id;
+  uint64_t before = allocations;
+  CHECK(iox2ps_listener_create(&domain, &listener) == IOX2PS_OK && allocations > before);
+  const region_heap_t *heap = &shared_domain_of(&domain)->group->memory->heap;
+  size_t used = heap->used;
+  before = allocations;
+  for (size_t i = 0; i < 1000; i++) {
+    CHECK(iox2ps_notifier_create(&domain, i % EVENT_IDS, &notifier) == IOX2PS_OK && iox2ps_notifier_notify(&domain, &notifier, NULL) == IOX2PS_OK);
+    CHECK(iox2ps_listener_try_wait_one(&domain, &listener, &id) == IOX2PS_OK && iox2ps_listener_try_wait_all(&domain, &listener, &ids) == IOX2PS_PROCESSES_TIMED_OUT);
+  }
+  CHECK(iox2ps_listener_timed_wait_one(&domain, &listener, SECOND / 1000, &id) == IOX2PS_PROCESSES_TIMED_OUT && allocations == before && heap->used == used);
+  destroy(&domain);
+}
+
 /* ---- calls of the system */
 
 static void listen(uint64_t which) {
@@ -417,6 +450,7 @@ int main(void) {
   where_it_stands(), one_of_several(), many_subscribers();
   loans();
   leaves_one_domain(), nobody_wakes(), dies_after_its_looks();
+  events_take_no_memory();
   a_notification(), idle();
   puts("wakes: each is woken by what helps it, and by nothing else");
   return 0;
