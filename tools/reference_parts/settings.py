@@ -63,7 +63,7 @@ GROUPS = {
         f"{PYTHON}/_core.pyi": {PY_CALLS: ("Domain",)},
         f"{PYTHON}/domain.py": {PY_ARGUMENTS: ("__new__", "publisher", "subscriber")},
         f"{PYTHON}/settings.py": {
-            PY_FIELDS: ("DomainSettings", "Warning"),
+            PY_FIELDS: ("DomainSettings", "PublisherSettings", "SubscriberSettings", "Warning"),
             PY_ENUM: ("BackpressureStrategy", "BackpressureHandler", "DegradationAction", "AllocationStrategy", "WarningKind"),
         },
     },

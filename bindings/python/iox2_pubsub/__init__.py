@@ -15,21 +15,23 @@
 1.5
 """
 from . import errors
-from ._core import Blocked, Loan, Sample, version
+from ._core import Blocked, Loan, Notifier, Sample, version
 from .domain import Domain
 from .errors import *  # noqa: F403
+from .listener import Listener
 from .nodes import DeadNodes
 from .publisher import Publisher
 from .settings import (
-    CHANNEL_STATE_CLOSED, CHANNEL_STATE_OPEN, AllocationStrategy, BackpressureHandler, BackpressureStrategy, DegradationAction,
-    DomainInfo, DomainSettings, Header, Node, NodeState, PortInfo, PortKind, Recording, Warning, WarningKind
+    CHANNEL_STATE_CLOSED, CHANNEL_STATE_OPEN, EVENT_ID_MAX_VALUE, AllocationStrategy, BackpressureHandler, BackpressureStrategy, DegradationAction,
+    DomainInfo, DomainSettings, Header, Node, NodeState, PortInfo, PortKind, PublisherSettings, Recording, SubscriberSettings, Warning, WarningKind
 )
 from .subscriber import Subscriber
 
 __version__ = version
 __all__ = [
-    "CHANNEL_STATE_CLOSED", "CHANNEL_STATE_OPEN", "AllocationStrategy", "BackpressureHandler", "BackpressureStrategy", "Blocked",
-    "DeadNodes", "DegradationAction", "Domain", "DomainInfo", "DomainSettings", "Header", "Loan", "Node", "NodeState", "PortInfo", "PortKind", "Publisher",
-    "Recording", "Sample", "Subscriber", "Warning", "WarningKind"
+    "CHANNEL_STATE_CLOSED", "CHANNEL_STATE_OPEN", "EVENT_ID_MAX_VALUE", "AllocationStrategy", "BackpressureHandler", "BackpressureStrategy",
+    "Blocked", "DeadNodes", "DegradationAction", "Domain", "DomainInfo", "DomainSettings", "Header", "Listener", "Loan", "Node", "NodeState",
+    "Notifier", "PortInfo", "PortKind", "Publisher", "PublisherSettings", "Recording", "Sample", "Subscriber", "SubscriberSettings", "Warning",
+    "WarningKind"
 ]
 __all__ += errors.__all__

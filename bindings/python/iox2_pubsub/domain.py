@@ -5,6 +5,8 @@ from __future__ import annotations
 from typing import Any, Callable
 
 from . import _core
+from ._core import Notifier
+from .listener import Listener
 from .nodes import DeadNodes
 from .publisher import Publisher
 from .settings import AllocationStrategy, BackpressureHandler, BackpressureStrategy, DegradationAction, DomainInfo, DomainSettings
@@ -243,6 +245,25 @@ class Domain(_core.Domain):
         1
         """
         return Subscriber(self, _given(buffer_size=buffer_size, degradation=degradation))
+
+    def notifier(self, default_event_id: int = 0) -> Notifier:
+        """Makes a notifier of a domain that was opened by a name. NotifyEventIdOutOfBounds, ProcessesNotShared, NoDomain.
+
+        >>> import iox2_pubsub as ps
+        >>> with ps.Domain.create("My/Notifier", bytes, 64) as domain:
+        ...     domain.notifier(default_event_id=3).notify()
+        0
+        """
+        return Notifier(self, default_event_id)
+
+    def listener(self) -> Listener:
+        """Makes a listener, which hears of notifications from now on. OutOfMemory, ProcessesNotShared, NoDomain.
+
+        >>> import iox2_pubsub as ps
+        >>> with ps.Domain.create("My/Events", bytes, 64) as domain:
+        ...     domain.listener().wait_one(timeout=0.01)
+        """
+        return Listener(self)
 
     def dead_nodes(self, since: int | None = None) -> DeadNodes:
         """Hears of processes that die from now on, or of all but the first `since`. ProcessesNotShared.

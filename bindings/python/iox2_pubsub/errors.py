@@ -58,6 +58,10 @@ class ChannelError(Error):
     """A call on a channel was refused."""
 
 
+class NotifyError(Error):
+    """A notification was refused."""
+
+
 class NoDomain(Error):
     """The domain was closed."""
 
@@ -400,6 +404,13 @@ class ProcessesNotShared(Error, RuntimeError):
     _text = "the domain is of one process: open it by a name, as Domain.open_or_create does"
 
 
+class NotifyEventIdOutOfBounds(NotifyError, ValueError):
+    """No event has this id."""
+
+    code = 225
+    _text = "the id of an event is a number from 0 to 255, EVENT_ID_MAX_VALUE"
+
+
 class AfterFork(Error, RuntimeError):
     """The domain is that of the process that was forked, and this is its child."""
 
@@ -419,6 +430,7 @@ __all__ = [
     "ReceiveError", "ChannelError", "DomainOpenError", "OpenDoesNotExist", "OpenIncompatibleTypes", "OpenIncompatibleSettings",
     "OpenVersionMismatch", "OpenInsufficientPermissions", "OpenServiceInCorruptedState", "OpenExceedsMaxNumberOfNodes",
     "OpenAddressInUse", "OpenInvalidArgument", "OpenInternalFailure", "CreateAlreadyExists", "ProcessesDamaged", "ProcessesDiverged", "ProcessesNotShared",
+    "NotifyError", "NotifyEventIdOutOfBounds",
     "NoDomain", "NotLive", "OutOfMemory", "SendBlocked", "PublisherIsBlocked", "LoanOutOfMemory",
     "LoanExceedsMaxLoans", "LoanExceedsMaxLoanSize", "LoanInternalFailure", "SendConnectionBrokenSinceSenderNoLongerExists",
     "SendUnableToDeliver", "SendConnectionOutOfMemory", "ReceiveExceedsMaxBorrows", "ReceiveConnectionOutOfMemory",

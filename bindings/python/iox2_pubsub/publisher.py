@@ -7,7 +7,7 @@ from typing import Any
 
 from . import _core
 from ._core import Loan
-from .settings import BackpressureStrategy
+from .settings import AllocationStrategy, BackpressureHandler, BackpressureStrategy, DegradationAction, PublisherSettings
 from .waits import UP, lend_async, send_async
 
 
@@ -22,6 +22,25 @@ class Publisher(_core.Publisher):
     >>> publisher.is_open
     False
     """
+
+    @property
+    def settings(self) -> PublisherSettings:
+        """What it was made with.
+
+        >>> import iox2_pubsub as ps
+        >>> ps.Domain(7, bytes, 64).publisher().settings.allocation_strategy
+        <AllocationStrategy.STATIC: 0>
+        """
+        made = self._options
+        return PublisherSettings(
+            made["max_loaned_samples"],
+            self.initial_max_slice_len,
+            made["preallocated_samples"] or None,
+            BackpressureStrategy(made["backpressure_strategy"]),
+            BackpressureHandler(made["backpressure_handler"]),
+            DegradationAction(made["degradation"]),
+            AllocationStrategy(made["allocation_strategy"]),
+        )
 
     @property
     def backpressure_strategy(self) -> BackpressureStrategy:

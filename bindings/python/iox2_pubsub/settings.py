@@ -9,6 +9,7 @@ from . import _core
 
 CHANNEL_STATE_OPEN = 0  #: that of a new channel
 CHANNEL_STATE_CLOSED = (1 << 64) - 1  #: of a channel that takes no message
+EVENT_ID_MAX_VALUE = 255  #: the largest id of an event
 
 
 class BackpressureStrategy(IntEnum):
@@ -76,6 +77,35 @@ class DomainSettings(NamedTuple):
     publisher_max_loaned_samples: int
     enable_safe_overflow: bool
     backpressure_strategy: BackpressureStrategy
+
+
+class PublisherSettings(NamedTuple):
+    """What a publisher was made with. `initial_max_slice_len` counts values; `preallocated_samples` is None for as many as it may need.
+
+    >>> import iox2_pubsub as ps
+    >>> ps.Domain(7, bytes, 64).publisher(max_loaned_samples=3).settings.max_loaned_samples
+    3
+    """
+
+    max_loaned_samples: int
+    initial_max_slice_len: int
+    preallocated_samples: int | None
+    backpressure_strategy: BackpressureStrategy
+    backpressure_handler: BackpressureHandler
+    degradation: DegradationAction
+    allocation_strategy: AllocationStrategy
+
+
+class SubscriberSettings(NamedTuple):
+    """What a subscriber was made with.
+
+    >>> import iox2_pubsub as ps
+    >>> ps.Domain(7, bytes, 64).subscriber(buffer_size=1).settings
+    SubscriberSettings(buffer_size=1, degradation=<DegradationAction.WARN: 1>)
+    """
+
+    buffer_size: int
+    degradation: DegradationAction
 
 
 class Header(NamedTuple):

@@ -7,6 +7,7 @@ from typing import AsyncIterator, Iterator
 
 from . import _core
 from ._core import Sample
+from .settings import DegradationAction, SubscriberSettings
 from .waits import MESSAGE, until_done
 
 
@@ -21,6 +22,16 @@ class Subscriber(_core.Subscriber):
     >>> [bytes(sample) for sample in subscriber]
     [b'abc', b'de']
     """
+
+    @property
+    def settings(self) -> SubscriberSettings:
+        """What it was made with.
+
+        >>> import iox2_pubsub as ps
+        >>> ps.Domain(7, bytes, 64).subscriber().settings.degradation
+        <DegradationAction.WARN: 1>
+        """
+        return SubscriberSettings(self.buffer_size, DegradationAction(self._options["degradation"]))
 
     def __iter__(self) -> Iterator[Sample]:
         """What waits, one message after the other. A `for` has one sample while it asks for the next.

@@ -10,7 +10,7 @@ from . import _core
 from ._core import Blocked, Loan
 from .errors import LoanExceedsMaxLoans, LoanOutOfMemory, PublisherIsBlocked, SendBlocked
 
-MESSAGE, ROOM, FREE, LOAN, DEAD_NODE = 1, 2, 4, 8, 64  # what is waited for, as Brings of waits.h
+MESSAGE, ROOM, FREE, LOAN, EVENT, DEAD_NODE = 1, 2, 4, 8, 32, 64  # what is waited for, as Brings of waits.h
 
 # A time that is up: a call tries as one that waits does, and doesn't wait. So a loan takes back what waited for closed subscribers.
 UP = 5e-324

@@ -91,6 +91,43 @@
   "...     domain.dead_nodes().wait_one() is None\n" \
   "True\n"
 
+/* Events. */
+
+#define EVENTS(name) NAMED(name) "...     notifier, listener = domain.notifier(), domain.listener()\n"
+
+#define DOC_NOTIFIER \
+  "Tells all listeners of a domain, in whichever process, that something happened: by a number, the event's id. `Domain.notifier`\n" \
+  "makes one. It takes no memory, and isn't closed.\n" \
+  "\n" EVENTS("Notifier") \
+  "...     notifier.notify(), notifier.notify(7), listener.wait_all() == {0, 7}\n" \
+  "(1, 1, True)\n"
+
+#define DOC_NOTIFIER_NOTIFY \
+  SIGNED("notify($self, /, event_id=None)") \
+  "Notifies by this id, or by its own, and returns how many listeners there are. NotifyEventIdOutOfBounds, NoDomain.\n" \
+  "\n" EVENTS("Notify") \
+  "...     notifier.notify(5), listener.wait_one()\n" \
+  "(1, 5)\n"
+
+#define DOC_NOTIFIER_DEFAULT_EVENT_ID "The id that it notifies by unless another is said."
+
+#define DOC_LISTENER_WAIT_ONE \
+  SIGNED("wait_one($self, /, timeout=0)") \
+  "The id of an event that came, of several by turns. None where none came within so many seconds; with None it waits for good, or\n" \
+  "until waits are stopped. NotLive.\n" \
+  "\n" EVENTS("WaitOne") \
+  "...     notifier.notify(5), notifier.notify(5), listener.wait_one(), listener.wait_one()\n" \
+  "(1, 1, 5, None)\n"
+
+#define DOC_LISTENER_WAIT_ALL \
+  SIGNED("wait_all($self, /, timeout=0)") \
+  "The ids of all events that came, as a set. It waits as wait_one() does, and is empty where that returns None.\n" \
+  "\n" EVENTS("WaitAll") \
+  "...     notifier.notify(5), notifier.notify(3), sorted(listener.wait_all()), len(listener.wait_all())\n" \
+  "(1, 1, [3, 5], 0)\n"
+
+#define DOC_LISTENER_ID "A number that no other listener of the domain has."
+
 /* What publishers and subscribers have. */
 
 #define DOC_PORT_CLOSE \

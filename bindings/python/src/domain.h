@@ -10,7 +10,7 @@
 struct Port;
 struct Waiter;
 
-enum { DOMAIN_KINDS = 5 }; /* of what other processes bring */
+enum { DOMAIN_KINDS = 6 }; /* of what other processes bring */
 
 /* Some calls on the domain, with no other between them. Returns the code of the last. Python isn't called there. */
 typedef iox2ps_status_t (*Make)(iox2ps_domain_t *domain, void *what);

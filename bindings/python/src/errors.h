@@ -9,6 +9,7 @@
 #define AFTER_FORK UINT32_C(0xfffffffd)
 #define IS_RAISED UINT32_C(0xfffffffc) /* an exception is set already */
 #define NOBODY_DIED UINT32_C(0xfffffffb)
+#define NO_EVENT UINT32_C(0xfffffffa)
 #define NOT_SHARED UINT32_C(224) /* as the library for processes says it */
 
 /* The exception of each code: a dict, which errors.py fills. */

@@ -3,6 +3,7 @@
 #include <pthread.h>
 
 #include "errors.h"
+#include "listeners.h"
 #include "loans.h"
 #include "nodes.h"
 #include "processes.h"
@@ -25,6 +26,8 @@ static const Type types[] = {{&domain_spec, &domain_type, NULL},
                              {&port_spec, &port_type, NULL},
                              {&publisher_spec, NULL, &port_type},
                              {&subscriber_spec, NULL, &port_type},
+                             {&notifier_spec, NULL, NULL},
+                             {&listener_spec, NULL, &port_type},
                              {&dead_nodes_spec, NULL, &port_type},
                              {&loan_spec, &loan_type, NULL},
                              {&sample_spec, &sample_type, NULL},

@@ -3,6 +3,7 @@
 
 #include "docs.h"
 #include "errors.h"
+#include "listeners.h"
 
 PyTypeObject *port_type;
 
@@ -35,6 +36,7 @@ static iox2ps_status_t close_there(iox2ps_domain_t *handle, const Port *self) {
   switch (self->kind) {
   case PORT_PUBLISHER: return iox2ps_publisher_close(handle, &self->publisher);
   case PORT_SUBSCRIBER: return iox2ps_subscriber_close(handle, &self->subscriber);
+  case PORT_LISTENER: return close_listener(handle, self);
   default: return IOX2PS_OK; /* the domain knows nothing of it */
   }
 }
@@ -47,7 +49,7 @@ static iox2ps_status_t close_made(iox2ps_domain_t *handle, void *what) {
 }
 
 static const uint32_t brought_by_close[] = {
-    [PORT_PUBLISHER] = BRINGS_MESSAGE, [PORT_SUBSCRIBER] = BRINGS_ROOM | BRINGS_LOAN, [PORT_DEAD_NODES] = 0};
+    [PORT_PUBLISHER] = BRINGS_MESSAGE, [PORT_SUBSCRIBER] = BRINGS_ROOM | BRINGS_LOAN, [PORT_LISTENER] = 0, [PORT_DEAD_NODES] = 0};
 
 iox2ps_status_t close_port(Port *self) {
   return self->is_open ? made(self->domain, brought_by_close[self->kind], close_made, self) : IOX2PS_OK;
@@ -93,7 +95,8 @@ static int port_traverse(Port *self, visitproc visit, void *arg) {
 }
 
 static const uint32_t waited_for[] = {
-    [PORT_PUBLISHER] = BRINGS_ROOM | BRINGS_FREE | BRINGS_LOAN, [PORT_SUBSCRIBER] = BRINGS_MESSAGE, [PORT_DEAD_NODES] = BRINGS_DEAD_NODE};
+    [PORT_PUBLISHER] = BRINGS_ROOM | BRINGS_FREE | BRINGS_LOAN, [PORT_SUBSCRIBER] = BRINGS_MESSAGE, [PORT_LISTENER] = BRINGS_EVENT,
+    [PORT_DEAD_NODES] = BRINGS_DEAD_NODE};
 
 static iox2ps_status_t list_own(iox2ps_domain_t *handle, void *what) {
   Port *self = what;

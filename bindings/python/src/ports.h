@@ -9,6 +9,7 @@
 typedef enum PortKind {
   PORT_PUBLISHER,
   PORT_SUBSCRIBER,
+  PORT_LISTENER,
   PORT_DEAD_NODES /* hears of processes that died */
 } PortKind;
 
@@ -21,8 +22,14 @@ typedef struct Port {
   char is_open;
   char is_left; /* it is closed once the send has ended that waits */
   union {
-    iox2ps_publisher_t publisher;
-    iox2ps_subscriber_t subscriber;
+    struct {
+      iox2ps_publisher_t publisher;
+      iox2ps_publisher_options_t publisher_options; /* which it was made with */
+    };
+    struct {
+      iox2ps_subscriber_t subscriber;
+      iox2ps_subscriber_options_t subscriber_options;
+    };
     uint64_t deaths; /* how many it has heard of */
   };
 } Port;
@@ -36,7 +43,7 @@ Port *new_port(PyTypeObject *type, Domain *domain, PortKind kind);
 /* Under the lock: it was made, and is open from now on. */
 void list_port(Port *port);
 
-/* A field of ports that have one. */
+/* A field of publishers and subscribers. */
 PyObject *port_id(Port *self, void *closure);
 
 /* Closes it if it is open; refused where an earlier send of it waits. */

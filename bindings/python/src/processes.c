@@ -17,6 +17,7 @@ static const struct Kind {
                          {BRINGS_ROOM, IOX2PS_BRINGS_ROOM},
                          {BRINGS_FREE, IOX2PS_BRINGS_FREE},
                          {BRINGS_LOAN, IOX2PS_BRINGS_LOAN},
+                         {BRINGS_EVENT, IOX2PS_BRINGS_EVENT},
                          {BRINGS_DEAD_NODE, IOX2PS_BRINGS_DEAD_NODE}};
 
 iox2ps_status_t others_fd(Domain *domain, uint32_t waits, int *fd) {

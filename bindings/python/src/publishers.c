@@ -38,6 +38,7 @@ static PyObject *publisher_new(PyTypeObject *type, PyObject *args, PyObject *nam
   if (!write_fields(options, publisher_fields, &making.options)) return NULL;
   making.port = new_port(type, domain, PORT_PUBLISHER);
   if (!making.port) return NULL;
+  making.port->publisher_options = making.options;
   iox2ps_status_t code = made(domain, BRINGS_MESSAGE, create_made, &making);
   if (code == IOX2PS_OK) return (PyObject *)making.port;
   Py_DECREF((PyObject *)making.port);
@@ -139,6 +140,11 @@ static PyObject *publisher_initial_max_slice_len(Port *self, void *closure) {
   return PyLong_FromSize_t(self->publisher.initial_max_slice_len / self->domain->unit);
 }
 
+static PyObject *publisher_options(Port *self, void *closure) {
+  (void)closure;
+  return read_fields(publisher_fields, &self->publisher_options);
+}
+
 static PyObject *publisher_backpressure_strategy(Port *self, void *closure) {
   (void)closure;
   return PyLong_FromUnsignedLong(self->publisher.backpressure_strategy);
@@ -154,6 +160,7 @@ static PyMethodDef publisher_calls[] = {
 
 static PyGetSetDef publisher_gets[] = {
     FIELD("id", port_id, DOC_PORT_ID),
+    FIELD("_options", publisher_options, "What it was made with, by names."),
     FIELD("is_blocked", publisher_is_blocked, DOC_PUBLISHER_IS_BLOCKED),
     FIELD("initial_max_slice_len", publisher_initial_max_slice_len, DOC_PUBLISHER_INITIAL_MAX_SLICE_LEN),
     FIELD("_backpressure_strategy", publisher_backpressure_strategy, DOC_PUBLISHER_STRATEGY),

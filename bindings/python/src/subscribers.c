@@ -29,6 +29,7 @@ static PyObject *subscriber_new(PyTypeObject *type, PyObject *args, PyObject *na
   if (!write_fields(options, subscriber_fields, &making.options)) return NULL;
   making.port = new_port(type, domain, PORT_SUBSCRIBER);
   if (!making.port) return NULL;
+  making.port->subscriber_options = making.options;
   uint32_t brings = BRINGS_SUBSCRIBER | BRINGS_LOAN | (domain->config.history_size > 0 ? BRINGS_MESSAGE : 0);
   iox2ps_status_t code = made(domain, brings, create_made, &making);
   if (code == IOX2PS_OK) return (PyObject *)making.port;
@@ -117,6 +118,11 @@ static PyObject *subscriber_buffer_size(Port *self, void *closure) {
   return PyLong_FromSize_t(self->subscriber.buffer_size);
 }
 
+static PyObject *subscriber_options(Port *self, void *closure) {
+  (void)closure;
+  return read_fields(subscriber_fields, &self->subscriber_options);
+}
+
 static PyMethodDef subscriber_calls[] = {
     SUBSCRIBER_CHANNEL_CALLS,
     METHOD("receive", subscriber_receive, WITH_WORDS, DOC_SUBSCRIBER_RECEIVE),
@@ -125,7 +131,8 @@ static PyMethodDef subscriber_calls[] = {
     {NULL, NULL, 0, NULL}};
 
 static PyGetSetDef subscriber_gets[] = {
-    FIELD("id", port_id, DOC_PORT_ID), FIELD("buffer_size", subscriber_buffer_size, DOC_SUBSCRIBER_BUFFER_SIZE), {NULL, NULL, NULL, NULL, NULL}};
+    FIELD("id", port_id, DOC_PORT_ID), FIELD("_options", subscriber_options, "What it was made with, by names."),
+    FIELD("buffer_size", subscriber_buffer_size, DOC_SUBSCRIBER_BUFFER_SIZE), {NULL, NULL, NULL, NULL, NULL}};
 
 static PyType_Slot subscriber_slots[] = {SLOT(Py_tp_new, subscriber_new), SLOT(Py_tp_methods, subscriber_calls),
                                          SLOT(Py_tp_getset, subscriber_gets), {0, NULL}};

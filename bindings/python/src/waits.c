@@ -48,6 +48,7 @@ uint32_t waits_of(iox2ps_status_t code) {
   case IOX2PS_PUBLISHER_IS_BLOCKED: return BRINGS_FREE;
   case IOX2PS_LOAN_ERROR_EXCEEDS_MAX_LOANS:
   case IOX2PS_LOAN_ERROR_OUT_OF_MEMORY: return BRINGS_LOAN | BRINGS_FREE;
+  case NO_EVENT: return BRINGS_EVENT;
   case NOBODY_DIED: return BRINGS_DEAD_NODE;
   default: return 0;
   }

@@ -13,6 +13,7 @@ typedef enum Brings {
   BRINGS_FREE = 4,       /* the end of a publisher's earlier send: IOX2PS_PUBLISHER_IS_BLOCKED */
   BRINGS_LOAN = 8,       /* a slot to lend: a refused loan */
   BRINGS_SUBSCRIBER = 16, /* all publishers connect to it, with their history */
+  BRINGS_EVENT = 32,      /* a notification: NO_EVENT */
   BRINGS_DEAD_NODE = 64   /* a process that died, by what others bring alone: NOBODY_DIED */
 } Brings;
 

@@ -40,6 +40,26 @@ def sends_many(name):
     wait_for_parent()
 
 
+def notifies(name):
+    """Sends a number and notifies by it, by turns."""
+    domain = opened(name)
+    publisher, notifier = domain.publisher(), domain.notifier()
+    say("is here")
+    number = 0
+    while True:
+        wait_for_parent()
+        number += 1
+        publisher.send_copy(number, timeout=None)
+        notifier.notify(number)
+        say(number)
+
+
+def listens(name):
+    with opened(name).listener():
+        say("is here")
+        wait_for_parent()
+
+
 def receives(name):
     subscriber = opened(name).subscriber()
     say("is here")
@@ -101,4 +121,4 @@ def waits_for_good(name):
 
 
 if __name__ == "__main__":
-    {call.__name__: call for call in (sends, sends_many, receives, keeps, has_some, has_all, has_it, waits_for_good)}[sys.argv[1]](sys.argv[2])
+    {call.__name__: call for call in (sends, sends_many, notifies, listens, receives, keeps, has_some, has_all, has_it, waits_for_good)}[sys.argv[1]](sys.argv[2])

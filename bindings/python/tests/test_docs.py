@@ -7,10 +7,10 @@ from pathlib import Path
 import pytest
 
 import iox2_pubsub as ps
-from iox2_pubsub import _core, domain, errors, nodes, publisher, settings, subscriber, values, waits
+from iox2_pubsub import _core, domain, errors, listener, nodes, publisher, settings, subscriber, values, waits
 
-MODULES = [ps, domain, errors, nodes, publisher, settings, subscriber, values, waits]
-CLASSES = [_core.Domain, _core.Port, _core.Publisher, _core.Subscriber, _core.DeadNodes, ps.Loan, ps.Sample, ps.Blocked]
+MODULES = [ps, domain, errors, listener, nodes, publisher, settings, subscriber, values, waits]
+CLASSES = [_core.Domain, _core.Port, _core.Publisher, _core.Subscriber, _core.Listener, _core.DeadNodes, ps.Loan, ps.Notifier, ps.Sample, ps.Blocked]
 
 
 def documented():
@@ -20,7 +20,7 @@ def documented():
     for name in ps.__all__:
         if not isinstance(getattr(ps, name), int):
             yield name, getattr(ps, name)
-    for kind in [*CLASSES, ps.Domain, ps.Publisher, ps.Subscriber, ps.DeadNodes]:
+    for kind in [*CLASSES, ps.Domain, ps.Publisher, ps.Subscriber, ps.Listener, ps.DeadNodes]:
         for name, what in vars(kind).items():
             if not name.startswith("_"):
                 yield f"{kind.__name__}.{name}", what

@@ -305,3 +305,31 @@ def test_bad_options_of_a_publisher_are_refused(options, kind):
     with pytest.raises(kind):
         domain.publisher(**options)
     assert domain.publisher().is_open
+
+
+@pytest.mark.parametrize("preallocated", [None, 5])
+def test_settings_of_a_publisher_are_read_back(preallocated):
+    domain = ps.Domain(7, "f4", 10)
+    given = {
+        "max_loaned_samples": 3, "initial_max_slice_len": 7, "preallocated_samples": preallocated,
+        "backpressure_strategy": ps.BackpressureStrategy.DISCARD_DATA, "backpressure_handler": ps.BackpressureHandler.RETRY,
+        "degradation": ps.DegradationAction.FAIL, "allocation_strategy": ps.AllocationStrategy.POWER_OF_TWO,
+    }  # fmt: skip
+    read = domain.publisher(**given).settings
+    assert read._asdict() == given
+    assert [type(one) for one in read[3:]] == [ps.BackpressureStrategy, ps.BackpressureHandler, ps.DegradationAction, ps.AllocationStrategy]
+
+
+def test_settings_of_a_publisher_by_default_are_the_domain_s():
+    domain = ps.Domain(7, "f4", 10, publisher_max_loaned_samples=6, backpressure_strategy=ps.BackpressureStrategy.DISCARD_DATA)
+    assert domain.publisher().settings == (
+        6, 10, None, ps.BackpressureStrategy.DISCARD_DATA, ps.BackpressureHandler.NONE, ps.DegradationAction.WARN, ps.AllocationStrategy.STATIC
+    )
+
+
+def test_settings_of_a_subscriber_are_read_back():
+    domain = ps.Domain(7, "f4", subscriber_max_buffer_size=4)
+    assert domain.subscriber().settings == (4, ps.DegradationAction.WARN)
+    with domain.subscriber(buffer_size=0, degradation=ps.DegradationAction.IGNORE) as subscriber:
+        pass
+    assert subscriber.settings == (1, ps.DegradationAction.IGNORE)

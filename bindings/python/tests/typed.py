@@ -26,11 +26,22 @@ except ps.SendBlocked as error:
     given_up: int | None = error.blocked.give_up()
 warned: list[ps.Warning] = domain.warnings
 text, missed = domain.recording()
+named = ps.Domain.open_or_create("My/Types", "f4", service_id=7)
+pids: list[int] = [node.pid for node in named.nodes()] + [node.pid for node in named.dead_nodes(since=0)]
+kinds: list[ps.PortKind] = [port.kind for port in named.ports()]
+told: int = named.notifier().notify(7)
+listener = named.listener()
+ids: frozenset[int] = listener.wait_all(timeout=1.0)
+one: int = listener.wait_one()  # type: ignore[assignment]
+named.notifier().notify("7")  # type: ignore[arg-type]
+slots: int | None = publisher.settings.preallocated_samples
 
 
 async def read() -> int:
     async for one in subscriber:
         print(one.array)
+    async for event_id in listener:
+        print(event_id + 1)
     late = await subscriber.receive_async()
     late.release()  # type: ignore[union-attr]
     async with subscriber:  # type: ignore[attr-defined]
