@@ -16,8 +16,8 @@ enum { MESSAGE_SLEEPERS = 0, ROOM_SLEEPERS = 1, LOAN_SLEEPERS = 3, EVENT_SLEEPER
 static char name[64];
 static iox2ps_config_t config;
 
-/* What processes tell each other beside the domain: where each is, how many are ready, and where a send stands. */
-static struct told_t { _Atomic uint64_t places[SUBSCRIBERS], ready, stands_at, is_over; } *told;
+/* What processes tell each other beside the domain: where each is, how many are ready, where a send stands, and how often one looked. */
+static struct told_t { _Atomic uint64_t places[SUBSCRIBERS], ready, stands_at, looks, is_over; } *told;
 
 static iox2ps_domain_t opened(uint32_t reap_every_ms) {
   iox2ps_domain_t domain = IOX2PS_DOMAIN_INIT;
@@ -407,13 +407,20 @@ static void a_notification(void) {
   destroy(&domain);
 }
 
+static const _Atomic uint64_t *looks_of(const iox2ps_domain_t *domain) {
+  const places_t *places = &shared_domain_of(domain)->group->member.files.places;
+  return &places->shared->looks[places->own];
+}
+
 static void waits_alone(const char *of, pid_t self) {
   (void)of;
   iox2ps_domain_t domain = opened(SHORT_MS);
   uint64_t seen = seen_of(&domain, IOX2PS_BRINGS_MESSAGE);
   CHECK(iox2ps_domain_wait(&domain, IOX2PS_BRINGS_MESSAGE, seen, 2 * (uint64_t)SHORT_MS * 1000000) == IOX2PS_PROCESSES_TIMED_OUT);
+  uint64_t before = *looks_of(&domain);
   mark(self);
   CHECK(iox2ps_domain_wait(&domain, IOX2PS_BRINGS_MESSAGE, seen, (uint64_t)LOOKS * SHORT_MS * 1000000) == IOX2PS_PROCESSES_TIMED_OUT);
+  told->looks = *looks_of(&domain) - before;
   mark(self);
 }
 
@@ -421,21 +428,20 @@ static void waits_alone(const char *of, pid_t self) {
  * only where that hasn't looked since, as the machine is busy. */
 static void idle(void) {
   pid_t children[IDLE];
-  bool is_at_mark;
-  uint64_t fewest = UINT64_MAX;
+  bool is_at_mark, is_quiet = false;
   memset(told, 0, sizeof *told);
   for (int i = 0; i < IDLE; i++) children[i] = run_child(sleep_in_vain, 0);
   wait_for_ready(IDLE);
-  for (int tries = 0; tries < 100 && fewest > LOOKS + 1; tries++) {
+  for (int tries = 0; tries < 100 && !is_quiet; tries++) {
     pid_t child = traced_child(waits_alone, name);
-    uint64_t stops = child > 0 ? run_to_mark(child, PTRACE_SYSCALL, UINT64_MAX, &is_at_mark) : 0;
-    CHECK(stops >= 2 && stops % 2 == 0 && is_at_mark);
+    uint64_t stops = child > 0 ? run_to_mark(child, PTRACE_SYSCALL, UINT64_MAX, &is_at_mark) : 0, calls = stops / 2 - 1;
+    CHECK(stops >= 4 && stops % 2 == 0 && is_at_mark && told->looks > 0);
     end_child(child);
-    if (stops / 2 - 1 < fewest) fewest = stops / 2 - 1;
+    printf("%llu looks of an idle process beside %d others: %llu calls of the system\n", (unsigned long long)told->looks, IDLE, (unsigned long long)calls);
+    is_quiet = calls <= told->looks + 1;
   }
-  printf("%d looks of an idle process beside %d others: %llu calls of the system\n", LOOKS, IDLE, (unsigned long long)fewest);
   fflush(stdout);
-  CHECK(fewest > 0 && fewest <= LOOKS + 1);
+  CHECK(is_quiet);
   for (int i = 0; i < IDLE; i++) end_child(children[i]);
   iox2ps_domain_t domain = opened(HOUR_MS); /* and its last process removes the files */
   destroy(&domain);
