@@ -2,6 +2,7 @@
 """What a message's values are: bytes, or what numpy has a dtype for."""
 from __future__ import annotations
 
+from hashlib import sha256
 from typing import Any, Callable, NamedTuple
 
 
@@ -57,36 +58,58 @@ def values_of(dtype: Any, is_single: bool) -> Values:
 
 
 # How Rust and C++ name numbers, by the kinds of numpy.
-LETTERS = {"b": "bool", "i": "i", "u": "u", "f": "f", "c": "c", "m": "i", "M": "i"}
+LETTERS = {"i": "i", "u": "u", "f": "f", "c": "c"}
+MOST_BYTES_OF_NAME = 127  # of a type, between processes
 
 
-def _name_of(kind: Any) -> str:
-    if kind.shape:
-        return f"[{_name_of(kind.base)}; {kind.shape[0]}]" if len(kind.shape) == 1 else _nested(kind.base, kind.shape)
-    if kind.fields:
-        fields = ", ".join(f"{name}: {_name_of(kind.fields[name][0])}" for name in kind.names)
-        return f"{{{fields}}}"
-    if kind.kind == "b":
-        return "bool"
-    if kind.kind in LETTERS:
-        return f"{LETTERS[kind.kind]}{kind.itemsize * 8}"
-    return f"[u8; {kind.itemsize}]"
-
-
-def _nested(base: Any, shape: tuple[int, ...]) -> str:
-    name = _name_of(base)
+def _nested(name: str, shape: tuple[int, ...]) -> str:
     for length in reversed(shape):
         name = f"[{name}; {length}]"
     return name
 
 
+def _fields_of(kind: Any) -> str:
+    """Each field, and where it lies unless that is behind the one before."""
+    fields, end = [], 0
+    for name in kind.names:
+        field, at = kind.fields[name][:2]
+        fields.append(f"{name}: {_name_of(field)}" + (f" @ {at}" if at != end else ""))
+        end = at + field.itemsize
+    return f"{{{', '.join(fields)}}}"
+
+
+def _name_of(kind: Any) -> str:
+    if kind.shape:
+        return _nested(_name_of(kind.base), kind.shape)
+    if kind.fields:
+        return _fields_of(kind)
+    if not kind.isnative:
+        return f"{'big' if kind.byteorder == '>' else 'little'}-endian {_name_of(kind.newbyteorder('='))}"
+    if kind.kind in LETTERS:
+        return f"{LETTERS[kind.kind]}{kind.itemsize * 8}"
+    if kind.kind in "bmM":
+        return str(kind.name)  # with its unit, as in "datetime64[ms]"
+    return f"[char; {kind.itemsize // 4}]" if kind.kind == "U" else f"[u8; {kind.itemsize}]"
+
+
+def _shortened(name: str) -> str:
+    """A long name by its beginning and the sum of all of it."""
+    encoded = name.encode()
+    if len(encoded) <= MOST_BYTES_OF_NAME:
+        return name
+    digest = sha256(encoded).hexdigest()
+    return f"{encoded[: MOST_BYTES_OF_NAME - len(digest) - 1].decode(errors='ignore')} {digest}"
+
+
 def type_name_of(dtype: Any, is_single: bool) -> str:
     """By which name processes compare a type: as Rust and C++ name numbers and arrays, "u64" and "[u64; 3]"; "[u64]" where a message has
-    many values. That of a struct has its fields: `type_name` says the one that a program in Rust or C++ has.
+    many values. That of a struct has its fields, and a long one is shortened: `type_name` says the one that a program in Rust or C++ has.
 
     >>> import numpy as np
     >>> type_name_of("f8", True), type_name_of(("u8", (2, 3)), False), type_name_of(bytes, False)
     ('f64', '[[[u64; 3]; 2]]', '[u8]')
+    >>> type_name_of(np.dtype([("id", "u1"), ("at", "f8")], align=True), True)
+    '{id: u8, at: f64 @ 8}'
     """
     if dtype is bytes:
         name = "u8"
@@ -94,4 +117,4 @@ def type_name_of(dtype: Any, is_single: bool) -> str:
         import numpy as np
 
         name = _name_of(np.dtype(dtype))
-    return name if is_single else f"[{name}]"
+    return _shortened(name if is_single else f"[{name}]")

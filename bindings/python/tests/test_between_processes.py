@@ -6,6 +6,7 @@ import select
 import signal
 from pathlib import Path
 
+import numpy as np
 import pytest
 from helpers import PATIENCE, Beside, end, go_on, hear, until, value, waiting, wants_processes
 
@@ -319,6 +320,34 @@ def test_names_of_types_are_those_of_rust():
         "bool", "u8", "f64", "[[i32; 3]; 2]", "[u8; 8]", "{x: f32, at: [u16; 3]}"
     ]
     assert type_name_of("u8", False) == "[u64]" and type_name_of(bytes, False) == "[u8]"
+
+
+def joints(count):
+    return np.dtype([(f"jöint_{number}", "f8") for number in range(count)])
+
+
+# No two of them are the same in memory, or mean the same.
+OF_OTHER_MEANING = (
+    "i8", "u8", "f8", "c8", "M8[s]", "M8[ms]", "m8[s]", ">i8", ">f8", ">M8[s]", "S8", "U2", [("a", "u1"), ("b", "f4")], [("b", "u1"), ("a", "f4")],
+    np.dtype([("a", "u1"), ("b", "f4")], align=True), np.dtype({"names": ["a", "b"], "formats": ["u1", "f4"], "offsets": [4, 0]}), ("u4", (2,)), ("u2", (2, 2)),
+    joints(20), joints(21), np.dtype([("a", joints(20)), ("b", "u1")]),
+)  # fmt: skip
+
+
+def test_types_that_are_read_otherwise_have_other_names():
+    from iox2_pubsub.values import type_name_of
+
+    names = [type_name_of(dtype, is_single) for dtype in OF_OTHER_MEANING for is_single in (True, False)]
+    assert len(set(names)) == len(names) and max(len(name.encode()) for name in names) == 127
+
+
+def test_a_struct_of_many_fields_has_a_name(name):
+    dtype = joints(30)
+    with ps.Domain.create(name, dtype) as domain, domain.publisher() as publisher, domain.subscriber() as subscriber:
+        publisher.send_copy(np.ones((), dtype))
+        with pytest.raises(ps.OpenIncompatibleTypes):
+            ps.Domain.open(name, joints(31))
+        assert subscriber.receive().array["jöint_29"] == 1
 
 
 def test_calls_are_recorded_where_it_is_created_so(name):
