@@ -124,7 +124,7 @@ class LoanInternalFailure(LoanError, MemoryError):
     """Memory is to grow and can't, or no number is left for a message."""
 
     code = 13
-    _text = "memory is to grow and can't: lend shorter messages"
+    _text = "memory is to grow and can't: lend shorter messages, or create a domain of processes with more payload_room"
 
 
 class SendConnectionBrokenSinceSenderNoLongerExists(SendError):
@@ -194,7 +194,7 @@ class PublisherUnableToCreateDataSegment(PublisherCreateError, MemoryError):
     """Memory for its messages was refused, or there can't be that much."""
 
     code = 51
-    _text = "memory for the publisher's messages was refused: lower max_len, preallocated_samples or the domain's limits"
+    _text = "memory for the publisher's messages was refused: lower max_len, preallocated_samples or limits, or create a domain of processes with more payload_room"
 
 
 class PublisherFailedToDeployThreadsafetyPolicy(PublisherCreateError, MemoryError):
@@ -366,7 +366,7 @@ class OpenInvalidArgument(DomainOpenError, ValueError):
     """What can't be a name, or an option."""
 
     code = 208
-    _text = "no such name or option: a name has 1 to 255 bytes of UTF-8, as 'My/Service', and no part '.' or '..'"
+    _text = "no such name or options: a name has 1 to 255 bytes of UTF-8, as 'My/Service', and no part '.' or '..'; lower what is too large"
 
 
 class OpenInternalFailure(DomainOpenError, OSError):

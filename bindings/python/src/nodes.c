@@ -19,12 +19,14 @@ static iox2ps_status_t cleanup_made(iox2ps_domain_t *handle, void *what) { retur
 typedef struct Found {
   char *all;
   size_t count, size; /* the size of one */
+  char lacks_memory;
 } Found;
 
 static int note(const void *one, void *context) {
   Found *found = context;
   char *all = realloc(found->all, (found->count + 1) * found->size);
-  if (!all) return free(found->all), found->all = NULL, 1;
+  found->lacks_memory = !all;
+  if (!all) return 1;
   memcpy(all + found->count++ * found->size, one, found->size);
   found->all = all;
   return 0;
@@ -49,7 +51,7 @@ static PyObject *port_of(const void *one) {
 
 /* All of them as a list, and their end. */
 static PyObject *listed(Found *found, PyObject *(*object_of)(const void *)) {
-  PyObject *list = found->count && !found->all ? PyErr_NoMemory() : PyList_New(0);
+  PyObject *list = found->lacks_memory ? PyErr_NoMemory() : PyList_New(0);
   for (size_t at = 0; list && at < found->count; at++) {
     PyObject *one = object_of(found->all + at * found->size);
     if (!one || PyList_Append(list, one) < 0) Py_CLEAR(list);
@@ -67,14 +69,14 @@ PyObject *domain_node_id(Domain *self, void *closure) {
 }
 
 PyObject *domain_nodes(Domain *self, PyObject *none) {
-  Found found = {NULL, 0, sizeof(iox2ps_node_t)};
+  Found found = {.size = sizeof(iox2ps_node_t)};
   (void)none;
   iox2ps_status_t code = made(self, 0, nodes_made, &found);
   return code == IOX2PS_OK ? listed(&found, node_of) : refused(code);
 }
 
 PyObject *domain_ports(Domain *self, PyObject *none) {
-  Found found = {NULL, 0, sizeof(iox2ps_port_t)};
+  Found found = {.size = sizeof(iox2ps_port_t)};
   (void)none;
   iox2ps_status_t code = made(self, 0, ports_made, &found);
   return code == IOX2PS_OK ? listed(&found, port_of) : refused(code);
