@@ -9,7 +9,8 @@ from . import python_costs, python_faults
 from .places import BINDINGS, OUT, is_here
 from .programs import ARCHIVE, SANITIZERS
 from .python_wheels import (
-    IGNORED, SOURCE, TESTED_BY, answers, build_wheel, built_twice, by_nothing_else, environment, include, interpreter, lacking, same_bytes
+    IGNORED, SOURCE, TESTED_BY, answers, build_wheel, built_twice, by_later_pythons, by_nothing_else, environment, include, interpreter, lacking,
+    later_pythons, same_bytes
 )
 from .steps import Failed, said
 from .targets import X86_64
@@ -45,6 +46,17 @@ def tested(work, python, others):
     """All tests, also the lines in the comments, and those of other languages in the same process."""
     places = {**os.environ, "IOX2_PUBSUB_CAMERAS": others}
     return said(python, "-m", "pytest", "-q", "-p", "no:cacheprovider", SOURCE / "tests", cwd=work, env=places)
+
+
+# What is tested over domains of one process, and over those that processes share just so.
+BOTH_WAYS = ("answers", "bad_input", "channels", "events", "lifetimes", "messages", "processes", "sends", "settings", "threads", "waits")
+
+
+def tested_by_name(work, python):
+    """The same tests of domains that processes share."""
+    files = [SOURCE / f"tests/test_{name}.py" for name in BOTH_WAYS]
+    places = {**os.environ, "PYTHONPATH": str(SOURCE / "tests"), "PYTHONDONTWRITEBYTECODE": "1"}
+    return said(python, "-m", "pytest", "-q", "-p", "no:cacheprovider", "-p", "by_name", *files, cwd=work, env=places)
 
 
 def random_calls(work, python, script_of_run):
@@ -197,12 +209,17 @@ def run_python(steps, work, script_of_run):
     if steps.failed > before:
         return
     steps.run("python, an empty environment", by_nothing_else, work)
+    if later_pythons():
+        steps.run("python, later versions", by_later_pythons, work)
+    else:
+        steps.skip("python, later versions", "Python 3.12")
     if lack := lacking(TESTED_BY):
         steps.skip("python, tests", lack)
         return
     python = environment(work, "with_numpy", "--system-site-packages")
     others = cameras(work)
     steps.run("python, pytest", tested, work, python, others)
+    steps.run("python, pytest over domains that processes share", tested_by_name, work, python)
     run_types(steps, work, python)
     run_page(steps, work, python)
     steps.run("python, a million messages leave nothing", said, python, SOURCE / "tests/leaks.py")

@@ -210,6 +210,33 @@ def by_nothing_else(work):
     return said(environment(work, "empty"), SOURCE / "tests/without_numpy.py", cwd=work)
 
 
+# Where pyenv has other versions.
+PYENV = Path(os.environ.get("PYENV_ROOT", Path.home() / ".pyenv"), "versions")
+
+
+def python_of(minor):
+    """An interpreter of Python 3 with this second number on this machine, or None."""
+    name = f"python3.{minor}"
+    found = filter(None, (shutil.which(name), *sorted(PYENV.glob(f"3.{minor}.*/bin/{name}"))))
+    return next((python for python in found if has(python, f"import sys; assert sys.version_info[:2] == (3, {minor})")), None)
+
+
+def later_pythons():
+    """Those of later versions than the package is built for, by their version."""
+    found = {f"3.{minor}": python_of(minor) for minor in range(12, 20)}
+    return {version_: python for version_, python in found.items() if python}
+
+
+def by_later_pythons(work):
+    """The one wheel, unpacked, by each of them."""
+    place, pythons = work / "unpacked_for_later", later_pythons()
+    with zipfile.ZipFile(next(work.glob(f"*_{X86_64.name}.whl"))) as file:
+        file.extractall(place)
+    for python in pythons.values():
+        said(python, SOURCE / "tests/without_numpy.py", cwd=work, env={**os.environ, "PYTHONPATH": str(place)})
+    return ", ".join(pythons)
+
+
 # Where Debian's packages for other processors are installed, or unpacked.
 ROOT = Path(os.environ.get("IOX2_PUBSUB_ROOT", "/"))
 # Debian has Python as a library for another processor beside this one's: a program of one line is the interpreter.

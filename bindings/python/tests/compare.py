@@ -18,6 +18,8 @@ import iox2_pubsub as ps
 
 ROUNDS = 9
 SIZES = ((64, 4000), (1 << 20, 100))
+# At most so much of multiprocessing.Queue's time a message takes to another process, at each of these.
+MOST_OF_QUEUE = (0.5, 0.05)
 
 
 def in_place(bytes_):
@@ -151,14 +153,15 @@ class ByDomains:
             return sample.array[()]
 
 
+QUEUE, SHARED = "`multiprocessing.Queue`, and an answer", "in place to another process, and an answer"
 WAYS = (
     ("in place, arrays", in_place, 1),
     ("in place, memoryviews", in_memoryviews, 1),
     ("`send_copy` of an array", copied, 1),
     ("`queue.Queue` of copies", by_queue, 1),
     ("a numpy copy alone", copy_alone, 1),
-    ("`multiprocessing.Queue`, and an answer", ByProcesses, 20),
-    ("in place to another process, and an answer", ByDomains, 20),
+    (QUEUE, ByProcesses, 20),
+    (SHARED, ByDomains, 20),
 )
 
 
@@ -185,9 +188,13 @@ def main():
             message(number)
         return
     columns = [times(bytes_, messages) for bytes_, messages in SIZES]
+    rows = {name: row for (name, *_), *row in zip(WAYS, *columns)}
     print("| One thread, µs a message | 64 B | 1 MB |\n|---|---|---|")
-    for (name, *_), *row in zip(WAYS, *columns):
+    for name, row in rows.items():
         print(f"| {name} | " + " | ".join(f"{value:.1f}" for value in row) + " |")
+    shares = [shared / queued for shared, queued in zip(rows[SHARED], rows[QUEUE])]
+    if any(share > most for share, most in zip(shares, MOST_OF_QUEUE)):
+        sys.exit(f"to another process it takes {shares} of the queue's time, and may take {MOST_OF_QUEUE}")
 
 
 if __name__ == "__main__":
