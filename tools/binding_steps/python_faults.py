@@ -45,6 +45,15 @@ FAULTS = (
     ("a loan that waits updates nothing", "waits.c", "  if (code != IOX2PS_LOAN_ERROR_OUT_OF_MEMORY) return code;\n  made(", "  return code;\n  made("),
     ("a descriptor of other processes stays readable", "processes.c", "if (iox2ps_domain_clear_file_descriptor(&domain->handle) != IOX2PS_OK) bring", "if (0) bring"),
     ("other processes raise no descriptor", "waits.c", "  if (both >= 0) waiter->fd = both;\n  return both >= 0;", "  if (both >= 0) close(both);\n  return 1;"),
+    ("those who wait at one port share a descriptor", "waits.c", "  Waiter *waiter = take_waiter(port, waits);\n", "  if (!port->own) port->own = take_waiter(port, waits);\n  Waiter *waiter = port->own;\n", "  if (is_here(domain)) give_waiter(domain, waiter);\n", ""),
+    ("a look for the dead wakes nobody", "nodes.c", "  if (count > 0) tell_of_others(dead->port->domain);\n", ""),
+    ("what the dead had wakes nobody", "nodes.c", "  tell_of_others(self);\n", ""),
+    ("who asks for the dead doesn't look for them", "nodes.c", "made_at(self, 0, look_made, &dead)", "made_at(self, 0, next_made, &dead)"),
+    ("no death wakes anybody", "processes.c", "{BRINGS_DEAD_NODE, IOX2PS_BRINGS_DEAD_NODE}", "{0, IOX2PS_BRINGS_DEAD_NODE}"),
+    ("no thread of its process hears of an event", "listeners.c", "made(self->domain, BRINGS_EVENT, notify_made", "made(self->domain, 0, notify_made"),
+    ("no event of another process wakes anybody", "processes.c", "{BRINGS_EVENT, IOX2PS_BRINGS_EVENT}", "{0, IOX2PS_BRINGS_EVENT}"),
+    ("a closed listener goes on", "ports.c", "case PORT_LISTENER: return close_listener(handle, self);", "case PORT_LISTENER: return IOX2PS_OK;"),
+    ("a name is cut at its zero", "processes.c", "strlen(text) != (size_t)len", "len < 0"),
     ("a retry that is blocked where it was wakes those who wait for messages", "sends.c", "? IOX2PS_PUBLISHER_IS_BLOCKED : code;", "? code : code;"),
 )
 
