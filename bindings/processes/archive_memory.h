@@ -4,13 +4,23 @@
 #ifndef IOX2PS_ARCHIVE_MEMORY_H
 #define IOX2PS_ARCHIVE_MEMORY_H
 
+#include "../archive/slot_blocks.h"
 #include "payload_extents.h"
 
-/* From now on this thread takes memory of this heap, and gives back what it took of it and of these extents for payloads; or as before
- * again: two nulls. */
-void archive_memory_use(region_heap_t *heap, payload_extents_t *payloads);
-/* Whether the next call makes a publisher or lends: no other takes memory of the extents. */
-void archive_memory_expect_slots(bool may_make_slots);
+typedef struct archive_memory_t {
+  region_heap_t heap;
+  payload_extents_t payloads; /* where the domains believe them to be */
+  slot_blocks_t last;
+  bool may_make_slots;        /* the call makes a publisher or lends, as no other does that takes memory of the extents */
+} archive_memory_t;
+
+/* What this thread takes memory of, and gives back what it took there; null is malloc's. */
+extern _Thread_local archive_memory_t *archive_memory_now;
+static inline void archive_memory_use(archive_memory_t *it, bool may_make_slots) {
+  it->may_make_slots = may_make_slots, it->last = (slot_blocks_t){0};
+  archive_memory_now = it;
+}
+static inline void archive_memory_use_plain(void) { archive_memory_now = NULL; }
 /* The archive's memset, which leaves payloads alone: who is lent one fills it where that is. */
 void *archive_memory_fill(void *bytes, int with, size_t size);
 

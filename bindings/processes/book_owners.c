@@ -15,8 +15,7 @@ bool book_owners_reserve(book_owners_t *it, region_heap_t *heap, size_t books) {
   return true;
 }
 
-void book_owners_note(book_owners_t *it, const live_handles_t *handles, const uint64_t publisher[HANDLE_WORDS], uint64_t book) {
-  if (book >= it->room || it->all[book].publisher == publisher[0]) return;
+void book_owners_note_other(book_owners_t *it, const live_handles_t *handles, const uint64_t publisher[HANDLE_WORDS], uint64_t book) {
   const live_handle_t *handle = live_handles_find(handles, HANDLE_PUBLISHER, publisher);
   if (handle != NULL) it->all[book] = (book_owner_t){publisher[0], handle->words[NODE_WORD]};
 }

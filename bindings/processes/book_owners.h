@@ -15,8 +15,12 @@ typedef struct book_owners_t {
 
 /* Makes room for one more book than there are, so that a publisher may be made. */
 bool book_owners_reserve(book_owners_t *it, region_heap_t *heap, size_t books);
-/* A loan of the publisher lies in this book: the process is that of the publisher's handle. */
-void book_owners_note(book_owners_t *it, const live_handles_t *handles, const uint64_t publisher[HANDLE_WORDS], uint64_t book);
+/* A loan of another publisher than before lies in this book: the process is that of the publisher's handle. */
+void book_owners_note_other(book_owners_t *it, const live_handles_t *handles, const uint64_t publisher[HANDLE_WORDS], uint64_t book);
+/* A loan of the publisher lies in this book. */
+static inline void book_owners_note(book_owners_t *it, const live_handles_t *handles, const uint64_t publisher[HANDLE_WORDS], uint64_t book) {
+  if (book < it->room && it->all[book].publisher != publisher[0]) book_owners_note_other(it, handles, publisher, book);
+}
 /* The number of the process, or 0. */
 uint64_t book_owners_process(const book_owners_t *it, uint64_t book);
 

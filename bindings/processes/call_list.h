@@ -30,6 +30,9 @@
 #ifndef CALL_PLACES
 #define CALL_PLACES 64
 #endif
+/* What each message takes, compiled into its caller. */
+#define ALWAYS_INLINE __attribute__((always_inline)) static inline
+
 /* The last word of an entry is the list's own. */
 enum { CALL_ARGUMENTS = CALL_WORDS - 1, CALL_LENGTH_MAX = 8192 };
 
@@ -90,10 +93,7 @@ typedef enum call_step_t {
 size_t call_list_size(uint32_t places, uint32_t length);
 call_list_t call_list_at(void *memory, uint32_t places, uint32_t length);
 
-/* Writes a call, and asks whoever adds calls to add it. It is in the list as soon as `entries` of the place is more than
- * before. One call of a place at a time. */
-void call_list_announce(const call_list_t *list, const call_progress_t *progress, uint32_t place, const uint64_t arguments[CALL_ARGUMENTS]);
-/* The same, of the end of a process, which has a number that is larger than those of the processes that had its place
+/* Announces the end of a process, which has a number that is larger than those of the processes that had its place
  * before. The list may have several calls that say the same; the first counts, and gives back what the process had. So
  * whoever says it late takes nothing from the next process in the place. */
 void call_list_announce_end(const call_list_t *list, const call_progress_t *progress, uint32_t place, call_end_t end);
@@ -101,9 +101,87 @@ void call_list_announce_end(const call_list_t *list, const call_progress_t *prog
 bool call_list_is_announced(const call_list_t *list, const call_progress_t *progress, uint32_t place);
 /* Whether there is a call behind so many. It needs no progress, so that it may be asked while a call is made. */
 bool call_list_has_more(const call_list_t *list, uint64_t calls);
-/* Tries to add one call behind the calls made. Whether one is there afterwards says the next step. */
-void call_list_add(const call_list_t *list, const call_progress_t *progress, uint32_t place);
 /* Makes the next call of the list. */
 call_step_t call_list_step(const call_list_t *list, call_progress_t *progress, call_apply_t *apply, void *object, call_own_t own);
+
+/* ---- what each call takes
+ *
+ * Comments say why each order is as strong as it is, and what the model finds where it is weaker. Those in places.c are beyond the
+ * model: there the system's locks order all that counts. */
+
+/* A word of `order`: the number of the call and 1 (so that 0 is none), the place, and which of its entries. */
+enum { CALL_ENTRY_BITS = 14, CALL_PLACE_BITS = 6, CALL_NUMBER_BITS = 64 - CALL_ENTRY_BITS - CALL_PLACE_BITS };
+_Static_assert(2 * CALL_LENGTH_MAX <= 1 << CALL_ENTRY_BITS && CALL_PLACES <= 1 << CALL_PLACE_BITS, "a word of `order` has room");
+#define CALL_NUMBER_MASK ((UINT64_C(1) << CALL_NUMBER_BITS) - 1)
+
+/* The last word of an entry: whether it says an end, and the reply that its process got before. */
+enum { CALL_IS_END = 1 };
+
+static inline uint64_t call_name(uint64_t call, uint32_t place, uint64_t entry) {
+  return ((call + 1) & CALL_NUMBER_MASK) << (CALL_ENTRY_BITS + CALL_PLACE_BITS) | (uint64_t)place << CALL_ENTRY_BITS | entry;
+}
+
+/* Calls from that which a word of `order` names to the given one: 0 if it is that one, negative if a later one is there. The
+ * numbers of calls begin anew after 2^44 of them. */
+static inline int64_t call_distance(uint64_t name, uint64_t call) {
+  uint64_t difference = (call + 1 - (name >> (CALL_ENTRY_BITS + CALL_PLACE_BITS))) << (64 - CALL_NUMBER_BITS);
+  return (int64_t)difference >> (64 - CALL_NUMBER_BITS);
+}
+
+static inline _Atomic uint64_t *call_order(const call_list_t *list, uint64_t call) { return &list->order[call & (list->length - 1)]; }
+static inline uint64_t call_index(const call_list_t *list, uint64_t entry) { return entry & (2 * list->length - 1); }
+static inline call_entry_t *call_entry(const call_list_t *list, uint32_t place, uint64_t entry) {
+  return &list->entries[place * 2 * (size_t)list->length + call_index(list, entry)];
+}
+
+/* What of the list is a place's. */
+typedef struct call_seat_t {
+  uint32_t place;
+  call_announcement_t *announcement;
+  call_entry_t *entries;
+} call_seat_t;
+static inline call_seat_t call_seat_at(const call_list_t *list, uint32_t place) { return (call_seat_t){place, &list->announcements[place], call_entry(list, place, 0)}; }
+
+/* Writes a call, and asks whoever adds calls to add it. It is in the list as soon as `entries` of the place is more than
+ * before. One call of a place at a time. `count`: its entries that are in the list or skipped. `own`: the last word. */
+ALWAYS_INLINE void call_list_write(const call_list_t *list, const call_seat_t *seat, uint64_t count, const uint64_t arguments[CALL_ARGUMENTS], uint64_t own) {
+  call_entry_t *entry = &seat->entries[call_index(list, count)];
+  /* Release: whoever reads a word of the new entry sees at its second look that `order` no longer names the old one. Without it
+   * objects diverge. */
+  atomic_thread_fence(memory_order_release);
+  /* Relaxed: the announcement publishes them. */
+#pragma GCC unroll 8
+  for (int i = 0; i < CALL_ARGUMENTS; i++) atomic_store_explicit(&entry->words[i], arguments[i], memory_order_relaxed);
+  atomic_store_explicit(&entry->words[CALL_ARGUMENTS], own, memory_order_relaxed);
+  /* Release: whoever sees the announcement sees the whole entry. Relaxed, a helper names words that are not those of the entry. */
+  atomic_store_explicit(&seat->announcement->count, count + 1, memory_order_release);
+}
+
+/* Tries to add call number `call`, when all before it are made: that which place `call` % places has announced, or else that of the own
+ * place. True if it was the own, which so is next, and is as it was announced. Otherwise the next step says whether one is there. */
+ALWAYS_INLINE bool call_list_try(const call_list_t *list, const call_progress_t *progress, uint32_t place, uint64_t call, uint64_t count) {
+  _Atomic uint64_t *order = call_order(list, call);
+  /* Relaxed: only compared. What the call before did, this process has seen as it made that call. */
+  uint64_t before = atomic_load_explicit(order, memory_order_relaxed);
+  if (call_distance(before, call) <= 0) return false;
+  uint32_t turn = (uint32_t)(call % list->places), whose = place;
+  /* Acquire: the entry is published on as this process names it. Relaxed, others read words that are not those of the entry. */
+  uint64_t announced = atomic_load_explicit(&list->announcements[turn].count, memory_order_acquire);
+  if (announced == progress->of[turn].entries + 1) whose = turn, count = announced - 1;
+  uint64_t name = call_name(call, whose, call_index(list, count));
+  /* Release: whoever finds the entry named sees the whole entry, and all that its process wrote before. Relaxed, another list is
+   * made. Sequentially consistent for sleepers and those who wake them (sleepers.c), since a process doesn't look again at its own
+   * call. Relaxed where it fails: the next step looks at the word again. */
+  return atomic_compare_exchange_strong_explicit(order, &before, name, memory_order_seq_cst, memory_order_relaxed) && whose == place;
+}
+
+/* The same behind all calls that this process has made. */
+ALWAYS_INLINE bool call_list_add(const call_list_t *list, const call_progress_t *progress, uint32_t place) {
+  return call_list_try(list, progress, place, progress->made, progress->of[place].entries);
+}
+
+/* A call of the place is next and says no end: before it is made, and with its reply. */
+ALWAYS_INLINE void call_list_begin(call_progress_t *progress, uint32_t place) { progress->made++, progress->of[place].entries++; }
+ALWAYS_INLINE void call_list_replied(call_progress_t *progress, uint32_t place, uint64_t reply) { progress->of[place].reply = reply & (UINT64_MAX >> 1); }
 
 #endif

@@ -1,8 +1,10 @@
 // SPDX-License-Identifier: Apache-2.0 OR MIT
 /* The calls of iox2_pubsub.h that change a domain. Of a domain of one process each is the proved function itself. */
-#include "proved_calls.h"
-#include "shared_domain.h"
+#include "message_calls.h"
 #include <string.h>
+
+/* Out of line, so that an ordinary domain pays nothing for it. */
+#define APART __attribute__((noinline)) static
 
 /* ---- domains */
 
@@ -24,61 +26,63 @@ iox2ps_status_t iox2ps_domain_destroy(iox2ps_domain_t *domain) {
 
 /* ---- publishers */
 
-static iox2ps_status_t create_publisher(shared_domain_t *shared, domain_operation_t operation, const uint64_t *words, iox2ps_publisher_t *publisher) {
-  domain_reply_t reply;
-  iox2ps_status_t code = shared_domain_call(shared, operation, words, &reply);
-  if (code == IOX2PS_OK) *publisher = publisher_of_words(reply.handle, shared->service_id);
+static iox2ps_status_t create_publisher(shared_domain_t *shared, domain_operation_t operation, uint64_t *arguments, iox2ps_publisher_t *publisher) {
+  arguments[1 + NODE_WORD] = shared->group->member.files.number;
+  if (!shared_domain_writes(shared)) return IOX2PS_OUT_OF_MEMORY;
+  iox2ps_status_t code = shared_domain_call(shared, operation, arguments);
+  if (code == IOX2PS_OK) publisher_of_words(shared_domain_reply(shared)->handle, shared->service_id, publisher);
+  else shared_domain_wrote(shared);
   return code;
 }
 
 iox2ps_status_t iox2ps_publisher_create(iox2ps_domain_t *domain, iox2ps_publisher_t *publisher) {
   shared_domain_t *shared = shared_domain_of(domain);
   if (shared == NULL) return iox2ps_proved_publisher_create(domain, publisher);
-  return create_publisher(shared, PUBLISHER_CREATE, (const uint64_t[HANDLE_WORDS]){0}, publisher);
+  return create_publisher(shared, PUBLISHER_CREATE, (uint64_t[CALL_ARGUMENTS]){0}, publisher);
 }
 
 iox2ps_status_t iox2ps_publisher_create_with(iox2ps_domain_t *domain, const iox2ps_publisher_options_t *options, iox2ps_publisher_t *publisher) {
   shared_domain_t *shared = shared_domain_of(domain);
   if (shared == NULL) return iox2ps_proved_publisher_create_with(domain, options, publisher);
-  uint64_t words[HANDLE_WORDS];
+  uint64_t arguments[CALL_ARGUMENTS];
   if (shared->group->broken != IOX2PS_OK) return shared->group->broken; /* and nothing could be filled in */
-  return publisher_options_words(options, words) ? create_publisher(shared, PUBLISHER_CREATE_WITH, words, publisher) : IOX2PS_INVALID_STRUCT_SIZE;
-}
-
-/* A call that is given a handle and makes none. */
-static iox2ps_status_t call(shared_domain_t *shared, domain_operation_t operation, bool may_be_live, const uint64_t *words, domain_reply_t *reply) {
-  if (may_be_live) return shared_domain_call(shared, operation, words, reply);
-  return shared->group->broken != IOX2PS_OK ? shared->group->broken : IOX2PS_NOT_LIVE;
+  return publisher_options_words(options, arguments + 1) ? create_publisher(shared, PUBLISHER_CREATE_WITH, arguments, publisher) : IOX2PS_INVALID_STRUCT_SIZE;
 }
 
 iox2ps_status_t iox2ps_publisher_close(iox2ps_domain_t *domain, const iox2ps_publisher_t *publisher) {
   shared_domain_t *shared = shared_domain_of(domain);
   if (shared == NULL) return iox2ps_proved_publisher_close(domain, publisher);
-  uint64_t words[HANDLE_WORDS];
-  domain_reply_t reply;
-  return call(shared, PUBLISHER_CLOSE, words_of_publisher(publisher, shared->service_id, words), words, &reply);
+  uint64_t arguments[CALL_ARGUMENTS];
+  return shared_domain_end(shared, PUBLISHER_CLOSE, words_of_publisher(publisher, shared->service_id, arguments + 1), arguments);
 }
 
 iox2ps_status_t iox2ps_publisher_update_connections(iox2ps_domain_t *domain, const iox2ps_publisher_t *publisher) {
   shared_domain_t *shared = shared_domain_of(domain);
   if (shared == NULL) return iox2ps_proved_publisher_update_connections(domain, publisher);
-  uint64_t words[HANDLE_WORDS];
-  domain_reply_t reply;
-  return call(shared, PUBLISHER_UPDATE, words_of_publisher(publisher, shared->service_id, words), words, &reply);
+  uint64_t arguments[CALL_ARGUMENTS];
+  return shared_domain_call_of(shared, PUBLISHER_UPDATE, words_of_publisher(publisher, shared->service_id, arguments + 1), arguments);
 }
 
 /* ---- loans */
 
+APART iox2ps_status_t lend(shared_domain_t *shared, const iox2ps_publisher_t *publisher, size_t len, iox2ps_loan_t *loan, void **payload) {
+  uint64_t arguments[CALL_ARGUMENTS];
+  bool may_be_live = words_of_publisher(publisher, shared->service_id, arguments + 1);
+  arguments[1 + LENGTH_WORD] = len;
+  if (!shared_domain_writes(shared)) return IOX2PS_OUT_OF_MEMORY;
+  iox2ps_status_t code = may_be_live ? shared_domain_message(shared, PUBLISHER_LOAN, arguments) : shared_domain_not_live(shared);
+  if (code != IOX2PS_OK) {
+    shared_domain_wrote(shared);
+    return code;
+  }
+  const domain_reply_t *reply = shared_domain_reply(shared);
+  loan_of_words(reply->handle, shared->service_id, loan), *payload = shared_domain_payload(shared, reply->payload);
+  return code;
+}
+
 iox2ps_status_t iox2ps_publisher_loan_uninit(iox2ps_domain_t *domain, const iox2ps_publisher_t *publisher, size_t len, iox2ps_loan_t *loan, void **payload) {
   shared_domain_t *shared = shared_domain_of(domain);
-  if (shared == NULL) return iox2ps_proved_publisher_loan_uninit(domain, publisher, len, loan, payload);
-  uint64_t words[HANDLE_WORDS];
-  domain_reply_t reply;
-  bool may_be_live = words_of_publisher(publisher, shared->service_id, words);
-  words[LENGTH_WORD] = len;
-  iox2ps_status_t code = call(shared, PUBLISHER_LOAN, may_be_live, words, &reply);
-  if (code == IOX2PS_OK) *loan = loan_of_words(reply.handle, shared->service_id), *payload = reply.payload;
-  return code;
+  return shared == NULL ? iox2ps_proved_publisher_loan_uninit(domain, publisher, len, loan, payload) : lend(shared, publisher, len, loan, payload);
 }
 
 iox2ps_status_t iox2ps_publisher_loan(iox2ps_domain_t *domain, const iox2ps_publisher_t *publisher, size_t len, iox2ps_loan_t *loan, void **payload) {
@@ -88,20 +92,19 @@ iox2ps_status_t iox2ps_publisher_loan(iox2ps_domain_t *domain, const iox2ps_publ
   return code;
 }
 
-static iox2ps_status_t send(shared_domain_t *shared, const uint64_t *words, size_t *receivers, iox2ps_blocked_t *blocked) {
-  domain_reply_t reply;
-  iox2ps_status_t code = call(shared, LOAN_SEND, true, words, &reply);
-  if (code == IOX2PS_OK) *receivers = reply.count;
-  if (code == IOX2PS_BLOCKED) *blocked = blocked_of_words(reply.handle, shared->service_id);
+APART iox2ps_status_t send(shared_domain_t *shared, const iox2ps_loan_t *loan, size_t *receivers, iox2ps_blocked_t *blocked) {
+  uint64_t arguments[CALL_ARGUMENTS];
+  if (!words_of_loan(loan, shared->service_id, arguments + 1)) return shared_domain_not_live(shared);
+  iox2ps_status_t code = shared_domain_message(shared, LOAN_SEND, arguments);
+  if (code != IOX2PS_OK || !live_handles_has(&shared->memory->handles, HANDLE_PUBLISHER, shared->group->member.replica.place)) shared_domain_wrote(shared);
+  if (code == IOX2PS_OK) *receivers = shared_domain_reply(shared)->count;
+  if (code == IOX2PS_BLOCKED) blocked_of_words(shared_domain_reply(shared)->handle, shared->service_id, blocked);
   return code;
 }
 
 iox2ps_status_t iox2ps_loan_send_counted(iox2ps_domain_t *domain, const iox2ps_loan_t *loan, size_t *receivers, iox2ps_blocked_t *blocked) {
   shared_domain_t *shared = shared_domain_of(domain);
-  if (shared == NULL) return iox2ps_proved_loan_send_counted(domain, loan, receivers, blocked);
-  uint64_t words[HANDLE_WORDS];
-  if (!words_of_loan(loan, shared->service_id, words)) return call(shared, LOAN_SEND, false, words, NULL);
-  return send(shared, words, receivers, blocked);
+  return shared == NULL ? iox2ps_proved_loan_send_counted(domain, loan, receivers, blocked) : send(shared, loan, receivers, blocked);
 }
 
 /* A copy that can't be sent leaves no loan. */
@@ -121,18 +124,16 @@ iox2ps_status_t iox2ps_publisher_send_copy_counted(iox2ps_domain_t *domain, cons
 iox2ps_status_t iox2ps_loan_discard(iox2ps_domain_t *domain, const iox2ps_loan_t *loan) {
   shared_domain_t *shared = shared_domain_of(domain);
   if (shared == NULL) return iox2ps_proved_loan_discard(domain, loan);
-  uint64_t words[HANDLE_WORDS];
-  domain_reply_t reply;
-  return call(shared, LOAN_DISCARD, words_of_loan(loan, shared->service_id, words), words, &reply);
+  uint64_t arguments[CALL_ARGUMENTS];
+  return shared_domain_end(shared, LOAN_DISCARD, words_of_loan(loan, shared->service_id, arguments + 1), arguments);
 }
 
 /* ---- sends that wait */
 
 static iox2ps_status_t go_on(shared_domain_t *shared, domain_operation_t operation, const iox2ps_blocked_t *blocked, size_t *receivers) {
-  uint64_t words[HANDLE_WORDS];
-  domain_reply_t reply;
-  iox2ps_status_t code = call(shared, operation, words_of_blocked(blocked, shared->service_id, words), words, &reply);
-  if (code == IOX2PS_OK) *receivers = reply.count;
+  uint64_t arguments[CALL_ARGUMENTS];
+  iox2ps_status_t code = shared_domain_call_of(shared, operation, words_of_blocked(blocked, shared->service_id, arguments + 1), arguments);
+  if (code == IOX2PS_OK) *receivers = shared_domain_reply(shared)->count;
   return code;
 }
 
@@ -148,81 +149,86 @@ iox2ps_status_t iox2ps_blocked_give_up_counted(iox2ps_domain_t *domain, const io
 
 /* ---- subscribers */
 
-static iox2ps_status_t create_subscriber(shared_domain_t *shared, domain_operation_t operation, const uint64_t *words, iox2ps_subscriber_t *subscriber) {
-  domain_reply_t reply;
-  iox2ps_status_t code = shared_domain_call(shared, operation, words, &reply);
-  if (code == IOX2PS_OK) *subscriber = subscriber_of_words(reply.handle, shared->service_id);
+static iox2ps_status_t create_subscriber(shared_domain_t *shared, domain_operation_t operation, uint64_t *arguments, iox2ps_subscriber_t *subscriber) {
+  arguments[1 + NODE_WORD] = shared->group->member.files.number;
+  iox2ps_status_t code = shared_domain_call(shared, operation, arguments);
+  if (code == IOX2PS_OK) subscriber_of_words(shared_domain_reply(shared)->handle, shared->service_id, subscriber);
   return code;
 }
 
 iox2ps_status_t iox2ps_subscriber_create(iox2ps_domain_t *domain, iox2ps_subscriber_t *subscriber) {
   shared_domain_t *shared = shared_domain_of(domain);
   if (shared == NULL) return iox2ps_proved_subscriber_create(domain, subscriber);
-  return create_subscriber(shared, SUBSCRIBER_CREATE, (const uint64_t[HANDLE_WORDS]){0}, subscriber);
+  return create_subscriber(shared, SUBSCRIBER_CREATE, (uint64_t[CALL_ARGUMENTS]){0}, subscriber);
 }
 
 iox2ps_status_t iox2ps_subscriber_create_with(iox2ps_domain_t *domain, const iox2ps_subscriber_options_t *options, iox2ps_subscriber_t *subscriber) {
   shared_domain_t *shared = shared_domain_of(domain);
   if (shared == NULL) return iox2ps_proved_subscriber_create_with(domain, options, subscriber);
-  uint64_t words[HANDLE_WORDS];
+  uint64_t arguments[CALL_ARGUMENTS];
   if (shared->group->broken != IOX2PS_OK) return shared->group->broken; /* and nothing could be filled in */
-  return subscriber_options_words(options, words) ? create_subscriber(shared, SUBSCRIBER_CREATE_WITH, words, subscriber) : IOX2PS_INVALID_STRUCT_SIZE;
+  return subscriber_options_words(options, arguments + 1) ? create_subscriber(shared, SUBSCRIBER_CREATE_WITH, arguments, subscriber) : IOX2PS_INVALID_STRUCT_SIZE;
 }
 
 iox2ps_status_t iox2ps_subscriber_close(iox2ps_domain_t *domain, const iox2ps_subscriber_t *subscriber) {
   shared_domain_t *shared = shared_domain_of(domain);
   if (shared == NULL) return iox2ps_proved_subscriber_close(domain, subscriber);
-  uint64_t words[HANDLE_WORDS];
-  domain_reply_t reply;
-  return call(shared, SUBSCRIBER_CLOSE, words_of_subscriber(subscriber, shared->service_id, words), words, &reply);
+  uint64_t arguments[CALL_ARGUMENTS];
+  return shared_domain_call_of(shared, SUBSCRIBER_CLOSE, words_of_subscriber(subscriber, shared->service_id, arguments + 1), arguments);
 }
 
 iox2ps_status_t iox2ps_subscriber_update_connections(iox2ps_domain_t *domain, const iox2ps_subscriber_t *subscriber) {
   shared_domain_t *shared = shared_domain_of(domain);
   if (shared == NULL) return iox2ps_proved_subscriber_update_connections(domain, subscriber);
-  uint64_t words[HANDLE_WORDS];
-  domain_reply_t reply;
-  return call(shared, SUBSCRIBER_UPDATE, words_of_subscriber(subscriber, shared->service_id, words), words, &reply);
+  uint64_t arguments[CALL_ARGUMENTS];
+  return shared_domain_call_of(shared, SUBSCRIBER_UPDATE, words_of_subscriber(subscriber, shared->service_id, arguments + 1), arguments);
 }
 
 /* ---- messages */
 
-/* Makes the calls of others, and whether a receive would find what it found before: nothing. */
-static iox2ps_status_t look(shared_domain_t *shared, const uint64_t *words, bool *is_empty) {
+/* A receive found nothing: makes the calls of others, and says IOX2PS_NO_SAMPLE where it would find nothing again. */
+static iox2ps_status_t look_again(shared_domain_t *shared, const uint64_t *words) {
   iox2ps_status_t code = shared_domain_follow(shared);
-  if (code != IOX2PS_OK) return code;
-  *is_empty = shared_domain_is_empty(shared, words);
-  return *is_empty ? shared_domain_idle(shared) : IOX2PS_OK;
+  if (code != IOX2PS_OK || !shared_domain_is_empty(shared, words)) return code;
+  code = shared_domain_idle(shared);
+  return code == IOX2PS_OK ? IOX2PS_NO_SAMPLE : code;
+}
+
+/* Of a subscriber's call. IOX2PS_NO_SAMPLE where no message can have come since it found none; IOX2PS_OK where it is to be made. */
+static inline iox2ps_status_t look(shared_domain_t *shared, const iox2ps_subscriber_t *subscriber, uint64_t arguments[CALL_ARGUMENTS]) {
+  if (!words_of_subscriber(subscriber, shared->service_id, arguments + 1)) return shared_domain_not_live(shared);
+  if (shared->group->broken != IOX2PS_OK) return shared->group->broken;
+  return shared_domain_is_empty(shared, arguments + 1) ? look_again(shared, arguments + 1) : IOX2PS_OK;
 }
 
 iox2ps_status_t iox2ps_subscriber_has_samples(iox2ps_domain_t *domain, const iox2ps_subscriber_t *subscriber, uint32_t *waits) {
   shared_domain_t *shared = shared_domain_of(domain);
   if (shared == NULL) return iox2ps_proved_subscriber_has_samples(domain, subscriber, waits);
-  uint64_t words[HANDLE_WORDS];
-  domain_reply_t reply;
-  bool is_empty = false, may_be_live = words_of_subscriber(subscriber, shared->service_id, words);
-  iox2ps_status_t code = may_be_live ? look(shared, words, &is_empty) : IOX2PS_OK;
+  uint64_t arguments[CALL_ARGUMENTS];
+  iox2ps_status_t code = look(shared, subscriber, arguments);
+  bool is_empty = code == IOX2PS_NO_SAMPLE;
+  if (code == IOX2PS_OK) code = shared_domain_call(shared, SUBSCRIBER_HAS_SAMPLES, arguments);
+  if (code != IOX2PS_OK && !is_empty) return code;
+  *waits = is_empty ? 0 : (uint32_t)shared_domain_reply(shared)->count;
+  if (!is_empty && *waits == 0) shared_domain_note_empty(shared, arguments + 1);
+  return IOX2PS_OK;
+}
+
+APART iox2ps_status_t receive(shared_domain_t *shared, const iox2ps_subscriber_t *subscriber, iox2ps_sample_t *sample, const void **payload, size_t *len) {
+  uint64_t arguments[CALL_ARGUMENTS];
+  iox2ps_status_t code = look(shared, subscriber, arguments);
   if (code != IOX2PS_OK) return code;
-  reply.count = 0;
-  if (!is_empty) code = call(shared, SUBSCRIBER_HAS_SAMPLES, may_be_live, words, &reply);
+  code = shared_domain_message(shared, SUBSCRIBER_RECEIVE, arguments);
+  if (code == IOX2PS_NO_SAMPLE) shared_domain_note_empty(shared, arguments + 1);
   if (code != IOX2PS_OK) return code;
-  *waits = (uint32_t)reply.count;
-  if (!is_empty && reply.count == 0) shared_domain_note_empty(shared, words, &reply);
+  const domain_reply_t *reply = shared_domain_reply(shared);
+  sample_of_words(reply->handle, shared->service_id, sample), *payload = shared_domain_payload(shared, reply->payload), *len = reply->count;
   return code;
 }
 
 iox2ps_status_t iox2ps_subscriber_receive(iox2ps_domain_t *domain, const iox2ps_subscriber_t *subscriber, iox2ps_sample_t *sample, const void **payload, size_t *len) {
   shared_domain_t *shared = shared_domain_of(domain);
-  if (shared == NULL) return iox2ps_proved_subscriber_receive(domain, subscriber, sample, payload, len);
-  uint64_t words[HANDLE_WORDS];
-  domain_reply_t reply;
-  bool is_empty = false, may_be_live = words_of_subscriber(subscriber, shared->service_id, words);
-  iox2ps_status_t code = may_be_live ? look(shared, words, &is_empty) : IOX2PS_OK;
-  if (code == IOX2PS_OK && is_empty) return IOX2PS_NO_SAMPLE;
-  if (code == IOX2PS_OK) code = call(shared, SUBSCRIBER_RECEIVE, may_be_live, words, &reply);
-  if (code == IOX2PS_OK) *sample = sample_of_words(reply.handle, shared->service_id), *payload = reply.payload, *len = reply.count;
-  if (code == IOX2PS_NO_SAMPLE) shared_domain_note_empty(shared, words, &reply);
-  return code;
+  return shared == NULL ? iox2ps_proved_subscriber_receive(domain, subscriber, sample, payload, len) : receive(shared, subscriber, sample, payload, len);
 }
 
 iox2ps_status_t iox2ps_subscriber_receive_copy(iox2ps_domain_t *domain, const iox2ps_subscriber_t *subscriber, void *bytes, size_t room, size_t *len, iox2ps_sample_t *sample) {
@@ -241,10 +247,13 @@ iox2ps_status_t iox2ps_subscriber_receive_copy(iox2ps_domain_t *domain, const io
   return iox2ps_sample_release(domain, &received);
 }
 
+APART iox2ps_status_t release(shared_domain_t *shared, const iox2ps_sample_t *sample) {
+  uint64_t arguments[CALL_ARGUMENTS];
+  if (!words_of_sample(sample, shared->service_id, arguments + 1)) return shared_domain_not_live(shared);
+  return shared_domain_message(shared, SAMPLE_RELEASE, arguments);
+}
+
 iox2ps_status_t iox2ps_sample_release(iox2ps_domain_t *domain, const iox2ps_sample_t *sample) {
   shared_domain_t *shared = shared_domain_of(domain);
-  if (shared == NULL) return iox2ps_proved_sample_release(domain, sample);
-  uint64_t words[HANDLE_WORDS];
-  domain_reply_t reply;
-  return call(shared, SAMPLE_RELEASE, words_of_sample(sample, shared->service_id, words), words, &reply);
+  return shared == NULL ? iox2ps_proved_sample_release(domain, sample) : release(shared, sample);
 }

@@ -1,9 +1,6 @@
 // SPDX-License-Identifier: Apache-2.0 OR MIT
 #include "copies.h"
 
-/* `newest`: how many calls the copy knows, and 1; and its buffer. */
-enum { BUFFER_BITS = 7 };
-
 static size_t in_lines(size_t size) { return (size + 63) / 64 * 64; }
 
 size_t copies_size(uint32_t places, size_t room) {
@@ -25,17 +22,11 @@ static void add_to(sums_t *it, uint64_t word) {
 }
 static uint64_t sum_of(sums_t it, size_t size) { return (it.words ^ size) * UINT64_C(0x9e3779b97f4a7c15) ^ it.sums; }
 
-uint64_t copies_newest(const copies_t *copies) {
-  /* Relaxed: only a number. An older one costs a copy too many. */
-  uint64_t newest = atomic_load_explicit(copies->newest, memory_order_relaxed);
-  return newest == 0 ? 0 : (newest >> BUFFER_BITS) - 1;
-}
-
 /* The buffer of the place that isn't the newest copy, and of two such the older. Only this process makes one of them the newest,
  * so relaxed loads see it if it is. */
 static uint32_t free_buffer(const copies_t *copies, uint32_t place) {
   uint32_t first = place * COPIES_OF_PLACE, second = first + 1;
-  uint32_t newest = (uint32_t)atomic_load_explicit(copies->newest, memory_order_relaxed) & ((1u << BUFFER_BITS) - 1);
+  uint32_t newest = (uint32_t)atomic_load_explicit(copies->newest, memory_order_relaxed) & ((1u << COPY_BUFFER_BITS) - 1);
   if (newest == first) return second;
   if (newest == second) return first;
   uint64_t end = atomic_load_explicit(&copies->heads[first].end, memory_order_relaxed);
@@ -48,11 +39,13 @@ void copies_make(const copies_t *copies, uint32_t place, uint64_t made, const vo
   _Atomic uint64_t *buffer = buffer_of(copies, which);
   const uint64_t *words = object;
   sums_t sums = {1, 2};
+  size_t count = size / COPY_UNIT;
   atomic_store_explicit(&head->end, 0, memory_order_relaxed);
   /* Release: whoever reads a word of the new copy sees at its second look that `end` has changed. A release store to `end`
    * wouldn't do, since it doesn't hold back later stores. Here and in the three below, what is weaker loads torn copies. */
   atomic_thread_fence(memory_order_release);
-  for (size_t i = 0; i < size / COPY_UNIT; i++) {
+#pragma GCC unroll 8
+  for (size_t i = 0; i < count; i++) {
     add_to(&sums, words[i]);
     atomic_store_explicit(&buffer[i], words[i], memory_order_relaxed);
   }
@@ -60,9 +53,9 @@ void copies_make(const copies_t *copies, uint32_t place, uint64_t made, const vo
   atomic_store_explicit(&head->sum, sum_of(sums, size), memory_order_relaxed);
   /* Release: whoever sees this end sees the whole copy. */
   atomic_store_explicit(&head->end, made + 1, memory_order_release);
-  uint64_t mine = (made + 1) << BUFFER_BITS | which, newest = atomic_load_explicit(copies->newest, memory_order_relaxed);
+  uint64_t mine = (made + 1) << COPY_BUFFER_BITS | which, newest = atomic_load_explicit(copies->newest, memory_order_relaxed);
   /* Relaxed: whoever takes the copy looks at `end`, too. */
-  while (newest >> BUFFER_BITS < made + 1
+  while (newest >> COPY_BUFFER_BITS < made + 1
          && !atomic_compare_exchange_weak_explicit(copies->newest, &newest, mine, memory_order_relaxed, memory_order_relaxed)) {
   }
 }
@@ -71,11 +64,11 @@ copy_load_t copies_load(const copies_t *copies, void *object) {
   /* Relaxed: `end` publishes the copy. */
   uint64_t newest = atomic_load_explicit(copies->newest, memory_order_relaxed);
   if (newest == 0) return COPY_NONE;
-  uint32_t which = (uint32_t)newest & ((1u << BUFFER_BITS) - 1);
+  uint32_t which = (uint32_t)newest & ((1u << COPY_BUFFER_BITS) - 1);
   if (which >= copies->places * COPIES_OF_PLACE) return COPY_DAMAGED;
   const copy_head_t *head = &copies->heads[which];
   /* Acquire: the whole copy with this end is seen. */
-  if (atomic_load_explicit(&head->end, memory_order_acquire) != newest >> BUFFER_BITS) return COPY_CHANGED;
+  if (atomic_load_explicit(&head->end, memory_order_acquire) != newest >> COPY_BUFFER_BITS) return COPY_CHANGED;
   const _Atomic uint64_t *buffer = buffer_of(copies, which);
   uint64_t *words = object, size = atomic_load_explicit(&head->size, memory_order_relaxed);
   uint64_t sum = atomic_load_explicit(&head->sum, memory_order_relaxed);
@@ -87,6 +80,6 @@ copy_load_t copies_load(const copies_t *copies, void *object) {
   }
   /* Acquire: if anything that was read is newer, the second look sees that `end` has changed. */
   atomic_thread_fence(memory_order_acquire);
-  if (atomic_load_explicit(&head->end, memory_order_relaxed) != newest >> BUFFER_BITS) return COPY_CHANGED;
+  if (atomic_load_explicit(&head->end, memory_order_relaxed) != newest >> COPY_BUFFER_BITS) return COPY_CHANGED;
   return has_room && sum_of(sums, size) == sum ? COPY_LOADED : COPY_DAMAGED;
 }

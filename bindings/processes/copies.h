@@ -10,7 +10,7 @@
 #include <stddef.h>
 #include <stdint.h>
 
-enum { COPIES_OF_PLACE = 2, COPY_UNIT = 8 };
+enum { COPIES_OF_PLACE = 2, COPY_UNIT = 8, COPY_BUFFER_BITS = 7 };
 
 typedef struct copy_head_t {
   _Alignas(64) _Atomic uint64_t end; /* how many calls it knows, and 1; 0 while it is written */
@@ -21,7 +21,7 @@ typedef struct copy_head_t {
 typedef struct copies_t {
   uint32_t places;
   size_t room; /* bytes of each buffer */
-  _Atomic uint64_t *newest;
+  _Atomic uint64_t *newest; /* how many calls the newest copy knows, and 1; and its buffer in the lowest bits */
   copy_head_t *heads;
   _Atomic uint64_t *buffers;
 } copies_t;
@@ -37,8 +37,11 @@ typedef enum copy_load_t {
 size_t copies_size(uint32_t places, size_t room);
 copies_t copies_at(void *memory, uint32_t places, size_t room);
 
-/* How many calls are in the newest copy, as far as this process has heard; 0 without one. */
-uint64_t copies_newest(const copies_t *copies);
+/* How many calls the newest copy knows, as far as this process has heard, and 1; 0 without one. */
+static inline uint64_t copies_newest(const copies_t *copies) {
+  /* Relaxed: only a number. An older one costs a copy too many. */
+  return atomic_load_explicit(copies->newest, memory_order_relaxed) >> COPY_BUFFER_BITS;
+}
 /* Copies the object, which has made so many calls, and makes it the newest unless there is one that knows more. `size` is a
  * multiple of COPY_UNIT, and at most the room. By the process of the place alone. */
 void copies_make(const copies_t *copies, uint32_t place, uint64_t made, const void *object, size_t size);

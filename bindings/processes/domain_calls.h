@@ -50,35 +50,45 @@ _Static_assert(CALL_ARGUMENTS == 1 + HANDLE_WORDS, "an entry has room for an ope
 /* What a call replied. */
 typedef struct domain_reply_t {
   iox2ps_status_t code;
+  uint32_t brought;              /* what it has brought to others: a sum of iox2ps_brings_e and IOX2PS_BRINGS_EVENT */
   uint64_t count;                /* receivers, bytes, or an answer */
   char *payload;                 /* where the domain believes the bytes to be; null without any */
-  uint64_t handle[HANDLE_WORDS]; /* what the call made */
-  uint32_t brought;              /* what it has brought to others: a sum of iox2ps_brings_e and IOX2PS_BRINGS_EVENT */
   uint64_t messages;             /* how many calls had brought a message by then; the domain's memory counts them */
-  uint64_t helps;                /* whom it may help of those who wait with a publisher, a bit for each place: helped_places.c */
+  uint64_t handle[HANDLE_WORDS]; /* what the call made; where it made nothing, what there was before */
 } domain_reply_t;
+
+/* Makes a call on a domain with this service_id, and fills in what its reply has beside the code. `brought` is what it may bring at first,
+ * and what it has by its code then: a function takes away what it knows to be brought to nobody. */
+typedef iox2ps_status_t domain_make_t(iox2ps_domain_t *domain, iox2ps_wide_t service_id, const uint64_t *words, domain_reply_t *reply);
 
 /* What the list has to know of an operation. */
 typedef struct domain_traits_t {
-  uint32_t brings;     /* what it may bring: a sum of iox2ps_brings_e */
-  handle_kind_t makes; /* the kind of handle that it makes with IOX2PS_OK, or HANDLE_KINDS */
-  handle_kind_t ends;  /* the kind of handle that it is given and may end, or HANDLE_KINDS */
+  domain_make_t *make;
+  uint32_t brings; /* what it may bring: a sum of iox2ps_brings_e */
+  uint16_t makes;  /* the kind of handle that it makes with IOX2PS_OK, or HANDLE_KINDS */
+  uint16_t ends;   /* the kind of handle that it is given and may end, or HANDLE_KINDS */
 } domain_traits_t;
 
 /* False where struct_size isn't that of this header. */
 bool publisher_options_words(const iox2ps_publisher_options_t *options, uint64_t words[HANDLE_WORDS]);
 bool subscriber_options_words(const iox2ps_subscriber_options_t *options, uint64_t words[HANDLE_WORDS]);
 
+/* The id of the subscriber whose full buffer a blocked send waits for; 0 where nothing waits. */
+uint64_t domain_stands_at(iox2ps_domain_t *domain, iox2ps_wide_t service_id, const uint64_t blocked[HANDLE_WORDS]);
+
 /* A channel and a connection in one word. There are never as many as 2^32 of either: such numbers, too, name nothing there. */
 uint64_t deliver_word(size_t channel, size_t connection);
 
-/* Of any number. Of one that is no operation nothing is brought, made or ended. */
-domain_traits_t domain_traits(uint64_t operation);
 /* Whether a call that returned this code has ended the handle that it was given. */
-bool domain_has_ended(domain_traits_t traits, iox2ps_status_t code);
-/* The id of the subscriber whose full buffer a blocked send waits for; 0 where nothing waits. */
-uint64_t domain_stands_at(iox2ps_domain_t *domain, iox2ps_wide_t service_id, const uint64_t blocked[HANDLE_WORDS]);
-/* Makes a call on a domain with this service_id. What is no operation is refused as a handle that isn't live is. */
-domain_reply_t domain_make(iox2ps_domain_t *domain, iox2ps_wide_t service_id, uint64_t operation, const uint64_t words[HANDLE_WORDS]);
+static inline bool domain_has_ended(const domain_traits_t *traits, iox2ps_status_t code) {
+  switch (code) {
+  case IOX2PS_OK: return true;
+  case IOX2PS_BLOCKED: return traits->ends == HANDLE_LOAN;
+  case IOX2PS_NOT_LIVE:
+  case IOX2PS_NO_SUCH_CHANNEL:
+  case IOX2PS_PUBLISHER_IS_BLOCKED: return false;
+  default: return traits->ends == HANDLE_LOAN || traits->ends == HANDLE_BLOCKED; /* IOX2PS_SEND_ERROR_... */
+  }
+}
 
 #endif

@@ -4,9 +4,9 @@
 #ifndef IOX2PS_DOMAIN_MEMORY_H
 #define IOX2PS_DOMAIN_MEMORY_H
 
+#include "archive_memory.h"
 #include "book_owners.h"
 #include "event_numbers.h"
-#include "payload_extents.h"
 #include "replica.h"
 
 enum { DOMAIN_BRINGS = 6, BROUGHT_DEATHS = 4, DEATHS_KEPT = 64 }; /* bits of iox2ps_brings_e, IOX2PS_BRINGS_DEAD_NODE and IOX2PS_BRINGS_EVENT */
@@ -24,8 +24,7 @@ typedef struct domain_memory_t {
 
 typedef struct group_memory_t {
   replica_memory_t replica;
-  region_heap_t heap;
-  payload_extents_t payloads;      /* where the domains believe them to be: each process moves a pointer to where it has them */
+  archive_memory_t memory;         /* of all of them: each process moves a pointer among the payloads to where it has them */
   uint64_t died[DEATHS_KEPT];      /* the numbers of the last processes that died, by turns */
   domain_reply_t *replies;         /* the last one to each place: behind the domains, and before the heap */
   uint32_t count;
@@ -40,9 +39,13 @@ size_t group_memory_head(uint32_t places, uint32_t count);
 /* Makes so many domains in a region of so many bytes. The codes of iox2ps_domain_create_recorded. */
 iox2ps_status_t group_memory_make(group_memory_t *it, size_t room, uint32_t places, char *payloads, size_t payload_room,
                                   const domain_plan_t *plans, uint32_t count);
+/* How many bytes of the region are used, before they are copied. */
+void group_memory_note_size(replica_memory_t *memory);
 /* Makes a call of a place, whose arguments are `domain_call` and words; the list calls it. Without arguments: gives back all that the
  * place has. */
 call_apply_t group_memory_apply;
+/* Makes a call of a place on one of the domains, as `group_memory_apply` does. Returns what tells replies apart. */
+uint64_t domain_memory_make(domain_memory_t *it, uint32_t place, uint64_t operation, const uint64_t words[HANDLE_WORDS], domain_reply_t *reply);
 /* An operation on one of the domains, as an argument. */
 static inline uint64_t domain_call(uint32_t domain, uint64_t operation) { return (uint64_t)domain << 32 | operation; }
 /* For a question, which changes nothing and so isn't in the list: the domain, until domain_memory_asked. */

@@ -37,13 +37,12 @@ iox2ps_status_t iox2ps_notifier_create(iox2ps_domain_t *domain, size_t default_e
 
 iox2ps_status_t iox2ps_notifier_notify_with_custom_event_id(iox2ps_domain_t *domain, const iox2ps_notifier_t *notifier, size_t event_id, size_t *listeners) {
   shared_domain_t *shared;
-  domain_reply_t reply;
   iox2ps_status_t code = check(domain, &shared);
   if (code != IOX2PS_OK) return code;
   if (!is_of(shared, notifier->service_id)) return IOX2PS_NOT_LIVE;
   if (event_id > IOX2PS_EVENT_ID_MAX_VALUE) return IOX2PS_NOTIFIER_NOTIFY_ERROR_EVENT_ID_OUT_OF_BOUNDS;
-  code = shared_domain_call(shared, NOTIFY, (const uint64_t[HANDLE_WORDS]){[EVENT_WORD] = event_id}, &reply);
-  if (code == IOX2PS_OK && listeners != NULL) *listeners = reply.count;
+  code = shared_domain_call(shared, NOTIFY, (uint64_t[CALL_ARGUMENTS]){[1 + EVENT_WORD] = event_id});
+  if (code == IOX2PS_OK && listeners != NULL) *listeners = shared_domain_reply(shared)->count;
   return code;
 }
 
@@ -74,27 +73,26 @@ static event_listener_t *find(const shared_domain_t *shared, const iox2ps_listen
 
 iox2ps_status_t iox2ps_listener_create(iox2ps_domain_t *domain, iox2ps_listener_t *listener) {
   shared_domain_t *shared;
-  domain_reply_t reply;
   iox2ps_status_t code = check(domain, &shared);
   if (code != IOX2PS_OK) return code;
   event_listener_t *it = free_listener(shared);
   if (it == NULL) return IOX2PS_OUT_OF_MEMORY;
-  code = shared_domain_call(shared, LISTENER_CREATE, (const uint64_t[HANDLE_WORDS]){0}, &reply);
+  code = shared_domain_call(shared, LISTENER_CREATE, (uint64_t[CALL_ARGUMENTS]){0});
   if (code != IOX2PS_OK) return code;
-  *it = (event_listener_t){.id = reply.handle[0], .noted = reply.handle[1]};
+  const uint64_t *handle = shared_domain_reply(shared)->handle;
+  *it = (event_listener_t){.id = handle[0], .noted = handle[1]};
   *listener = (iox2ps_listener_t){.service_id = shared->service_id, .id = {.low = it->id}, .place_ = (uint64_t)(it - shared->listeners)};
   return IOX2PS_OK;
 }
 
 iox2ps_status_t iox2ps_listener_close(iox2ps_domain_t *domain, const iox2ps_listener_t *listener) {
   shared_domain_t *shared;
-  domain_reply_t reply;
   iox2ps_status_t code = check(domain, &shared);
   if (code != IOX2PS_OK) return code;
   event_listener_t *it = find(shared, listener);
   if (it == NULL) return IOX2PS_NOT_LIVE;
   it->id = 0;
-  return shared_domain_call(shared, LISTENER_CLOSE, (const uint64_t[HANDLE_WORDS]){0}, &reply);
+  return shared_domain_call(shared, LISTENER_CLOSE, (uint64_t[CALL_ARGUMENTS]){0});
 }
 
 /* ---- events */

@@ -9,7 +9,9 @@
 /* What only publishers wait for, a sum of iox2ps_brings_e. */
 enum { HELPS_PUBLISHERS = IOX2PS_BRINGS_ROOM | IOX2PS_BRINGS_FREE | IOX2PS_BRINGS_LOAN };
 
-/* Fills `helps` of the reply to a call of this place. A receive has brought room only where a send waits for that message's place. */
-void helped_places_note(domain_memory_t *it, uint32_t place, uint64_t operation, const uint64_t words[HANDLE_WORDS], domain_reply_t *reply);
+/* Of a receive that has found a message: whether a send waits for its place, so that room is brought. */
+bool helped_places_need_room(domain_memory_t *it, const uint64_t words[HANDLE_WORDS], const domain_reply_t *reply);
+/* The places that a call of this place has helped, a bit each. */
+uint64_t helped_places_of(domain_memory_t *it, uint32_t place, uint64_t operation, const uint64_t words[HANDLE_WORDS], const domain_reply_t *reply);
 
 #endif

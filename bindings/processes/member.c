@@ -39,11 +39,6 @@ replica_status_t member_enter(member_t *it) {
   return status;
 }
 
-void member_wake(member_t *it, uint32_t reasons, uint64_t places) {
-  uint64_t woken = sleepers_wake(it->files.sleepers, reasons, places);
-  if (woken != 0 && it->rouse != NULL) it->rouse(it->rouser, woken);
-}
-
 replica_status_t member_call(member_t *it, const uint64_t arguments[CALL_ARGUMENTS], uint32_t reasons, uint64_t places) {
   replica_status_t status = replica_call(&it->replica, arguments);
   if (status == REPLICA_OK) member_wake(it, reasons, places);

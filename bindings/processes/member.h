@@ -37,7 +37,11 @@ replica_status_t member_enter(member_t *it);
 /* Makes a call, and then wakes those of the places that sleep for one of the reasons, a bit each. */
 replica_status_t member_call(member_t *it, const uint64_t arguments[CALL_ARGUMENTS], uint32_t reasons, uint64_t places);
 /* The same for an object whose reply says whom it helps: after `replica_call`. */
-void member_wake(member_t *it, uint32_t reasons, uint64_t places);
+static inline void member_wake(member_t *it, uint32_t reasons, uint64_t places) {
+  if (!sleepers_are_there(it->files.sleepers, places)) return;
+  uint64_t woken = sleepers_wake(it->files.sleepers, reasons, places);
+  if (woken != 0 && it->rouse != NULL) it->rouse(it->rouser, woken);
+}
 /* Gives back what processes had that died, and says how many (`found` may be null). */
 replica_status_t member_reap(member_t *it, size_t *found);
 /* The same now and then, each `reap_every_ms`. The system isn't asked about those that look, too: such a one is found by the second look

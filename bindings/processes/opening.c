@@ -166,7 +166,8 @@ static iox2ps_status_t enter(shared_group_t *it, const asked_t *asked) {
   if (code == IOX2PS_OK && files->is_new) code = make_memory(it, asked);
   if (code != IOX2PS_OK) return code;
   it->member.replica = (replica_t){
-    .list = files->list, .copies = files->copies, .apply = group_memory_apply, .memory = &it->memory->replica, .place = files->places.own, .loads = LOADS
+    .list = files->list, .copies = files->copies, .apply = group_memory_apply, .memory = &it->memory->replica, .place = files->places.own, .loads = LOADS,
+    .before_copy = group_memory_note_size
   };
   it->member.reap_every_ms = asked->options->reap_every_ms, it->member.spins = asked->options->spins;
   it->member.rouse = shared_group_rouse, it->member.rouser = it;
@@ -206,7 +207,11 @@ static iox2ps_status_t check_asked(const asked_t *asked) {
 }
 
 static void give(const asked_t *asked, shared_group_t *group, shared_domain_t *made[]) {
+  const shared_files_t *files = &group->member.files;
   group->open = (uint32_t)asked->count;
+  group->seat = call_seat_at(&files->list, files->places.own);
+  group->reply = &group->memory->replies[files->places.own];
+  group->other_places = SLEEP_ALL_PLACES & ~(UINT64_C(1) << files->places.own);
   for (size_t i = 0; i < asked->count; i++) {
     const iox2ps_config_t *config = asked->settings[i].config;
     shared_domain_t *it = made[i];
@@ -252,9 +257,9 @@ static void leave(shared_group_t *it) {
 }
 
 void shared_domain_close(shared_domain_t *it) {
-  domain_reply_t reply;
+  uint64_t arguments[CALL_ARGUMENTS] = {0};
   if (--it->group->open == 0) leave(it->group);
-  else (void)shared_domain_call(it, DOMAIN_LEAVE, (const uint64_t[HANDLE_WORDS]){0}, &reply);
+  else (void)shared_domain_call(it, DOMAIN_LEAVE, arguments), shared_domain_wrote(it);
   free(it->listeners);
   free(it);
 }

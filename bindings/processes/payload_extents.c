@@ -12,10 +12,6 @@ bool payload_extents_make(payload_extents_t *it, region_heap_t *heap, char *payl
   return true;
 }
 
-bool payload_extents_have(const payload_extents_t *it, const void *bytes) {
-  return (const char *)bytes >= it->payloads && (const char *)bytes < it->payloads + it->room;
-}
-
 static bool has_room_for_one_more(payload_extents_t *it, region_heap_t *heap) {
   if (it->count < it->count_room) return true;
   payload_extent_t *more = region_heap_resize(heap, it->all, 2 * it->count_room * sizeof *more);

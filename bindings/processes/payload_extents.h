@@ -19,7 +19,7 @@ typedef struct payload_extents_t {
 } payload_extents_t;
 
 bool payload_extents_make(payload_extents_t *it, region_heap_t *heap, char *payloads, size_t room);
-bool payload_extents_have(const payload_extents_t *it, const void *bytes);
+static inline bool payload_extents_have(const payload_extents_t *it, const void *bytes) { return (size_t)((uintptr_t)bytes - (uintptr_t)it->payloads) < it->room; }
 /* The first room for so many bytes, or null. */
 char *payload_extents_take(payload_extents_t *it, region_heap_t *heap, size_t size);
 /* How many bytes there are for what was taken here. */

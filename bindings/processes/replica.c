@@ -2,12 +2,17 @@
 #include "replica.h"
 
 static void make_copy(const replica_t *it) {
+  if (it->before_copy != NULL) it->before_copy(it->memory);
   copies_make(&it->copies, it->place, it->memory->progress.made, it->memory, it->memory->size);
 }
 
+/* By the newest copy that this process has heard of. */
+static bool is_copy_due(const replica_t *it, uint64_t after) { return it->memory->progress.made + 1 >= copies_newest(&it->copies) + after; }
+
 /* Half a list at most, so that whoever finds its next call overwritten finds a copy that is further. */
-static bool is_copy_due(const replica_t *it, uint64_t after) {
-  return it->memory->progress.made >= copies_newest(&it->copies) + after;
+void replica_copy_if_due(replica_t *it) {
+  if (is_copy_due(it, it->list.length / 2)) make_copy(it);
+  it->copy_due = copies_newest(&it->copies) + it->list.length / 2 - 1;
 }
 
 static replica_status_t load(replica_t *it) {
@@ -43,15 +48,14 @@ static replica_status_t follow(replica_t *it, uint64_t most, uint64_t entries, c
   return REPLICA_OK;
 }
 
-/* Adds calls until the announced one is among them. */
-static replica_status_t add_announced(replica_t *it, const uint64_t *announced) {
+replica_status_t replica_add_announced(replica_t *it, const uint64_t *announced) {
   const call_progress_t *progress = &it->memory->progress;
   uint64_t entries = progress->of[it->place].entries + 1;
   while (true) {
     replica_status_t status = follow(it, UINT64_MAX, entries, announced);
     if (status != REPLICA_OK || progress->of[it->place].entries >= entries) return status;
-    if (is_copy_due(it, it->list.length / 2)) make_copy(it);
-    call_list_add(&it->list, progress, it->place);
+    replica_copy_if_due(it);
+    (void)call_list_add(&it->list, progress, it->place);
   }
 }
 
@@ -69,17 +73,20 @@ replica_status_t replica_follow(replica_t *it, uint64_t most, bool is_idle) {
 }
 
 replica_status_t replica_call(replica_t *it, const uint64_t arguments[CALL_ARGUMENTS]) {
-  call_list_announce(&it->list, &it->memory->progress, it->place, arguments);
-  return add_announced(it, arguments);
+  call_seat_t seat = call_seat_at(&it->list, it->place);
+  if (!replica_add(it, &seat, arguments)) return replica_add_announced(it, arguments);
+  call_list_begin(&it->memory->progress, it->place);
+  call_list_replied(&it->memory->progress, it->place, it->apply(it->memory + 1, it->place, arguments));
+  return REPLICA_OK;
 }
 
 replica_status_t replica_call_end(replica_t *it, call_end_t end) {
   call_list_announce_end(&it->list, &it->memory->progress, it->place, end);
-  return add_announced(it, NULL);
+  return replica_add_announced(it, NULL);
 }
 
 replica_status_t replica_end_predecessor(replica_t *it, uint64_t number) {
   replica_status_t status = REPLICA_OK;
-  if (call_list_is_announced(&it->list, &it->memory->progress, it->place)) status = add_announced(it, NULL);
+  if (call_list_is_announced(&it->list, &it->memory->progress, it->place)) status = replica_add_announced(it, NULL);
   return status == REPLICA_OK ? replica_call_end(it, (call_end_t){it->place, number, true}) : status;
 }

@@ -20,6 +20,8 @@ typedef struct replica_t {
   replica_memory_t *memory;
   uint32_t place;
   uint32_t loads; /* how many copies in a row may be overwritten while they are loaded */
+  void (*before_copy)(replica_memory_t *memory); /* notes the size; or null, where that stays */
+  uint64_t copy_due; /* no copy is due before so many calls are made */
 } replica_t;
 
 typedef enum replica_status_t {
@@ -36,6 +38,19 @@ replica_status_t replica_join(replica_t *it);
 /* Makes the calls that others added, at most so many. `is_idle`: this process has nothing better to do, and so makes the
  * copy that will be due. */
 replica_status_t replica_follow(replica_t *it, uint64_t most, bool is_idle);
+/* Makes a copy if the newest one is old, before a call is added. */
+void replica_copy_if_due(replica_t *it);
+/* Adds calls until the one that this process has announced is among them, and makes them. `announced`: its arguments, or null. */
+replica_status_t replica_add_announced(replica_t *it, const uint64_t *announced);
+/* Announces a call of the place, and adds one. True if that is it, which so is to be made next; otherwise `replica_add_announced`
+ * goes on. */
+ALWAYS_INLINE bool replica_add(replica_t *it, const call_seat_t *seat, const uint64_t arguments[CALL_ARGUMENTS]) {
+  const call_progress_t *progress = &it->memory->progress;
+  uint64_t call = progress->made, count = progress->of[seat->place].entries;
+  call_list_write(&it->list, seat, count, arguments, progress->of[seat->place].reply << 1);
+  if (call >= it->copy_due) replica_copy_if_due(it);
+  return call_list_try(&it->list, progress, seat->place, call, count);
+}
 /* Adds a call to the list and makes it, behind those of others that come before it. */
 replica_status_t replica_call(replica_t *it, const uint64_t arguments[CALL_ARGUMENTS]);
 /* Adds that a process died, or that this one ends. Afterwards no call of it is made any more, and what it had is given back. */

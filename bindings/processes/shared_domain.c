@@ -46,51 +46,11 @@ iox2ps_status_t shared_domain_idle(shared_domain_t *it) {
   return shared_domain_reap_in_time(it);
 }
 
-char *shared_domain_payload(const shared_domain_t *it, const void *believed) {
-  size_t at = (size_t)((uintptr_t)believed - (uintptr_t)it->group->region.payloads);
-  return it->group->member.files.payloads + (at < it->group->member.files.payload_size ? at : 0); /* no bytes lie nowhere */
-}
-
-/* Whether this process may write payloads. */
-static bool protect(shared_domain_t *it, bool may_write) {
-  if (it->group->may_write == may_write) return true;
-  if (!shared_files_protect_payloads(&it->group->member.files, may_write)) return false;
-  it->group->may_write = may_write;
+bool shared_group_protect(shared_group_t *it, bool may_write) {
+  if (it->broken != IOX2PS_OK) return true; /* and the call says so */
+  if (!shared_files_protect_payloads(&it->member.files, may_write)) return false;
+  it->may_write = may_write;
   return true;
-}
-
-static bool is_of_writer(handle_kind_t kind) { return kind == HANDLE_PUBLISHER || kind == HANDLE_LOAN; }
-static void protect_without_writer(shared_domain_t *it) {
-  uint32_t place = it->group->member.replica.place;
-  for (uint32_t i = 0; i < it->group->memory->count; i++) {
-    const live_handles_t *handles = &it->group->memory->domains[i].handles;
-    if (live_handles_has(handles, HANDLE_PUBLISHER, place) || live_handles_has(handles, HANDLE_LOAN, place)) return;
-  }
-  (void)protect(it, false);
-}
-
-/* A thread that sleeps for others of this process isn't woken by their calls. */
-static uint64_t other_places(const shared_domain_t *it) { return SLEEP_ALL_PLACES & ~(UINT64_C(1) << it->group->member.replica.place); }
-
-static void wake(shared_domain_t *it, const domain_reply_t *reply) {
-  member_wake(&it->group->member, reply->brought & ~(uint32_t)HELPS_PUBLISHERS, other_places(it));
-  member_wake(&it->group->member, reply->brought & HELPS_PUBLISHERS, other_places(it) & reply->helps);
-}
-
-static iox2ps_status_t call_once(shared_domain_t *it, domain_operation_t operation, const uint64_t words[HANDLE_WORDS], domain_reply_t *reply) {
-  domain_traits_t traits = domain_traits(operation);
-  uint64_t arguments[CALL_ARGUMENTS] = {domain_call(it->which, operation)};
-  for (int i = 0; i < HANDLE_WORDS; i++) arguments[1 + i] = words[i];
-  if (traits.makes == HANDLE_PUBLISHER || traits.makes == HANDLE_SUBSCRIBER) arguments[1 + NODE_WORD] = it->group->member.files.number;
-  if (is_of_writer(traits.makes) && !protect(it, true)) return reply->code = IOX2PS_OUT_OF_MEMORY;
-  replica_status_t status = replica_call(&it->group->member.replica, arguments);
-  if (status != REPLICA_OK) return reply->code = shared_group_break(it->group, status);
-  *reply = it->group->memory->replies[it->group->member.replica.place];
-  if (is_of_writer(traits.makes) || is_of_writer(traits.ends) || operation == DOMAIN_LEAVE) protect_without_writer(it);
-  reply->payload = shared_domain_payload(it, reply->payload);
-  for (int i = 0; i < DOMAIN_BRINGS; i++) it->brought[i] += reply->brought >> i & 1;
-  wake(it, reply);
-  return reply->code;
 }
 
 /* Whether a process that died may have what is wanting. */
@@ -108,26 +68,47 @@ static bool wants_room(iox2ps_status_t code) {
   }
 }
 
-iox2ps_status_t shared_domain_call(shared_domain_t *it, domain_operation_t operation, const uint64_t words[HANDLE_WORDS], domain_reply_t *reply) {
-  if (it->group->broken != IOX2PS_OK) return it->group->broken;
-  iox2ps_status_t code = call_once(it, operation, words, reply);
+void shared_domain_wrote(shared_domain_t *it) {
+  const group_memory_t *memory = it->group->memory;
+  uint32_t place = it->group->member.replica.place;
+  if (it->group->broken != IOX2PS_OK || !it->group->may_write) return;
+  for (uint32_t i = 0; i < memory->count; i++)
+    if (live_handles_has(&memory->domains[i].handles, HANDLE_PUBLISHER, place) || live_handles_has(&memory->domains[i].handles, HANDLE_LOAN, place)) return;
+  (void)shared_group_protect(it->group, false);
+}
+
+void shared_domain_wake(shared_domain_t *it, const uint64_t arguments[CALL_ARGUMENTS]) {
+  const domain_reply_t *reply = shared_domain_reply(it);
+  (void)domain_memory_ask(it->memory);
+  uint64_t helped = helped_places_of(it->memory, it->group->seat.place, (uint32_t)arguments[0], arguments + 1, reply);
+  domain_memory_asked();
+  member_wake(&it->group->member, reply->brought & ~(uint32_t)HELPS_PUBLISHERS, it->group->other_places);
+  member_wake(&it->group->member, reply->brought & HELPS_PUBLISHERS, it->group->other_places & helped);
+}
+
+iox2ps_status_t shared_domain_call_again(shared_domain_t *it, uint64_t arguments[CALL_ARGUMENTS], iox2ps_status_t code) {
+  domain_operation_t operation = (domain_operation_t)(uint32_t)arguments[0];
   if (!wants_room(code)) return code;
   iox2ps_status_t reaped = shared_domain_reap(it, NULL);
   if (reaped != IOX2PS_OK) return reaped;
   if (it->deaths_known == it->memory->brought[BROUGHT_DEATHS]) return code;
   it->deaths_known = it->memory->brought[BROUGHT_DEATHS];
   /* What waited for the subscribers of the dead an update alone takes back. */
-  if (operation == PUBLISHER_LOAN) (void)call_once(it, PUBLISHER_UPDATE, words, reply);
-  return it->group->broken != IOX2PS_OK ? it->group->broken : call_once(it, operation, words, reply);
+  if (operation == PUBLISHER_LOAN) (void)shared_domain_call(it, PUBLISHER_UPDATE, arguments);
+  return shared_domain_call(it, operation, arguments);
 }
 
-bool shared_domain_is_empty(const shared_domain_t *it, const uint64_t words[HANDLE_WORDS]) {
-  uint64_t id = words[0], which = id % EMPTY_SUBSCRIBERS;
-  if (it->empty[which].messages != it->memory->brought[0] + 1 || it->empty[which].id != id) return false;
-  return live_handles_find(&it->memory->handles, HANDLE_SUBSCRIBER, words) != NULL;
+iox2ps_status_t shared_domain_call(shared_domain_t *it, domain_operation_t operation, uint64_t arguments[CALL_ARGUMENTS]) {
+  if (it->group->broken != IOX2PS_OK) return it->group->broken;
+  arguments[0] = domain_call(it->which, operation);
+  replica_status_t status = replica_call(&it->group->member.replica, arguments);
+  if (status != REPLICA_OK) return shared_group_break(it->group, status);
+  const domain_reply_t *reply = shared_domain_reply(it);
+  if (reply->brought != 0) shared_domain_tell_brought(it, arguments, reply->brought);
+  return reply->code == IOX2PS_OK ? IOX2PS_OK : shared_domain_call_again(it, arguments, reply->code);
 }
 
-void shared_domain_note_empty(shared_domain_t *it, const uint64_t words[HANDLE_WORDS], const domain_reply_t *reply) {
+void shared_domain_note_empty(shared_domain_t *it, const uint64_t words[HANDLE_WORDS]) {
   uint64_t which = words[0] % EMPTY_SUBSCRIBERS;
-  it->empty[which].id = words[0], it->empty[which].messages = reply->messages + 1;
+  it->empty[which].id = words[0], it->empty[which].messages = shared_domain_reply(it)->messages + 1;
 }

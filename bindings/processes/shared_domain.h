@@ -17,6 +17,9 @@ typedef struct shared_group_t {
   shared_region_t region;
   wake_pipes_t pipes;
   group_memory_t *memory;
+  call_seat_t seat;       /* of this process */
+  domain_reply_t *reply;  /* to it */
+  uint64_t other_places;  /* of other processes, a bit each */
   uint32_t open;          /* how many of its domains this process hasn't destroyed */
   iox2ps_status_t broken; /* what each call returns from now on, or IOX2PS_OK */
   bool may_write;         /* this process may write payloads now */
@@ -34,7 +37,7 @@ typedef struct shared_domain_t {
   void *listener;
   uint64_t deaths_told;
   uint64_t deaths_known;    /* when a call was refused last for want of room */
-  uint64_t brought[DOMAIN_BRINGS]; /* how many of the calls that brought each are this process' own */
+  uint64_t own_brought[1 << DOMAIN_BRINGS]; /* how many calls of this process brought each sum */
   /* Subscribers that found nothing, and how many calls had brought a message by then, and 1. */
   struct { uint64_t id, messages; } empty[EMPTY_SUBSCRIBERS];
   struct event_listener_t *listeners; /* of events, those of this process; in a block of the heap, or null */
@@ -50,10 +53,43 @@ static inline shared_domain_t *shared_domain_of(const iox2ps_domain_t *domain) {
 /* Gives back what this process has of the domain, and leaves if it is the last one of its group. */
 void shared_domain_close(shared_domain_t *it);
 
-/* Adds a call to the list and makes it. Returns the code of the reply, whose payload is where this process has it. */
-iox2ps_status_t shared_domain_call(shared_domain_t *it, domain_operation_t operation, const uint64_t words[HANDLE_WORDS], domain_reply_t *reply);
 /* What a call returns that the list didn't make, and each one after it: the memory may be spoilt. */
 iox2ps_status_t shared_group_break(shared_group_t *it, replica_status_t status);
+/* The reply to the last call, until the next one. */
+static inline const domain_reply_t *shared_domain_reply(const shared_domain_t *it) { return it->group->reply; }
+/* A call was refused: makes it once more if that may help, or returns its code. */
+iox2ps_status_t shared_domain_call_again(shared_domain_t *it, uint64_t arguments[CALL_ARGUMENTS], iox2ps_status_t code);
+
+/* Wakes those of other processes whom the last call has helped. */
+void shared_domain_wake(shared_domain_t *it, const uint64_t arguments[CALL_ARGUMENTS]);
+/* Counts what this process has brought, and wakes those whom it helps. A thread that sleeps for others of this process isn't woken by
+ * their calls. */
+ALWAYS_INLINE void shared_domain_tell_brought(shared_domain_t *it, const uint64_t arguments[CALL_ARGUMENTS], uint32_t brought) {
+  it->own_brought[brought]++;
+  if (sleepers_are_there(it->group->member.files.sleepers, it->group->other_places)) shared_domain_wake(it, arguments);
+}
+
+/* Adds a call to the list and makes it. The words of the arguments are those of the call; the operation is put before them. Returns the
+ * code of the reply, or what the list itself says. */
+iox2ps_status_t shared_domain_call(shared_domain_t *it, domain_operation_t operation, uint64_t arguments[CALL_ARGUMENTS]);
+/* What a call returns whose handle can't be live. */
+static inline iox2ps_status_t shared_domain_not_live(const shared_domain_t *it) { return it->group->broken != IOX2PS_OK ? it->group->broken : IOX2PS_NOT_LIVE; }
+/* A call that is given a handle. */
+static inline iox2ps_status_t shared_domain_call_of(shared_domain_t *it, domain_operation_t operation, bool may_be_live, uint64_t arguments[CALL_ARGUMENTS]) {
+  return may_be_live ? shared_domain_call(it, operation, arguments) : shared_domain_not_live(it);
+}
+/* Lets this process write payloads, or not: of its group's domains. False if the system refuses. */
+bool shared_group_protect(shared_group_t *it, bool may_write);
+/* Before a call that makes a publisher or lends. */
+static inline bool shared_domain_writes(shared_domain_t *it) { return it->group->may_write || shared_group_protect(it->group, true); }
+/* After one that didn't, and after each that may have ended one: without publishers and loans this process doesn't write. */
+void shared_domain_wrote(shared_domain_t *it);
+/* A call that may end a publisher or a loan. */
+static inline iox2ps_status_t shared_domain_end(shared_domain_t *it, domain_operation_t operation, bool may_be_live, uint64_t arguments[CALL_ARGUMENTS]) {
+  iox2ps_status_t code = shared_domain_call_of(it, operation, may_be_live, arguments);
+  shared_domain_wrote(it);
+  return code;
+}
 /* Waits for any of these until it is there, or for so many ns. IOX2PS_PROCESSES_TIMED_OUT. */
 iox2ps_status_t shared_domain_wait(shared_domain_t *it, uint32_t brings, member_is_there_t *is_there, void *waiter, uint64_t timeout_ns);
 /* Makes the calls that others have added. */
@@ -74,11 +110,19 @@ void shared_domain_tell_deaths(shared_domain_t *it);
 /* The id of the process with this number. */
 iox2ps_wide_t shared_domain_node_id(const shared_domain_t *it, uint64_t number);
 /* Where this process has what the domain believes to be there. */
-char *shared_domain_payload(const shared_domain_t *it, const void *believed);
+static inline char *shared_domain_payload(const shared_domain_t *it, const void *believed) {
+  size_t at = (size_t)((uintptr_t)believed - (uintptr_t)it->group->region.payloads);
+  return it->group->member.files.payloads + (at < it->group->member.files.payload_size ? at : 0); /* no bytes lie nowhere */
+}
 
 /* Whether nothing can have come for a subscriber since it found nothing, as far as the calls are made, so that a poll needn't add a
  * call to the list. */
-bool shared_domain_is_empty(const shared_domain_t *it, const uint64_t words[HANDLE_WORDS]);
-void shared_domain_note_empty(shared_domain_t *it, const uint64_t words[HANDLE_WORDS], const domain_reply_t *reply);
+static inline bool shared_domain_is_empty(const shared_domain_t *it, const uint64_t words[HANDLE_WORDS]) {
+  uint64_t id = words[0], which = id % EMPTY_SUBSCRIBERS;
+  if (it->empty[which].messages != it->memory->brought[0] + 1 || it->empty[which].id != id) return false;
+  return live_handles_find(&it->memory->handles, HANDLE_SUBSCRIBER, words) != NULL;
+}
+/* By the reply to the last call, which found nothing. */
+void shared_domain_note_empty(shared_domain_t *it, const uint64_t words[HANDLE_WORDS]);
 
 #endif

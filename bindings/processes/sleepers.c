@@ -2,11 +2,12 @@
 #include "sleepers.h"
 #include "futex.h"
 
-/* Why one of the two sees the other: these four accesses are sequentially consistent, so they have one order.
+/* Why one of the two sees the other: these accesses are sequentially consistent, so they have one order.
  *   Who sleeps: its bit (sleepers_begin), then a load of the word of `order` that has no call yet (call_list_step).
- *   Who calls: a load of that word that finds the call (call_list_step), then the bits (wake_for).
- * If the sleeper finds no call, its load comes before the caller's, and so its bit before the caller's look at the bits. With any of
- * the four weaker, the model finds a process that sleeps on. The swap itself may be weaker, since its process loads the word again. */
+ *   Who calls: the swap that puts its call there (call_list_add), or a load that finds it there (call_list_step), then the bits
+ *   (sleepers_are_there).
+ * If the sleeper finds no call, its load comes before the caller's swap or load, and so its bit before the caller's look at the bits.
+ * With any of them weaker, the model finds a process that sleeps on. */
 
 uint64_t sleepers_begin(sleepers_shared_t *it, uint32_t place, uint32_t reasons) {
   /* Relaxed: an old number only means that the sleep ends at once. */
@@ -39,9 +40,9 @@ void sleepers_wake_place(sleepers_shared_t *it, uint32_t place) {
 }
 
 static uint64_t wake_for(sleepers_shared_t *it, uint32_t reason, uint64_t places) {
-  uint64_t asleep = atomic_load_explicit(&it->asleep[reason], memory_order_seq_cst) & places;
-  if (asleep == 0) return 0;
   /* Relaxed: each bit is taken by one process, which counts and wakes because it found it, and so not before. */
+  uint64_t asleep = atomic_load_explicit(&it->asleep[reason], memory_order_relaxed) & places;
+  if (asleep == 0) return 0;
   asleep &= atomic_fetch_and_explicit(&it->asleep[reason], ~asleep, memory_order_relaxed);
   for (uint32_t place = 0; place < SLEEP_PLACES; place++) {
     if (!(asleep >> place & 1)) continue;

@@ -9,6 +9,7 @@
 #define IOX2PS_SLEEPERS_H
 
 #include <stdatomic.h>
+#include <stdbool.h>
 #include <stdint.h>
 
 #ifndef SLEEP_PLACES
@@ -34,7 +35,15 @@ void sleepers_sleep(sleepers_shared_t *it, uint32_t place, uint64_t begun, uint6
 void sleepers_end(sleepers_shared_t *it, uint32_t place, uint32_t reasons);
 /* Nobody sleeps there: of a process that enters, since one that died may have slept. */
 void sleepers_forget(sleepers_shared_t *it, uint32_t place);
-/* Wakes those of the places that sleep for one of the reasons, and returns them. After the call that may help them. */
+/* Whether one of the places sleeps, for whatever reason. After the call that may help it. */
+static inline bool sleepers_are_there(const sleepers_shared_t *it, uint64_t places) {
+  uint64_t asleep = 0;
+  /* Sequentially consistent: sleepers.c. */
+#pragma GCC unroll 8
+  for (uint32_t reason = 0; reason < SLEEP_REASONS; reason++) asleep |= atomic_load_explicit(&it->asleep[reason], memory_order_seq_cst);
+  return (asleep & places) != 0;
+}
+/* Wakes those of the places that sleep for one of the reasons, and returns them. When there are some. */
 uint64_t sleepers_wake(sleepers_shared_t *it, uint32_t reasons, uint64_t places);
 /* Ends the sleeps of a place that were begun, whatever they are for. */
 void sleepers_wake_place(sleepers_shared_t *it, uint32_t place);

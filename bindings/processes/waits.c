@@ -68,7 +68,8 @@ iox2ps_status_t iox2ps_domain_brought_by_others(iox2ps_domain_t *domain, uint32_
   iox2ps_status_t code = iox2ps_domain_brought(domain, brings, &all);
   if (code != IOX2PS_OK) return code;
   const shared_domain_t *shared = shared_domain_of(domain);
-  for (int i = 0; i < DOMAIN_BRINGS; i++) all -= (brings >> i & 1) * shared->brought[i];
+  for (uint32_t sum = 0; sum < 1u << DOMAIN_BRINGS; sum++)
+    for (int i = 0; i < DOMAIN_BRINGS; i++) all -= ((brings & sum) >> i & 1) * shared->own_brought[sum];
   *count = all;
   return IOX2PS_OK;
 }

@@ -89,18 +89,18 @@ static void swapped(size_t word) {
   _Atomic uint64_t *at = &region[word];
   if (at < list.order || at >= list.order + LENGTH) return;
   uint64_t name = explore_newest(at);
-  uint32_t place = (uint32_t)(name >> ENTRY_BITS) & ((1u << PLACE_BITS) - 1);
-  const call_entry_t *entry = &list.entries[place * 2 * LENGTH + (name & ((1u << ENTRY_BITS) - 1))];
+  uint32_t place = (uint32_t)(name >> CALL_ENTRY_BITS) & ((1u << CALL_PLACE_BITS) - 1);
+  const call_entry_t *entry = &list.entries[place * 2 * LENGTH + (name & ((1u << CALL_ENTRY_BITS) - 1))];
   uint64_t argument = explore_newest(&entry->words[0]), own = explore_newest(&entry->words[1]);
   if (state.count == CALLS) explore_wrong("the model has too few calls");
-  if (distance(name, state.count) != 0) explore_wrong("a call is added at another's number");
+  if (call_distance(name, state.count) != 0) explore_wrong("a call is added at another's number");
   uint64_t *wanted = argument == state.end[place] ? &state.end[place] : &state.announced[place];
   if (argument == 0 || argument != *wanted) explore_wrong("what is added isn't what its process wants");
   *wanted = 0;
-  state.calls[state.count++] = (call_t){argument, place, own & IS_END};
+  state.calls[state.count++] = (call_t){argument, place, own & CALL_IS_END};
   uint64_t newest = explore_newest(copies.newest);
-  if ((newest >> BUFFER_BITS) - 1 + LENGTH < state.count) explore_wrong("whoever is behind finds no copy");
-  if (explore_newest(&copies.heads[newest & ((1u << BUFFER_BITS) - 1)].end) != newest >> BUFFER_BITS) explore_wrong("the newest copy isn't whole");
+  if ((newest >> COPY_BUFFER_BITS) - 1 + LENGTH < state.count) explore_wrong("whoever is behind finds no copy");
+  if (explore_newest(&copies.heads[newest & ((1u << COPY_BUFFER_BITS) - 1)].end) != newest >> COPY_BUFFER_BITS) explore_wrong("the newest copy isn't whole");
   if (!scenario->is_strong) return;
   object_t now = expected(state.count);
   for (uint32_t i = 0; i < scenario->processes; i++) {
@@ -111,7 +111,9 @@ static void swapped(size_t word) {
 }
 
 static replica_t replica_of(uint32_t process) {
-  return (replica_t){list, copies, apply, &state.objects[process].memory, process, scenario->loads_none ? 0 : LOADS};
+  return (replica_t){
+    .list = list, .copies = copies, .apply = apply, .memory = &state.objects[process].memory, .place = process, .loads = scenario->loads_none ? 0 : LOADS
+  };
 }
 
 static void want(uint32_t process, uint64_t argument) { state.announced[process] = argument; }

@@ -9,7 +9,7 @@
 #include <stdlib.h>
 
 /* Four calls each: as many as half the list has, so that one copy comes due. */
-enum { WARM_UP = 300, MESSAGES = 32, BYTES = 64, MOST_TIMES = 10, MOST_TIMES_WITH_COPIES = 12 };
+enum { WARM_UP = 300, MESSAGES = 32, BYTES = 64, MOST_PERCENT = 300, MOST_PERCENT_WITH_COPIES = 370 };
 
 static void pass_message(iox2ps_domain_t *domain, const iox2ps_publisher_t *publisher, const iox2ps_subscriber_t *subscriber) {
   iox2ps_loan_t loan;
@@ -74,7 +74,7 @@ int main(void) {
   printf("a message takes %llu instructions, with copies %llu, and %llu in a domain of one process; no call of the system\n",
          (unsigned long long)of_several.median, (unsigned long long)of_several.mean, (unsigned long long)of_one.median);
   fflush(stdout);
-  CHECK(of_one.median > 100 && of_several.median <= MOST_TIMES * of_one.median && of_several.mean <= MOST_TIMES_WITH_COPIES * of_one.median);
+  CHECK(of_one.median > 100 && 100 * of_several.median <= MOST_PERCENT * of_one.median && 100 * of_several.mean <= MOST_PERCENT_WITH_COPIES * of_one.median);
   CHECK(marks.mean > 0 && calls.median == marks.median && calls.mean == marks.mean);
   return 0;
 }

@@ -47,8 +47,8 @@ static void check_nothing_is_left(void) {
   const domain_memory_t *memory = it->memory;
   CHECK(member_reap(&it->group->member, &found) == REPLICA_OK);
   CHECK(iox2ps_domain_connection_count(&domain, &connections) == IOX2PS_OK && iox2ps_domain_book_count(&domain, &books) == IOX2PS_OK);
-  CHECK(connections == 0 && books == 0 && memory->handles.count == 0 && memory->group->payloads.taken == 0);
-  CHECK(region_heap_is_sane(&memory->group->heap, &taken));
+  CHECK(connections == 0 && books == 0 && memory->handles.count == 0 && memory->group->memory.payloads.taken == 0);
+  CHECK(region_heap_is_sane(&memory->group->memory.heap, &taken));
   for (uint32_t place = 1; place < it->group->member.files.places.count; place++) CHECK(it->group->member.files.places.shared->numbers[place] == 0);
   calls = memory->group->replica.progress.made;
 }

@@ -111,15 +111,15 @@ static void listeners_come_and_go(void) {
   iox2ps_domain_t domain = opened(HOUR_MS);
   iox2ps_listener_t all[20];
   const group_memory_t *memory = shared_domain_of(&domain)->group->memory;
-  size_t used = memory->heap.used;
+  size_t used = memory->memory.heap.used;
   for (size_t i = 0; i < 20; i++) all[i] = listener_of(&domain);
-  CHECK(notify(&domain, 1) == 20 && memory->heap.used > used);
+  CHECK(notify(&domain, 1) == 20 && memory->memory.heap.used > used);
   for (size_t i = 0; i < 20; i += 2) CHECK(iox2ps_listener_close(&domain, &all[i]) == IOX2PS_OK && iox2ps_listener_close(&domain, &all[i]) == IOX2PS_NOT_LIVE);
   iox2ps_listener_t late = listener_of(&domain);
   CHECK(notify(&domain, 2) == 11 && is_next(&domain, &late, 2) && has_none(&domain, &late) && has_none(&domain, &late));
   CHECK(iox2ps_listener_try_wait_one(&domain, &all[0], &(size_t){0}) == IOX2PS_NOT_LIVE && iox2ps_listener_close(&domain, &late) == IOX2PS_OK);
   for (size_t i = 1; i < 20; i += 2) CHECK(is_next(&domain, &all[i], 1) && is_next(&domain, &all[i], 2) && iox2ps_listener_close(&domain, &all[i]) == IOX2PS_OK);
-  CHECK(memory->heap.used == used && notify(&domain, 3) == 0);
+  CHECK(memory->memory.heap.used == used && notify(&domain, 3) == 0);
   late = listener_of(&domain);
   CHECK(has_none(&domain, &late) && notify(&domain, 3) == 1 && is_next(&domain, &late, 3));
   destroy(&domain);
@@ -178,9 +178,8 @@ static void refusals(void) {
 static void nonsense(void) {
   iox2ps_domain_t domain = opened(HOUR_MS);
   shared_domain_t *shared = shared_domain_of(&domain);
-  domain_reply_t reply;
-  CHECK(shared_domain_call(shared, NOTIFY, (const uint64_t[HANDLE_WORDS]){UINT64_MAX}, &reply) == IOX2PS_NOTIFIER_NOTIFY_ERROR_EVENT_ID_OUT_OF_BOUNDS);
-  CHECK(shared_domain_call(shared, LISTENER_CLOSE, (const uint64_t[HANDLE_WORDS]){0}, &reply) == IOX2PS_NOT_LIVE);
+  CHECK(shared_domain_call(shared, NOTIFY, (uint64_t[CALL_ARGUMENTS]){[1 + EVENT_WORD] = UINT64_MAX}) == IOX2PS_NOTIFIER_NOTIFY_ERROR_EVENT_ID_OUT_OF_BOUNDS);
+  CHECK(shared_domain_call(shared, LISTENER_CLOSE, (uint64_t[CALL_ARGUMENTS]){0}) == IOX2PS_NOT_LIVE);
   destroy(&domain);
 }
 
@@ -338,10 +337,11 @@ static void killed_listener(void) {
 static void dies_in_the_middle(uint64_t is_in_list) {
   iox2ps_domain_t domain = opened(HOUR_MS);
   const shared_group_t *group = shared_domain_of(&domain)->group;
-  uint64_t arguments[CALL_ARGUMENTS] = {domain_call(0, NOTIFY), 9};
+  const call_progress_t *progress = &group->memory->replica.progress;
+  uint64_t arguments[CALL_ARGUMENTS] = {domain_call(0, NOTIFY), 9}, own = progress->of[group->seat.place].reply << 1;
   while (group->member.files.sleepers->asleep[EVENT_BIT] == 0) usleep(1000);
   if (is_in_list) CHECK(replica_call((replica_t *)&group->member.replica, arguments) == REPLICA_OK);
-  else call_list_announce(&group->member.files.list, &group->memory->replica.progress, group->member.replica.place, arguments);
+  else call_list_write(&group->member.files.list, &group->seat, progress->of[group->seat.place].entries, arguments, own);
   raise(SIGKILL);
 }
 

@@ -160,7 +160,7 @@ static state_t state_now(void) {
     it.handles[i] = memory->domains[i].handles.count;
     memcpy(it.brought[i], memory->domains[i].brought, sizeof it.brought[i]);
   }
-  it.calls = memory->replica.progress.made, it.used = memory->heap.used, it.taken = memory->payloads.taken;
+  it.calls = memory->replica.progress.made, it.used = memory->memory.heap.used, it.taken = memory->memory.payloads.taken;
   return it;
 }
 
@@ -182,7 +182,7 @@ static void check_nothing_is_left(void) {
   CHECK(iox2ps_domain_cleanup_dead_nodes(&one, NULL) == IOX2PS_OK);
   state_t it = state_now();
   for (int i = 0; i < DOMAINS; i++) CHECK(it.books[i] == 0 && it.connections[i] == 0 && it.handles[i] == 0);
-  CHECK(it.taken == 0 && region_heap_is_sane(&shared_domain_of(&one)->group->memory->heap, &taken));
+  CHECK(it.taken == 0 && region_heap_is_sane(&shared_domain_of(&one)->group->memory->memory.heap, &taken));
 }
 
 static void kill_callers(int kills) {

@@ -60,7 +60,7 @@ static void be_victim(int which, uint64_t seed, int ready_fd) {
     if (shared_files_open(&it.files, &settings, SHARED_OPEN) != SHARED_OK) _exit(TOLD);
     mailbox_t *mailbox = calloc(1, it.files.copies.room);
     mailbox->memory.size = sizeof *mailbox;
-    it.replica = (replica_t){it.files.list, it.files.copies, apply, &mailbox->memory, it.files.places.own, LOADS};
+    it.replica = replica_of(&it.files, mailbox);
     if (member_enter(&it) != REPLICA_OK || member_leave(&it) != REPLICA_OK) _exit(TOLD);
     free(mailbox);
   }
@@ -121,7 +121,8 @@ static void name_nonsense(uint64_t place, uint64_t entry) {
 static void spoil_own_call(int word) {
   uint64_t arguments[CALL_ARGUMENTS] = {LEND}, entry = keeper.replica.memory->progress.of[keeper.replica.place].entries;
   call_list_t list = keeper.files.list;
-  call_list_announce(&list, &keeper.replica.memory->progress, keeper.replica.place, arguments);
+  call_seat_t seat = call_seat_at(&list, keeper.replica.place);
+  call_list_write(&list, &seat, entry, arguments, keeper.replica.memory->progress.of[keeper.replica.place].reply << 1);
   list.entries[keeper.replica.place * 2 * LENGTH + entry % (2 * LENGTH)].words[word] ^= 1;
   call_list_add(&list, &keeper.replica.memory->progress, keeper.replica.place);
   call_own_t own = {keeper.replica.place, arguments};

@@ -95,6 +95,10 @@ static shared_settings_t settings_of(const char *name, bool writes_payloads) {
 /* Gives back what processes had that died. */
 static inline void reap(member_t *it) { CHECK(member_reap(it, NULL) == REPLICA_OK); }
 
+static replica_t replica_of(const shared_files_t *files, mailbox_t *mailbox) {
+  return (replica_t){.list = files->list, .copies = files->copies, .apply = apply, .memory = &mailbox->memory, .place = files->places.own, .loads = LOADS};
+}
+
 static shared_status_t join_with(member_t *it, const shared_settings_t *settings, shared_mode_t mode) {
   *it = (member_t){.reap_every_ms = REAP_EVERY_MS};
   shared_status_t status = shared_files_open(&it->files, settings, mode);
@@ -102,7 +106,7 @@ static shared_status_t join_with(member_t *it, const shared_settings_t *settings
   mailbox_t *mailbox = calloc(1, it->files.copies.room);
   CHECK(mailbox != NULL);
   mailbox->memory.size = sizeof *mailbox;
-  it->replica = (replica_t){it->files.list, it->files.copies, apply, &mailbox->memory, it->files.places.own, LOADS};
+  it->replica = replica_of(&it->files, mailbox);
   CHECK(member_enter(it) == REPLICA_OK);
   return SHARED_OK;
 }

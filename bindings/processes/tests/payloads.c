@@ -26,7 +26,7 @@ static iox2ps_domain_t open_named(const iox2ps_config_t *config, size_t publishe
 
 /* ---- which blocks are payloads */
 
-static const payload_extents_t *extents_of(const iox2ps_domain_t *domain) { return &shared_domain_of(domain)->group->memory->payloads; }
+static const payload_extents_t *extents_of(const iox2ps_domain_t *domain) { return &shared_domain_of(domain)->group->memory->memory.payloads; }
 
 /* How many blocks of payloads there are for messages of so many bytes, or in all with 0. */
 static size_t blocks_for(const iox2ps_domain_t *domain, size_t size) {
@@ -116,15 +116,14 @@ static void requests(void) {
                                                                             {9, 1, false}, {2, 1, false}, {16, 8, false}, {9, 1, false}};
   void *blocks[sizeof all / sizeof *all];
   for (int may_make_slots = 0; may_make_slots < 2; may_make_slots++) {
-    archive_memory_use(&it->heap, &it->payloads);
-    archive_memory_expect_slots(may_make_slots);
+    archive_memory_use(&it->memory, may_make_slots);
     for (size_t i = 0; i < sizeof all / sizeof *all; i++) {
       tried_t tried = rattle_alloc(all[i].size, all[i].alignment);
-      CHECK(tried.is_ok && payload_extents_have(&it->payloads, blocks[i] = tried.block) == (may_make_slots && all[i].is_payload));
+      CHECK(tried.is_ok && payload_extents_have(&it->memory.payloads, blocks[i] = tried.block) == (may_make_slots && all[i].is_payload));
     }
     CHECK(rattle_alloc(64, 32).is_ok == 0);
     for (size_t i = 0; i < sizeof all / sizeof *all; i++) rattle_dealloc(blocks[i]);
-    archive_memory_use(NULL, NULL);
+    archive_memory_use_plain();
   }
 }
 
@@ -137,7 +136,7 @@ static void lies_elsewhere(void) {
   CHECK(it->replies[0].code == IOX2PS_OK);
   arguments[0] = PUBLISHER_LOAN, memcpy(arguments + 1, it->replies[0].handle, sizeof it->replies[0].handle);
   arguments[1 + LENGTH_WORD] = 8;
-  it->payloads.payloads += it->payloads.room;
+  it->memory.payloads.payloads += it->memory.payloads.room;
   for (int turn = 0; turn < 5; turn++) {
     (void)group_memory_apply(&it->replica + 1, 0, arguments);
     CHECK(it->replies[0].code == IOX2PS_LOAN_ERROR_INTERNAL_FAILURE && live_handles_first(&it->domains[0].handles, 0)->kind == HANDLE_PUBLISHER);

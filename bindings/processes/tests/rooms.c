@@ -60,9 +60,9 @@ static void all_ports(const iox2ps_config_t *config) {
     lend_all(&domain, config, &publishers[i]);
   }
   const group_memory_t *memory = shared_domain_of(&domain)->group->memory;
-  size_t used = memory->heap.used;
+  size_t used = memory->memory.heap.used;
   printf("%zu publishers, %zu subscribers: %zu of %zu bytes of book-keeping, %zu of %zu of payloads\n", config->max_publishers, config->max_subscribers, used,
-         options.book_room, memory->payloads.taken, options.payload_room);
+         options.book_room, memory->memory.payloads.taken, options.payload_room);
   CHECK(used < options.book_room / 16 * 15 && used > options.book_room / 2); /* with some to spare, and not far more */
   CHECK(iox2ps_domain_destroy(&domain) == IOX2PS_OK);
   free(publishers), free(subscribers);

@@ -105,8 +105,8 @@ static void find_ranges(ranges_t *it, const char *memory) {
 }
 
 static uint64_t overwrite_left(const ranges_t *ranges, group_memory_t *it) {
-  uint64_t *words = (uint64_t *)it->heap.blocks, count = 0;
-  for (size_t i = 0; i < it->heap.used / 8; i++)
+  uint64_t *words = (uint64_t *)it->memory.heap.blocks, count = 0;
+  for (size_t i = 0; i < it->memory.heap.used / 8; i++)
     for (size_t which = 0; which < ranges->count; which++)
       if (words[i] >= ranges->all[which].from && words[i] < ranges->all[which].to) words[i] = UINT64_C(0xdeadbeefdeadbeef), count++;
   return count;
@@ -125,6 +125,7 @@ static void make_calls(run_t *run, group_memory_t *it, bool overwrites) {
     add_reply(run, it, place);
     if (overwrites && call % 20 == 0) run->left += overwrite_left(&ranges, it);
     if (call % BETWEEN != 0) continue;
+    group_memory_note_size(&it->replica);
     run->pictures[call / BETWEEN - 1].size = it->replica.size;
     memcpy(run->pictures[call / BETWEEN - 1].bytes, it, it->replica.size);
   }

@@ -48,7 +48,8 @@ static replica_t object_of(void *shared, uint32_t place) {
   CHECK(object != NULL);
   object->memory.size = sizeof *object;
   return (replica_t){
-    call_list_at(shared, PLACES, LENGTH), copies_at((char *)shared + list_room(), PLACES, sizeof *object), object_apply, &object->memory, place, LOADS
+    .list = call_list_at(shared, PLACES, LENGTH), .copies = copies_at((char *)shared + list_room(), PLACES, sizeof *object), .apply = object_apply,
+    .memory = &object->memory, .place = place, .loads = LOADS
   };
 }
 

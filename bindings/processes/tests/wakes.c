@@ -352,7 +352,7 @@ static void events_take_no_memory(void) {
   size_t id;
   uint64_t before = allocations;
   CHECK(iox2ps_listener_create(&domain, &listener) == IOX2PS_OK && allocations > before);
-  const region_heap_t *heap = &shared_domain_of(&domain)->group->memory->heap;
+  const region_heap_t *heap = &shared_domain_of(&domain)->group->memory->memory.heap;
   size_t used = heap->used;
   before = allocations;
   for (size_t i = 0; i < 1000; i++) {

@@ -1,0 +1,72 @@
+// SPDX-License-Identifier: Apache-2.0 OR MIT
+/* How a call is made on a domain of several processes, with all that is noted of it. Inline, and compiled for each operation of a message
+ * on its own, so that nothing is asked that is known of it. */
+#ifndef IOX2PS_DOMAIN_MAKING_H
+#define IOX2PS_DOMAIN_MAKING_H
+
+#include "domain_memory.h"
+#include "domain_operations.h"
+#include "helped_places.h"
+
+/* Refuses a call that was not made, and a loan that was. */
+uint64_t domain_memory_refuse(const domain_memory_t *it, iox2ps_status_t code, domain_reply_t *reply);
+uint64_t domain_memory_refuse_loan(domain_memory_t *it, domain_reply_t *loan);
+/* Makes room for what is to be known of a publisher. */
+bool domain_memory_reserve_book(domain_memory_t *it);
+
+_Static_assert(IOX2PS_BRINGS_MESSAGE == 1, "the first of `brought` counts calls that brought messages");
+ALWAYS_INLINE void domain_memory_count_brought(domain_memory_t *it, const domain_traits_t *traits, uint32_t brought) {
+#pragma GCC unroll 8
+  for (int i = 0; i < BROUGHT_DEATHS; i++)
+    if (traits->brings >> i & 1) it->brought[i] += brought >> i & 1;
+}
+
+/* Where the archive keeps its promise, the bytes of each loan lie among the payloads. */
+ALWAYS_INLINE bool domain_memory_has_payload(const domain_memory_t *it, const domain_reply_t *reply) {
+  return reply->count == 0 || (payload_extents_have(&it->group->memory.payloads, reply->payload) && payload_extents_have(&it->group->memory.payloads, reply->payload + reply->count - 1));
+}
+
+/* What is to be known of a handle that is made. */
+ALWAYS_INLINE bool domain_memory_reserve(domain_memory_t *it, const domain_traits_t *traits) {
+  if (traits->makes == HANDLE_KINDS && traits->ends != HANDLE_LOAN) return true;
+  if (!live_handles_reserve(&it->handles, &it->group->memory.heap)) return false;
+  return traits->makes != HANDLE_PUBLISHER || domain_memory_reserve_book(it);
+}
+
+ALWAYS_INLINE bool domain_has_handle(const domain_traits_t *traits, iox2ps_status_t code) {
+  return (code == IOX2PS_OK && traits->makes != HANDLE_KINDS) || (code == IOX2PS_BLOCKED && traits->ends == HANDLE_LOAN);
+}
+
+/* Which handles there are then. */
+ALWAYS_INLINE void domain_memory_note_handles(domain_memory_t *it, uint32_t place, const domain_traits_t *traits, const uint64_t *words, const domain_reply_t *made) {
+  if (traits->ends != HANDLE_KINDS && domain_has_ended(traits, made->code)) live_handles_remove(&it->handles, traits->ends, words);
+  if (domain_has_handle(traits, made->code)) live_handles_add(&it->handles, made->code == IOX2PS_OK ? traits->makes : HANDLE_BLOCKED, place, made->handle);
+  if (made->code == IOX2PS_OK && traits->makes == HANDLE_LOAN) book_owners_note(&it->owners, &it->handles, words, made->handle[BOOK_OF_LOAN]);
+}
+
+/* What tells replies apart, as far as another domain could give them: where a payload lies is among that. */
+ALWAYS_INLINE uint64_t domain_mark(bool has_handle, const domain_reply_t *made) {
+  uint64_t mark = made->code + made->count * UINT64_C(0x9e3779b97f4a7c15) + (uintptr_t)made->payload;
+  if (!has_handle) return mark ^ mark >> 32;
+#pragma GCC unroll 8
+  for (int i = 0; i < HANDLE_WORDS; i++) mark = (mark ^ made->handle[i]) * UINT64_C(0xff51afd7ed558ccd);
+  return mark ^ mark >> 32;
+}
+
+/* Returns what tells replies apart. */
+ALWAYS_INLINE uint64_t domain_memory_make_as(domain_memory_t *it, uint32_t place, uint64_t operation, const uint64_t *words, domain_reply_t *reply) {
+  const domain_traits_t *traits = domain_traits(operation);
+  if (!domain_memory_reserve(it, traits)) return domain_memory_refuse(it, IOX2PS_OUT_OF_MEMORY, reply);
+  archive_memory_use(&it->group->memory, traits->makes == HANDLE_PUBLISHER || traits->makes == HANDLE_LOAN);
+  domain_make(&it->domain, it->service_id, operation, words, reply);
+  if (traits->makes == HANDLE_LOAN && reply->code == IOX2PS_OK && !domain_memory_has_payload(it, reply)) return domain_memory_refuse_loan(it, reply);
+  if (operation == SUBSCRIBER_RECEIVE && (it->handles.blocked == 0 || !helped_places_need_room(it, words, reply))) reply->brought &= ~(uint32_t)IOX2PS_BRINGS_ROOM;
+  archive_memory_use_plain();
+  uint64_t mark = domain_mark(domain_has_handle(traits, reply->code), reply);
+  domain_memory_count_brought(it, traits, reply->brought);
+  reply->messages = it->brought[0];
+  domain_memory_note_handles(it, place, traits, words, reply);
+  return mark;
+}
+
+#endif
