@@ -1,7 +1,7 @@
 // SPDX-License-Identifier: Apache-2.0 OR MIT
 #include "live_handles.h"
 
-enum { FIRST_ROOM = 32 };
+enum { FIRST_ROOM = 16 };
 static const uint32_t NONE = LIVE_HANDLES_NONE;
 
 void live_handles_make(live_handles_t *it) {

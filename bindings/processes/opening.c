@@ -63,7 +63,7 @@ static size_t doubled(size_t first, size_t count) {
 /* A sixth more than was counted, for all ports, loans and samples that may be there at a time. A list that doubles is there twice as it
  * does. */
 static size_t book_room_of(const iox2ps_config_t *config, size_t slots) {
-  enum { DOMAIN = 4096, EVENTS = (EVENT_IDS + 2) * sizeof(uint64_t), PUBLISHER = 1024, SUBSCRIBER = 208, SLOT = 256, CONNECTION = 640, MESSAGE = 4, HANDLES = 32, EXTENTS = 64 };
+  enum { DOMAIN = 4096, EVENTS = (EVENT_IDS + 2) * sizeof(uint64_t), PUBLISHER = 1024, SUBSCRIBER = 208, SLOT = 256, CONNECTION = 640, MESSAGE = 4, HANDLES = 16, EXTENTS = 64 };
   size_t publishers = publishers_of(config), subscribers = config->max_subscribers, borrowed = config->subscriber_max_borrowed_samples;
   size_t messages = times(config->number_of_channels, plus(config->subscriber_max_buffer_size, borrowed));
   size_t connections = times(times(publishers, subscribers), plus(CONNECTION, times(MESSAGE, messages)));

@@ -4,11 +4,14 @@
 
 enum { FIRST_ROOM = 64 };
 
+static uint32_t units_of(size_t bytes) { return (uint32_t)((bytes + PAYLOAD_ALIGNMENT - 1) / PAYLOAD_ALIGNMENT); }
+
 bool payload_extents_make(payload_extents_t *it, region_heap_t *heap, char *payloads, size_t room) {
+  if (room / PAYLOAD_ALIGNMENT > MOST_PAYLOAD_UNITS) return false;
   *it = (payload_extents_t){.payloads = payloads, .room = room / PAYLOAD_ALIGNMENT * PAYLOAD_ALIGNMENT, .count = 1, .count_room = FIRST_ROOM};
   it->all = region_heap_take(heap, FIRST_ROOM * sizeof *it->all);
   if (it->all == NULL) return false;
-  it->all[0] = (payload_extent_t){0, it->room, false};
+  it->all[0] = (payload_extent_t){0, units_of(it->room), false};
   return true;
 }
 
@@ -25,7 +28,7 @@ static void remove_extent(payload_extents_t *it, size_t which) {
   memmove(it->all + which, it->all + which + 1, (it->count - which) * sizeof *it->all);
 }
 
-static void split(payload_extents_t *it, size_t which, size_t size) {
+static void split(payload_extents_t *it, size_t which, uint32_t size) {
   payload_extent_t *extent = it->all + which;
   memmove(extent + 1, extent, (it->count - which) * sizeof *it->all);
   it->count++;
@@ -34,19 +37,19 @@ static void split(payload_extents_t *it, size_t which, size_t size) {
 
 char *payload_extents_take(payload_extents_t *it, region_heap_t *heap, size_t size) {
   if (size > it->room || !has_room_for_one_more(it, heap)) return NULL;
-  size = size == 0 ? PAYLOAD_ALIGNMENT : (size + PAYLOAD_ALIGNMENT - 1) / PAYLOAD_ALIGNMENT * PAYLOAD_ALIGNMENT;
+  uint32_t units = size == 0 ? 1 : units_of(size);
   for (size_t which = 0; which < it->count; which++) {
-    if (it->all[which].is_taken || it->all[which].size < size) continue;
-    if (it->all[which].size > size) split(it, which, size);
+    if (it->all[which].is_taken || it->all[which].size < units) continue;
+    if (it->all[which].size > units) split(it, which, units);
     it->all[which].is_taken = true;
-    it->taken += size;
-    return it->payloads + it->all[which].at;
+    it->taken += (size_t)units * PAYLOAD_ALIGNMENT;
+    return it->payloads + (size_t)it->all[which].at * PAYLOAD_ALIGNMENT;
   }
   return NULL;
 }
 
 static size_t find(const payload_extents_t *it, const void *bytes) {
-  size_t at = (size_t)((const char *)bytes - it->payloads), low = 0, high = it->count;
+  size_t at = (size_t)((const char *)bytes - it->payloads) / PAYLOAD_ALIGNMENT, low = 0, high = it->count;
   while (high - low > 1) {
     size_t middle = low + (high - low) / 2;
     if (it->all[middle].at <= at) low = middle;
@@ -55,12 +58,12 @@ static size_t find(const payload_extents_t *it, const void *bytes) {
   return low;
 }
 
-size_t payload_extents_size(const payload_extents_t *it, const void *bytes) { return it->all[find(it, bytes)].size; }
+size_t payload_extents_size(const payload_extents_t *it, const void *bytes) { return (size_t)it->all[find(it, bytes)].size * PAYLOAD_ALIGNMENT; }
 
 void payload_extents_give(payload_extents_t *it, const void *bytes) {
   size_t which = find(it, bytes);
   it->all[which].is_taken = false;
-  it->taken -= it->all[which].size;
+  it->taken -= (size_t)it->all[which].size * PAYLOAD_ALIGNMENT;
   if (which + 1 < it->count && !it->all[which + 1].is_taken) {
     it->all[which].size += it->all[which + 1].size;
     remove_extent(it, which + 1);

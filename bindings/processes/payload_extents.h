@@ -9,7 +9,9 @@
 
 enum { PAYLOAD_ALIGNMENT = 64 }; /* so that no two messages share a cache line */
 
-typedef struct payload_extent_t { size_t at, size; bool is_taken; } payload_extent_t;
+/* In units of PAYLOAD_ALIGNMENT, since each copy has all of them. */
+typedef struct payload_extent_t { uint32_t at, size : 31, is_taken : 1; } payload_extent_t;
+enum { MOST_PAYLOAD_UNITS = INT32_MAX };
 
 typedef struct payload_extents_t {
   char *payloads; /* where the domain believes them to be */

@@ -112,7 +112,7 @@ static void extents_by_random(void) {
     }
   }
   for (int i = 0; i < BLOCKS; i++) if (all[i].at != NULL) payload_extents_give(&extents, all[i].at);
-  CHECK(extents.taken == 0 && extents.count == 1 && extents.all[0].size == PAYLOADS);
+  CHECK(extents.taken == 0 && extents.count == 1 && extents.all[0].size == PAYLOADS / PAYLOAD_ALIGNMENT);
   CHECK(payload_extents_take(&extents, &heap, PAYLOADS + 1) == NULL && payload_extents_take(&extents, &heap, PAYLOADS) == base);
   CHECK(!payload_extents_have(&extents, base + PAYLOADS) && !payload_extents_have(&extents, region));
 }

@@ -31,7 +31,7 @@ static const payload_extents_t *extents_of(const iox2ps_domain_t *domain) { retu
 /* How many blocks of payloads there are for messages of so many bytes, or in all with 0. */
 static size_t blocks_for(const iox2ps_domain_t *domain, size_t size) {
   const payload_extents_t *extents = extents_of(domain);
-  size_t count = 0, needed = (size + PAYLOAD_ALIGNMENT - 1) / PAYLOAD_ALIGNMENT * PAYLOAD_ALIGNMENT;
+  size_t count = 0, needed = (size + PAYLOAD_ALIGNMENT - 1) / PAYLOAD_ALIGNMENT;
   for (size_t i = 0; i < extents->count; i++) count += extents->all[i].is_taken && (size == 0 || extents->all[i].size == needed);
   return count;
 }
@@ -39,8 +39,8 @@ static size_t blocks_for(const iox2ps_domain_t *domain, size_t size) {
 /* The block of payloads where a loan's bytes begin. */
 static size_t block_of(const iox2ps_domain_t *domain, const void *bytes, size_t len) {
   const payload_extents_t *extents = extents_of(domain);
-  size_t at = (size_t)((const char *)bytes - shared_domain_of(domain)->group->member.files.payloads);
-  for (size_t i = 0; i < extents->count; i++) if (extents->all[i].is_taken && extents->all[i].at == at && extents->all[i].size >= len) return i;
+  size_t at = (size_t)((const char *)bytes - shared_domain_of(domain)->group->member.files.payloads) / PAYLOAD_ALIGNMENT;
+  for (size_t i = 0; i < extents->count; i++) if (extents->all[i].is_taken && extents->all[i].at == at && (size_t)extents->all[i].size * PAYLOAD_ALIGNMENT >= len) return i;
   CHECK(!"the loan lies in a block of payloads");
   return 0;
 }

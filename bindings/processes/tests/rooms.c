@@ -152,7 +152,7 @@ static void file_by_default(void) {
   CHECK(iox2ps_domain_create_named(&domain, name, "bytes", &config, NULL) == IOX2PS_OK);
   size_t size = shared_domain_of(&domain)->group->member.files.size;
   printf("by default a domain has a file of %zu KB beside its payloads\n", size / 1024);
-  CHECK(size < 2900 * 1024);
+  CHECK(size < 2720 * 1024);
   CHECK(iox2ps_domain_destroy(&domain) == IOX2PS_OK);
 }
 
