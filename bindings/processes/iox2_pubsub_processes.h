@@ -65,7 +65,7 @@ typedef struct iox2ps_processes_options_t {
   uint32_t calls;         /**< how many calls the list keeps, a power of two from 8 to 8192; 256 by default. Who is further behind
                                takes a copy of all book-keeping */
   size_t book_room;       /**< bytes for the book-keeping of ports; by default what the settings need. The file has 32 copies of it for 16
-                               processes: 2.8 MB by default settings, beside the payloads */
+                               processes: 2.7 MB by default settings, beside the payloads */
   size_t payload_room;    /**< bytes for payloads; by default those of max_publishers publishers and one more, which don't grow */
   uint32_t permissions;   /**< of the files, whatever the process' mask of new files is; 0600 by default */
   uint32_t reap_every_ms; /**< how often a process that waits or polls looks for dead ones, which its second look finds at the latest; 200 by default */
