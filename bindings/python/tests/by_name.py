@@ -7,7 +7,8 @@ import pytest
 
 from iox2_pubsub.domain import Domain
 
-ROOM = 1 << 24  # bytes of payloads, so that memory of some publishers may grow
+ROOM = 1 << 24  # bytes of payloads where messages are short, so that there may be more publishers, and their memory may grow
+SHORT = 1 << 12  # values
 # What these tests are about is otherwise there, as iox2_pubsub_processes.h says.
 OTHERWISE = {
     "test_memory_grows_as_the_options_say": "memory grows as far as a domain's files have room",
@@ -25,7 +26,8 @@ def by_name(cls, service_id, dtype=bytes, max_len=None, **settings):
     record = settings.pop("record", None)
     if record is not None and not (isinstance(record, (tuple, list)) and len(record) == 2):
         return of_one_process(cls, service_id, dtype, max_len, record=record)
-    given = {"service_id": service_id, "payload_room": ROOM, "record": record and record[0], **settings}
+    room = ROOM if (max_len or 1) <= SHORT else None
+    given = {"service_id": service_id, "payload_room": room, "record": record and record[0], **settings}
     return cls._named("create", f"test_by_name/{next(numbers)}.{os.getpid()}", dtype, max_len, {name: value for name, value in given.items() if value is not None})
 
 

@@ -145,6 +145,9 @@ def test_a_descriptor_tells_of_a_death(name, start):
     assert domain.cleanup_dead_nodes() == 1
     assert select.select([dead], [], [], 0)[0] and dead.wait_one().node_id == node_id and dead.wait_one() is None
     assert not select.select([dead], [], [], 0)[0]
+    process, node_id = begin(start, name)
+    kill(process)
+    assert dead.wait_one().node_id == node_id and dead.wait_one() is None and not select.select([dead], [], [], 0)[0]
 
 
 @pytest.mark.parametrize("close", ["port", "domain"])

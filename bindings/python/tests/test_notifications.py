@@ -15,6 +15,7 @@ from other_process import opened
 
 wants_processes()
 IDS = range(ps.EVENT_ID_MAX_VALUE + 1)
+HOUR = 3600  # seconds, after which who waits looks by itself
 
 
 def test_each_id_is_heard_once_by_all(name):
@@ -62,7 +63,7 @@ def test_events_come_from_another_process_with_what_was_sent_before(name, start)
 
 
 def test_threads_hear_an_event_of_another_process_and_of_this_one(name, start):
-    domain = opened(name)
+    domain = opened(name, reap_every=HOUR)
     both = [domain.listener(), domain.listener()]
     process = start("notifies", name)
     assert hear(process) == "is here"
@@ -76,7 +77,7 @@ def test_threads_hear_an_event_of_another_process_and_of_this_one(name, start):
 
 
 def test_who_waits_for_a_message_isn_t_woken_by_an_event(name):
-    domain = opened(name)
+    domain = opened(name, reap_every=HOUR)
     publisher, subscriber, listener = domain.publisher(), domain.subscriber(), domain.listener()
     receives = waiting(domain, subscriber.receive, None)
     wakes = domain._wakes
@@ -122,7 +123,7 @@ def test_tasks_hear_of_events(name, start):
 
 
 def test_a_descriptor_is_readable_when_an_event_came(name, start):
-    domain = opened(name, reap_every=3600)
+    domain = opened(name, reap_every=HOUR)
     listener = domain.listener()
     process = start("notifies", name)
     assert hear(process) == "is here"
