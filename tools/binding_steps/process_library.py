@@ -153,11 +153,11 @@ class ProcessLibrary:
         said(*self.flags, *warnings, *self.includes(), self.sources / f"tests/{name}.c", *self.objects, *linked_for(self.target), "-o", program)
         return program
 
-    def test_of_c(self, name):
+    def test_of_c(self, name, *more):
         """A test of one process, whose domains are of several."""
         program = self.work / f"c_{name}"
         before = ("-include", self.sources / "tests/shared_instead.h")
-        said(*self.flags, *before, *self.includes(), self.bindings / f"c/{name}.c", self.packed, *linked_for(self.target), "-o", program)
+        said(*self.flags, *more, *before, *self.includes(), self.bindings / f"c/{name}.c", self.packed, *linked_for(self.target), "-o", program)
         return program
 
     def example(self, warnings, name):

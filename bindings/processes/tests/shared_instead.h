@@ -8,6 +8,10 @@
 #include <stdlib.h>
 #include <unistd.h>
 
+#ifndef BOOK_ROOM
+#define BOOK_ROOM (1 << 20) /* of a test whose publishers grow as often as they may, more */
+#endif
+
 static inline iox2ps_status_t create_shared(iox2ps_domain_t *domain, const iox2ps_config_t *config) {
   static _Atomic unsigned made; /* by several threads, too */
   char name[64];
@@ -17,7 +21,7 @@ static inline iox2ps_status_t create_shared(iox2ps_domain_t *domain, const iox2p
   if (options.struct_size != 0) { /* else the settings are invalid */
     const size_t least = 2 << 20, most = 64 << 20; /* publishers grow */
     options.payload_room = options.payload_room < least ? least : options.payload_room > most ? most : options.payload_room;
-    options.book_room = 1 << 20;
+    options.book_room = BOOK_ROOM;
     options.reap_every_ms = 3600000; /* nobody dies, and tests count who takes a lock */
     options.max_processes = 2, options.calls = 64;                /* short, so that copies are made often */
   }
