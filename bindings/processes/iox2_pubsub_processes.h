@@ -7,7 +7,7 @@
  * A domain is opened here, and then used by the calls of iox2_pubsub.h. This library has these, too, and so is linked in the place of
  * libiox2_pubsub.a: on a domain of one process each call is what it is there. A process has its handles for itself: ports, loans and
  * samples are used by the process that made them, and are given back by others when it dies, wherever that happens. No call waits for
- * another process, but one that opens a domain or destroys it: that waits while another does so, also if it is stopped meanwhile.
+ * another process, but one that opens a domain: that waits while another opens it, also if it is stopped meanwhile.
  *
  * What a domain of several processes has otherwise than one of a single process:
  *  - the bytes of messages may be read until the sample is released, and lie at another address in each process. A process may

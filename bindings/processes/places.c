@@ -21,6 +21,7 @@ static bool lock(int fd, int command, short type, uint32_t byte, uint32_t count,
 }
 
 bool places_lock_file(int lock_fd) { return lock(lock_fd, F_OFD_SETLKW, F_WRLCK, FILE_BYTE, 1, NULL); }
+bool places_try_lock_file(int lock_fd) { return lock(lock_fd, F_OFD_SETLK, F_WRLCK, FILE_BYTE, 1, NULL); }
 void places_unlock_file(int lock_fd) { lock(lock_fd, F_OFD_SETLK, F_UNLCK, FILE_BYTE, 1, NULL); }
 
 bool places_one_lives(const places_t *places) {

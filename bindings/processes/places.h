@@ -32,8 +32,10 @@ typedef struct places_t {
   int lock_fd;  /* opened for reading and writing, by this process alone */
 } places_t;
 
-/* Makes those who create, open and close the file wait for each other. False if the system refuses. */
+/* Makes those who create and open the file wait for each other. False if the system refuses. */
 bool places_lock_file(int lock_fd);
+/* The same where nobody has the lock. False if somebody has. */
+bool places_try_lock_file(int lock_fd);
 void places_unlock_file(int lock_fd);
 
 /* Whether any process holds a place. */

@@ -155,6 +155,7 @@ static shared_status_t look(shared_files_t *it, int fd, size_t size, rooms_t *ro
   bool is_had = places_one_lives(&it->places), is_ready = is_ours && atomic_load_explicit(&header->is_ready, memory_order_acquire) == IS_READY;
   if (is_ours) *rooms = (rooms_t){header->places, header->length, header->room};
   bool is_whole = is_ready && are_good(rooms->places, rooms->length) && rooms->room <= size && file_size(*rooms) == size;
+  it->was_whole = is_whole;
   if (header != NULL) munmap(header, PAGE);
   if (!is_ours && !is_begun) return refuse(it, SHARED_FOREIGN, "%s is of another program, or was cut short", it->path[CALLS]);
   if (!is_had) return SHARED_NO_SUCH;
@@ -199,6 +200,21 @@ static void remove_files(const shared_files_t *it, uint32_t places) {
   wake_pipes_remove(it->path[CALLS], places);
   unlink(it->path[PAYLOADS]);
   unlink(it->path[CALLS]);
+}
+
+/* Removes what nobody has, of the files that a process has given up. Where another process has the lock, that one looks for itself when it
+ * gives the lock back: so nobody waits for one that is stopped meanwhile. */
+static void remove_if_left(const shared_files_t *it, uint32_t places) {
+  int fd = it->places.lock_fd;
+  bool is_left = true;
+  while (is_left && places_try_lock_file(fd)) {
+    struct stat file;
+    bool has_name = file_status(fd, &file) && file.st_nlink != 0;
+    bool removes = has_name && !places_one_lives(&it->places);
+    if (removes) remove_files(it, places);
+    places_unlock_file(fd);
+    is_left = has_name && !removes && !places_one_lives(&it->places);
+  }
 }
 
 /* All behind the lock of the file. */
@@ -258,6 +274,7 @@ shared_status_t shared_files_open(shared_files_t *it, const shared_settings_t *s
   if (fd >= 0) close(fd);
   if (status == SHARED_OK) return status;
   if (it->is_new) remove_files(it, 0);
+  else if (it->was_whole && status != SHARED_NO_PERMISSION) remove_if_left(it, PLACES_MAX); /* the last one may have left meanwhile */
   unmap(it);
   if (it->places.lock_fd >= 0) close(it->places.lock_fd);
   return status;
@@ -270,11 +287,10 @@ void shared_files_ready(shared_files_t *it) {
 }
 
 void shared_files_close(shared_files_t *it) {
-  bool is_locked = places_lock_file(it->places.lock_fd);
   if (it->dead != 0) places_give_up(&it->places);
   else places_leave(&it->places);
-  if (is_locked && !places_one_lives(&it->places)) remove_files(it, it->places.count);
-  unmap(it);
+  unmap(it); /* whoever creates it anew begins with an empty file */
+  remove_if_left(it, it->places.count);
   close(it->places.lock_fd);
 }
 

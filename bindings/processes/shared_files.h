@@ -63,6 +63,7 @@ typedef struct shared_files_t {
   uint64_t created; /* when its creator made it, in ns */
   uint64_t number; /* of this process, among all that ever had the file */
   uint64_t dead;   /* of a process whose place this is and of whose end the list doesn't say yet; or 0 */
+  bool was_whole;  /* others had it, or left it, when this process came */
   bool is_new;     /* this process creates it: it has to make the first copy before it says that all is ready */
   char path[2][SHARED_PATH_MAX];
   char why[512];   /* in words, if something is refused */

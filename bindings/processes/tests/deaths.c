@@ -2,10 +2,9 @@
 #define _GNU_SOURCE
 /* Whoever opens a mailbox, or is refused since there is no room, gives back first what dead processes had; and a process that runs
  * another program is as good as dead. */
+#include "children.h"
 #include "mailbox.h"
-#include "traced.h"
-#include <fcntl.h>
-#include <poll.h>
+#include <sys/wait.h>
 
 enum { PUBLISHERS = 10 };
 
@@ -152,64 +151,6 @@ static void another_program(const char *name, const char *self) {
   leave_mailbox(&it);
 }
 
-/* ---- the last one leaves as another comes */
-
-static void comes_and_leaves(const char *name, pid_t self) {
-  member_t it;
-  CHECK(join_mailbox(&it, name, SHARED_CREATE, true) == SHARED_OK);
-  mark(self);
-  leave_mailbox(&it);
-}
-
-/* Which call of the system a process is in; of one that runs, none. */
-static long call_of_system(pid_t process) {
-  char path[64];
-  long which = -1;
-  snprintf(path, sizeof path, "/proc/%d/syscall", (int)process);
-  FILE *file = fopen(path, "r");
-  CHECK(file != NULL);
-  if (fscanf(file, "%ld", &which) != 1) which = -1;
-  CHECK(fclose(file) == 0);
-  return which;
-}
-
-/* Comes, says so by the descriptor, and stays. Returns then, or where it waits for the lock of who leaves. */
-static pid_t come(const char *name, struct pollfd *has_come) {
-  int ready[2];
-  CHECK(pipe2(ready, O_CLOEXEC) == 0);
-  pid_t child = fork_child();
-  CHECK(child >= 0);
-  if (child == 0) {
-    member_t it;
-    CHECK(join_mailbox(&it, name, SHARED_OPEN_OR_CREATE, true) == SHARED_OK && write(ready[1], "", 1) == 1);
-    while (true) pause();
-  }
-  CHECK(close(ready[1]) == 0);
-  *has_come = (struct pollfd){.fd = ready[0], .events = POLLIN};
-  while (poll(has_come, 1, 1) == 0 && call_of_system(child) != SYS_fcntl) {}
-  return child;
-}
-
-/* Stopped before and after each call of the system with which it leaves: who comes meanwhile has files that the next one can open. */
-static void leaves_as_another_comes(const char *name) {
-  bool has_left = false;
-  for (uint64_t stops = 1; !has_left; stops++) {
-    int status;
-    bool is_at_mark;
-    struct pollfd has_come;
-    pid_t leaves = traced_child(comes_and_leaves, name);
-    CHECK(leaves > 0);
-    has_left = run_to_mark(leaves, PTRACE_SYSCALL, stops, &is_at_mark) < stops;
-    pid_t stays = come(name, &has_come);
-    if (!has_left) CHECK(ptrace(PTRACE_CONT, leaves, NULL, NULL) == 0 && waitpid(leaves, &status, 0) == leaves && status == 0);
-    CHECK(poll(&has_come, 1, -1) == 1 && (has_come.revents & POLLIN) != 0 && close(has_come.fd) == 0);
-    member_t next;
-    CHECK(join_mailbox(&next, name, SHARED_OPEN, true) == SHARED_OK && call(&next, LEND, 0) == 0);
-    leave_mailbox(&next);
-    end_child(stays);
-  }
-}
-
 int main(int count, char **words) {
   char name[64], byte;
   if (count == 3) return read(atoi(words[2]), &byte, 1) != 0;
@@ -219,7 +160,7 @@ int main(int count, char **words) {
   a_slot_for_the_next(name);
   given_back_as_one_enters(name);
   said_late(name);
-  if (count < 2) another_program(name, words[0]), leaves_as_another_comes(name); /* an emulator of one program runs no other, and traces none */
+  if (count < 2) another_program(name, words[0]); /* an emulator of one program runs no other */
   puts("deaths: whoever comes next has room");
   return 0;
 }
