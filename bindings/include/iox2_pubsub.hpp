@@ -70,6 +70,8 @@ template <typename P, typename M = OneThread> class Subscriber;
 template <typename P, typename M = OneThread> class Loan;
 template <typename P, typename M = OneThread> class Sample;
 template <typename P, typename M = OneThread> class BlockedSend;
+template <typename M = OneThread> class Notifier;
+template <typename M = OneThread> class Listener;
 
 /** What a thread waits for of other processes, as iox2_pubsub_processes.hpp says. */
 enum class WaitFor : std::uint32_t;
@@ -88,7 +90,8 @@ enum class Waits : unsigned {
   Message = IOX2PS_BRINGS_MESSAGE, /* a message */
   Room = IOX2PS_BRINGS_ROOM,       /* room in the buffer that a blocked send has to reach */
   Free = IOX2PS_BRINGS_FREE,       /* that the publisher's earlier send ends */
-  Loan = IOX2PS_BRINGS_LOAN        /* a loan */
+  Loan = IOX2PS_BRINGS_LOAN,       /* a loan */
+  Event = 32                       /* an event of iox2_pubsub_listener.hpp */
 };
 
 /* What a call may have brought to those who wait: a sum of the same. */
@@ -130,13 +133,17 @@ inline constexpr iox2ps_status_t not_shared = static_cast<iox2ps_status_t>(Error
 /* How the calls of a domain are made for these threads. */
 template <typename M> class Threads;
 
-/* How the only thread of a domain waits for what other processes bring; and what it asks of these. iox2_pubsub_processes.hpp has both. */
+/* How the only thread of a domain waits for what other processes bring; what is asked of these; and events. iox2_pubsub_processes.hpp has
+ * all of that. */
 template <typename M, typename = void> struct WaitsAlone {
   static_assert(!std::is_same_v<M, M>, "a domain of one thread waits for other processes alone: #include \"iox2_pubsub_processes.hpp\", and open "
                                        "it by a name; or make it by SharedDomain<P>::create() of iox2_pubsub_shared.hpp");
 };
 template <typename M, typename = void> struct Nodes {
   static_assert(!std::is_same_v<M, M>, "processes that have a domain are asked about where #include \"iox2_pubsub_processes.hpp\" comes first");
+};
+template <typename M, typename = void> struct Events {
+  static_assert(!std::is_same_v<M, M>, "processes notify each other where #include \"iox2_pubsub_processes.hpp\" comes first");
 };
 
 /* By one at a time. */
@@ -367,6 +374,13 @@ constexpr std::uint64_t elapsed_of(std::chrono::nanoseconds elapsed) {
 inline Until later(std::chrono::steady_clock::time_point from, std::chrono::nanoseconds time) {
   if (time > (std::chrono::steady_clock::time_point::max)() - from) return std::nullopt;
   return from + time;
+}
+
+/* How many nanoseconds are left. */
+inline std::uint64_t left_until(Until until) {
+  if (!until) return UINT64_MAX;
+  auto now = std::chrono::steady_clock::now();
+  return *until <= now ? 0 : elapsed_of(*until - now);
 }
 
 /* So long from now. */
@@ -1394,8 +1408,15 @@ public:
     return !hold_.is_here() || hold_.many().is_stopped();
   }
 
-  /** Of domains that processes share, as all from here to clear_dead_node_listener(), which else return Error::ProcessesNotShared: what
-   * names this process in headers, where the settings name no node. */
+  /** Of domains that processes share, as all from here to clear_dead_node_listener(), which else return Error::ProcessesNotShared: makes a
+   * Notifier, which tells of this EventId where it names no other. Error::NotifyEventIdOutOfBounds. */
+  template <typename N = M> Result<typename detail::Events<N>::Notifies> notifier(typename detail::Events<N>::Number default_event_id = {}) const {
+    return detail::Events<N>::notifier(*this, default_event_id);
+  }
+  /** Makes a Listener, which hears of notifications from now on. Error::OutOfMemory; also std::bad_alloc. */
+  template <typename N = M> Result<typename detail::Events<N>::Listens> listener() const { return detail::Events<N>::listener(*this); }
+
+  /** What names this process in headers, where the settings name no node. */
   template <typename N = M> Result<Id> node_id() const { return detail::Nodes<N>::own(*this); }
   /** A NodeView of each process that has the domain now; also the dead, as long as nobody has given back what they had. */
   template <typename N = M> Result<std::vector<typename detail::Nodes<N>::Node>> nodes() const { return detail::Nodes<N>::all(*this); }

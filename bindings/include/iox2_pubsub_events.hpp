@@ -84,6 +84,16 @@ private:
   std::shared_ptr<Due> itself_;
 };
 
+/* What a WaitSet asks under the domain's lock whether it has an event. IOX2PS_NOT_LIVE where it is closed. */
+class EventSource {
+public:
+  virtual iox2ps_status_t look(iox2ps_domain_t *domain, bool &has_event) = 0;
+
+protected:
+  ~EventSource() = default;
+};
+class Heard;
+
 /* What is called when a message may have come for a subscriber. */
 using Listener = std::shared_ptr<const std::function<void()>>;
 

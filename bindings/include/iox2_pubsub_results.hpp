@@ -105,6 +105,7 @@ enum class Error : std::uint32_t {
   CreateAlreadyExists = 210u,             /**< there is a domain with this name */
   ProcessesDamaged = 220u,                /**< the files were written over, or this process was left behind for too long */
   ProcessesDiverged = 221u,               /**< the domain of another process has replied otherwise than this one */
+  NotifyEventIdOutOfBounds = 225u,        /**< the number of an event is above EventId::max_value */
   ProcessesNotShared = 224u,              /**< the domain is of one process, where nobody else is there and can bring anything */
 
   /** No other language joins a domain that processes share. */

@@ -125,7 +125,7 @@ struct Waiting {
 };
 
 /* Whatever a call may bring. */
-inline constexpr Brings everything = IOX2PS_BRINGS_MESSAGE | IOX2PS_BRINGS_ROOM | IOX2PS_BRINGS_FREE | IOX2PS_BRINGS_LOAN;
+inline constexpr Brings everything = IOX2PS_BRINGS_MESSAGE | IOX2PS_BRINGS_ROOM | IOX2PS_BRINGS_FREE | IOX2PS_BRINGS_LOAN | only(Waits::Event);
 
 /* What may bring what is waited for. */
 constexpr Brings helped_by(Waits what) { return what == Waits::Loan ? Waits::Loan | Waits::Free : only(what); }
@@ -244,7 +244,8 @@ private:
 inline bool waits_on(Waits what, iox2ps_status_t code) {
   switch (what) {
   case Waits::Nothing:
-  case Waits::Message: return code == IOX2PS_NO_SAMPLE;
+  case Waits::Message:
+  case Waits::Event: return code == IOX2PS_NO_SAMPLE;
   case Waits::Room: return code == IOX2PS_BLOCKED;
   case Waits::Free: return code == IOX2PS_PUBLISHER_IS_BLOCKED;
   case Waits::Loan: break;

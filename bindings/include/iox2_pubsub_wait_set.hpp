@@ -10,6 +10,7 @@
  *   nothing it is called again at once. A message that another thread receives first isn't seen.
  * - A publisher has one when it is attached, and whenever a loan or a send that it refused may be made, or a send that is blocked may
  *   be retried. That may be for nothing: each release of a sample brings one. So it is attached while something of it waits.
+ * - A Listener of a domain that processes share has one as long as it has an event that wasn't taken.
  * - A deadline is missed where a wait finds no event of the port for so long: since it was attached, had its last event, or missed
  *   it. Then it begins anew.
  * - An interval has an event whenever so much time has passed. Those that were due while the thread was elsewhere are one.
@@ -221,6 +222,24 @@ private:
   const Id id_;
 };
 
+template <typename M> class ListenerMember final : public Member<M> {
+public:
+  static constexpr Brings wanted = only(Waits::Event);
+
+  template <typename... Words>
+  explicit ListenerMember(std::shared_ptr<EventSource> port, Words &&...words) : Member<M>(std::forward<Words>(words)...), port_(std::move(port)) {}
+
+private:
+  iox2ps_status_t find_event(Shared<M> &shared, bool &has_event) const override { return port_->look(&shared.domain, has_event); }
+
+  void handle(Event event, Clock::time_point now) override {
+    Member<M>::handle(event, now);
+    this->put_off();
+  }
+
+  const std::shared_ptr<EventSource> port_;
+};
+
 /* What a set has, in the order in which it was attached. */
 class Attachments {
 public:
@@ -424,6 +443,11 @@ public:
     return attach<detail::PublisherMember, M>(publisher, std::nullopt);
   }
 
+  /** The same of a Listener of events. */
+  template <typename M> Result<WaitSetGuard> attach_notification(const Listener<M> &listener) {
+    return attach<detail::ListenerMember, M>(listener, std::nullopt);
+  }
+
   /** Attaches a subscriber with a deadline: there is an event too where it has none of its own for so long. Errors as of
    * attach_notification(). */
   template <typename P, typename M>
@@ -434,6 +458,11 @@ public:
   template <typename P, typename M>
   Result<WaitSetGuard> attach_deadline(const Publisher<P, M> &publisher, std::chrono::nanoseconds deadline) {
     return attach<detail::PublisherMember, M>(publisher, deadline);
+  }
+
+  /** The same of a Listener. */
+  template <typename M> Result<WaitSetGuard> attach_deadline(const Listener<M> &listener, std::chrono::nanoseconds deadline) {
+    return attach<detail::ListenerMember, M>(listener, deadline);
   }
 
   /** Attaches an interval: there is an event whenever so much time has passed; of zero or less, in each wait. Error::OutOfMemory. */

@@ -28,6 +28,7 @@
 #ifndef IOX2_PUBSUB_PROCESSES_HPP
 #define IOX2_PUBSUB_PROCESSES_HPP
 
+#include "iox2_pubsub_listener.hpp"
 #include "iox2_pubsub_nodes.hpp"
 #include "iox2_pubsub_processes.h"
 #include "iox2_pubsub_shared.hpp"
@@ -273,13 +274,11 @@ inline bool others_may_help(Waits what, iox2ps_status_t code) {
   case Waits::Room: return code == IOX2PS_BLOCKED;
   case Waits::Loan: return code == IOX2PS_LOAN_ERROR_OUT_OF_MEMORY;
   case Waits::Nothing:
+  case Waits::Event:
   case Waits::Free: break;
   }
   return false;
 }
-
-/* How many nanoseconds are left. */
-inline std::uint64_t left_until(Until until) { return until ? elapsed_of(*until - std::chrono::steady_clock::now()) : UINT64_MAX; }
 
 template <> struct WaitsAlone<OneThread> {
   /* Makes calls as long as their code says that another process may help, each time when one may have done so. */
@@ -344,7 +343,9 @@ static_assert(static_cast<std::uint32_t>(Error::OpenDoesNotExist) == IOX2PS_OPEN
                   && static_cast<std::uint32_t>(Error::CreateAlreadyExists) == IOX2PS_CREATE_ERROR_ALREADY_EXISTS
                   && static_cast<std::uint32_t>(Error::ProcessesDamaged) == IOX2PS_PROCESSES_DAMAGED
                   && static_cast<std::uint32_t>(Error::ProcessesDiverged) == IOX2PS_PROCESSES_DIVERGED
-                  && static_cast<std::uint32_t>(Error::ProcessesNotShared) == IOX2PS_PROCESSES_NOT_SHARED,
+                  && static_cast<std::uint32_t>(Error::ProcessesNotShared) == IOX2PS_PROCESSES_NOT_SHARED
+                  && static_cast<std::uint32_t>(Error::NotifyEventIdOutOfBounds) == IOX2PS_NOTIFIER_NOTIFY_ERROR_EVENT_ID_OUT_OF_BOUNDS
+                  && only(Waits::Event) == IOX2PS_BRINGS_EVENT,
               "the errors of iox2_pubsub_results.hpp are those of iox2_pubsub_processes.h");
 
 /* The name as C has it. One that C would take for a shorter one is none. */

@@ -10,7 +10,7 @@ from .steps import Failed, said
 COMPILERS = tuple(cpp for _, cpp in PAIRS)
 TESTS = BINDINGS / "processes/tests"
 FOR_SO_LONG = ("timeout", "-s", "KILL", "3600")
-BETWEEN = ("processes", "one_thread", "nodes")
+BETWEEN = ("processes", "one_thread", "nodes", "listeners", "refused")
 # Calls that make a domain, in a test that knows nothing of several processes.
 CREATES = re.compile(r"((?:iox2ps::)?(?:Shared)?Domain(?:<[^()=;]*?>)?)::create\(")
 # The tests of which a merge runs the first, and what is otherwise over shared domains: what stands there, and what stands in its place.

@@ -15,7 +15,7 @@ MEMORY = ("heap.c", "memory.c")
 OTHER_NAMES = [f"-Drattle_{name}=plain_{name}" for name in ("alloc", "realloc", "dealloc")]
 # What a program may define in the library's place.
 REPLACED = ("iox2ps_memory_allocate", "iox2ps_memory_reallocate", "iox2ps_memory_deallocate")
-LIBRARY, HEADER, CPP_HEADERS = "libiox2_pubsub_processes.a", "iox2_pubsub_processes.h", ("iox2_pubsub_processes.hpp", "iox2_pubsub_nodes.hpp")
+LIBRARY, HEADER, CPP_HEADERS = "libiox2_pubsub_processes.a", "iox2_pubsub_processes.h", ("iox2_pubsub_processes.hpp", "iox2_pubsub_nodes.hpp", "iox2_pubsub_listener.hpp")
 PROVED = re.compile(r"IOX2PS_PROVED\((\w+)\);")
 # The functions of the archive that this library has in another form, by the names that they have here.
 OWN = {"memset": "archive_memory_fill"}

@@ -213,79 +213,10 @@ void listeners_that_throw_end_their_program() {
   CHECK(WIFEXITED(status) && WEXITSTATUS(status) == 42);
 }
 
-bool is_listed(const std::string &name) {
-  bool is_there = false;
-  for (const auto &service : iox2ps::list_services().expect("a list")) {
-    if (service.name == name) is_there = service.type_name == "Reading" && service.payload_size == sizeof(Reading) && service.processes == 1;
-  }
-  return is_there;
-}
-
-/* Another type of this name and size. */
-namespace other {
-struct Reading {
-  std::uint64_t number;
-  std::uint64_t celsius[2];
-};
-} // namespace other
-
-} // namespace
-
-template <> struct iox2ps::ZeroCopySend<other::Reading> : iox2ps::Fields<&other::Reading::number, &other::Reading::celsius> {};
-
-namespace {
-
-struct Renamed {
-  static constexpr const char *IOX2_TYPE_NAME = "Reading";
-  std::uint64_t words[3];
-};
-
-} // namespace
-
-template <> struct iox2ps::ZeroCopySend<Renamed> : std::true_type {};
-
-namespace {
-
-void names_are_refused_and_taken() {
-  std::string name = name_of("names");
-  for (std::string_view bad : {std::string_view(""), std::string_view(".."), std::string_view("a/../b"), std::string_view("\xff"), std::string_view("a\0b", 3)}) {
-    CHECK(Domain::open_or_create(bad, settings()).error() == Error::OpenInvalidArgument && std::string(iox2ps::why_refused()).find("is no name") != std::string::npos);
-    CHECK(!*Domain::exists(bad));
-  }
-  CHECK(Domain::create(std::string(300, 'x'), settings()).error() == Error::OpenInvalidArgument);
-  CHECK(Domain::create(std::string(5000, 'x'), settings()).error() == Error::OpenInvalidArgument);
-  CHECK(Domain::open(name, settings()).error() == Error::OpenDoesNotExist && !*Domain::exists(name) && !is_listed(name));
-  auto domain = iox2ps::Domain<Reading>::create(name, settings()).expect("a domain");
-  CHECK(*Domain::exists(name) && is_listed(name));
-  CHECK(Domain::create(name, settings()).error() == Error::CreateAlreadyExists);
-  CHECK(iox2ps::Domain<other::Reading>::open(name, iox2ps::Config<other::Reading>(7)).error() == Error::OpenIncompatibleTypes);
-  CHECK(iox2ps::Domain<Reading[]>::open(name, iox2ps::Config<Reading[]>(7)).error() == Error::OpenIncompatibleTypes);
-  CHECK(Domain::open(name, settings().history_size(1)).error() == Error::OpenIncompatibleSettings);
-  CHECK(Domain::open(name, settings(), iox2ps::ProcessesOptions().max_processes(65)).error() == Error::OpenInvalidArgument);
-  CHECK(Domain::open(name, settings()).error() == Error::OpenAddressInUse); /* this process has it already */
-  CHECK(iox2ps::Domain<Renamed>::open(name, iox2ps::Config<Renamed>(7).enable_safe_overflow(false).subscriber_max_buffer_size(2)).error() == Error::OpenAddressInUse);
-  auto shared = Domain::open_or_create(name + std::string(150, '/'), settings()).expect("a domain");
-  CHECK(shared.share().error() == Error::OfProcesses && iox2ps::SharedDomain<int>::create(iox2ps::Config<int>(7))->share().has_value());
-}
-
-enum class Colour : std::uint8_t { Red, Green };
-
-void types_have_names() {
-  auto is = [](const char *one, const char *other) { return std::string_view(one) == other; };
-  CHECK(is(iox2ps::type_name<Reading>(), "Reading") && is(iox2ps::type_name<Reading[]>(), "[Reading]") && is(iox2ps::type_name<Renamed>(), "Reading"));
-  CHECK(is(iox2ps::type_name<std::uint64_t>(), "u64") && is(iox2ps::type_name<unsigned long long>(), "u64") && is(iox2ps::type_name<char[]>(), "[i8]"));
-  CHECK(is(iox2ps::type_name<double>(), "f64") && is(iox2ps::type_name<bool>(), "bool") && is(iox2ps::type_name<std::int32_t>(), "i32"));
-  CHECK(is(iox2ps::type_name<std::array<std::uint16_t, 12>>(), "[u16; 12]") && is(iox2ps::type_name<std::array<std::array<float, 2>, 10>[]>(), "[[[f32; 2]; 10]]"));
-  static_assert(iox2ps::ZeroCopySend<Colour>::value && iox2ps::ZeroCopySend<int[3]>::value && iox2ps::ZeroCopySend<std::array<Reading, 2>>::value);
-  static_assert(!iox2ps::ZeroCopySend<int *>::value && !iox2ps::ZeroCopySend<std::string>::value && !iox2ps::ZeroCopySend<std::array<char *, 2>>::value);
-}
-
 } // namespace
 
 int main(int count, char **words) {
   if (has_played(count, words, {{"sends", sends}, {"receives", receives}, {"sends_one", sends_one}, {"has_a_publisher", has_a_publisher}, {"has_a_subscriber", has_a_subscriber}, {"throws", throws}})) return 0;
-  types_have_names();
-  names_are_refused_and_taken();
   messages_come_and_make_room();
   all_threads_hear();
   listeners_hear();
