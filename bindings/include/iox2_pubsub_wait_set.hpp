@@ -183,12 +183,24 @@ private:
   Answer answer_;
 };
 
-template <typename M> class SubscriberMember final : public Member<M> {
+/* A port that has an event as long as something waits for it: so it is asked in the next wait, too. */
+template <typename M> class ReceivingMember : public Member<M> {
+public:
+  using Member<M>::Member;
+
+private:
+  void handle(Event event, Clock::time_point now) override {
+    Member<M>::handle(event, now);
+    this->put_off();
+  }
+};
+
+template <typename M> class SubscriberMember final : public ReceivingMember<M> {
 public:
   static constexpr Brings wanted = only(Waits::Message);
 
   template <typename... Words>
-  explicit SubscriberMember(const iox2ps_subscriber_t &port, Words &&...words) : Member<M>(std::forward<Words>(words)...), port_(port) {}
+  explicit SubscriberMember(const iox2ps_subscriber_t &port, Words &&...words) : ReceivingMember<M>(std::forward<Words>(words)...), port_(port) {}
 
 private:
   iox2ps_status_t find_event(Shared<M> &shared, bool &has_event) const override {
@@ -196,11 +208,6 @@ private:
     iox2ps_status_t code = iox2ps_subscriber_has_samples(&shared.domain, &port_, &waits);
     has_event = waits != 0 || code != IOX2PS_OK; /* why a receive is refused it says itself */
     return code;
-  }
-
-  void handle(Event event, Clock::time_point now) override {
-    Member<M>::handle(event, now);
-    this->put_off();
   }
 
   const iox2ps_subscriber_t port_;
@@ -222,20 +229,15 @@ private:
   const Id id_;
 };
 
-template <typename M> class ListenerMember final : public Member<M> {
+template <typename M> class ListenerMember final : public ReceivingMember<M> {
 public:
   static constexpr Brings wanted = only(Waits::Event);
 
   template <typename... Words>
-  explicit ListenerMember(std::shared_ptr<EventSource> port, Words &&...words) : Member<M>(std::forward<Words>(words)...), port_(std::move(port)) {}
+  explicit ListenerMember(std::shared_ptr<EventSource> port, Words &&...words) : ReceivingMember<M>(std::forward<Words>(words)...), port_(std::move(port)) {}
 
 private:
   iox2ps_status_t find_event(Shared<M> &shared, bool &has_event) const override { return port_->look(&shared.domain, has_event); }
-
-  void handle(Event event, Clock::time_point now) override {
-    Member<M>::handle(event, now);
-    this->put_off();
-  }
 
   const std::shared_ptr<EventSource> port_;
 };

@@ -434,7 +434,7 @@ private:
   /* Those from this number on up to that one. */
   void note_deaths(std::uint64_t from, std::uint64_t to) {
     iox2ps_node_t node;
-    for (std::uint64_t index = (std::max)(from, to - (std::min<std::uint64_t>)(to, deaths_kept)); index < to; index++)
+    for (std::uint64_t index = from; index < to; index++)
       if (iox2ps_domain_dead_node(domain(), index, &node) == IOX2PS_OK) deaths_->note(node_of(node));
   }
 

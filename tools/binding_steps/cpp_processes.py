@@ -11,6 +11,8 @@ COMPILERS = tuple(cpp for _, cpp in PAIRS)
 TESTS = BINDINGS / "processes/tests"
 FOR_SO_LONG = ("timeout", "-s", "KILL", "3600")
 BETWEEN = ("processes", "one_thread", "nodes", "listeners", "refused")
+# It counts instructions.
+COSTS = "costs"
 # Calls that make a domain, in a test that knows nothing of several processes.
 CREATES = re.compile(r"((?:iox2ps::)?(?:Shared)?Domain(?:<[^()=;]*?>)?)::create\(")
 # The tests of which a merge runs the first, and what is otherwise over shared domains: what stands there, and what stands in its place.
@@ -106,6 +108,7 @@ def run_cpp(steps, library, whole):
     for compiler in compilers if whole else compilers[:1]:
         for name in BETWEEN:
             steps.run(f"tests/{name}.cpp, {compiler}", run_between, library, compiler, name, "-std=c++17", "-O1")
+        steps.run(f"instructions of a message, {compiler}", run_between, library, compiler, COSTS, "-std=c++17", "-O2")
         steps.run(f"types that are refused, {compiler}", refuses, library, compiler)
         for name in WHOLE if whole else SHORT:
             steps.run(f"bindings/cpp/{name}.cpp, {compiler}", run_over_shared, library, compiler, name, "-std=c++17", "-O1" if whole else "-O0")

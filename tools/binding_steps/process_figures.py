@@ -16,7 +16,7 @@ from .programs import WARNINGS
 from .steps import said
 
 FOLDER = BINDINGS / "processes/figures"
-OURS, FLAG, SOCKET, DDS, OTHER = "this library", "a bare flag", "a Unix socket", "Cyclone DDS", "iceoryx 2.0.3"
+OURS, CPP, FLAG, SOCKET, DDS, OTHER = "this library", "this library, C++", "a bare flag", "a Unix socket", "Cyclone DDS", "iceoryx 2.0.3"
 SPIN, SLEEP, ROUND_TRIP, ONE_WAY = "spin", "sleep", "round_trip", "one_way"
 # How long one carrier may take for one row.
 MOST_SECONDS = 300
@@ -83,7 +83,8 @@ def programs(work, library):
     main = compiled(work, "gcc", "figures.c")
     ours = work / "by_processes"
     said("gcc", main, compiled(work, "gcc", "by_processes.c", *library.includes()), library.packed, "-o", ours)
-    found = {OURS: ours}
+    said("g++", main, compiled(work, "g++", "by_cpp.cpp", *library.includes()), library.packed, "-pthread", "-o", work / "by_cpp")
+    found = {OURS: ours, CPP: work / "by_cpp"}
     if (ICEORYX / "iceoryx_posh/roudi").is_dir() and ACCESS_LISTS.exists():
         found[OTHER] = of_iceoryx(work, main)
     else:
@@ -121,7 +122,7 @@ def can(name, row):
 
 def measure(name, program, row, share):
     """What a program prints of a row, as numbers; or none."""
-    count = max(20, int(row.count * share * (1 if name in (OURS, OTHER, FLAG) or row.length < 1 << 20 else 0.4)))
+    count = max(20, int(row.count * share * (1 if name in (OURS, CPP, OTHER, FLAG) or row.length < 1 << 20 else 0.4)))
     words = (program, f"figures_{os.getpid()}", row.length, row.subscribers, row.how, row.what, count, row.buffer)
     try:
         with broker(program, row) if name == OTHER else nullcontext():
@@ -170,6 +171,12 @@ PROMISES = (
     ("twice as many messages of 64 B a second, or more", first(ONE_WAY, SPIN, "64 B"), lambda ours, other: ours >= 2 * other),
     ("as many messages of 1 MB a second of which one word is written, or more", first(ONE_WAY, SPIN, "1 MB"), lambda ours, other: ours >= other),
 )
+# The same of a language beside C, of the medians of all rounds: one round differs from the next by more.
+MOST_BESIDE_C = 1.1
+BESIDE_C = (
+    ("a round trip of 64 B, spinning", first(ROUND_TRIP, SPIN, "64 B"), lambda language, c: language / c),
+    ("a message of 64 B one way, spinning", first(ONE_WAY, SPIN, "64 B"), lambda language, c: c / language),
+)
 
 
 def judge(figures):
@@ -182,6 +189,17 @@ def judge(figures):
         ratios = ", ".join(f"{ours[0] / other[0]:.2f}" for ours, other in pairs if ours and other)
         print(f"{'holds' if is_kept else 'FAILS'}: {words}: {ratios} of iceoryx' in the rounds")
         counts[not is_kept] += 1
+    return counts
+
+
+def judge_beside_c(figures, language):
+    """What a language takes beside C. Returns the same."""
+    counts = [0, 0]
+    for words, row, ratio in BESIDE_C:
+        its, of_c = ([found[0] for found in figures[row, name] if found] for name in (language, OURS))
+        found = ratio(statistics.median(its), statistics.median(of_c)) if its and of_c else float("inf")
+        print(f"{'holds' if found <= MOST_BESIDE_C else 'FAILS'}: {words}, takes at most {MOST_BESIDE_C} times C's by {language}: {found:.2f}")
+        counts[found > MOST_BESIDE_C] += 1
     return counts
 
 
@@ -198,6 +216,6 @@ def run_figures(work, library, rounds, share):
             print(f"  {row.what}: {row.words()}", flush=True)
     print(f"\niox2_pubsub {version()}, {time.strftime('%-d %B %Y')}; {machine.processor()}, {os.cpu_count()} processors; {machine.compilers()}")
     say_tables(by, figures)
-    passed, failed = judge(figures) if OTHER in by else (0, 0)
+    passed, failed = (sum(counts) for counts in zip(judge(figures) if OTHER in by else (0, 0), judge_beside_c(figures, CPP)))
     print(f"{passed} passed, {failed} failed")
     return int(failed > 0)

@@ -3,6 +3,7 @@
 #include "roles.hpp"
 #include <algorithm>
 #include <atomic>
+#include <condition_variable>
 #include <memory>
 #include <mutex>
 #include <optional>
@@ -15,7 +16,7 @@ using iox2ps::NodeView;
 
 namespace {
 
-constexpr int many = 70;
+constexpr std::size_t many = 70;
 constexpr std::size_t kept = 64;
 
 /* ---- other roles */
@@ -99,7 +100,7 @@ void many_ports() {
   std::string name = name_of("ports");
   auto domain = Alone::open_or_create(name, settings().max_subscribers(many), by_wakes).expect("a domain");
   std::vector<iox2ps::Subscriber<Reading>> subscribers;
-  for (int i = 0; i < many; i++) subscribers.push_back(domain.subscriber().expect("a subscriber"));
+  for (std::size_t i = 0; i < many; i++) subscribers.push_back(domain.subscriber().expect("a subscriber"));
   auto all = domain.list_subscribers().expect("the subscribers");
   CHECK(all.size() == subscribers.size() && domain.list_publishers()->empty());
   CHECK(std::equal(all.begin(), all.end(), subscribers.begin(), [](const auto &one, const auto &other) { return one.subscriber_id == other.id(); }));
@@ -112,14 +113,18 @@ public:
     std::lock_guard<std::mutex> lock(mutex_);
     CHECK(node.state == NodeState::Dead);
     pids_.push_back(node.pid);
+    signal_.notify_all();
   }
-  std::vector<pid_t> pids() {
-    std::lock_guard<std::mutex> lock(mutex_);
+  /* Waits for as many. */
+  std::vector<pid_t> await(std::size_t count) {
+    std::unique_lock<std::mutex> lock(mutex_);
+    signal_.wait(lock, [&] { return pids_.size() >= count; });
     return pids_;
   }
 
 private:
   std::mutex mutex_;
+  std::condition_variable signal_;
   std::vector<pid_t> pids_;
 };
 
@@ -135,9 +140,9 @@ void a_listener_is_told() {
     told->add(node);
   }).has_value());
   std::vector<pid_t> all = {dead_of("dies", name)};
-  until([&] { return told->pids() == all; });
+  CHECK(told->await(1) == all);
   all.push_back(dead_of("sends_and_dies", name));
-  until([&] { return told->pids() == all; });
+  CHECK(told->await(2) == all);
 }
 
 /* Another is told in place of the first, and then nobody. What they had is dropped. */
@@ -148,11 +153,11 @@ void a_listener_is_set_anew_and_cleared() {
   CHECK(domain.set_dead_node_listener([first](const NodeView &node) { first->add(node); }).has_value());
   CHECK(domain.set_dead_node_listener([second](const NodeView &node) { second->add(node); }).has_value());
   pid_t dead = dead_of("dies", name);
-  until([&] { return second->pids() == std::vector<pid_t>{dead}; });
+  CHECK(second->await(1) == std::vector<pid_t>{dead});
   domain.clear_dead_node_listener();
   dead_of("dies", name);
   until([&] { return domain.cleanup_dead_nodes().has_value() && domain.dead_nodes()->size() == 2; });
-  CHECK(first->pids().empty() && second->pids().size() == 1);
+  CHECK(first->await(0).empty() && second->await(0).size() == 1);
   until([&] { return first.use_count() == 1 && second.use_count() == 1; });
 }
 
@@ -165,7 +170,7 @@ void others_find_the_dead() {
   pid_t other = started("looks", name);
   until([&] { return domain.list_subscribers()->size() == 1; });
   pid_t dead = dead_of("dies", name);
-  until([&] { return told->pids() == std::vector<pid_t>{dead}; });
+  CHECK(told->await(1) == std::vector<pid_t>{dead});
   kill_it(other);
 }
 
@@ -174,20 +179,20 @@ void many_deaths() {
   std::string name = name_of("many");
   auto domain = open_by<Shared>(name, by_looks);
   auto told = std::make_shared<Told>();
-  auto busy = std::make_shared<std::mutex>();
-  std::unique_lock<std::mutex> lock(*busy);
-  CHECK(domain.set_dead_node_listener([told, busy](const NodeView &node) {
+  std::vector<pid_t> all;
+  CHECK(domain.set_dead_node_listener([&](const NodeView &node) {
+    for (bool is_first = all.empty(); is_first && all.size() < many;) {
+      all.push_back(dead_of("dies", name));
+      CHECK(domain.cleanup_dead_nodes().has_value());
+    }
     told->add(node);
-    std::lock_guard<std::mutex> waits(*busy);
   }).has_value());
-  std::vector<pid_t> all = {dead_of("dies", name)};
-  until([&] { return told->pids() == all; });
-  for (int i = 0; i < many; i++) all.push_back(dead_of("dies", name));
-  lock.unlock();
-  all.erase(all.begin() + 1, all.end() - kept);
-  until([&] { return told->pids() == all; });
+  pid_t first = dead_of("dies", name);
+  auto pids = told->await(1 + kept);
+  all.erase(all.begin(), all.end() - kept);
+  CHECK(pids.front() == first && std::equal(pids.begin() + 1, pids.end(), all.begin(), all.end()));
   auto dead = domain.dead_nodes().expect("the dead");
-  CHECK(dead.size() == kept && std::equal(dead.begin(), dead.end(), all.begin() + 1, [](const NodeView &node, pid_t pid) { return node.pid == pid; }));
+  CHECK(std::equal(dead.begin(), dead.end(), all.begin(), all.end(), [](const NodeView &node, pid_t pid) { return node.pid == pid; }));
 }
 
 /* A listener drops the domain's last handles, in the thread that the library has. */

@@ -32,7 +32,7 @@ static uint64_t run_to_mark(pid_t child, int request, uint64_t most, bool *is_at
   int status;
   uint64_t stops = 0;
   for (; stops < most; stops++) {
-    if (ptrace(request, child, NULL, NULL) != 0 || waitpid(child, &status, 0) != child) return UINT64_MAX;
+    if (ptrace((enum __ptrace_request)request, child, NULL, NULL) != 0 || waitpid(child, &status, 0) != child) return UINT64_MAX;
     *is_at_mark = WIFSTOPPED(status) && WSTOPSIG(status) == SIGSTOP;
     if (*is_at_mark || !WIFSTOPPED(status)) break;
   }
