@@ -2,7 +2,8 @@
 /** @file
  * Domains that several processes share by a name, for C++17: the classes of iox2_pubsub.hpp, opened otherwise.
  *
- * THIS IS BEING BUILT, as iox2_pubsub_processes.h is, which says what a domain of several processes is.
+ * iox2_pubsub_processes.h says what a domain of several processes is, iox2_pubsub_nodes.hpp who has it, and iox2_pubsub_listener.hpp how they
+ * notify each other.
  *
  *     struct Reading {
  *       std::uint64_t number;

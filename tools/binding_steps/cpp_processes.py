@@ -56,7 +56,7 @@ REFUSED = (
     (CALLS.format("set_dead_node_listener([](const iox2ps::NodeView &) {})"), "SharedDomain"),
     ("void wait(const iox2ps::SharedDomain<int> &domain) { (void)domain.wait(iox2ps::WaitFor::Message); }", "threads that share a domain wait"),
 )
-WITHOUT_HEADER = (OPENS.format("int"), *(CALLS.format(call) for call in ("nodes()", "dead_nodes()", "cleanup_dead_nodes()", "timed_wait({}, {})", "subscriber()->blocking_receive()")))
+WITHOUT_HEADER = (OPENS.format("int"), *(CALLS.format(call) for call in ("nodes()", "dead_nodes()", "cleanup_dead_nodes()", "timed_wait({}, {})", "subscriber()->blocking_receive()", "notifier()", "listener()")))
 
 
 def compiled(library, compiler, source, program, *flags):
