@@ -9,6 +9,8 @@
 namespace {
 
 constexpr int warm_up = 300;
+/* In hundredths of C's, which has no lock for threads and tells none what came. */
+constexpr std::uint64_t most_alone = 110, most_shared = 135;
 /* At most with one of them a copy of the book-keeping comes due, which costs the same in each language. */
 constexpr std::size_t counted = 9;
 
@@ -91,5 +93,5 @@ int main() {
   std::printf("a message takes %llu instructions in C, %llu in C++, and %llu where threads share the domain\n", static_cast<unsigned long long>(c),
               static_cast<unsigned long long>(alone), static_cast<unsigned long long>(shared));
   std::fflush(stdout);
-  CHECK(c > 100 && 10 * alone <= 11 * c && 10 * shared <= 11 * c);
+  CHECK(c > 100 && 100 * alone <= most_alone * c && 100 * shared <= most_shared * c);
 }
