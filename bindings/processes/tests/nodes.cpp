@@ -51,7 +51,8 @@ void throws(const std::string &name) {
 
 pid_t dead_of(const char *role, const std::string &name) {
   pid_t child = started(role, name);
-  CHECK(WIFSIGNALED(status_of(child)));
+  int status = status_of(child);
+  CHECK(WIFSIGNALED(status) && WTERMSIG(status) == SIGKILL); /* else it was refused before */
   return child;
 }
 
