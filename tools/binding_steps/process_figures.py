@@ -8,7 +8,7 @@ import time
 from contextlib import contextmanager, nullcontext
 from dataclasses import dataclass
 
-from . import machine
+from . import machine, rust_beside
 from .headers import ICEORYX
 from .lengths import ACCESS_LISTS, ROUDI
 from .places import BINDINGS, is_here, version
@@ -16,7 +16,8 @@ from .programs import WARNINGS
 from .steps import said
 
 FOLDER = BINDINGS / "processes/figures"
-OURS, CPP, FLAG, SOCKET, DDS, OTHER = "this library", "this library, C++", "a bare flag", "a Unix socket", "Cyclone DDS", "iceoryx 2.0.3"
+OURS, CPP, RUST, FLAG, SOCKET = "this library", "this library, C++", "this library, Rust", "a bare flag", "a Unix socket"
+DDS, OTHER = "Cyclone DDS", "iceoryx 2.0.3"
 SPIN, SLEEP, ROUND_TRIP, ONE_WAY = "spin", "sleep", "round_trip", "one_way"
 # How long one carrier may take for one row.
 MOST_SECONDS = 300
@@ -85,6 +86,10 @@ def programs(work, library):
     said("gcc", main, compiled(work, "gcc", "by_processes.c", *library.includes()), library.packed, "-o", ours)
     said("g++", main, compiled(work, "g++", "by_cpp.cpp", *library.includes()), library.packed, "-pthread", "-o", work / "by_cpp")
     found = {OURS: ours, CPP: work / "by_cpp"}
+    if is_here("cargo"):
+        found[RUST] = rust_beside.carrier(work, library, main)
+    else:
+        print("skipped Rust: cargo isn't here")
     if (ICEORYX / "iceoryx_posh/roudi").is_dir() and ACCESS_LISTS.exists():
         found[OTHER] = of_iceoryx(work, main)
     else:
@@ -122,7 +127,7 @@ def can(name, row):
 
 def measure(name, program, row, share):
     """What a program prints of a row, as numbers; or none."""
-    count = max(20, int(row.count * share * (1 if name in (OURS, CPP, OTHER, FLAG) or row.length < 1 << 20 else 0.4)))
+    count = max(20, int(row.count * share * (1 if name in (OURS, CPP, RUST, OTHER, FLAG) or row.length < 1 << 20 else 0.4)))
     words = (program, f"figures_{os.getpid()}", row.length, row.subscribers, row.how, row.what, count, row.buffer)
     try:
         with broker(program, row) if name == OTHER else nullcontext():

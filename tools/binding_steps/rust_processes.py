@@ -5,6 +5,7 @@ import re
 import shutil
 from pathlib import Path
 
+from . import rust_beside
 from .crates import compiler_of
 from .places import BINDINGS, is_here
 from .process_library import SOURCES
@@ -135,6 +136,7 @@ def run_rust(steps, work, library):
     for name in BETWEEN:
         steps.run(f"rust, tests/{name}.rs", lambda name=name: crates.test("--test", name))
     steps.run("rust, types that are refused", refuses, crates)
+    steps.run("rust, instructions of a message", rust_beside.count_beside, work, library)
     for name in DOCUMENTED:
         steps.run(f"rust, comments of {name}.rs", lambda name=name: crates.test("--doc", name))
     steps.run("rust, tests of ordinary domains, over shared ones", crates.over_shared)
