@@ -339,8 +339,8 @@ impl<P: Payload + ?Sized> DomainBuilder<P> {
 
     /// The node that the header of each message names. Unless it is set: 0, and the process of the publisher in a domain that processes
     /// share.
-    pub fn node_id(mut self, value: NodeId) -> Self {
-        self.config.node_id = wide(value.value());
+    pub fn node_id(mut self, value: impl Into<NodeId>) -> Self {
+        self.config.node_id = wide(value.into().value());
         self
     }
 

@@ -1,13 +1,13 @@
 // SPDX-License-Identifier: Apache-2.0 OR MIT
 //! Where a message comes from.
 
-use crate::ids::{NodeId, UniquePublisherId};
+use crate::ids::{number, UniquePublisherId};
 use crate::sys;
 
 /// Where a message comes from, and how many elements it has.
 #[derive(Clone, Copy, Debug, PartialEq, Eq, Hash)]
 pub struct Header {
-    node_id: NodeId,
+    node_id: u128,
     publisher_id: UniquePublisherId,
     number_of_elements: usize,
 }
@@ -17,16 +17,16 @@ impl Header {
     pub(crate) fn of(header: &sys::Header, size: usize) -> Header {
         let bytes = header.number_of_elements as usize;
         Header {
-            node_id: NodeId::of(header.node_id),
+            node_id: number(header.node_id),
             publisher_id: UniquePublisherId::of(header.publisher),
             number_of_elements: bytes.checked_div(size).unwrap_or(1),
         }
     }
 
     /// The node that the settings of the domain name; or, where they name none, the process that sent it, of a domain that processes
-    /// share.
+    /// share. [`NodeId::from`](crate::NodeId) makes an id of it.
     #[must_use]
-    pub fn node_id(&self) -> NodeId {
+    pub fn node_id(&self) -> u128 {
         self.node_id
     }
 

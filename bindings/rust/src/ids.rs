@@ -94,6 +94,13 @@ pub const CHANNEL_STATE_OPEN: ChannelState = ChannelState::new(sys::CHANNEL_STAT
 /// The state of a channel that takes no message.
 pub const CHANNEL_STATE_CLOSED: ChannelState = ChannelState::new(sys::CHANNEL_STATE_CLOSED);
 
+impl From<u128> for NodeId {
+    fn from(value: u128) -> NodeId {
+        NodeId(value)
+    }
+}
+
+#[cfg(feature = "processes")]
 impl NodeId {
     #[inline]
     pub(crate) fn of(id: Wide) -> Self {

@@ -134,7 +134,7 @@ pub struct SubscriberDetails {
 /// Of a domain that processes share. One of a single process refuses each of these calls by [`NodeListFailure::NotShared`].
 ///
 /// ```
-/// use iox2_pubsub::{Domain, NodeState};
+/// use iox2_pubsub::{Domain, NodeId, NodeState};
 ///
 /// # fn main() -> Result<(), Box<dyn std::error::Error>> {
 /// # let name = format!("My/Nodes.{}", std::process::id());
@@ -148,7 +148,7 @@ pub struct SubscriberDetails {
 /// }
 /// publisher.send_copy(20.5)?.delivered();
 /// let sample = subscriber.receive()?.unwrap();
-/// assert_eq!(sample.header().node_id(), domain.node_id()?);
+/// assert_eq!(NodeId::from(sample.header().node_id()), domain.node_id()?);
 /// # Ok(())
 /// # }
 /// ```

@@ -3,7 +3,7 @@
 
 use iox2_pubsub::{
     AllocationStrategy, BackpressureAction, BackpressureStrategy, ConnectionFailure, Domain,
-    LoanError, NodeId, PublisherCreateError, ReceiveError, SendError, SubscriberCreateError,
+    LoanError, PublisherCreateError, ReceiveError, SendError, SubscriberCreateError,
 };
 use std::error::Error;
 use std::time::Duration;
@@ -471,7 +471,7 @@ fn a_publisher_grows() {
 
 #[test]
 fn a_header_says_where_a_message_comes_from() {
-    let node = NodeId::from_value(5 << 64 | 6);
+    let node = 5 << 64 | 6;
     let domain = Domain::<[u16]>::slice_builder(19).max_slice_len(3);
     let domain = domain.node_id(node).create().unwrap();
     let publishers = [domain.publisher().unwrap(), domain.publisher().unwrap()];
@@ -490,8 +490,7 @@ fn a_header_says_where_a_message_comes_from() {
     let (publisher, subscriber) = (domain.publisher().unwrap(), domain.subscriber().unwrap());
     publisher.send_copy(pose(1)).unwrap().delivered();
     let header = subscriber.receive().unwrap().unwrap().header();
-    let none = NodeId::from_value(0);
-    assert_eq!((header.node_id(), header.number_of_elements()), (none, 1));
+    assert_eq!((header.node_id(), header.number_of_elements()), (0, 1));
 }
 
 #[test]

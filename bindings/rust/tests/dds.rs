@@ -3,7 +3,7 @@
 #![cfg(feature = "dds")]
 
 use iox2_pubsub::dds::{AnyBytes, Gateway, Gateways, Settings};
-use iox2_pubsub::{BackpressureStrategy, Domain, DomainBuilder, NodeId};
+use iox2_pubsub::{BackpressureStrategy, Domain, DomainBuilder};
 use std::env;
 use std::process::{id, Child, Command, Stdio};
 use std::sync::mpsc;
@@ -40,7 +40,7 @@ unsafe impl AnyBytes for Voltage {}
 
 fn settings() -> DomainBuilder<Reading> {
     Domain::<Reading>::builder(7)
-        .node_id(NodeId::from_value(u128::from(id())))
+        .node_id(u128::from(id()))
         .subscriber_max_buffer_size(16)
         .enable_safe_overflow(false)
         .backpressure_strategy(BackpressureStrategy::RetryUntilDelivered)

@@ -74,7 +74,7 @@ fn a_message_and_a_port_name_their_process() {
     let own = domain.node_id().unwrap();
     assert_ne!(own, its);
     let sample = subscriber.receive().unwrap().unwrap();
-    assert_eq!(sample.header().node_id(), its);
+    assert_eq!(NodeId::from(sample.header().node_id()), its);
 
     let nodes: Vec<_> = domain.nodes().unwrap().collect();
     assert_eq!(nodes.len(), 2);
@@ -116,7 +116,7 @@ fn a_node_of_the_settings_is_named_in_its_place() {
     let (publisher, subscriber) = (domain.publisher().unwrap(), domain.subscriber().unwrap());
     publisher.send_copy(1).unwrap().delivered();
     let sample = subscriber.receive().unwrap().unwrap();
-    assert_eq!(sample.header().node_id(), node);
+    assert_eq!(NodeId::from(sample.header().node_id()), node);
     assert_ne!(domain.node_id().unwrap(), node);
 }
 

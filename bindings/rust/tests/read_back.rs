@@ -12,7 +12,7 @@ struct Pose([u8; 48]);
 #[test]
 fn settings_of_a_domain() {
     let node = NodeId::from_value(9 << 64 | 10);
-    let builder = Domain::<Pose>::builder(7 << 64 | 8).node_id(node);
+    let builder = Domain::<Pose>::builder(7 << 64 | 8).node_id(9 << 64 | 10);
     let builder = builder.max_publishers(11).max_subscribers(12);
     let builder = builder
         .subscriber_max_buffer_size(13)

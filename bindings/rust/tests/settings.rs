@@ -4,8 +4,8 @@
 
 use iox2_pubsub::{
     AllocationStrategy, BackpressureAction, BackpressureStrategy, ChannelId, ConnectionFailure,
-    DegradationAction, Domain, DomainBuilder, LoanError, NodeId, PublisherCreateError,
-    ReceiveError, SendError, Subscriber, SubscriberCreateError, WarningKind, CHANNEL_STATE_OPEN,
+    DegradationAction, Domain, DomainBuilder, LoanError, PublisherCreateError, ReceiveError,
+    SendError, Subscriber, SubscriberCreateError, WarningKind, CHANNEL_STATE_OPEN,
 };
 
 // A connection with a buffer of this length needs more memory than there are addresses.
@@ -116,7 +116,7 @@ fn as_many_closed_publishers_as_the_settings_say() {
 
 #[test]
 fn a_domain_and_its_node_have_their_numbers() {
-    let (service, node) = (7 << 64 | 11, NodeId::from_value(12 << 64 | 13));
+    let (service, node) = (7 << 64 | 11, 12 << 64 | 13);
     let domain = Domain::<u8>::builder(service).node_id(node);
     let domain = domain.create().unwrap();
     assert_eq!(domain.service_id(), service);
