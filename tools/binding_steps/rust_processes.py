@@ -15,14 +15,14 @@ CRATES = ("rust", "rust-sys")
 LAYOUT = BINDINGS / "rust-sys/tests/processes_layout.rs"
 LIBRARY = "libiox2_pubsub_processes.a"
 # The tests of domains that processes share.
-BETWEEN = ("processes", "nodes", "refused")
+BETWEEN = ("processes", "nodes", "notifications", "refused")
 # Tests of ordinary domains that are shared here, and of these what isn't so: a header names a process. Those that count memory, ask for
 # more than a domain of processes has room for, or hand a domain to another language, stay out.
 TESTS = ("bounds", "calls", "capacity", "channels", "events", "fork", "futures", "hostile", "in_place", "latched", "locks", "panics",
          "reader_writer", "stops", "threads", "wait_set", "waits", "wakes")
 NOT_SHARED = ("a_header_says_where_a_message_comes_from", "a_message_is_written_field_by_field", "zeros_are_lent_of_what_has_no_default")
 # The comments whose lines are tests of their own.
-DOCUMENTED = ("named_domain", "nodes", "zero_copy_send")
+DOCUMENTED = ("named_domain", "nodes", "notifier", "event_listener", "zero_copy_send")
 # Types of messages, and in which words they are refused when they are compiled; the first isn't.
 OF_FIELDS = "iox2_pubsub::zero_copy_send! {{ #[derive(Clone, Copy)] struct T {{ field: {} }} }}"
 REFUSED = (
@@ -36,7 +36,12 @@ REFUSED = (
     ("iox2_pubsub::zero_copy_send! { struct T { field: u64 } } impl Drop for T { fn drop(&mut self) {} }", "`T: Copy` is not satisfied"),
 )
 # The names of structs in C by those in Rust.
-STRUCTS = {"Options": "iox2ps_processes_options_t", "DomainInfo": "iox2ps_domain_info_t", "Node": "iox2ps_node_t", "Port": "iox2ps_port_t"}
+STRUCTS = {
+    "Options": "iox2ps_processes_options_t", "DomainInfo": "iox2ps_domain_info_t", "Node": "iox2ps_node_t", "Port": "iox2ps_port_t",
+    "Notifier": "iox2ps_notifier_t", "Listener": "iox2ps_listener_t", "EventIds": "iox2ps_event_ids_t",
+}
+# Fields of C that a program has no use for end so.
+OF_THE_LIBRARY = ("reserved", "place")
 
 
 def oldest():
@@ -115,7 +120,7 @@ def layouts_of_c(library, work):
         struct = STRUCTS[name]
         lines.append(f'_Static_assert(sizeof({struct}) == {size} && _Alignof({struct}) == {alignment}, "{name}");')
         for field, offset in re.findall(r"(\w+) (\d+)", fields):
-            of_c = f"{field}_" if field == "reserved" else field
+            of_c = f"{field}_" if field in OF_THE_LIBRARY else field
             lines.append(f'_Static_assert(offsetof({struct}, {of_c}) == {offset}, "{field}");')
     if len(lines) < len(STRUCTS):
         raise Failed(f"{LAYOUT} has no layouts")

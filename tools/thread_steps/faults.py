@@ -113,7 +113,7 @@ IN_RUST = [
      "if true {", "wakes::a_refused_call_wakes_nobody"),
     ("a message that a retry brings wakes nobody", "send_outcome.rs", "if code != sys::BLOCKED || stands_at(shared, blocked) != before {",
      "if false {", "wakes::a_retry_wakes_whom_it_reaches"),
-    ("a set isn't woken", "joined_port.rs", "            told.alarm.raise();\n", "", "wait_set::a_set_that_sleeps_is_woken"),
+    ("a set isn't woken", "joined_port.rs", "            (told.rings)();\n", "", "wait_set::a_set_that_sleeps_is_woken"),
     ("what comes while a set looks is missed", "wait_set.rs", "            self.alarm.lower();\n            let (found, gone) = self.attachments.borrow_mut().look();",
      "            let (found, gone) = self.attachments.borrow_mut().look();\n            self.alarm.lower();", "wait_set::what_comes_while_a_set_falls_asleep_is_not_missed"),
     ("a set that was woken once looks without end", "alarm.rs", "self.is_raised.swap(false, Ordering::AcqRel);", "", "wait_set::sleep::an_idle_set_sleeps_on"),
@@ -132,12 +132,12 @@ IN_RUST = [
     ("a stop ends no set's wait", "wait_set.rs", "found.is_stopped || is_listening()", "is_listening()", "wait_set::stopped_waits_end_once_no_port_has_an_event"),
     ("a stop loses messages", "wait_set.rs", "if found.of_ports || (found.of_times && !is_stopped) {", "if (found.of_ports || found.of_times) && !is_stopped {",
      "wait_set::stopped_waits_end_once_no_port_has_an_event"),
-    ("what a stop leaves is lost", "joined_port.rs", "        self.told().is_told.store(true, Ordering::Release);\n", "", "wait_set::events_after_a_stop_or_a_panic_stay"),
-    ("a publisher isn't told of room", "joined_port.rs", "Port::Publisher(_) => Brings::OTHERS,", "Port::Publisher(_) => Brings::END,",
+    ("what a stop leaves is lost", "joined_port.rs", "        self.joined.told().is_told.store(true, Ordering::Release);\n", "", "wait_set::events_after_a_stop_or_a_panic_stay"),
+    ("a publisher isn't told of room", "joined_port.rs", "Port::Publisher(_) => Brings::ROOM.and(Brings::END),", "Port::Publisher(_) => Brings::END,",
      "wait_set::a_publisher_has_an_event_when_a_blocked_send_may_be_retried"),
     ("a set waits in a listener", "wait_set.rs", "found.is_stopped || is_listening()", "found.is_stopped", "wait_set::a_listener_does_not_wait"),
-    ("an idle set asks its domains", "joined_port.rs", "|| !self.told().is_told.swap(false, Ordering::AcqRel)", "", "wait_set::an_idle_set_asks_no_domain"),
-    ("a child's set waits", "joined_port.rs", "is_after_fork: !self.hold.is_here(),", "is_after_fork: false,", "fork::a_childs_set_waits_for_nobody"),
+    ("an idle set asks its domains", "joined_port.rs", "|| !self.joined.told().is_told.swap(false, Ordering::AcqRel)", "", "wait_set::an_idle_set_asks_no_domain"),
+    ("a child's set waits", "joined_port.rs", "is_after_fork: !self.joined.hold.is_here(),", "is_after_fork: false,", "fork::a_childs_set_waits_for_nobody"),
 ]
 
 # The same of the headers, which cpp/threads.cpp has to see.

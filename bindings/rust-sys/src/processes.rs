@@ -23,9 +23,13 @@ pub const PROCESSES_DIVERGED: u32 = 221;
 pub const PROCESSES_FORKED: u32 = 222;
 pub const PROCESSES_TIMED_OUT: u32 = 223;
 pub const PROCESSES_NOT_SHARED: u32 = 224;
+pub const NOTIFIER_NOTIFY_ERROR_EVENT_ID_OUT_OF_BOUNDS: u32 = 225;
 
 /// Beside `BRINGS_MESSAGE` and the others of `iox2_pubsub.h`.
 pub const BRINGS_DEAD_NODE: u32 = 16;
+pub const BRINGS_EVENT: u32 = 32;
+
+pub const EVENT_ID_MAX_VALUE: usize = 255;
 
 pub const NODE_STATE_ALIVE: u32 = 0;
 pub const NODE_STATE_DEAD: u32 = 1;
@@ -86,6 +90,27 @@ pub struct Port {
     pub id: Wide,
     pub node_id: Wide,
     pub kind: u32,
+}
+
+#[repr(C)]
+#[derive(Clone, Copy, Debug, Default, PartialEq, Eq)]
+pub struct Notifier {
+    pub service_id: Wide,
+    pub default_event_id: usize,
+}
+
+#[repr(C)]
+#[derive(Clone, Copy, Debug, Default, PartialEq, Eq)]
+pub struct Listener {
+    pub service_id: Wide,
+    pub id: Wide,
+    pub place: u64,
+}
+
+#[repr(C)]
+#[derive(Clone, Copy, Debug, Default, PartialEq, Eq)]
+pub struct EventIds {
+    pub words: [u64; 4],
 }
 
 pub type NodeList = unsafe extern "C" fn(node: *const Node, context: *mut c_void) -> c_int;
@@ -159,6 +184,36 @@ extern "C" {
     pub fn iox2ps_domain_sleep_begin(domain: *mut Domain, brings: u32, begun: *mut u64) -> u32;
     pub fn iox2ps_domain_sleep(domain: *const Domain, begun: u64, timeout_ns: u64) -> u32;
     pub fn iox2ps_domain_sleep_end(domain: *const Domain) -> u32;
+    pub fn iox2ps_notifier_create(
+        domain: *mut Domain,
+        default_event_id: usize,
+        notifier: *mut Notifier,
+    ) -> u32;
+    pub fn iox2ps_notifier_notify(
+        domain: *mut Domain,
+        notifier: *const Notifier,
+        listeners: *mut usize,
+    ) -> u32;
+    pub fn iox2ps_notifier_notify_with_custom_event_id(
+        domain: *mut Domain,
+        notifier: *const Notifier,
+        event_id: usize,
+        listeners: *mut usize,
+    ) -> u32;
+    pub fn iox2ps_listener_create(domain: *mut Domain, listener: *mut Listener) -> u32;
+    pub fn iox2ps_listener_close(domain: *mut Domain, listener: *const Listener) -> u32;
+    pub fn iox2ps_listener_timed_wait_one(
+        domain: *mut Domain,
+        listener: *const Listener,
+        timeout_ns: u64,
+        event_id: *mut usize,
+    ) -> u32;
+    pub fn iox2ps_listener_timed_wait_all(
+        domain: *mut Domain,
+        listener: *const Listener,
+        timeout_ns: u64,
+        event_ids: *mut EventIds,
+    ) -> u32;
     pub fn iox2ps_domain_node_id(domain: *mut Domain, node_id: *mut Wide) -> u32;
     pub fn iox2ps_domain_nodes(
         domain: *mut Domain,

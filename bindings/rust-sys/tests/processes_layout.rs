@@ -2,7 +2,9 @@
 //! How the library for processes has the structs of its header in memory. `tools/processes rust` holds C to these lines, too.
 #![cfg(feature = "processes")]
 
-use iox2_pubsub_sys::processes::{DomainInfo, Node, Options, Port};
+use iox2_pubsub_sys::processes::{
+    DomainInfo, EventIds, Listener, Node, Notifier, Options, Port,
+};
 use std::mem::{align_of, size_of, MaybeUninit};
 use std::ptr::addr_of;
 
@@ -57,4 +59,19 @@ lies_so! {
     id 0
     node_id 16
     kind 32
+}
+lies_so! {
+    notifier, Notifier, 24, 8,
+    service_id 0
+    default_event_id 16
+}
+lies_so! {
+    listener, Listener, 40, 8,
+    service_id 0
+    id 16
+    place 32
+}
+lies_so! {
+    event_ids, EventIds, 32, 8,
+    words 0
 }

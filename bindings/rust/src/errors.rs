@@ -305,6 +305,43 @@ errors! {
     }
 }
 
+#[cfg(feature = "processes")]
+errors! {
+    /// Why a notifier wasn't made.
+    NotifierCreateError {
+        /// One process has the domain, since it has no name. This library's own.
+        NotShared = processes::PROCESSES_NOT_SHARED,
+        /// Its default id is above [`EventId::MAX_VALUE`](crate::EventId::MAX_VALUE). This library's own.
+        EventIdOutOfBounds = processes::NOTIFIER_NOTIFY_ERROR_EVENT_ID_OUT_OF_BOUNDS,
+    }
+}
+
+#[cfg(feature = "processes")]
+errors! {
+    /// Why nobody was notified.
+    NotifierNotifyError {
+        /// The id is above [`EventId::MAX_VALUE`](crate::EventId::MAX_VALUE).
+        EventIdOutOfBounds = processes::NOTIFIER_NOTIFY_ERROR_EVENT_ID_OUT_OF_BOUNDS,
+    }
+}
+
+#[cfg(feature = "processes")]
+errors! {
+    /// Why a listener wasn't made.
+    ListenerCreateError {
+        /// One process has the domain, since it has no name. This library's own.
+        NotShared = processes::PROCESSES_NOT_SHARED,
+        /// Memory was refused. This library's own.
+        OutOfMemory = OUT_OF_MEMORY,
+    }
+}
+
+#[cfg(feature = "processes")]
+errors! {
+    /// Why a listener didn't look for events.
+    ListenerWaitError {}
+}
+
 /// Why a domain wasn't handed to another language of the process. This library's own.
 #[non_exhaustive]
 #[derive(Clone, Copy, Debug, PartialEq, Eq, Hash)]

@@ -88,6 +88,19 @@ names! {
     ChannelState of u64, new;
 }
 
+#[cfg(feature = "processes")]
+names! {
+    /// What happened, as the program means it: a number that a [`Notifier`](crate::Notifier) tells.
+    #[derive(Default)]
+    EventId of usize, new;
+}
+
+#[cfg(feature = "processes")]
+impl EventId {
+    /// The largest of them.
+    pub const MAX_VALUE: usize = sys::processes::EVENT_ID_MAX_VALUE;
+}
+
 /// The state of a new channel.
 pub const CHANNEL_STATE_OPEN: ChannelState = ChannelState::new(sys::CHANNEL_STATE_OPEN);
 

@@ -3,6 +3,8 @@
 
 use crate::alarm::Alarm;
 use crate::errors::AFTER_FORK;
+#[cfg(feature = "processes")]
+use crate::event_listener::Listener;
 use crate::lock::DomainLock;
 use crate::payload::Payload;
 use crate::publisher::Publisher;
@@ -62,9 +64,18 @@ impl<P: Payload + ?Sized, L: DomainLock> Joins for Publisher<P, ManyThreads<L>> 
     }
 }
 
+#[cfg(feature = "processes")]
+impl<L: DomainLock> Joins for Listener<ManyThreads<L>> {
+    fn join(&self, alarm: &Arc<Alarm>) -> Result<Box<dyn Member>, u32> {
+        JoinedPort::member(&self.hold, Port::Listener, alarm)
+    }
+}
+
 enum Port {
     Subscriber(sys::Subscriber),
     Publisher(Wide),
+    #[cfg(feature = "processes")]
+    Listener,
 }
 
 impl Port {
@@ -72,7 +83,9 @@ impl Port {
     fn wants(&self) -> Brings {
         match self {
             Port::Subscriber(_) => Brings::MESSAGE,
-            Port::Publisher(_) => Brings::OTHERS,
+            Port::Publisher(_) => Brings::ROOM.and(Brings::END),
+            #[cfg(feature = "processes")]
+            Port::Listener => Brings::EVENT,
         }
     }
 
@@ -88,6 +101,9 @@ impl Port {
             }
             Port::Publisher(id) if shared.has_publisher(*id) => (sys::OK, true),
             Port::Publisher(_) => (sys::NOT_LIVE, false),
+            // It is asked only where one may have come.
+            #[cfg(feature = "processes")]
+            Port::Listener => (sys::OK, true),
         }
     }
 }
@@ -99,11 +115,14 @@ struct Told {
     joined: UnsafeCell<c::Joined>,
     wants: Brings,
     is_told: AtomicBool,
-    alarm: Arc<Alarm>,
+    rings: Rings,
 }
 
+// Called under the lock.
+type Rings = Box<dyn Fn() + Send + Sync>;
+
 impl Told {
-    fn new(wants: Brings, alarm: Arc<Alarm>) -> NonNull<Told> {
+    fn new(wants: Brings, rings: Rings) -> NonNull<Told> {
         let joined = c::Joined {
             struct_size: size_of::<c::Joined>(),
             wake: Told::wake,
@@ -117,7 +136,7 @@ impl Told {
             joined: UnsafeCell::new(joined),
             wants,
             is_told: AtomicBool::new(true),
-            alarm,
+            rings,
         })))
     }
 
@@ -126,34 +145,30 @@ impl Told {
         let told = &*(joined as *const Told);
         if told.wants.meets(Brings(brings as u8)) {
             told.is_told.store(true, Ordering::Release);
-            told.alarm.raise();
+            (told.rings)();
         }
     }
 
     unsafe extern "C" fn connect(_: *mut c::Joined, _: *mut sys::Domain) {}
 }
 
-struct JoinedPort<L: DomainLock> {
+/// What a domain tells of what calls bring, until it is dropped.
+pub(crate) struct Joined<L: DomainLock> {
     hold: Part<L>,
     told: NonNull<Told>,
-    port: Port,
-    // What was said last.
-    is_stopped: bool,
 }
 
 // SAFETY: what it points to is its own, or used with the lock of the domain, or atomic; and the rest may go to another thread.
-unsafe impl<L: DomainLock> Send for JoinedPort<L> {}
+unsafe impl<L: DomainLock> Send for Joined<L> {}
 
-impl<L: DomainLock> JoinedPort<L> {
-    fn member(hold: &Part<L>, port: Port, alarm: &Arc<Alarm>) -> Result<Box<dyn Member>, u32> {
-        let told = Told::new(port.wants(), alarm.clone());
-        let made = Box::new(JoinedPort {
+impl<L: DomainLock> Joined<L> {
+    /// The code of the domain where it is refused.
+    pub(crate) fn new(hold: &Part<L>, wants: Brings, rings: Rings) -> Result<Self, u32> {
+        let made = Joined {
             hold: hold.clone(),
-            told,
-            port,
-            is_stopped: false,
-        });
-        match made.hold.join(told.as_ptr().cast()) {
+            told: Told::new(wants, rings),
+        };
+        match made.hold.join(made.told.as_ptr().cast()) {
             sys::OK => Ok(made),
             code => Err(code),
         }
@@ -165,18 +180,37 @@ impl<L: DomainLock> JoinedPort<L> {
     }
 }
 
+struct JoinedPort<L: DomainLock> {
+    joined: Joined<L>,
+    port: Port,
+    // What was said last.
+    is_stopped: bool,
+}
+
+impl<L: DomainLock> JoinedPort<L> {
+    fn member(hold: &Part<L>, port: Port, alarm: &Arc<Alarm>) -> Result<Box<dyn Member>, u32> {
+        let alarm = alarm.clone();
+        let joined = Joined::new(hold, port.wants(), Box::new(move || alarm.raise()))?;
+        Ok(Box::new(JoinedPort {
+            joined,
+            port,
+            is_stopped: false,
+        }))
+    }
+}
+
 impl<L: DomainLock> Member for JoinedPort<L> {
     fn look(&mut self) -> Look {
         let mut look = Look {
-            is_after_fork: !self.hold.is_here(),
+            is_after_fork: !self.joined.hold.is_here(),
             is_stopped: self.is_stopped,
             ..Look::default()
         };
-        if look.is_after_fork || !self.told().is_told.swap(false, Ordering::AcqRel) {
+        if look.is_after_fork || !self.joined.told().is_told.swap(false, Ordering::AcqRel) {
             return look;
         }
-        let (told, port) = (self.told(), &self.port);
-        let code = self.hold.call(Brings::NOTHING, |shared| {
+        let (told, port) = (self.joined.told(), &self.port);
+        let code = self.joined.hold.call(Brings::NOTHING, |shared| {
             // SAFETY: the domain writes it with its lock.
             look.is_stopped = unsafe { (*told.joined.get()).waits_are_stopped } != 0;
             let (code, has_event) = port.ask(shared);
@@ -197,11 +231,11 @@ impl<L: DomainLock> Member for JoinedPort<L> {
     }
 
     fn ask_again(&self) {
-        self.told().is_told.store(true, Ordering::Release);
+        self.joined.told().is_told.store(true, Ordering::Release);
     }
 }
 
-impl<L: DomainLock> Drop for JoinedPort<L> {
+impl<L: DomainLock> Drop for Joined<L> {
     fn drop(&mut self) {
         // Also where it hasn't joined: then there is nothing to leave.
         self.hold.leave(self.told.as_ptr().cast());

@@ -95,6 +95,10 @@ mod dead_nodes;
 mod desk;
 mod domain;
 mod errors;
+#[cfg(all(feature = "processes", target_os = "linux"))]
+mod event_fd;
+#[cfg(feature = "processes")]
+mod event_listener;
 mod events;
 mod fork;
 mod guarded;
@@ -112,6 +116,8 @@ mod message_fd;
 mod named_domain;
 #[cfg(feature = "processes")]
 mod nodes;
+#[cfg(feature = "processes")]
+mod notifier;
 #[cfg(feature = "processes")]
 mod open_error;
 mod payload;
@@ -142,14 +148,23 @@ pub(crate) use iox2_pubsub_sys as sys;
 pub use any_bytes::AnyBytes;
 pub use domain::{Domain, DomainBuilder, SharedDomain};
 #[cfg(feature = "processes")]
-pub use errors::NodeListFailure;
+pub use errors::{
+    ListenerCreateError, ListenerWaitError, NodeListFailure, NotifierCreateError,
+    NotifierNotifyError,
+};
 pub use errors::{
     ChannelError, ConnectionFailure, DomainCreateError, LoanError, PublisherCreateError,
     ReceiveError, SendError, ShareError, SubscriberCreateError, WaitSetAttachmentError,
     WaitSetRunError,
 };
+#[cfg(all(feature = "processes", target_os = "linux"))]
+pub use event_fd::EventFd;
+#[cfg(feature = "processes")]
+pub use event_listener::Listener;
 pub use events::Receive;
 pub use header::Header;
+#[cfg(feature = "processes")]
+pub use ids::EventId;
 pub use ids::{
     ChannelId, ChannelState, ConnectionId, NodeId, UniquePublisherId, UniqueSubscriberId,
     CHANNEL_STATE_CLOSED, CHANNEL_STATE_OPEN,
@@ -166,6 +181,8 @@ pub use message_fd::MessageFd;
 pub use named_domain::{DomainInfo, NamedDomainBuilder};
 #[cfg(feature = "processes")]
 pub use nodes::{NodeState, NodeView, PublisherDetails, SubscriberDetails};
+#[cfg(feature = "processes")]
+pub use notifier::{Notifier, PortFactoryNotifier};
 #[cfg(feature = "processes")]
 pub use open_error::{DomainOpenError, DomainOpenErrorKind};
 pub use payload::{Payload, Value};

@@ -31,7 +31,7 @@ struct Raised {
 }
 
 impl MessageFd {
-    fn new() -> io::Result<MessageFd> {
+    pub(crate) fn new() -> io::Result<MessageFd> {
         let process = Process::this().ok_or(ErrorKind::OutOfMemory)?;
         // SAFETY: it takes no pointer.
         let descriptor = unsafe { eventfd(1, CLOEXEC_AND_NONBLOCK) };
@@ -47,7 +47,7 @@ impl MessageFd {
     }
 
     // Written once until it is read again.
-    fn raise(&self) {
+    pub(crate) fn raise(&self) {
         if !self.0.is_raised.swap(true, Ordering::AcqRel) {
             // It takes a number of 8 bytes, and there is always room for 1.
             let _ = (&self.0.file).write(&1u64.to_ne_bytes());

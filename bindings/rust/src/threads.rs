@@ -117,8 +117,10 @@ impl Brings {
     pub(crate) const FREE: Brings = Brings(sys::BRINGS_FREE as u8);
     /// A loan has ended, or a slot came back.
     pub(crate) const LOAN: Brings = Brings(sys::BRINGS_LOAN as u8);
-    pub(crate) const ALL: Brings = Brings(15);
-    pub(crate) const OTHERS: Brings = Brings(14);
+    /// A notification, of a domain that processes share.
+    pub(crate) const EVENT: Brings = Brings(32);
+    pub(crate) const OTHERS: Brings = Brings::ROOM.and(Brings::END).and(Brings::EVENT);
+    pub(crate) const ALL: Brings = Brings::MESSAGE.and(Brings::OTHERS);
 
     /// Of a loan's send, and of a copy's.
     pub(crate) const SEND: Brings = Brings::MESSAGE.and(Brings::LOAN);
@@ -159,6 +161,8 @@ pub enum Waits {
     /// That the publisher's earlier send ends.
     Free,
     Loan,
+    #[cfg(feature = "processes")]
+    Event,
 }
 
 impl Waits {
@@ -174,6 +178,8 @@ impl Waits {
                     | sys::LOAN_ERROR_EXCEEDS_MAX_LOANS
                     | sys::LOAN_ERROR_OUT_OF_MEMORY
             ),
+            #[cfg(feature = "processes")]
+            Waits::Event => code == sys::processes::PROCESSES_TIMED_OUT,
         }
     }
 
@@ -184,6 +190,8 @@ impl Waits {
             Waits::Room => Brings::ROOM,
             Waits::Free => Brings::FREE,
             Waits::Loan => Brings::LOAN.and(Brings::FREE),
+            #[cfg(feature = "processes")]
+            Waits::Event => Brings::EVENT,
         }
     }
 }

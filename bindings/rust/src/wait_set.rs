@@ -4,6 +4,8 @@
 use crate::alarm::Alarm;
 use crate::attachments::{earlier, Attachment, Attachments};
 use crate::errors::{WaitSetAttachmentError, WaitSetRunError};
+#[cfg(feature = "processes")]
+use crate::event_listener::Listener;
 use crate::joined_port::{Joins, Member};
 use crate::listeners::is_listening;
 use crate::lock::DomainLock;
@@ -31,6 +33,8 @@ pub trait SynchronousMultiplexing: Joins {}
 
 impl<P: Payload + ?Sized, L: DomainLock> SynchronousMultiplexing for Subscriber<P, ManyThreads<L>> {}
 impl<P: Payload + ?Sized, L: DomainLock> SynchronousMultiplexing for Publisher<P, ManyThreads<L>> {}
+#[cfg(feature = "processes")]
+impl<L: DomainLock> SynchronousMultiplexing for Listener<ManyThreads<L>> {}
 
 /// One thread waits for subscribers and publishers of several domains that threads share, and for times. The names are
 /// iceoryx2's.
@@ -70,6 +74,7 @@ impl<P: Payload + ?Sized, L: DomainLock> SynchronousMultiplexing for Publisher<P
 /// - A publisher has one when it is attached, and whenever a loan or a send that it refused may be made, or a send that is
 ///   blocked may be retried. That may be for nothing: each release of a sample brings one. So it is attached while something of
 ///   it waits.
+/// - A `Listener` of events has one when it is attached, and whenever an event came. Take all.
 /// - A deadline is missed where a wait finds no event of the port for so long: since it was attached, had its last event, or
 ///   missed it. Then it begins anew.
 /// - An interval has an event whenever so much time has passed. Those that were due while the thread was elsewhere are one.

@@ -23,18 +23,23 @@ use std::thread::{Builder, JoinHandle};
 
 /// What other processes have brought to a domain that they share, as far as those who wait here were told. Used under the lock.
 pub(crate) struct Told {
-    counts: [u64; KINDS],
+    counts: [u64; KINDS.len()],
     pub(crate) dead_nodes: DeadNodes,
 }
 
-// Of `Brings`.
-const KINDS: usize = 4;
+const KINDS: [Brings; 5] = [
+    Brings::MESSAGE,
+    Brings::ROOM,
+    Brings::FREE,
+    Brings::LOAN,
+    Brings::EVENT,
+];
 
 impl Told {
     /// `None` where no other process can bring anything.
     pub(crate) fn of(shared: &mut Shared) -> Option<Told> {
         let mut told = Told {
-            counts: [0; KINDS],
+            counts: [0; KINDS.len()],
             dead_nodes: DeadNodes::default(),
         };
         let mut begun = 0;
@@ -63,8 +68,8 @@ impl Told {
     // All of it where the domain can only be left: whoever waits then finds out why.
     fn look(&mut self, shared: &mut Shared) -> Brings {
         let mut brings = Brings::NOTHING;
-        for (kind, told) in self.counts.iter_mut().enumerate() {
-            let (one, mut count) = (Brings(1 << kind), 0);
+        for (one, told) in KINDS.into_iter().zip(&mut self.counts) {
+            let mut count = 0;
             // SAFETY: see `Shared::at`.
             let code = unsafe {
                 c::iox2ps_domain_brought_by_others(shared.at(), one.0.into(), &mut count)

@@ -10,7 +10,7 @@ use iox2_pubsub::{
     CHANNEL_STATE_OPEN,
 };
 #[cfg(feature = "processes")]
-use iox2_pubsub::NodeListFailure;
+use iox2_pubsub::{ListenerCreateError, NodeListFailure, NotifierCreateError};
 use std::future::Future;
 use std::ops::ControlFlow;
 use std::panic::{catch_unwind, set_hook, AssertUnwindSafe};
@@ -179,6 +179,8 @@ impl<M: Threads> World<M> {
         assert_eq!(domain.list_subscribers().err(), Some(refused));
         assert_eq!(domain.dead_nodes().err(), Some(refused));
         assert_eq!(domain.cleanup_dead_nodes(), Err(refused));
+        assert_eq!(domain.notifier().err(), Some(NotifierCreateError::AfterFork));
+        assert_eq!(domain.listener().err(), Some(ListenerCreateError::AfterFork));
     }
 
     // All is as it was.

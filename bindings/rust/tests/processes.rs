@@ -7,7 +7,7 @@ mod children;
 use children::{in_child, name_of, say, wait_for_parent, Process};
 use iox2_pubsub::{
     AllocationStrategy, BackpressureStrategy, Domain, DomainOpenErrorKind, LoanError,
-    NamedDomainBuilder, NodeListFailure, PublisherCreateError, ReceiveError, SendError, SharedDomain,
+    ListenerWaitError, NamedDomainBuilder, NodeListFailure, NotifierNotifyError, PublisherCreateError, ReceiveError, SendError, SharedDomain,
 };
 use std::fs;
 use std::thread::{self, sleep};
@@ -663,6 +663,7 @@ fn waits_end_where_the_files_are_written_over() {
     let name = name_of("damaged");
     let domain = shared(&name);
     let (publisher, subscriber) = (domain.publisher().unwrap(), domain.subscriber().unwrap());
+    let (notifier, listener) = (domain.notifier().unwrap(), domain.listener().unwrap());
     let error = thread::scope(|threads| {
         let waits = threads.spawn(|| subscriber.timed_receive(LONG).err());
         let path = file_of(&name);
@@ -679,6 +680,9 @@ fn waits_end_where_the_files_are_written_over() {
         .publisher_builder()
         .allocation_strategy(AllocationStrategy::Static);
     assert_eq!(growing.create().err(), Some(PublisherCreateError::Damaged));
+    assert_eq!(notifier.notify(), Err(NotifierNotifyError::Damaged));
+    assert_eq!(listener.blocking_wait_one(), Err(ListenerWaitError::Damaged));
+    drop((notifier, listener));
     assert_eq!(domain.node_id(), Err(NodeListFailure::Damaged));
     assert_eq!(domain.set_dead_node_listener(|_| {}), Err(NodeListFailure::Damaged));
     drop((publisher, subscriber, domain));
