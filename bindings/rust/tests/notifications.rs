@@ -11,7 +11,7 @@ use iox2_pubsub::{
 };
 use std::collections::BTreeSet;
 use std::sync::mpsc::channel;
-use std::thread::scope;
+use std::thread::{scope, spawn};
 use std::time::Duration;
 
 // Only what has failed takes so long.
@@ -184,15 +184,13 @@ fn a_wait_ends_when_waits_are_stopped() {
     let domain = shared(&name);
     let listener = domain.listener().unwrap();
     let (tells, told) = channel();
-    scope(|threads| {
-        let waits = threads.spawn(|| {
-            tells.send(()).unwrap();
-            listener.blocking_wait_one()
-        });
-        told.recv().unwrap();
-        domain.stop_waits(true);
-        assert_eq!(waits.join().unwrap(), Ok(None));
+    let waits = spawn(move || {
+        tells.send(()).unwrap();
+        listener.blocking_wait_one()
     });
+    told.recv().unwrap();
+    domain.stop_waits(true);
+    assert_eq!(waits.join().unwrap(), Ok(None));
 }
 
 #[test]
