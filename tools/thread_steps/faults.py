@@ -60,9 +60,9 @@ IN_RUST = [
      "reader_writer::a_blocked_send_goes_on_when_another_has_made_room"),
     ("what is given back for a reader frees no loan", "desk.rs", "            true => Brings::LOAN,", "            true => Brings::NOTHING,",
      "reader_writer::a_loan_goes_on_when_it_has_freed_its_slot"),
-    ("a send doesn't see the room that it has made", "guarded.rs", "let seen = self.changes(wait.what).load(Ordering::Relaxed);\n                "
+    ("a send doesn't see the room that it has made", "guarded.rs", "let seen = self.see(state, wait.what);\n                "
      "let wake = self.brought(state, wait.brings, code);", "let wake = self.brought(state, wait.brings, code);\n                "
-     "let seen = self.changes(wait.what).load(Ordering::Relaxed);", "reader_writer::a_blocked_send_goes_on_when_it_has_made_room"),
+     "let seen = self.see(state, wait.what);", "reader_writer::a_blocked_send_goes_on_when_it_has_made_room"),
     ("a reader that goes gives nothing back", "reader.rs", "                batch.give_back(shared);\n                sys::OK",
      "                let _ = (&batch, shared);\n                sys::OK", "reader_writer::a_reader_that_is_dropped_gives_all_back"),
     ("a reader that goes frees no loan", "reader.rs", "hold.call(Brings::LOAN, |shared|", "hold.call(Brings::NOTHING, |shared|",

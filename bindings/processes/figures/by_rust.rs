@@ -54,6 +54,7 @@ impl Plan {
             .subscriber_max_buffer_size(self.buffer)
             .enable_safe_overflow(false)
             .name(&format!("{}.{number}", self.name))
+            .spins(0)
     }
 }
 

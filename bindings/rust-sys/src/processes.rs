@@ -233,6 +233,8 @@ extern "C" {
         context: *mut c_void,
     ) -> u32;
     pub fn iox2ps_domain_cleanup_dead_nodes(domain: *mut Domain, cleanups: *mut usize) -> u32;
+    pub fn iox2ps_domain_calls(domain: *const Domain) -> u64;
+    pub fn iox2ps_domain_has_more_calls(domain: *const Domain, calls: u64) -> u32;
     pub fn iox2ps_domain_exists(name: *const c_char, exists: *mut u32) -> u32;
     pub fn iox2ps_domain_list(callback: List, context: *mut c_void) -> u32;
 }

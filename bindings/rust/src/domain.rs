@@ -5,6 +5,8 @@ use crate::errors::{is_after_fork, is_broken, unexpected, DomainCreateError};
 use crate::guarded::Guarded;
 use crate::ids::{number, wide, NodeId};
 use crate::lock::{DomainLock, StdLock};
+#[cfg(feature = "processes")]
+use crate::named_domain::options_of;
 use crate::payload::{Payload, Value};
 use crate::port_factory::{PortFactoryPublisher, PortFactorySubscriber};
 use crate::publisher::{BackpressureStrategy, Publisher};
@@ -17,9 +19,12 @@ use crate::threads::{
     Borrowed, Brings, ManyThreads, MayWait, OneThread, Part, Place, Single, Threads, WaitingPlace,
 };
 use crate::warning::Warning;
+#[cfg(feature = "processes")]
+use crate::watch::Pace;
 use crate::{PublisherCreateError, SubscriberCreateError};
 use std::fmt;
 use std::marker::PhantomData;
+#[cfg(not(feature = "processes"))]
 use std::sync::Arc;
 
 /// A service whose messages are of the type `P`: a value, or a slice of values.
@@ -459,12 +464,14 @@ impl<P: Payload + ?Sized> DomainBuilder<P> {
     where
         P: Send + Sync,
     {
-        let guarded = Arc::new(Guarded::new(self.shared()?));
+        let guarded = Guarded::new(self.shared()?);
         // One that stands in for an ordinary domain in a test of processes.
         #[cfg(feature = "processes")]
-        guarded
-            .watch_others()
-            .map_err(|_| DomainCreateError::OutOfMemory)?;
+        let guarded = guarded.watched(Pace::of(&options_of(&self.config)));
+        #[cfg(feature = "processes")]
+        let guarded = guarded.map_err(|_| DomainCreateError::OutOfMemory)?;
+        #[cfg(not(feature = "processes"))]
+        let guarded = Arc::new(guarded);
         Ok(Domain::of(Part::new(guarded)))
     }
 

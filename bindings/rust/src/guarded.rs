@@ -9,23 +9,22 @@ use crate::fork::Process;
 use crate::listeners::{is_listening, Listener, Listeners};
 use crate::lock::DomainLock;
 use crate::shared::Shared;
-#[cfg(feature = "processes")]
-use crate::sys::processes::PROCESSES_NOT_SHARED;
 use crate::sys::{self, Wide};
 use crate::threads::{Brings, Place, Polls, Wait, WaitingPlace, Waits};
 use crate::waiting::{FutureNumber, Listed, WaitingList, Wake, Woken};
-#[cfg(feature = "processes")]
-use crate::watch::{Begun, Told, Watch};
 use std::cell::UnsafeCell;
 use std::hint::spin_loop;
-#[cfg(feature = "processes")]
-use std::io;
 use std::mem::take;
 use std::sync::atomic::{AtomicUsize, Ordering};
 use std::sync::Arc;
 use std::task::Waker;
 use std::thread::{self, yield_now};
 use std::time::Instant;
+
+#[cfg_attr(not(feature = "processes"), path = "guarded/alone.rs")]
+mod others;
+
+use others::{OfOthers, Others};
 
 /// A domain that threads share.
 #[doc(hidden)]
@@ -35,8 +34,7 @@ pub struct Guarded<L> {
     state: UnsafeCell<State>,
     changes: Changes,
     process: Process,
-    #[cfg(feature = "processes")]
-    watch: Watch,
+    others: Others,
 }
 
 // What came so far: messages, and all else. These are read without the lock too, and so lie apart from it.
@@ -52,9 +50,16 @@ struct State {
     waiting: WaitingList,
     desks: Vec<Arc<Desk>>,
     is_stopped: bool,
-    // `None` where no other process can bring anything.
-    #[cfg(feature = "processes")]
-    told: Option<Told>,
+    #[cfg_attr(not(feature = "processes"), allow(dead_code))]
+    told: OfOthers,
+}
+
+// What a thread has seen of what it waits for, and of the calls of all processes.
+#[derive(Clone, Copy)]
+struct Seen {
+    changes: usize,
+    #[cfg_attr(not(feature = "processes"), allow(dead_code))]
+    calls: u64,
 }
 
 // SAFETY: the state is reached by `with` alone, where the lock lets one thread in at a time, and what it has may
@@ -73,78 +78,11 @@ impl<L: DomainLock> Guarded<L> {
                 waiting: WaitingList::default(),
                 desks: Vec::new(),
                 is_stopped: false,
-                #[cfg(feature = "processes")]
-                told: None,
+                told: OfOthers::default(),
             }),
             changes: Changes::default(),
-            #[cfg(feature = "processes")]
-            watch: Watch::default(),
+            others: Others::default(),
         }
-    }
-
-    // Of a domain that processes share, before any thread waits: a thread sleeps for all that will.
-    #[cfg(feature = "processes")]
-    pub(crate) fn watch_others(&self) -> io::Result<()> {
-        let is_shared = self.with(|state| {
-            state.told = Told::of(&mut state.shared);
-            state.told.is_some()
-        });
-        match is_shared {
-            Some(true) => self.watch.start(self),
-            _ => Ok(()),
-        }
-    }
-
-    // What the domain's pointer is, for calls that are made without the lock.
-    #[cfg(feature = "processes")]
-    pub(crate) fn handle(&self) -> *mut std::ffi::c_void {
-        // SAFETY: nobody writes it as long as this is there.
-        unsafe { (*Shared::place(std::ptr::addr_of_mut!((*self.state.get()).shared))).domain }
-    }
-
-    // By the thread that sleeps for all. `None` in a child after a fork, which it can't be.
-    #[cfg(feature = "processes")]
-    pub(crate) fn begin_sleep(&self) -> Option<Begun> {
-        self.with(|state| {
-            let wanted = state.waiting.wanted();
-            let told = state.told.as_mut();
-            let (sleep, brings) = told.map_or((None, Brings::NOTHING), |told| {
-                told.begin(&mut state.shared, wanted)
-            });
-            let wake = self.others_brought(state, brings).map(|wake| {
-                let tasks = std::iter::from_fn(|| state.waiting.next_task()).collect();
-                (wake, tasks)
-            });
-            let (told, shared) = (&mut state.told, &mut state.shared);
-            let deaths = told.as_mut().and_then(|told| told.dead_nodes.calls(shared));
-            Begun {
-                sleep,
-                wake,
-                deaths,
-            }
-        })
-    }
-
-    #[cfg(feature = "processes")]
-    fn others_brought(&self, state: &mut State, brings: Brings) -> Option<Wake> {
-        match brings {
-            Brings::NOTHING => None,
-            _ => self.brought(state, brings, sys::OK),
-        }
-    }
-
-    // Under the lock, before anybody waits: from now on calls of other processes are told that bring any of this, and what they
-    // have brought by now is. Returns whom to wake because of it.
-    #[cfg(feature = "processes")]
-    fn listens_to_others(&self, state: &mut State, wanted: Brings) -> Option<Wake> {
-        let (_, brings) = state.told.as_mut()?.begin(&mut state.shared, wanted);
-        self.others_brought(state, brings)
-    }
-
-    #[cfg(not(feature = "processes"))]
-    #[inline(always)]
-    fn listens_to_others(&self, _: &mut State, _: Brings) -> Option<Wake> {
-        None
     }
 
     // What runs here is this crate's alone, and drops nothing of a user's. `None` in a child after a fork, which may not have
@@ -208,17 +146,6 @@ impl<L: DomainLock> Guarded<L> {
         self.process.is_this()
     }
 
-    // Whether processes share it. `None` in a child after a fork.
-    #[cfg(feature = "processes")]
-    pub(crate) fn is_of_processes(&self) -> Option<bool> {
-        self.with(|state| state.told.is_some())
-    }
-
-    #[cfg(not(feature = "processes"))]
-    pub(crate) fn is_of_processes(&self) -> Option<bool> {
-        self.with(|_| false)
-    }
-
     // Another language joins: it stays at its place, and may be called on any thread, until it leaves.
     pub(crate) fn join(&self, joined: *mut sys::shared::Joined) -> u32 {
         let mut wake = None;
@@ -245,10 +172,25 @@ impl<L: DomainLock> Guarded<L> {
         });
     }
 
+    // Under the lock.
+    fn see(&self, state: &mut State, what: Waits) -> Seen {
+        Seen {
+            changes: self.changes(what).load(Ordering::Relaxed),
+            calls: self.calls_of_all(state),
+        }
+    }
+
+    fn has_changed(&self, what: Waits, seen: Seen) -> bool {
+        self.changes(what).load(Ordering::Relaxed) != seen.changes
+    }
+
     // Looks for a change without the lock, for about as long as it takes to fall asleep.
-    fn looks_out(&self, what: Waits, seen: usize) -> bool {
+    fn looks_out(&self, what: Waits, seen: Seen) -> bool {
+        if let Some(has_changed) = self.looks_at_others(what, seen) {
+            return has_changed;
+        }
         for turn in 0..L::LOOKS {
-            if self.changes(what).load(Ordering::Relaxed) != seen {
+            if self.has_changed(what, seen) {
                 return true;
             }
             match turn {
@@ -260,29 +202,31 @@ impl<L: DomainLock> Guarded<L> {
     }
 
     // Sleeps, unless something came since then. Then it is in the list of those who wait.
-    fn sleep(&self, wait: &Wait, seen: usize, woken: &Woken, listed: &mut Listed) {
+    fn sleep(&self, wait: &Wait, seen: Seen, woken: &Woken, listed: &mut Listed) {
         let thread = thread::current();
-        let mut wake = None;
+        let (mut begun, mut wake) = (None, None);
         self.with(|state| {
-            wake = self.listens_to_others(state, wait.what.helped_by());
-            if wake.is_none() && self.changes(wait.what).load(Ordering::Relaxed) == seen {
+            (begun, wake) = self.begins_to_sleep(state, wait.what.helped_by());
+            if wake.is_none() && !self.has_changed(wait.what, seen) {
                 state.waiting.add(wait.what, wait.port, thread, woken);
-                listed.0 = true;
+                listed.is_in = true;
+                listed.is_for_all = begun.is_some() && self.takes_duty(state);
             }
         });
         if let Some(wake) = wake {
             self.wake(wake);
         }
-        if listed.0 {
-            woken.sleep(wait.until);
+        match begun {
+            _ if !listed.is_in => {}
+            Some(begun) if listed.is_for_all => self.sleeps_for_all(begun, wait.until),
+            _ => woken.sleep(wait.until),
         }
     }
 }
 
-#[cfg(feature = "processes")]
 impl<L> Drop for Guarded<L> {
     fn drop(&mut self) {
-        self.watch.end(self.process.is_this());
+        self.others.end(self.process.is_this());
     }
 }
 
@@ -304,20 +248,26 @@ impl<L: DomainLock> Place for Guarded<L> {
     }
 
     fn wait(&self, wait: Wait, mut calls: impl FnMut(&mut Shared) -> u32) -> u32 {
-        let (woken, mut listed) = (Woken::default(), Listed(false));
+        let (woken, mut listed) = (Woken::default(), Listed::default());
         loop {
             let tried = self.with(|state| {
-                if take(&mut listed.0) {
+                if take(&mut listed.is_in) {
                     state.waiting.remove(&woken);
+                }
+                if take(&mut listed.is_for_all) {
+                    state.is_awake();
                 }
                 let code = calls(&mut state.shared);
                 if code == sys::NO_SAMPLE {
                     state.waiting.nothing_for(wait.port);
                 }
                 // Before what it brings, which may serve a reader and so bring what this waits for.
-                let seen = self.changes(wait.what).load(Ordering::Relaxed);
+                let seen = self.see(state, wait.what);
                 let wake = self.brought(state, wait.brings, code);
                 let is_over = !wait.what.goes_on(code) || state.is_stopped || is_past(wait.until);
+                if is_over {
+                    state.hands_over();
+                }
                 (code, is_over, seen, wake)
             });
             let (code, is_over, seen, wake) = match tried {
@@ -335,7 +285,7 @@ impl<L: DomainLock> Place for Guarded<L> {
             }
         }
         // This process has no thread that could look into the list.
-        listed.0 = false;
+        listed.is_in = false;
         AFTER_FORK
     }
 
@@ -428,21 +378,7 @@ impl<L: DomainLock> WaitingPlace for Guarded<L> {
 
     #[cfg(feature = "processes")]
     fn listen_to_deaths(&self, listener: Option<DeadNodeListener>) -> u32 {
-        let mut wake = None;
-        let listened = self.with(|state| {
-            let told = state.told.as_mut().ok_or(PROCESSES_NOT_SHARED)?;
-            let before = told.dead_nodes.listen(&mut state.shared, listener)?;
-            wake = self.listens_to_others(state, Brings::NOTHING);
-            Ok(before)
-        });
-        if let Some(wake) = wake {
-            self.wake(wake);
-        }
-        match listened {
-            Some(Ok(_)) => sys::OK,
-            Some(Err(code)) => code,
-            None => AFTER_FORK,
-        }
+        self.tell_deaths(listener)
     }
 
     fn open(&self, desk: &Arc<Desk>) {

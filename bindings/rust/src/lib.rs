@@ -94,6 +94,8 @@ pub mod dds;
 mod dead_nodes;
 mod desk;
 mod domain;
+#[cfg(feature = "processes")]
+mod duty;
 mod errors;
 #[cfg(all(feature = "processes", target_os = "linux"))]
 mod event_fd;

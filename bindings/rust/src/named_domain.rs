@@ -11,6 +11,7 @@ use crate::shared::Shared;
 use crate::sys;
 use crate::sys::processes as c;
 use crate::threads::{Part, Single};
+use crate::watch::Pace;
 use crate::zero_copy_send::ZeroCopySend;
 use std::any::TypeId;
 use std::ffi::{c_void, CStr, CString};
@@ -18,7 +19,6 @@ use std::fmt;
 use std::mem::size_of;
 use std::os::raw::{c_char, c_int};
 use std::ptr;
-use std::sync::Arc;
 use std::time::Duration;
 
 impl<P: Payload + ?Sized> DomainBuilder<P> {
@@ -96,12 +96,13 @@ struct Asked {
     payload_room: Option<usize>,
     permissions: Option<u32>,
     reap_every_ms: Option<u32>,
+    spins: Option<u32>,
 }
 
 /// The settings of a domain that processes share: [`DomainBuilder::name`]. What the builder of an ordinary domain sets is set
 /// before the name.
 ///
-/// Whoever creates the domain decides the options here, but for `reap_every`, which each process has for itself.
+/// Whoever creates the domain decides the options here, but for `reap_every` and `spins`, which each process has for itself.
 #[must_use = "settings make nothing until a call that opens or creates"]
 pub struct NamedDomainBuilder<P: Payload + ?Sized> {
     domain: DomainBuilder<P>,
@@ -174,6 +175,12 @@ impl<P: Payload + ?Sized> NamedDomainBuilder<P> {
         self
     }
 
+    /// How often a call that waits looks for what other processes bring before its thread sleeps: 2,000 times unless it is set.
+    pub fn spins(mut self, value: u32) -> Self {
+        self.asked.spins = Some(value);
+        self
+    }
+
     /// The name by which processes compare the type of messages, in place of [`ZeroCopySend::type_name`]; that of a slice is
     /// in `[]` otherwise.
     pub fn type_name(mut self, value: &str) -> Self {
@@ -209,7 +216,7 @@ impl<P: Payload + ?Sized> NamedDomainBuilder<P> {
     }
 
     /// As [`open_or_create`](NamedDomainBuilder::open_or_create), for several threads, and with calls that wait for what other
-    /// processes bring. One thread of the library sleeps for all that wait.
+    /// processes bring. One thread that waits sleeps for all; a thread of the library does so for tasks, listeners and wait sets.
     ///
     /// # Errors
     ///
@@ -292,14 +299,14 @@ impl<P: Payload + ?Sized> NamedDomainBuilder<P> {
         &self,
         how: How,
     ) -> Result<SharedDomain<P, L>, DomainOpenError> {
-        let guarded = Arc::new(Guarded::new(self.opened(how)?));
-        guarded.watch_others().map_err(|error| {
+        let (guarded, options) = (Guarded::new(self.opened(how)?), self.options());
+        let watched = guarded.watched(Pace::of(&options)).map_err(|error| {
             DomainOpenError::new(
                 DomainOpenErrorKind::InternalFailure,
                 format!("no thread: {error}"),
             )
-        })?;
-        Ok(Domain::of(Part::new(guarded)))
+        });
+        Ok(Domain::of(Part::new(watched?)))
     }
 
     fn opened(&self, how: How) -> Result<Shared, DomainOpenError> {
@@ -313,9 +320,11 @@ impl<P: Payload + ?Sized> NamedDomainBuilder<P> {
         }
         let (name, type_name) = (terminated(&self.name)?, terminated(&self.type_name)?);
         let (config, options) = (&self.domain.config, self.options());
-        let options = options
-            .as_ref()
-            .map_or(ptr::null(), |options| options as *const _);
+        // Where the settings are invalid, the call that opens says so.
+        let options = match options.struct_size {
+            0 => ptr::null(),
+            _ => &options as *const _,
+        };
         let (name, type_name) = (name.as_ptr(), type_name.as_ptr());
         let recorded = self.domain.recorded.filter(|_| how == How::Create);
         let open = how.call();
@@ -331,23 +340,28 @@ impl<P: Payload + ?Sized> NamedDomainBuilder<P> {
         made.map_err(DomainOpenError::of)
     }
 
-    // None where the settings are invalid, which the call that opens says.
-    fn options(&self) -> Option<c::Options> {
-        let (mut options, asked) = (c::Options::default(), &self.asked);
-        let size = size_of::<c::Options>();
-        // SAFETY: the pointers are of locals.
-        unsafe { c::iox2ps_processes_options_of_sized(&self.domain.config, &mut options, size) };
-        Some(c::Options {
+    fn options(&self) -> c::Options {
+        let (options, asked) = (options_of(&self.domain.config), &self.asked);
+        c::Options {
             max_processes: asked.max_processes.unwrap_or(options.max_processes),
             calls: asked.calls.unwrap_or(options.calls),
             book_room: asked.book_room.unwrap_or(options.book_room),
             payload_room: asked.payload_room.unwrap_or(options.payload_room),
             permissions: asked.permissions.unwrap_or(options.permissions),
             reap_every_ms: asked.reap_every_ms.unwrap_or(options.reap_every_ms),
+            spins: asked.spins.unwrap_or(options.spins),
             ..options
-        })
-        .filter(|options| options.struct_size == size)
+        }
     }
+}
+
+// Those of a domain that is opened without any. Its size is 0 where the settings are invalid.
+pub(crate) fn options_of(config: &sys::Config) -> c::Options {
+    let mut options = c::Options::default();
+    let size = size_of::<c::Options>();
+    // SAFETY: the pointers are of locals.
+    unsafe { c::iox2ps_processes_options_of_sized(config, &mut options, size) };
+    options
 }
 
 fn terminated(name: &str) -> Result<CString, DomainOpenError> {

@@ -4,6 +4,8 @@
 use crate::listeners::Listeners;
 use crate::sys::Wide;
 use crate::threads::{Brings, Waits};
+#[cfg(feature = "processes")]
+use crate::watch::Handle;
 use std::iter;
 use std::mem::{replace, take};
 use std::process::abort;
@@ -19,12 +21,17 @@ use std::time::Instant;
 pub(crate) struct Woken(AtomicBool);
 
 /// Whether it is in the list of those who wait, where its frame may not go.
-pub(crate) struct Listed(pub(crate) bool);
+#[derive(Default)]
+pub(crate) struct Listed {
+    pub(crate) is_in: bool,
+    /// It sleeps for all of its process.
+    pub(crate) is_for_all: bool,
+}
 
 impl Drop for Listed {
     fn drop(&mut self) {
         // A lock of the user's has panicked, and not run what takes it out.
-        if self.0 {
+        if self.is_in {
             abort();
         }
     }
@@ -67,6 +74,9 @@ struct Waiting {
     is_due: bool,
     // It was woken, and isn't back yet.
     is_awake: bool,
+    // Where it sleeps for all of its process, if it does.
+    #[cfg(feature = "processes")]
+    sleeps_at: Option<Handle>,
 }
 
 // SAFETY: what it points to is an atomic, which any thread may change while this is in the list.
@@ -78,6 +88,17 @@ impl Waiting {
         self.is_awake = true;
         // SAFETY: this is in the list, so the frame is there.
         unsafe { &*self.woken }.0.store(true, Ordering::Release);
+    }
+
+    // Whether it is awake now, since it slept for all. Under the lock, so that the domain is there.
+    #[cfg(feature = "processes")]
+    fn is_rung(&self) -> bool {
+        self.sleeps_at.map(Handle::end_sleep).is_some()
+    }
+
+    #[cfg(not(feature = "processes"))]
+    fn is_rung(&self) -> bool {
+        false
     }
 }
 
@@ -157,6 +178,8 @@ impl WaitingList {
             woken,
             is_due: false,
             is_awake: false,
+            #[cfg(feature = "processes")]
+            sleeps_at: None,
         });
         self.is_used = true;
     }
@@ -168,6 +191,26 @@ impl WaitingList {
             self.awake -= usize::from(self.threads.remove(at).is_awake);
             self.look();
         }
+    }
+
+    /// The thread that has begun to wait last sleeps there, for all of its process.
+    #[cfg(feature = "processes")]
+    pub(crate) fn last_sleeps_at(&mut self, domain: Handle) {
+        if let Some(last) = self.threads.last_mut() {
+            last.sleeps_at = Some(domain);
+        }
+    }
+
+    /// Whether threads wait.
+    #[cfg(feature = "processes")]
+    pub(crate) fn has_threads(&self) -> bool {
+        !self.threads.is_empty()
+    }
+
+    /// Whether others wait than threads.
+    #[cfg(feature = "processes")]
+    pub(crate) fn has_others(&self) -> bool {
+        self.has_joined || !self.tasks.is_empty() || self.listeners.is_some()
     }
 
     /// What would help those who wait.
@@ -280,6 +323,7 @@ impl WaitingList {
             one.wakes();
             self.awake += 1;
             match all {
+                _ if one.is_rung() => {}
                 true => one.thread.unpark(),
                 false => wake.thread = Some(one.thread.clone()),
             }

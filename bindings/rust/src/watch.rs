@@ -2,6 +2,7 @@
 //! The thread that sleeps for all others of a domain that processes share, until a call of another process brings something.
 
 use crate::dead_nodes::DeadNodes;
+use crate::duty::Duty;
 use crate::guarded::Guarded;
 use crate::listeners::Listeners;
 use crate::lock::DomainLock;
@@ -16,15 +17,34 @@ use std::mem::forget;
 use std::os::raw::c_int;
 use std::panic::{catch_unwind, AssertUnwindSafe};
 use std::ptr::null_mut;
-use std::sync::atomic::{AtomicU8, Ordering};
+use std::sync::atomic::{fence, AtomicU8, Ordering};
 use std::sync::{Arc, Mutex, PoisonError};
 use std::task::Waker;
-use std::thread::{Builder, JoinHandle};
+use std::thread::{park_timeout, Builder, JoinHandle};
+use std::time::{Duration, Instant};
 
 /// What other processes have brought to a domain that they share, as far as those who wait here were told. Used under the lock.
 pub(crate) struct Told {
     counts: [u64; KINDS.len()],
     pub(crate) dead_nodes: DeadNodes,
+    pub(crate) duty: Duty,
+}
+
+/// How a domain that processes share waits.
+#[derive(Clone, Copy)]
+pub(crate) struct Pace {
+    /// How often a thread looks for calls of other processes before it sleeps.
+    pub(crate) spins: u32,
+    pub(crate) reap_every: Duration,
+}
+
+impl Pace {
+    pub(crate) fn of(options: &c::Options) -> Pace {
+        Pace {
+            spins: options.spins,
+            reap_every: Duration::from_millis(options.reap_every_ms.into()),
+        }
+    }
 }
 
 const KINDS: [Brings; 5] = [
@@ -41,6 +61,7 @@ impl Told {
         let mut told = Told {
             counts: [0; KINDS.len()],
             dead_nodes: DeadNodes::default(),
+            duty: Duty::default(),
         };
         let mut begun = 0;
         // SAFETY: see `Shared::at`.
@@ -65,8 +86,8 @@ impl Told {
         }
     }
 
-    // All of it where the domain can only be left: whoever waits then finds out why.
-    fn look(&mut self, shared: &mut Shared) -> Brings {
+    /// All of it where the domain can only be left: whoever waits then finds out why.
+    pub(crate) fn look(&mut self, shared: &mut Shared) -> Brings {
         let mut brings = Brings::NOTHING;
         for (one, told) in KINDS.into_iter().zip(&mut self.counts) {
             let mut count = 0;
@@ -86,10 +107,19 @@ impl Told {
     }
 }
 
+/// Where the domain's own thread sleeps.
+#[derive(Clone, Copy)]
+pub(crate) enum Sleep {
+    /// Where other processes wake this one.
+    ForAll(u64),
+    /// Elsewhere, until a thread calls it or it is time to look for the dead.
+    Away(Duration),
+}
+
 /// What the thread does under the lock: the sleep that it has begun, and whom to wake first.
 pub(crate) struct Begun {
     /// `None` where the domain can only be left.
-    pub(crate) sleep: Option<u64>,
+    pub(crate) sleep: Option<Sleep>,
     pub(crate) wake: Option<(Wake, Vec<Waker>)>,
     /// What is called because processes died.
     pub(crate) deaths: Option<Arc<Listeners>>,
@@ -115,6 +145,12 @@ impl Begun {
     }
 }
 
+/// How many calls of all processes this one has made.
+pub(crate) fn calls_of(shared: &mut Shared) -> u64 {
+    // SAFETY: see `Shared::at`.
+    unsafe { c::iox2ps_domain_calls(shared.at()) }
+}
+
 // Where the thread is: it reaches the domain, or calls what a program has brought, or the domain is about to go.
 const HERE: u8 = 0;
 const AWAY: u8 = 1;
@@ -132,12 +168,39 @@ struct Thread {
 
 // A pointer as `sys::Domain` has it, for the calls that are made without the lock.
 #[derive(Clone, Copy)]
-struct Handle(*mut c_void);
+pub(crate) struct Handle(*mut c_void);
 
 // SAFETY: the calls that take it may be made on any thread.
 unsafe impl Send for Handle {}
 
+// As long as the domain is there, these may be called.
 impl Handle {
+    pub(crate) fn of(domain: *mut c_void) -> Handle {
+        Handle(domain)
+    }
+
+    /// Sleeps until a call of another process since then brings something, or this moment has come, and no longer than `reap_every`.
+    pub(crate) fn sleep(self, begun: u64, until: Option<Instant>) {
+        let most = until.map_or(u64::MAX, |until| {
+            let left = until.saturating_duration_since(Instant::now());
+            u64::try_from(left.as_nanos()).unwrap_or(u64::MAX)
+        });
+        // SAFETY: the domain is there.
+        unsafe { c::iox2ps_domain_sleep(&self.domain(), begun, most) };
+    }
+
+    /// Ends the sleeps of this process that were begun before.
+    pub(crate) fn end_sleep(self) {
+        // SAFETY: the domain is there.
+        unsafe { c::iox2ps_domain_sleep_end(&self.domain()) };
+    }
+
+    /// Whether processes have made more calls than that.
+    pub(crate) fn has_more_calls(self, calls: u64) -> bool {
+        // SAFETY: the domain is there.
+        unsafe { c::iox2ps_domain_has_more_calls(&self.domain(), calls) != 0 }
+    }
+
     fn domain(self) -> sys::Domain {
         sys::Domain { domain: self.0 }
     }
@@ -156,10 +219,17 @@ impl<L: DomainLock> At<L> {
     }
 
     // From a sleep on that is begun.
-    fn run(self, mut sleep: Option<u64>, domain: Handle, phase: &AtomicU8) {
-        while let Some(begun) = sleep {
-            // SAFETY: the domain is there, as above.
-            unsafe { c::iox2ps_domain_sleep(&domain.domain(), begun, u64::MAX) };
+    fn run(self, mut sleep: Option<Sleep>, domain: Handle, phase: &AtomicU8) {
+        while let Some(sleeps) = sleep {
+            // Who ends the domain meanwhile has perhaps ended the sleeps before this one: the other fence is there.
+            fence(Ordering::SeqCst);
+            if phase.load(Ordering::Acquire) == ENDED {
+                return;
+            }
+            match sleeps {
+                Sleep::ForAll(begun) => domain.sleep(begun, None),
+                Sleep::Away(most) => park_timeout(most),
+            }
             if phase.load(Ordering::Acquire) == ENDED {
                 return;
             }
@@ -191,13 +261,14 @@ fn passes(phase: &AtomicU8, from: u8, to: u8) -> bool {
 impl Watch {
     /// Begins to sleep for the domain, which stays where it is until this ends.
     pub(crate) fn start<L: DomainLock>(&self, domain: &Guarded<L>) -> io::Result<()> {
-        let handle = Handle(domain.handle());
+        let handle = domain.handle();
         let (at, phase) = (At(domain), Arc::new(AtomicU8::new(HERE)));
         let of_thread = phase.clone();
         // Here, so that the thread takes the lock only when it is woken. Nobody waits yet.
         let sleep = at.begin().and_then(|begun| begun.sleep);
         let builder = Builder::new().name("iox2_pubsub".into());
         let thread = without_signals(|| builder.spawn(move || at.run(sleep, handle, &of_thread)))?;
+        domain.watcher_is(thread.thread());
         *self.0.lock().unwrap_or_else(PoisonError::into_inner) = Some(Thread {
             phase,
             domain: handle,
@@ -223,8 +294,9 @@ impl Thread {
     fn end(self) {
         // One that calls what a program has brought finds it out then, and may be this one.
         if self.phase.swap(ENDED, Ordering::AcqRel) == HERE {
-            // SAFETY: the domain is there.
-            unsafe { c::iox2ps_domain_sleep_end(&self.domain.domain()) };
+            fence(Ordering::SeqCst);
+            self.domain.end_sleep();
+            self.thread.thread().unpark();
             drop(self.thread.join());
         }
     }
