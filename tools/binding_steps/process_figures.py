@@ -221,6 +221,8 @@ def run_figures(work, library, rounds, share):
             print(f"  {row.what}: {row.words()}", flush=True)
     print(f"\niox2_pubsub {version()}, {time.strftime('%-d %B %Y')}; {machine.processor()}, {os.cpu_count()} processors; {machine.compilers()}")
     say_tables(by, figures)
-    passed, failed = (sum(counts) for counts in zip(judge(figures) if OTHER in by else (0, 0), judge_beside_c(figures, CPP)))
+    judged = [judge(figures)] if OTHER in by else []
+    judged += [judge_beside_c(figures, language) for language in (CPP, RUST) if language in by]
+    passed, failed = (sum(counts) for counts in zip(*judged))
     print(f"{passed} passed, {failed} failed")
     return int(failed > 0)

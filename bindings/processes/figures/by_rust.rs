@@ -1,6 +1,6 @@
 // SPDX-License-Identifier: Apache-2.0 OR MIT
-//! This library in Rust: a domain forth and one back, as by_processes.c has them. Who spins has domains of one thread, and who sleeps those
-//! whose calls may wait.
+//! This library in Rust: a domain forth and one back, as by_processes.c has them. Who spins and is never blocked has domains of one thread;
+//! others have those whose calls may wait, and look without an end where they spin.
 
 use iox2_pubsub::{
     Domain, ManyThreads, MayWait, NamedDomainBuilder, OneThread, Publisher, Subscriber, Threads,
@@ -9,7 +9,6 @@ use std::cell::RefCell;
 use std::ffi::CStr;
 use std::mem::MaybeUninit;
 use std::os::raw::c_char;
-use std::time::Duration;
 
 /// As `traffic_t` of figures.h.
 #[repr(C)]
@@ -54,7 +53,7 @@ impl Plan {
             .subscriber_max_buffer_size(self.buffer)
             .enable_safe_overflow(false)
             .name(&format!("{}.{number}", self.name))
-            .spins(0)
+            .spins(if self.sleeps { 0 } else { u32::MAX })
     }
 }
 
@@ -101,10 +100,8 @@ fn number(sample: &Message) -> u64 {
 
 impl Carrier for Ports<OneThread> {
     fn send(&self, number: u64) {
-        let mut sent = self.loan(number).send().unwrap();
-        while let Some(blocked) = sent.blocked() {
-            sent = blocked.retry(Duration::ZERO).unwrap();
-        }
+        let sent = self.loan(number).send().unwrap();
+        assert!(sent.delivered().is_some());
     }
 
     fn receive(&self) -> u64 {
@@ -117,7 +114,7 @@ impl Carrier for Ports<OneThread> {
     }
 }
 
-impl<M: MayWait> Carrier for Sleeping<M> {
+impl<M: MayWait> Carrier for Waiting<M> {
     fn send(&self, number: u64) {
         let sent = self.0.loan(number).blocking_send().unwrap();
         assert!(sent.delivered().is_some());
@@ -129,7 +126,7 @@ impl<M: MayWait> Carrier for Sleeping<M> {
     }
 }
 
-struct Sleeping<M: Threads>(Ports<M>);
+struct Waiting<M: Threads>(Ports<M>);
 
 thread_local! {
     static PLAN: RefCell<Option<Plan>> = const { RefCell::new(None) };
@@ -156,12 +153,10 @@ pub unsafe extern "C" fn carrier_begin(traffic: *const Traffic) {
 #[no_mangle]
 pub extern "C" fn carrier_open(process: u32) {
     let plan = PLAN.with(|it| it.borrow().clone()).unwrap();
-    let carrier: Box<dyn Carrier> = match plan.sleeps {
-        true => Box::new(Sleeping::<ManyThreads>(Ports::open(
-            &plan,
-            process,
-            |way| plan.domain(way).open_or_create_shared().unwrap(),
-        ))),
+    let carrier: Box<dyn Carrier> = match plan.sleeps || plan.is_one_way {
+        true => Box::new(Waiting::<ManyThreads>(Ports::open(&plan, process, |way| {
+            plan.domain(way).open_or_create_shared().unwrap()
+        }))),
         false => Box::new(Ports::open(&plan, process, |way| {
             plan.domain(way).open_or_create().unwrap()
         })),
