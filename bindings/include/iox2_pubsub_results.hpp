@@ -127,7 +127,7 @@ enum class Error : std::uint32_t {
   case Error::LoanExceedsMaxLoans:
     return "LoanError::ExceedsMaxLoans: as many loans of the publisher are out as may be: send or discard one, or allow more "
            "by publisher_max_loaned_samples of the domain or max_loaned_samples of the publisher";
-  case Error::OfProcesses: return "OfProcesses: no other language joins a domain that processes share: it opens it by its name";
+  case Error::OfProcesses: return "OfProcesses: no other language of the process joins a domain that processes share: another process opens it by its name";
   case Error::NoAttachments: return "NoAttachments: the WaitSet has nothing to wait for: attach something first, and keep its guard";
   case Error::AfterFork: return "AfterFork: the domain belongs to the process that was forked: make one in this process";
   case Error::NoDescriptor: return "NoDescriptor: the system has no file descriptor left";

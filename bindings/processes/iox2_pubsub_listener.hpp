@@ -234,7 +234,7 @@ private:
       : hold_(std::move(hold)), heard_(std::make_shared<detail::Heard>(port)), port_(heard_) {}
 
   /* A time that has passed: it is looked once. */
-  static Until now() { return std::chrono::steady_clock::time_point::min(); }
+  static Until now() { return (std::chrono::steady_clock::time_point::min)(); }
 
   Result<std::optional<EventId>> one(Until until) {
     std::optional<EventId> taken;

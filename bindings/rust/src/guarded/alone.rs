@@ -16,7 +16,7 @@ impl Others {
 }
 
 #[derive(Default)]
-pub(super) struct OfOthers;
+pub(super) struct OfOthers {}
 
 impl State {
     #[inline(always)]
