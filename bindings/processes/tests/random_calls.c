@@ -110,7 +110,6 @@ static void run_caller(const char *name, const iox2ps_config_t *config, uint64_t
     if (random_below(&it, 2) == 0) pause_shortly(); /* so that calls of others come in between, also on one processor */
     while (memory->group->replica.progress.made > common->observed + MOST_AHEAD) pause_shortly();
   }
-  CHECK(it.received > 10);
   CHECK(iox2ps_domain_destroy(&it.domain) == IOX2PS_OK);
 }
 

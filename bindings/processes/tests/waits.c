@@ -67,6 +67,28 @@ static uint64_t receive_number(iox2ps_domain_t *domain, const iox2ps_subscriber_
   return number;
 }
 
+/* Who found nothing finds what comes then. */
+static void nothing_at_first(void) {
+  iox2ps_domain_t domain = opened(HOUR_MS);
+  iox2ps_subscriber_t subscriber;
+  iox2ps_publisher_t publisher;
+  iox2ps_sample_t sample;
+  uint64_t number;
+  uint32_t waits;
+  size_t len;
+  CHECK(iox2ps_subscriber_create(&domain, &subscriber) == IOX2PS_OK && iox2ps_publisher_create(&domain, &publisher) == IOX2PS_OK);
+  for (uint64_t turn = 1; turn <= 3; turn++) {
+    for (int i = 0; i < 2; i++) {
+      CHECK(iox2ps_subscriber_has_samples(&domain, &subscriber, &waits) == IOX2PS_OK && waits == 0);
+      CHECK(iox2ps_subscriber_receive_copy(&domain, &subscriber, &number, sizeof number, &len, &sample) == IOX2PS_NO_SAMPLE);
+    }
+    send_number(&domain, &publisher, turn);
+    CHECK(iox2ps_subscriber_has_samples(&domain, &subscriber, &waits) == IOX2PS_OK && waits == 1);
+    CHECK(iox2ps_subscriber_receive_copy(&domain, &subscriber, &number, sizeof number, &len, &sample) == IOX2PS_OK && number == turn);
+  }
+  destroy(&domain);
+}
+
 /* Each of two waits for the other by turns: none is lost, in order. */
 static void by_turns(void) {
   iox2ps_domain_t domain = opened(HOUR_MS);
@@ -289,6 +311,7 @@ int main(int count, char **words) {
   iox2ps_config_defaults(&config, 7, sizeof(uint64_t), _Alignof(uint64_t));
   config.enable_safe_overflow = 0;
   if (count > 1) send_nothing();
+  nothing_at_first();
   by_turns();
   for_a_loan();
   nothing_in_it();
