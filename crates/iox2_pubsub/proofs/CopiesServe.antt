@@ -36,7 +36,7 @@ module _ {T U F G : Type 0} (old mid new : Kept T U F G) (waits : WaitingStays o
     full = λ its. subst (λ (before : List (List T)). subscriber.buffer_size ≤ length before) (from-since p subscriber) (full.full (buffers subscriber its));
   }
 
-  served-since : (settings : mid.config ≡ old.config) (buffers : (it : Subscriber) → HasItsBuffer old it → HasItsBuffer mid it) (p : ℕ) (subscriber : Subscriber) (values : List T)
+  pub served-since : (settings : mid.config ≡ old.config) (buffers : (it : Subscriber) → HasItsBuffer old it → HasItsBuffer mid it) (p : ℕ) (subscriber : Subscriber) (values : List T)
       → IsServed mid new p subscriber values → IsServed old new p subscriber values
   unfolding IsServed
   served-since settings buffers p subscriber values served =

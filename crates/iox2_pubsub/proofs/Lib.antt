@@ -62,11 +62,19 @@ pub mod ConnectionsMade
 pub mod ConnectedCounts
 pub mod ServedLists
 pub mod WaitingShown
+pub mod PendingDeliveries
+pub mod PendingSteps
+pub mod PendingShown
 pub mod UpToDateShown
 pub mod KeptReceives
 pub mod ConnectionSendShown
 pub mod PublisherWaits
+pub mod ShareSums
+pub mod ForCallers
+pub mod AllSubscribers
 pub mod CopiesServe
+pub mod SendsPend
+pub mod ConnectionServes
 pub mod SubscribersMade
 pub mod AwaitedShown
 pub mod ConnectionsShown
@@ -75,6 +83,7 @@ pub mod ClosesWait
 pub mod DepartedShown
 pub mod LoansLeftShown
 mod BorrowsKept
+pub mod FullDomains
 pub mod RoomySends
 pub mod BorrowsLeftShown
 mod AtOnce

@@ -10,10 +10,10 @@ impl Publisher {
     ghost use Rattle.iox2_machine.specs.machine.State.{State, Messages};
     ghost use Rattle.iox2_domain.specs.Boxes.{answers_of};
     ghost use Rattle.iox2_domain.specs.Shows.{Shows};
-    ghost use Rattle.iox2_pubsub.specs.Live.{A_blocked_send, AddAtMost, AllFrom, AreAllSlices, HasItsBuffer, IsBlockedSend, IsConnected, IsReadyPublisher, IsServed, IsSingleValued, NeverFails, NeverWaits, OthersSend, StaysBut, UpToDateStay, blocked_key, blocked_send, lender_key, payloads, publisher_key, waiting};
+    ghost use Rattle.iox2_pubsub.specs.Live.{A_blocked_send, AddAtMost, AllFrom, AreAllSlices, HasItsBuffer, IsBlockedSend, IsConnected, IsReadyPublisher, IsServed, IsServedOrPending, IsSingleValued, NeverFails, NeverWaits, OthersSend, StaysBut, UpToDateStay, blocked_key, blocked_send, lender_key, payloads, publisher_key, waiting};
     ghost use Rattle.iox2_pubsub.specs.BorrowsLeft.{BorrowsLeftStay};
     ghost use Rattle.iox2_pubsub.specs.LoansLeft.{HasLoansLeft, HasNumbersLeft, TakesOneLeft};
-    ghost use Rattle.iox2_pubsub.specs.RoomyPublishers.{HasRoomAlone};
+    ghost use Rattle.iox2_pubsub.specs.RoomyPublishers.{HasRoomAlone, HasRoomAtAll};
     ghost use Rattle.iox2_pubsub.specs.SendCalls.{FailsCopy, IfBlocked, IsDelivered, spent_by_copy};
     ghost use Rattle.iox2_pubsub.specs.WrittenLoans.{SendsCopy};
     ghost use Rattle.iox2_pubsub.specs.Handles.{buffer_size_of, publisher_id};
@@ -46,7 +46,10 @@ impl Publisher {
         ensures joins { (subscriber : Subscriber) (earlier : List (List T)) → AllFrom domain.old (publisher_id self.now) subscriber earlier → HasItsBuffer domain.old subscriber
             → length earlier < buffer_size_of subscriber → IsConnected domain.old (publisher_id self.now) subscriber
             → IfOk result (λ outcome. IsDelivered outcome → AllFrom domain.new (publisher_id self.now) subscriber (earlier ++ (value ∷ []) ∷ [])) }
+        ensures pending { (subscriber : Subscriber) → IsConnected domain.old (publisher_id self.now) subscriber
+            → IfOk result (λ outcome. IfBlocked outcome (λ blocked. IsServedOrPending domain.old domain.new blocked subscriber (value ∷ []))) }
         ensures roomy_alone { (subscriber : Subscriber) → HasRoomAlone domain.old (publisher_id self.now) subscriber → IfOk result IsDelivered }
+        ensures roomy_at_all { (subscribers : List Subscriber) → HasRoomAtAll domain.old (publisher_id self.now) subscribers → IfOk result IsDelivered }
         ensures others { OthersSend (publisher_id self.now) domain.old domain.new }
         ensures up_to_date { UpToDateStay domain.old domain.new }
         ensures granted { (loans numbers : ℕ) → HasLoansLeft domain.old self.now (loans + 1) → HasNumbersLeft domain.old (numbers + 1)

@@ -1,5 +1,5 @@
 //! A message is sent to one connection of its publisher.
-ghost use Rattle.std.specs.Prelude.{◌≡◌, ◌<◌, IfErr};
+ghost use Rattle.std.specs.Prelude.{◌≡◌, ◌<◌, IfErr, IfOk};
 
 use crate::blocked_send::BlockedSend;
 use crate::domain::Domain;
@@ -10,15 +10,17 @@ use iox2_machine::{BackpressureFn, DegradationFn, SendError};
 use iox2_messages::send_to_connection;
 
 impl SampleMut {
-    ghost use Rattle.std.specs.Prelude.{Some};
+    ghost use Rattle.std.specs.Prelude.{List, Some};
     ghost use Rattle.iox2_machine.specs.machine.Limits.{channel_count};
     ghost use Rattle.iox2_machine.specs.machine.Records.{Loan};
     ghost use Rattle.iox2_machine.specs.machine.State.{State, Messages};
-    ghost use Rattle.iox2_pubsub.specs.Live.{AddAtMost, IsUnblocked, IsWritten, written_key};
-    ghost use Rattle.iox2_pubsub.specs.SendCalls.{FailsDelivery, SendsToConnection, SpendsLoan, messages_after};
+    ghost use Rattle.iox2_pubsub.specs.Live.{AddAtMost, IsAtConnection, IsConnected, IsServed, IsServedOrPending, IsUnblocked, IsWritten, written_key};
+    ghost use Rattle.iox2_pubsub.specs.Slices.{HasValues};
+    ghost use Rattle.iox2_pubsub.specs.declared.subscriber.Subscriber.{Subscriber};
+    ghost use Rattle.iox2_pubsub.specs.SendCalls.{FailsDelivery, IfBlocked, IsDelivered, SendsToConnection, SpendsLoan, messages_after};
     ghost use Rattle.iox2_domain.specs.Boxes.{answers_of};
     ghost use Rattle.iox2_domain.specs.Shows.{Shows};
-    ghost use Rattle.iox2_pubsub.specs.Handles.{written_number};
+    ghost use Rattle.iox2_pubsub.specs.Handles.{written_lender, written_number};
 
     /// Sends the message into one channel of one of its publisher's connections, and to nobody else:
     /// so one subscriber gets it alone.
@@ -62,6 +64,10 @@ impl SampleMut {
             → (s' : State T U) × Shows domain.new (messages_after m (written_number self) l result) s'
             × SendsToConnection (answers_of F.allows G.allows (domain.old.boxes).publishers) s (written_number self) l channel connection result s' }
         ensures adds { AddAtMost 1 domain.old domain.new }
+        ensures serves { (subscriber : Subscriber) (values : List T) → channel ≡ 0 → IsAtConnection domain.old (written_lender self) connection subscriber → IsConnected domain.old (written_lender self) subscriber
+            → HasValues domain.old (written_number self) values → IfOk result (λ outcome. IsDelivered outcome → IsServed domain.old domain.new (written_lender self) subscriber values) }
+        ensures pending { (subscriber : Subscriber) (values : List T) → channel ≡ 0 → IsAtConnection domain.old (written_lender self) connection subscriber → IsConnected domain.old (written_lender self) subscriber
+            → HasValues domain.old (written_number self) values → IfOk result (λ outcome. IfBlocked outcome (λ blocked. IsServedOrPending domain.old domain.new blocked subscriber values)) }
         ensures spends { SpendsLoan self result domain.old domain.new }
     {
         let SampleMut { service_id, loan } = self;

@@ -35,11 +35,11 @@ impl SampleMut {
     ghost use Rattle.iox2_machine.specs.machine.State.{State, Messages};
     ghost use Rattle.iox2_domain.specs.Boxes.{answers_of};
     ghost use Rattle.iox2_domain.specs.Shows.{Shows};
-    ghost use Rattle.iox2_pubsub.specs.Live.{AddAtMost, AllFrom, AreAllSlices, HasItsBuffer, IsConnected, IsLoanKey, IsServed, IsUnblocked, IsWritten, payloads, waiting, written_key};
+    ghost use Rattle.iox2_pubsub.specs.Live.{AddAtMost, AllFrom, AreAllSlices, HasItsBuffer, IsAtConnection, IsConnected, IsLoanKey, IsServed, IsServedOrPending, IsUnblocked, IsWritten, payloads, waiting, written_key};
     ghost use Rattle.iox2_pubsub.specs.declared.subscriber.Subscriber.{Subscriber};
     ghost use Rattle.iox2_pubsub.specs.LoanCalls.{IsDiscarded};
-    ghost use Rattle.iox2_pubsub.specs.RoomyPublishers.{HasRoomAlone, IsRoomy};
-    ghost use Rattle.iox2_pubsub.specs.SendCalls.{FailsDelivery, FailsSend, IsDelivered, Sends, SendsToConnection, SpendsLoan, messages_after};
+    ghost use Rattle.iox2_pubsub.specs.RoomyPublishers.{HasRoomAlone, HasRoomAtAll, IsRoomy};
+    ghost use Rattle.iox2_pubsub.specs.SendCalls.{FailsDelivery, FailsSend, IfBlocked, IsDelivered, Sends, SendsToConnection, SpendsLoan, messages_after};
     ghost use Rattle.iox2_pubsub.specs.Slices.{HasValues, HoldsSlices};
     ghost use Rattle.iox2_pubsub.specs.Handles.{as_written, buffer_size_of, written_lender, written_number};
 
@@ -74,6 +74,7 @@ impl SampleMut {
             → (s' : State T U) × Shows domain.new (messages_after m (written_number (as_written self)) l result) s' × Sends (answers_of F.allows G.allows (domain.old.boxes).publishers) s (written_number (as_written self)) l result s' }
         ensures roomy { IsRoomy domain.old (written_lender (as_written self)) → IfOk result IsDelivered × IfErr result (λ error. error ≢ UnableToDeliver) }
         ensures roomy_alone { (subscriber : Subscriber) → HasRoomAlone domain.old (written_lender (as_written self)) subscriber → IfOk result IsDelivered × IfErr result (λ error. error ≢ UnableToDeliver) }
+        ensures roomy_at_all { (subscribers : List Subscriber) → HasRoomAtAll domain.old (written_lender (as_written self)) subscribers → IfOk result IsDelivered × IfErr result (λ error. error ≢ UnableToDeliver) }
         ensures adds { AddAtMost ((domain.old.config).history_size + 1) domain.old domain.new }
         ensures brings { (subscriber : Subscriber) (values : List T) → (domain.old.config).history_size ≡ 0 → waiting domain.old subscriber ≡ 0
             → HasValues domain.old (written_number (as_written self)) values → AreAllSlices (payloads domain.new subscriber) values }
@@ -84,6 +85,8 @@ impl SampleMut {
         ensures joins { (subscriber : Subscriber) (values : List T) (earlier : List (List T)) → AllFrom domain.old (written_lender (as_written self)) subscriber earlier → HasItsBuffer domain.old subscriber
             → length earlier < buffer_size_of subscriber → IsConnected domain.old (written_lender (as_written self)) subscriber → HasValues domain.old (written_number (as_written self)) values
             → IfOk result (λ outcome. IsDelivered outcome → AllFrom domain.new (written_lender (as_written self)) subscriber (earlier ++ values ∷ [])) }
+        ensures pending { (subscriber : Subscriber) (values : List T) → IsConnected domain.old (written_lender (as_written self)) subscriber → HasValues domain.old (written_number (as_written self)) values
+            → IfOk result (λ outcome. IfBlocked outcome (λ blocked. IsServedOrPending domain.old domain.new blocked subscriber values)) }
         ensures spends { SpendsLoan (as_written self) result domain.old domain.new }
     {
         let SampleMut { sample } = self;
@@ -116,6 +119,10 @@ impl SampleMut {
             → (s' : State T U) × Shows domain.new (messages_after m (written_number (as_written self)) l result) s'
             × SendsToConnection (answers_of F.allows G.allows (domain.old.boxes).publishers) s (written_number (as_written self)) l channel connection result s' }
         ensures adds { AddAtMost 1 domain.old domain.new }
+        ensures serves { (subscriber : Subscriber) (values : List T) → channel ≡ 0 → IsAtConnection domain.old (written_lender (as_written self)) connection subscriber → IsConnected domain.old (written_lender (as_written self)) subscriber
+            → HasValues domain.old (written_number (as_written self)) values → IfOk result (λ outcome. IsDelivered outcome → IsServed domain.old domain.new (written_lender (as_written self)) subscriber values) }
+        ensures pending { (subscriber : Subscriber) (values : List T) → channel ≡ 0 → IsAtConnection domain.old (written_lender (as_written self)) connection subscriber → IsConnected domain.old (written_lender (as_written self)) subscriber
+            → HasValues domain.old (written_number (as_written self)) values → IfOk result (λ outcome. IfBlocked outcome (λ blocked. IsServedOrPending domain.old domain.new blocked subscriber values)) }
         ensures spends { SpendsLoan (as_written self) result domain.old domain.new }
     {
         let SampleMut { sample } = self;

@@ -1,0 +1,149 @@
+-- What a send into channel 0 of one connection leaves: its subscriber is served, or left as it was and pending, and nobody else is touched.
+use Rattle.std.proofs.Common.{◌≡◌, ℕ, zero, suc, ◌+◌, ◌⊎◌, inl, inr, ⊎_elim, Bool, true, false, cond, List, [], ◌∷◌, drop, take, refl, sym, ap, subst, ◌∙◌, arith, Option, None, Some, Result, Ok, Err}
+use Rattle.std.specs.Prelude.{IfOk, IfSome}
+use Rattle.std.specs.Option.{option_and_then}
+use Rattle.std.proofs.lemmas.Bool.{true≢false}
+use Rattle.std.proofs.lemmas.Option.{none-some, same_Some}
+use Rattle.iox2_machine.specs.machine.ChannelCalls.{connection_place, place_from}
+use Rattle.iox2_machine.specs.machine.Delivery.{no_time}
+use Rattle.iox2_machine.specs.machine.Loans.{entry_of}
+use Rattle.iox2_machine.specs.machine.Numbers.{contains, put_at, IsOnce}
+use Rattle.iox2_machine.specs.machine.Places.{is_port, occupant, occupants}
+use Rattle.iox2_machine.specs.machine.Records.{Environment, Loan, Publisher}
+use Rattle.iox2_machine.specs.machine.Sends.{Blocked_send, DeliverAndConclude, Send_error, SendResult, SendToConnection}
+use Rattle.iox2_machine.specs.machine.State.{State, Messages, with_loan}
+use Rattle.iox2_machine.specs.machine.WellFormed.{IsWellFormed}
+use Rattle.iox2_machine.specs.declared.errors.SendError.{SendError}
+use Rattle.iox2_machine.specs.declared.errors.SendError.TheVariants.{ConnectionBrokenSinceSenderNoLongerExists}
+use Rattle.iox2_machine.specs.declared.key.Key.{Key}
+use Rattle.iox2_laws.proofs.Cases.{by_option}
+use Rattle.iox2_laws.proofs.ConnectionSendsLeave.{send_to_connection_remains}
+use Rattle.iox2_laws.proofs.NumberLemmas.{contains_first}
+use Rattle.iox2_laws.proofs.PlaceLemmas.{is_port-true}
+use Rattle.iox2_laws.proofs.Puts.{put_at-same}
+use Rattle.iox2_domain.specs.Kept.{Kept, state_of}
+use Rattle.iox2_domain.specs.Shows.{Shows}
+use Rattle.iox2_pubsub.specs.ConnectedPorts.{Connects}
+use Rattle.iox2_pubsub.specs.Live.{IsAtConnection, IsBlockedSend, IsConnected, IsServed, IsServedOrPending, blocked_key}
+use Rattle.iox2_pubsub.specs.SendCalls.{IfBlocked, IsDelivered, SendsToConnection, messages_after, result_of_send}
+use Rattle.iox2_pubsub.specs.Slices.{HasValues}
+use Rattle.iox2_pubsub.specs.declared.send_outcome.SendOutcome.{SendOutcome}
+use Rattle.iox2_pubsub.specs.declared.send_outcome.SendOutcome.TheVariants.{Blocked, Delivered}
+use Rattle.iox2_pubsub.specs.declared.subscriber.Subscriber.{Subscriber}
+use Rattle.iox2_pubsub.proofs.ConnectedCounts.{TouchesOnly, goes-on-touches}
+use Rattle.iox2_pubsub.proofs.ConnectionSendShown.{to-connections}
+use Rattle.iox2_pubsub.proofs.ConnectionsShown.{loan-values}
+use Rattle.iox2_pubsub.proofs.PendingDeliveries.{Comes, goes-on-comes}
+use Rattle.iox2_pubsub.proofs.PendingShown.{box-served, split-shown, when-delivered}
+use Rattle.iox2_pubsub.proofs.PendingSteps.{takes-buffer}
+use Rattle.iox2_pubsub.proofs.SentMessages.{sent-before-stays}
+use Rattle.iox2_pubsub.proofs.UpToDateShown.{connected-in}
+
+-- the subscriber that a place is told of stands there
+place-in : (end : Option ℕ) (rest : List (Option ℕ)) (q k place : ℕ) → (place_from (suc k) rest q ≡ Some place → (i : ℕ) × (place ≡ suc k + i) × (occupant rest i ≡ Some q)) → (b : Bool) → is_port end q ≡ b
+    → cond b (Some k) (place_from (suc k) rest q) ≡ Some place → (i : ℕ) × (place ≡ k + i) × (occupant (end ∷ rest) i ≡ Some q)
+place-in end rest q k place behind true here is = (0, (let same : k ≡ place = same_Some k place is in omega (arith, same)), is_port-true end q here)
+place-in end rest q k place behind false here is =
+    let later = behind is in
+    (suc later.0, (let same : place ≡ suc k + later.0 = later.1 in omega (arith, same)), later.2)
+
+place-is : (ends : List (Option ℕ)) (q k place : ℕ) → place_from k ends q ≡ Some place → (i : ℕ) × (place ≡ k + i) × (occupant ends i ≡ Some q)
+place-is [] q k place is = absurd (none-some place is)
+place-is (end ∷ rest) q k place is = place-in end rest q k place (place-is rest q (suc k) place) (is_port end q) refl is
+
+one-end : (ends : List (Option ℕ)) (place q : ℕ) → occupant ends place ≡ Some q → take 1 (drop place ends) ≡ Some q ∷ []
+one-end [] place q at = absurd (none-some q at)
+one-end (end ∷ rest) zero q at = ap (λ (o : Option ℕ). o ∷ []) at
+one-end (end ∷ rest) (suc place) q at = one-end rest place q at
+
+-- what is told of a place
+pub at-connection : {T U F G : Type 0} (kept : Kept T U F G) (m : Messages T U) (s : State T U) → Shows kept m s → (p q : ℕ) (told : Option ℕ) → told ≡ connection_place s p q
+    → IfSome told (λ connection. (subscriber : Subscriber) → subscriber.id ≡ q → IsAtConnection kept p connection subscriber)
+unfolding IsAtConnection
+at-connection kept m s shown p q None is = tt
+at-connection {T} {U} kept m s shown p q (Some place) is = λ subscriber same. ap (λ (t : State T U). connection_place t p subscriber.id) (sym shown.state) ∙ ap (connection_place s p) same ∙ sym is
+
+connection-parts : {T U F G : Type 0} (kept : Kept T U F G) (p connection : ℕ) (subscriber : Subscriber) → IsAtConnection kept p connection subscriber → connection_place (state_of kept) p subscriber.id ≡ Some connection
+unfolding IsAtConnection
+connection-parts kept p connection subscriber at = at
+
+module _ {T U F G : Type 0} (old new : Kept T U F G) (m : Messages T U) (s : State T U) (shown : Shows old m s) (environment : Environment) (n : ℕ) (l : Loan T U) (out : s.loans n ≡ Some l) (p : ℕ) (its : l.publisher ≡ p)
+    (place : ℕ) (result : Result SendOutcome SendError) (s' : State T U) (shown' : Shows new (messages_after m n l result) s') (h : SendsToConnection environment s n l 0 place result s')
+    (subscriber : Subscriber) (values : List T) (at : IsAtConnection old p place subscriber) (is : IsConnected old p subscriber) (reads : HasValues old n values) where
+  abbrev here : IsConnected old l.publisher subscriber
+  here = subst (λ (i : ℕ). IsConnected old i subscriber) (sym its) is
+
+  abbrev c : Connects s l.publisher subscriber.id
+  c = connected-in old m s shown l.publisher subscriber here
+
+  abbrev ends : List (Option ℕ)
+  ends = (c.publisher).ends
+
+  stands : occupant ends place ≡ Some subscriber.id
+  stands =
+      let told : connection_place s l.publisher subscriber.id ≡ Some place = ap (λ (t : State T U). connection_place t l.publisher subscriber.id) shown.state ∙ ap (λ (i : ℕ). connection_place (state_of old) i subscriber.id) its ∙ connection-parts old p place subscriber at in
+      let found = place-is ends subscriber.id 0 place (sym (ap (option_and_then (λ (x : Publisher). place_from 0 x.ends subscriber.id)) c.stands) ∙ told) in
+      let same : found.0 ≡ place = let first : place ≡ 0 + found.0 = found.1 in omega (arith, first) in
+      ap (occupant ends) (sym same) ∙ found.2
+
+  delivers : DeliverAndConclude environment (with_loan s n None) l.publisher n 0 0 no_time place (take 1 (drop place ends)) 0 false s' (result_of_send result)
+  delivers =
+      by_option (DeliverAndConclude environment (with_loan s n None) l.publisher n 0 0 no_time place (take 1 (drop place ends)) 0 false s' (result_of_send result)) (s.publishers l.publisher) _ _ h
+      (λ none _. absurd (none-some c.publisher (sym none ∙ c.stands)))
+      (λ x present k. subst (λ (z : Publisher). DeliverAndConclude environment (with_loan s n None) l.publisher n 0 0 no_time place (take 1 (drop place z.ends)) 0 false s' (result_of_send result))
+      (same_Some x c.publisher (sym present ∙ c.stands)) k)
+
+  comes : Comes s s' l.publisher n subscriber.id (c.subscriber).buffer (result_of_send result)
+  comes =
+      let one : take 1 (drop place ends) ≡ Some subscriber.id ∷ [] = one-end ends place subscriber.id stands in
+      goes-on-comes environment (with_loan s n None) l.publisher n 0 no_time place (take 1 (drop place ends)) 0 false s' (result_of_send result) delivers subscriber.id (c.subscriber).buffer
+      (takes-buffer environment s shown.well_formed l.publisher subscriber.id c)
+      (subst (λ (es : List (Option ℕ)). contains (occupants es) subscriber.id ≡ true) (sym one) (contains_first subscriber.id [])) (subst (λ (es : List (Option ℕ)). IsOnce (occupants es)) (sym one) (refl, tt))
+
+  touches : TouchesOnly s s' l.publisher
+  touches =
+      let it = goes-on-touches environment (with_loan s n None) l.publisher n 0 0 no_time place (take 1 (drop place ends)) 0 false s' (result_of_send result) delivers in
+      record { others = record { ports = it.others.ports; lie = it.others.lie }; subscribers = it.subscribers }
+
+  sent : m n ≡ None
+  sent = shown.unsent n l out
+
+  -- it is served where the send is delivered
+  pub connection-serves : messages_after m n l result n ≡ Some (entry_of l) → IfOk result (λ outcome. IsDelivered outcome → IsServed old new p subscriber values)
+  connection-serves is_sent =
+      when-delivered result (IsServed old new p subscriber values) (λ ended.
+      ⊎_elim
+      (λ it. subst (λ (i : ℕ). IsServed old new i subscriber values) its (subst (IsServed old new l.publisher subscriber) (loan-values old m s shown n l values out reads)
+      (box-served old new m (messages_after m n l result) s s' shown shown' (sent-before-stays m n l result sent) l.publisher touches n (entry_of l) is_sent (to-connections environment s n l 0 place s' (result_of_send result) h)
+      (send_to_connection_remains environment s n l 0 place s' (result_of_send result) h).config subscriber here c it.1)))
+      (λ it. absurd (ended it.0))
+      comes)
+
+module _ {T U F G : Type 0} (old new : Kept T U F G) (m : Messages T U) (s : State T U) (shown : Shows old m s) (environment : Environment) (n : ℕ) (l : Loan T U) (out : s.loans n ≡ Some l) (p : ℕ) (its : l.publisher ≡ p)
+    (channel place : ℕ) (first : channel ≡ 0) where
+  in-first : (result : Result SendOutcome SendError) (s' : State T U) → SendsToConnection environment s n l channel place result s' → SendsToConnection environment s n l 0 place result s'
+  in-first result s' h = subst (λ (k : ℕ). SendsToConnection environment s n l k place result s') first h
+
+  pub sends-to-serves : (result : Result SendOutcome SendError) (s' : State T U) → Shows new (messages_after m n l result) s' → SendsToConnection environment s n l channel place result s'
+      → (subscriber : Subscriber) (values : List T) → IsAtConnection old p place subscriber → IsConnected old p subscriber → HasValues old n values → IfOk result (λ outcome. IsDelivered outcome → IsServed old new p subscriber values)
+  sends-to-serves (Ok outcome) s' shown' h subscriber values at is reads =
+      connection-serves old new m s shown environment n l out p its place (Ok outcome) s' shown' (in-first (Ok outcome) s' h) subscriber values at is reads (put_at-same m n (Some (entry_of l)))
+  sends-to-serves (Err error) s' shown' h subscriber values at is reads = tt
+
+  -- and where it is blocked, it was left as it was, and the send has it before it
+  pub sends-to-pends : (result : Result SendOutcome SendError) (s' : State T U) → Shows new (messages_after m n l result) s' → SendsToConnection environment s n l channel place result s'
+      → (key : Key) → key.port ≡ p → key.message ≡ n → IfOk result (λ outcome. IfBlocked outcome (λ blocked. IsBlockedSend new blocked × (blocked_key blocked ≡ key)))
+      → (subscriber : Subscriber) (values : List T) → IsAtConnection old p place subscriber → IsConnected old p subscriber → HasValues old n values
+      → IfOk result (λ outcome. IfBlocked outcome (λ blocked. IsServedOrPending old new blocked subscriber values))
+  sends-to-pends (Ok (Delivered count)) s' shown' h key port message blocked subscriber values at is reads = tt
+  sends-to-pends (Err error) s' shown' h key port message blocked subscriber values at is reads = tt
+  sends-to-pends (Ok (Blocked again)) s' shown' h key port message blocked subscriber values at is reads =
+      let step = in-first (Ok (Blocked again)) s' h in
+      let came = comes old new m s shown environment n l out p its place (Ok (Blocked again)) s' shown' step subscriber values at is reads in
+      let unsent = shown.unsent n l out in
+      let joined : IsConnected old l.publisher subscriber = subst (λ (i : ℕ). IsConnected old i subscriber) (sym its) is in
+      split-shown old new m (put_at m n (Some (entry_of l))) s s' shown shown' (sent-before-stays m n l (Ok (Blocked again)) unsent) l.publisher
+      (touches old new m s shown environment n l out p its place (Ok (Blocked again)) s' shown' step subscriber values at is reads) n (entry_of l) (put_at-same m n (Some (entry_of l)))
+      (to-connections environment s n l 0 place s' Blocked_send step) (send_to_connection_remains environment s n l 0 place s' Blocked_send step).config subscriber joined
+      (connected-in old m s shown l.publisher subscriber joined) again (its ∙ sym port ∙ ap (λ (k : Key). k.port) (sym blocked.1)) (sym message ∙ ap (λ (k : Key). k.message) (sym blocked.1)) blocked.0 values
+      (loan-values old m s shown n l values out reads) (⊎_elim (λ it. absurd (it.0 refl)) (λ it. it.1) came)
