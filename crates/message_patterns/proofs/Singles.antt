@@ -1,19 +1,7 @@
 -- Lists of single values.
 use Rattle.std.proofs.Common.{◌≡◌, ℕ, ◌+◌, List, [], ◌∷◌, ◌++◌, length, refl, ap, arith}
 use Rattle.message_patterns.specs.Queues.{values_of}
-use Rattle.message_patterns.specs.Values.{singles}
-
-pub singles-append : (xs : List ℕ) (v : ℕ) → singles (xs ++ v ∷ []) ≡ singles xs ++ (v ∷ []) ∷ []
-singles-append [] v = refl
-singles-append (x ∷ xs) v = ap (λ ys. (x ∷ []) ∷ ys) (singles-append xs v)
-
-pub length-singles : (xs : List ℕ) → length (singles xs) ≡ length xs
-length-singles [] = refl
-length-singles (x ∷ xs) = let e : length (singles xs) ≡ length xs = length-singles xs in omega arith
-
-pub singles-none : (xs : List ℕ) → length (singles xs) ≡ 0 → xs ≡ []
-singles-none [] none = refl
-singles-none (x ∷ xs) none = absurd (omega arith)
+use Rattle.iox2_pubsub.specs.Payloads.{singles}
 
 pub append-one : (xs ys : List ℕ) (v : ℕ) → xs ++ (v ∷ ys) ≡ (xs ++ v ∷ []) ++ ys
 append-one [] ys v = refl

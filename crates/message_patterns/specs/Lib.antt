@@ -2,4 +2,3 @@ pub mod Values
 pub mod Moves
 pub mod Votes
 pub mod Queues
-pub mod Blocking

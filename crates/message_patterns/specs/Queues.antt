@@ -1,6 +1,6 @@
 -- A queue of numbers over a publisher and a subscriber.
 use Rattle.std.specs.Prelude.{ℕ, List, [], ◌∷◌, ◌++◌, ◌≡◌, ◌≤◌, length}
-use Rattle.iox2_domain.specs.Kept.{Kept}
+use Rattle.iox2_pubsub.specs.Domains.{Kept}
 use Rattle.iox2_pubsub.specs.Live.{HasItsBuffer, IsConnected, IsLivePublisher, IsLiveSubscriber, IsSingleValued, IsUpToDate, payloads}
 use Rattle.iox2_pubsub.specs.LoansLeft.{HasLoansLeft}
 use Rattle.iox2_pubsub.specs.declared.publisher.Publisher.{Publisher}

@@ -8,6 +8,7 @@ mod joining;
 mod passing;
 mod queues;
 mod relaying;
+mod spreading;
 mod voter;
 
 pub use blocking::{push_again, push_or_wait, push_over};
@@ -17,6 +18,7 @@ pub use joining::relay_if_idle;
 pub use passing::{read_all, read_one, send_all, send_one};
 pub use queues::Queue;
 pub use relaying::{relay, relay_all};
+pub use spreading::{spread, spread_again};
 pub use voter::{median, vote};
 
 /// A service whose messages are numbers.

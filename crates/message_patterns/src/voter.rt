@@ -2,8 +2,9 @@
 ghost use Rattle.std.specs.Prelude.{ℕ, List, [], ◌∷◌, ◌<◌, ◌≡◌, ◌≢◌, suc, IfOk, OnOk};
 ghost use Rattle.iox2_pubsub.specs.Handles.{publisher_id};
 ghost use Rattle.iox2_pubsub.specs.Live.{IsConnected, IsLivePublisher, IsLiveSubscriber, IsSingleValued, IsUpToDate, Stays, UpToDateStay, waiting};
+ghost use Rattle.iox2_pubsub.specs.Shares.{HasNoShare};
 ghost use Rattle.iox2_pubsub.specs.declared.subscriber.Subscriber.{Subscriber as Port};
-ghost use Rattle.message_patterns.specs.Votes.{AllApart, Apart, IsMiddle, Picks, Vote, VotesWait, vote_of, voters};
+ghost use Rattle.message_patterns.specs.Votes.{AllApart, IsMiddle, Picks, Vote, VotesWait, shares_of, vote_of};
 
 use crate::Numbers;
 use crate::failure::Failure;
@@ -100,7 +101,7 @@ fn take(domain: &mut Numbers, subscriber: &Subscriber) -> Result<u32, Failure>
 fn cast(domain: &mut Numbers, publisher: &Publisher, reading: u32) -> Result<(), Failure>
     requires single_valued { IsSingleValued domain.old }
     requires publisher { IsLivePublisher domain.old publisher.now }
-    ensures cast { (subscriber : Port) (votes : List Vote) → VotesWait domain.old subscriber votes → Apart (publisher_id publisher.now) (voters votes)
+    ensures cast { (subscriber : Port) (votes : List Vote) → VotesWait domain.old subscriber votes → HasNoShare (publisher_id publisher.now) (shares_of votes)
         → IsConnected domain.old (publisher_id publisher.now) subscriber → OnOk result (VotesWait domain.new subscriber (vote_of (publisher_id publisher.now) reading ∷ votes)) }
     ensures up_to_date { UpToDateStay domain.old domain.new }
     ensures stays { Stays domain.old domain.new }

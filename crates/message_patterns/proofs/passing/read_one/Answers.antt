@@ -1,5 +1,4 @@
-use Rattle.std.proofs.Common.{rules, sym}
-use Rattle.message_patterns.proofs.PendingStays.{from-origin, pending-after, pending-error, pending-none}
+use Rattle.std.proofs.Common.{sym}
 use Rattle.message_patterns.proofs.Waits.{read-first, read-oldest}
 use Rattle.message_patterns.proofs.passing.read_one.Goals as goal
 
@@ -17,17 +16,3 @@ pub returns-clause-borrows : goal.returns-clause-borrows
 returns-clause-borrows g c = λ n left.
     let received = rw c.in-Ok-Some.field-0-is at c.in-Ok-Some.ensures in
     c.release.ensures.gives_back c.args.subscriber.now n (sym received.received.subscriber) (received.takes.own n left)
-
-pub returns-in-Ok-None-clause-pending : goal.returns-in-Ok-None-clause-pending
-returns-in-Ok-None-clause-pending g c = λ blocked reader held updated pending.
-    pending-none c.args.domain.now c.receive.new.domain c.config.ensures.shown c.args.subscriber.now updated blocked reader held pending (rw c.in-Ok-None.field-0-is at c.in-Ok-None.ensures)
-
-pub returns-in-Err-clause-pending : goal.returns-in-Err-clause-pending
-returns-in-Err-clause-pending g c = λ blocked reader held updated pending.
-    pending-error c.args.domain.now c.receive.new.domain c.config.ensures.shown c.args.subscriber.now updated blocked reader held pending c.in-Err.error c.in-Err.ensures
-
-pub returns-clause-pending : goal.returns-clause-pending
-returns-clause-pending g c = λ blocked reader held updated pending.
-    let received = rw c.in-Ok-Some.field-0-is at c.in-Ok-Some.ensures in
-    pending-after c.args.domain.now c.receive.new.domain c.config.ensures.shown c.args.subscriber.now updated blocked reader held pending c.in-Ok-Some.sample received c.release.new.domain
-    (search rules) (from-origin c.receive.new.domain c.in-Ok-Some.sample received.received.origin) c.release.ensures.released

@@ -1,7 +1,7 @@
 use Rattle.std.proofs.Common.{ap, sym, ◌+◌, ◌++◌, [], ◌∷◌}
-use Rattle.iox2_machine.specs.declared.key.Key.{Key}
+use Rattle.iox2_pubsub.specs.Domains.{Key}
 use Rattle.iox2_pubsub.specs.Handles.{unwritten_lender, written_lender}
-use Rattle.message_patterns.specs.Values.{singles}
+use Rattle.iox2_pubsub.specs.Payloads.{singles}
 use Rattle.message_patterns.proofs.Waits.{room-for-one, takes-next, takes-renamed, takes-stay}
 use Rattle.message_patterns.proofs.passing.send_loan.Goals as goal
 

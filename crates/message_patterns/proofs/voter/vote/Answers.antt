@@ -9,7 +9,7 @@ middle-of : (a b c it : ℕ) → IsMiddle it c b a → IsMiddle it a b c
 middle-of a b c it is = middle-swap it b a c (middle-turn it c b a is)
 
 pub collect-requires-clause-three : goal.collect-requires-clause-three
-collect-requires-clause-three g c = (c.in_ok-cast_all.ensures.cast c.args.subscriber.now c.requires.drained c.requires.connected.0 c.requires.connected.1 c.requires.connected.2).count
+collect-requires-clause-three g c = (c.in_ok-cast_all.ensures.cast c.args.subscriber.now c.requires.drained c.requires.connected.0 c.requires.connected.1 c.requires.connected.2).all
 
 pub returns-clause-middle : goal.returns-clause-middle
 returns-clause-middle g c =
