@@ -10,7 +10,7 @@ namespace {
 
 constexpr int warm_up = 300;
 /* In hundredths of C's, which has no lock for threads and tells none what came. */
-constexpr std::uint64_t most_alone = 110, most_shared = 135;
+constexpr std::uint64_t most_alone = 130, most_shared = 210;
 /* At most with one of them a copy of the book-keeping comes due, which costs the same in each language. */
 constexpr std::size_t counted = 9;
 
