@@ -8,7 +8,7 @@ use crate::waiting::Wake;
 use std::time::Instant;
 
 #[derive(Default)]
-pub(super) struct Others;
+pub(super) struct Others {}
 
 impl Others {
     #[inline(always)]
