@@ -1,6 +1,7 @@
 # SPDX-License-Identifier: Apache-2.0 OR MIT
 """What another process does in a test: other_process.py ROLE NAME. It says when it has come so far, and goes on when it is told."""
 import os
+import signal
 import sys
 
 import iox2_pubsub as ps
@@ -112,6 +113,7 @@ def has_it(name):
 
 
 def waits_for_good(name):
+    signal.signal(signal.SIGINT, signal.default_int_handler)  # whoever runs the tests in the background ignores it
     subscriber = opened(name).subscriber()
     say("waits")
     try:
