@@ -217,8 +217,7 @@ def run_python(steps, work, script_of_run):
         steps.skip("python, tests", lack)
         return
     python = environment(work, "with_numpy", "--system-site-packages")
-    others = cameras(work)
-    steps.run("python, pytest", tested, work, python, others)
+    steps.run("python, pytest", tested, work, python, cameras(work))
     steps.run("python, pytest over domains that processes share", tested_by_name, work, python)
     run_types(steps, work, python)
     run_page(steps, work, python)
@@ -228,4 +227,13 @@ def run_python(steps, work, script_of_run):
         steps.skip("python, random calls beside run", "pubsub_script (--script)")
     else:
         steps.run("python, random calls", random_calls, work, python, script_of_run)
-    python_faults.run_faults(steps, work, python, include(), others)
+
+
+def run_planted(steps, work):
+    """What is planted in the package, which its tests have to see."""
+    if lack := lacking() or lacking(TESTED_BY):
+        steps.skip("the package for Python, with planted faults", lack)
+        return
+    build_wheel(work)
+    python = environment(work, "with_numpy", "--system-site-packages")
+    python_faults.run_faults(steps, work, python, include(), cameras(work))
