@@ -9,8 +9,8 @@
 namespace {
 
 constexpr int warm_up = 300;
-/* In hundredths of C's, which has no lock for threads and tells none what came. */
-constexpr std::uint64_t most_alone = 130, most_shared = 210;
+/* Instructions beside C's, which has no lock for threads and tells none what came. */
+constexpr std::uint64_t most_more_alone = 500, most_more_shared = 1950;
 /* At most with one of them a copy of the book-keeping comes due, which costs the same in each language. */
 constexpr std::size_t counted = 9;
 
@@ -93,5 +93,5 @@ int main() {
   std::printf("a message takes %llu instructions in C, %llu in C++, and %llu where threads share the domain\n", static_cast<unsigned long long>(c),
               static_cast<unsigned long long>(alone), static_cast<unsigned long long>(shared));
   std::fflush(stdout);
-  CHECK(c > 100 && 100 * alone <= most_alone * c && 100 * shared <= most_shared * c);
+  CHECK(c > 100 && alone <= c + most_more_alone && shared <= c + most_more_shared);
 }
