@@ -261,7 +261,7 @@ def latest():
 
 # ---- what is compared
 
-# What needs the very kit that made a release: another one may compile what it proves to other bytes.
+# What needs the kit and the crates that made a release: with others the same code may have other bytes.
 OF_THE_KIT = "the archives are those of the proofs"
 
 

@@ -44,9 +44,17 @@ def archive_here(target):
     return TOP / "crates" / ARCHIVE_CRATE / "out" / target.made / f"lib{ARCHIVE_CRATE}.a"
 
 
-def is_for_another_kit(failures, proved_by, here):
-    """Whether all that failed is what only the kit can compare that made a release, and that isn't here."""
-    return proved_by != here and failures == [OF_THE_KIT]
+def why_other_bytes(folder, here):
+    """What isn't here, and what gives archives other bytes than those of a release, where it may: the crates or the kit that made it."""
+    if changed := changed_crates(folder):
+        return f"a release of these crates, since it has {changed},"
+    by = told(folder, "kit")
+    return f"{by}, which made them," if by != here else ""
+
+
+def is_passed_over(failures, why):
+    """Whether all that failed is what needs what isn't here."""
+    return bool(why) and failures == [OF_THE_KIT]
 
 
 def proofs_here(target):
@@ -68,12 +76,12 @@ def all_functions(folder, target):
     return ", ".join(same_functions(archive, nm, folder / "include") for archive in archives_in(folder, target))
 
 
-def check_by_another_kit(steps, packed, folder, target):
-    """What can be said of archives that another kit made."""
-    name = f"{packed.name}, which another kit made,"
-    steps.run(f"{name} says what is proved here", same_proofs, folder, target, proofs_here(target))
-    steps.run(f"{name} has the functions of its header", all_functions, folder, target)
-    steps.skip(f"the bytes of {packed.name}'s archives beside those that {kit()} makes here", f"{told(folder, 'kit')}, which made them,")
+def check_other_bytes(steps, packed, folder, target, why):
+    """What can be said of archives that have other bytes than those that are made here."""
+    if not changed_crates(folder):
+        steps.run(f"{packed.name} says what is proved here", same_proofs, folder, target, proofs_here(target))
+    steps.run(f"{packed.name} has the functions of its header", all_functions, folder, target)
+    steps.skip(f"the bytes of {packed.name}'s archives beside those that are made here", why)
 
 
 def check_by_its_tools(steps, packed, folder, target, clone):
@@ -83,11 +91,12 @@ def check_by_its_tools(steps, packed, folder, target, clone):
     ran = subprocess.run(words, stdin=subprocess.DEVNULL, stdout=subprocess.PIPE, stderr=subprocess.STDOUT, text=True, errors="replace")
     counts = LAST_LINE.findall(ran.stdout)
     passed, failed = map(int, counts[-1]) if counts else (0, 1)
-    is_other = is_for_another_kit(re.findall(r"^FAILED  (.*)$", ran.stdout, re.M), told(folder, "kit"), kit())
+    why = why_other_bytes(folder, kit())
+    is_other = is_passed_over(re.findall(r"^FAILED  (.*)$", ran.stdout, re.M), why)
     shown = "".join(f"        {line}\n" for line in ran.stdout.splitlines())
     steps.add(passed, 0 if is_other else max(failed, ran.returncode != 0), shown)
     if is_other:
-        check_by_another_kit(steps, packed, folder, target)
+        check_other_bytes(steps, packed, folder, target, why)
 
 
 def check_by_its_commit(steps, packed, folder, work):
@@ -95,8 +104,6 @@ def check_by_its_commit(steps, packed, folder, work):
     commit, target = told(folder, "commit"), target_of(folder)
     if not commit_is_here(commit) and is_shallow():
         steps.skip(f"{packed.name} beside its commit", f"{commit} in this shallow clone")
-    elif changed := changed_crates(folder):
-        steps.skip(f"{packed.name} beside the proofs, which are of {changed}", "a release of these crates")
     elif not archive_here(target).exists():
         steps.skip(f"{packed.name} beside the proofs", f"{archive_here(target)} (tools/proved)")
     else:
