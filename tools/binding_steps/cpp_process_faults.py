@@ -21,7 +21,6 @@ FAULTS = (
     ("who watches never ends", NAMED, "    is_over_.store(true, std::memory_order_relaxed);\n", "", "processes"),
     ("who watches isn't woken to end", NAMED, "    shared_.threads.end_watch();\n", "", "processes"),
     ("a listener that is set wakes nobody who sleeps", SHARED, "    processes_->begin_sleep(brings);\n", "", "processes"),
-    ("who begins to listen is told of what came before", SHARED, "      before = catch_up();\n      if (!listeners_)", "      if (!listeners_)", "processes"),
     ("who sleeps for all tells nobody", SHARED, "      if (wake.ringer == processes_.get()) wake.ringer = nullptr; /* it is awake */\n      wake.wake();\n", "", "processes"),
     ("nobody sleeps for all after the first", SHARED, "    if (!sleeper_ && !wake.ringer) wake.ringer = list_.any();\n", "", "processes"),
     ("a thread waits for what nobody brings", NAMED, "waited = iox2ps_domain_wait(&shared.domain, helped_by(what), seen, left);", "waited = iox2ps_domain_wait(&shared.domain, IOX2PS_BRINGS_FREE, seen, left);", "one_thread"),
