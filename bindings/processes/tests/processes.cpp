@@ -93,10 +93,10 @@ void all_threads_hear() {
 
 /* A listener is called for what comes, and not for what waits already. */
 void a_listener_begins_where_it_is_set() {
+  std::atomic<int> calls{0};
   auto domain = opened(name_of("begins"));
   auto subscriber = domain.subscriber().expect("a subscriber");
   auto publisher = domain.publisher().expect("a publisher");
-  std::atomic<int> calls{0};
   CHECK(publisher.send_copy({1, {}})->delivered() == 1u);
   CHECK(subscriber.set_listener([&] { calls++; }).has_value() && calls == 0);
   CHECK(publisher.send_copy({2, {}})->delivered() == 1u && calls == 1);
