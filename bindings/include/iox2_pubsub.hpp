@@ -301,8 +301,12 @@ public:
     std::swap(shared_, other.shared_);
     return *this;
   }
-  ~Hold() {
-    if (is_here() && shared_->holders.is_last() && shared_->threads.may_go()) delete shared_;
+  ~Hold() { let_go(); }
+
+  /* Is empty from now on. */
+  void leave() {
+    let_go();
+    shared_ = nullptr;
   }
 
   explicit operator bool() const { return shared_ != nullptr; }
@@ -349,7 +353,7 @@ public:
       return code;
     });
     shared_->threads.forget(port);
-    if constexpr (!is_shared<M>) *this = Hold();
+    if constexpr (!is_shared<M>) leave();
   }
 
   /* Makes them again as long as their code says that the port still waits, each time when something came that may help. */
@@ -362,6 +366,15 @@ public:
   }
 
 private:
+  void let_go() {
+    if (shared_ && shared_->holders.is_last()) end();
+  }
+
+  /* Apart, so that a handle that goes while others stay takes a few instructions. */
+  [[gnu::noinline]] void end() {
+    if (is_here() && shared_->threads.may_go()) delete shared_;
+  }
+
   Shared<M> *shared_ = nullptr;
 };
 
@@ -617,7 +630,9 @@ public:
     }
     return *this;
   }
-  ~Loan() { discard(); }
+  ~Loan() {
+    if (hold_) give_back();
+  }
 
   explicit operator bool() const { return static_cast<bool>(hold_); } /**< whether there is a message */
   [[nodiscard]] Id publisher() const { return detail::id_of(loan_.publisher); }     /**< whose message it is */
@@ -667,8 +682,7 @@ public:
   /** Gives the loan back unsent, and leaves this empty. */
   void discard() {
     if (!hold_) return;
-    hold_.call(only(detail::Waits::Loan), [&](iox2ps_domain_t *domain) { return iox2ps_loan_discard(domain, &loan_); });
-    hold_ = detail::Hold<M>();
+    give_back();
     this->see_nothing();
   }
 
@@ -677,8 +691,13 @@ private:
 
   Loan(detail::Hold<M> hold, const iox2ps_loan_t &loan) : hold_(std::move(hold)), loan_(loan) {}
 
+  [[gnu::noinline]] void give_back() {
+    hold_.call(only(detail::Waits::Loan), [&](iox2ps_domain_t *domain) { return iox2ps_loan_discard(domain, &loan_); });
+    hold_.leave();
+  }
+
   Result<Sent<P, M>> sent(iox2ps_status_t code, std::size_t count, const iox2ps_blocked_t &blocked) {
-    if (code == IOX2PS_PUBLISHER_IS_BLOCKED || code == detail::not_shared) return detail::error_of(code);
+    if (code != IOX2PS_OK && (code == IOX2PS_PUBLISHER_IS_BLOCKED || code == detail::not_shared)) return detail::error_of(code);
     this->see_nothing();
     detail::Hold<M> hold = std::move(hold_);
     if (code == IOX2PS_OK) return Sent<P, M>(count);
@@ -707,7 +726,9 @@ public:
     }
     return *this;
   }
-  ~Sample() { release(); }
+  ~Sample() {
+    if (hold_) give_back();
+  }
 
   explicit operator bool() const { return static_cast<bool>(hold_); }  /**< whether there is a message */
   [[nodiscard]] Id origin() const { return detail::id_of(sample_.origin); }          /**< the publisher that sent it */
@@ -729,8 +750,7 @@ public:
   /** Gives the message back, and leaves this empty. */
   void release() {
     if (!hold_) return;
-    hold_.call(only(detail::Waits::Loan), [&](iox2ps_domain_t *domain) { return iox2ps_sample_release(domain, &sample_); });
-    hold_ = detail::Hold<M>();
+    give_back();
     this->see_nothing();
   }
 
@@ -740,6 +760,11 @@ private:
   Sample(detail::Hold<M> hold, const iox2ps_sample_t &sample, const Element *data, std::size_t size)
       : hold_(std::move(hold)), sample_(sample) {
     this->see(data, size);
+  }
+
+  [[gnu::noinline]] void give_back() {
+    hold_.call(only(detail::Waits::Loan), [&](iox2ps_domain_t *domain) { return iox2ps_sample_release(domain, &sample_); });
+    hold_.leave();
   }
 
   detail::Hold<M> hold_;
@@ -1221,10 +1246,9 @@ private:
   }
 
   Result<std::optional<Sample<P, M>>> received(iox2ps_status_t code, const Got &got) const {
-    std::optional<Sample<P, M>> none;
-    if (code == IOX2PS_NO_SAMPLE) return none;
-    if (code != IOX2PS_OK) return detail::error_of(code);
-    return std::optional<Sample<P, M>>(sample_of(got));
+    if (code == IOX2PS_OK) return std::optional<Sample<P, M>>(sample_of(got));
+    if (code == IOX2PS_NO_SAMPLE) return std::optional<Sample<P, M>>();
+    return detail::error_of(code);
   }
 
   Sample<P, M> sample_of(const Got &got) const {

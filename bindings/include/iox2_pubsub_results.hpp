@@ -168,6 +168,12 @@ public:
   }
 };
 
+/* Ends the program. */
+[[noreturn]] inline void end(const char *words, const char *why) {
+  std::fprintf(stderr, "iox2_pubsub: %s: %s\n", words, why);
+  std::abort();
+}
+
 } // namespace detail
 
 /** What the codes of make_error_code() belong to. */
@@ -184,7 +190,8 @@ public:
  * error: value(), *, -> and expect(). */
 template <typename V> class [[nodiscard]] Result {
 public:
-  Result(V value) : held_(std::in_place_index<0>, std::move(value)) {} /**< a value */
+  Result(V &&value) : held_(std::in_place_index<0>, std::move(value)) {} /**< a value */
+  Result(const V &value) : held_(std::in_place_index<0>, value) {}       /**< a value */
   Result(Error error) : held_(std::in_place_index<1>, error) {}        /**< none */
 
   [[nodiscard]] bool has_value() const noexcept { return held_.index() == 0; }       /**< whether there is a value */
@@ -232,7 +239,7 @@ public:
 
   /** Why there is no value. Where there is one the program ends. */
   [[nodiscard]] Error error() const {
-    if (has_value()) end("error() of a value");
+    if (has_value()) detail::end("error() of a value", "there is a value");
     return *std::get_if<1>(&held_);
   }
 
@@ -244,16 +251,12 @@ private:
   }
 
   V &there(const char *words) {
-    if (!has_value()) end(words);
+    if (!has_value()) detail::end(words, text(error()));
     return *std::get_if<0>(&held_);
   }
   const V &there(const char *words) const {
-    if (!has_value()) end(words);
+    if (!has_value()) detail::end(words, text(error()));
     return *std::get_if<0>(&held_);
-  }
-  [[noreturn]] void end(const char *words) const {
-    std::fprintf(stderr, "iox2_pubsub: %s: %s\n", words, has_value() ? "there is a value" : text(error()));
-    std::abort();
   }
 
   std::variant<V, Error> held_;

@@ -133,7 +133,10 @@ constexpr Brings helped_by(Waits what) { return what == Waits::Loan ? Waits::Loa
 /* Those who wait in a domain. All of it is used under the lock. */
 class WaitingList {
 public:
-  [[nodiscard]] bool is_empty() const { return !first_ && !joined_; }
+  [[nodiscard]] bool is_anybody_told() const { return told_ > 0; }
+
+  /* Listeners are told from now on. */
+  void has_listeners() { told_++; }
 
   /* Another language joins, which has its own list of those who wait there. */
   void join(iox2ps_joined_t &one) {
@@ -141,11 +144,13 @@ public:
     one.after_ = joined_;
     if (joined_) joined_->before_ = &one;
     joined_ = &one;
+    told_++;
   }
 
   void leave(iox2ps_joined_t &one) {
     (one.before_ ? one.before_->after_ : joined_) = one.after_;
     if (one.after_) one.after_->before_ = one.before_;
+    told_--;
   }
 
   /* Does this with each that has joined. */
@@ -161,6 +166,7 @@ public:
     one.after = nullptr;
     (last_ ? last_->after : first_) = &one;
     last_ = &one;
+    told_++;
   }
 
   /* It is back: by a wake-up, because its time is up, or for no reason. */
@@ -168,6 +174,7 @@ public:
     if (one.is_awake) awake_--;
     (one.before ? one.before->after : first_) = one.after;
     (one.after ? one.after->before : last_) = one.before;
+    told_--;
   }
 
   /* Something came that may help those who wait for it. One that is awake tries again anyway. */
@@ -236,7 +243,8 @@ private:
   }
 
   Waiting *first_ = nullptr, *last_ = nullptr;
-  std::size_t awake_ = 0;
+  /* How many are told what comes, with 1 for listeners; and how many of those who slept were woken. */
+  std::size_t told_ = 0, awake_ = 0;
   iox2ps_joined_t *joined_ = nullptr;
 };
 
@@ -402,25 +410,23 @@ public:
 
   /* Changes what is told of the others, for which this process may have to be woken from now on. */
   template <typename Change> void change_others(Change &&change) {
-    Wake wake;
+    Wake before, wake;
     {
       std::lock_guard<Lock> lock(lock_);
+      before = catch_up();
       change(*processes_);
       wake = begin_to_want(0);
     }
+    before.wake();
     wake.wake();
   }
 
   /* Makes a call, and wakes those whom it may help. */
   template <typename Call> iox2ps_status_t call(Brings brings, Call &&make) {
-    Wake wake;
-    iox2ps_status_t code;
-    {
-      std::lock_guard<Lock> lock(lock_);
-      code = make();
-      wake = brought(brings, code);
-    }
-    wake.wake();
+    Held held(lock_);
+    iox2ps_status_t code = make();
+    if (!list_.is_anybody_told()) count_all(all_brought(brings, code));
+    else tell(held.left(), brings, code);
     return code;
   }
 
@@ -429,12 +435,13 @@ public:
     Waiting mine{what, port, bells_.own()};
     bool is_listed = false;
     while (true) {
-      Wake wake;
+      Wake before, wake;
       iox2ps_status_t code;
       Seen seen;
       bool is_over, may_be_helped;
       {
         std::lock_guard<Lock> lock(lock_);
+        if (!list_.is_anybody_told()) before = catch_up(); /* the call sees what came until now */
         if (std::exchange(is_listed, false)) list_.remove(mine);
         code = make();
         if (code == IOX2PS_NO_SAMPLE) list_.nothing_for(port);
@@ -445,6 +452,7 @@ public:
         may_be_helped = processes_ && (wake.brings & helped_by(what)) != 0;
         seen = see(what);
       }
+      before.wake();
       wake.wake();
       if (is_over) return code;
       if (may_be_helped || looks_out(what, seen)) continue;
@@ -465,13 +473,15 @@ public:
 
   /* Another language joins, and leaves. */
   void join(iox2ps_joined_t &one) {
-    Wake wake;
+    Wake before, wake;
     {
       std::lock_guard<Lock> lock(lock_);
       one.waits_are_stopped = is_stopped_ ? 1 : 0;
+      before = catch_up();
       list_.join(one);
       wake = begin_to_want(everything);
     }
+    before.wake();
     wake.wake();
   }
   void leave(iox2ps_joined_t &one) {
@@ -508,13 +518,16 @@ public:
   /* This is called from now on when a message may have come for the port, in place of what was before; or nothing is. */
   void listen(Id port, Listener listener) {
     auto made = std::make_shared<Listeners<Lock>>();
+    Wake before, wake;
     {
       std::lock_guard<Lock> lock(lock_);
+      before = catch_up();
+      if (!listeners_) list_.has_listeners();
       if (listeners_) made = listeners_;
       else listeners_ = made;
     }
+    before.wake();
     made->set(port, std::move(listener));
-    Wake wake;
     {
       std::lock_guard<Lock> lock(lock_);
       wake = begin_to_want(only(Waits::Message));
@@ -547,19 +560,54 @@ private:
     }
   };
 
-  /* Under the lock: what a call that returned this code has brought. */
+  /* Under the lock: what a call that returned this code has brought, with what it says itself. */
+  Brings all_brought(Brings brings, iox2ps_status_t code) {
+    return code == IOX2PS_OK && too_ == 0 ? brings : brought_and_more(brings, code);
+  }
+  [[gnu::noinline]] Brings brought_and_more(Brings brings, iox2ps_status_t code) {
+    return iox2ps_brought_by(brings, code) | std::exchange(too_, 0u);
+  }
+
+  void count_all(Brings brings) {
+    if ((brings & only(Waits::Message)) != 0) count(messages_);
+    if ((brings & ~only(Waits::Message)) != 0) count(others_);
+  }
+
+  /* Under the lock: the same with what other processes have brought, and who is told. */
   Wake brought(Brings brings, iox2ps_status_t code) {
     Wake wake;
-    brings = iox2ps_brought_by(brings, code) | std::exchange(too_, 0u);
+    brings = all_brought(brings, code);
     if (processes_) brings |= processes_->news(wake.deaths);
+    count_all(brings);
     wake.brings = brings;
-    if ((brings & only(Waits::Message)) != 0) {
-      count(messages_);
-      wake.listeners = listeners_;
-    }
-    if ((brings & ~only(Waits::Message)) != 0) count(others_);
-    if (!list_.is_empty()) wake.ringer = next(brings);
+    if ((brings & only(Waits::Message)) != 0) wake.listeners = listeners_;
+    if (list_.is_anybody_told()) wake.ringer = next(brings);
     return wake;
+  }
+
+  /* Has the lock until it goes, or leaves it to another. */
+  class Held {
+  public:
+    explicit Held(Lock &lock) : lock_(&lock) { lock.lock(); }
+    Held(const Held &) = delete;
+    Held &operator=(const Held &) = delete;
+    ~Held() {
+      if (lock_) lock_->unlock();
+    }
+    Lock &left() { return *std::exchange(lock_, nullptr); }
+
+  private:
+    Lock *lock_;
+  };
+
+  /* Gives the lock back that the call has, and tells them. Apart, so that a call takes a few instructions where nobody is told. */
+  [[gnu::noinline]] void tell(Lock &held, Brings brings, iox2ps_status_t code) {
+    Wake wake;
+    {
+      std::lock_guard<Lock> lock(held, std::adopt_lock);
+      wake = brought(brings, code);
+    }
+    wake.wake();
   }
 
   Ringer *next(Brings brings) {
@@ -631,6 +679,9 @@ private:
     begun = processes_->begin_sleep(is_for_all ? wanted() : helped_by(mine.what));
     return brought(0, IOX2PS_OK);
   }
+
+  /* Under the lock, before somebody else is told: who isn't told of what came before. */
+  Wake catch_up() { return processes_ ? brought(0, IOX2PS_OK) : Wake(); }
 
   /* Under the lock: who sleeps for all is to be woken for these too. */
   Wake begin_to_want(Brings brings) {

@@ -9,7 +9,7 @@ size_t copies_size(uint32_t places, size_t room) {
 
 copies_t copies_at(void *memory, uint32_t places, size_t room) {
   char *heads = (char *)memory + 64, *buffers = heads + places * COPIES_OF_PLACE * sizeof(copy_head_t);
-  return (copies_t){places, in_lines(room), memory, (copy_head_t *)heads, (_Atomic uint64_t *)buffers};
+  return (copies_t){places, in_lines(room), memory, (_Atomic uint64_t *)memory + 1, (copy_head_t *)heads, (_Atomic uint64_t *)buffers};
 }
 
 static _Atomic uint64_t *buffer_of(const copies_t *copies, uint32_t which) { return copies->buffers + which * (copies->room / COPY_UNIT); }
@@ -58,6 +58,12 @@ void copies_make(const copies_t *copies, uint32_t place, uint64_t made, const vo
   while (newest >> COPY_BUFFER_BITS < made + 1
          && !atomic_compare_exchange_weak_explicit(copies->newest, &newest, mine, memory_order_relaxed, memory_order_relaxed)) {
   }
+}
+
+bool copies_claim(const copies_t *copies, uint64_t made, uint64_t after) {
+  /* Relaxed: each has buffers of its own, so two that copy at a time only take time. */
+  uint64_t claimed = atomic_load_explicit(copies->claimed, memory_order_relaxed);
+  return made >= claimed + after && atomic_compare_exchange_strong_explicit(copies->claimed, &claimed, made, memory_order_relaxed, memory_order_relaxed);
 }
 
 copy_load_t copies_load(const copies_t *copies, void *object) {

@@ -22,6 +22,7 @@ typedef struct copies_t {
   uint32_t places;
   size_t room; /* bytes of each buffer */
   _Atomic uint64_t *newest; /* how many calls the newest copy knows, and 1; and its buffer in the lowest bits */
+  _Atomic uint64_t *claimed; /* how many calls were made as a process that has time began its copy, the last that did */
   copy_head_t *heads;
   _Atomic uint64_t *buffers;
 } copies_t;
@@ -45,6 +46,9 @@ static inline uint64_t copies_newest(const copies_t *copies) {
 /* Copies the object, which has made so many calls, and makes it the newest unless there is one that knows more. `size` is a
  * multiple of COPY_UNIT, and at most the room. By the process of the place alone. */
 void copies_make(const copies_t *copies, uint32_t place, uint64_t made, const void *object, size_t size);
+/* Whether a process that has time makes the next copy, so many calls behind the one that such a process began last: one of them does. It may
+ * die meanwhile, or be stopped. */
+bool copies_claim(const copies_t *copies, uint64_t made, uint64_t after);
 /* Puts the newest copy in the object's place, which has the room of a buffer. Unless it is loaded, the object is spoilt, and
  * another has to be loaded. */
 copy_load_t copies_load(const copies_t *copies, void *object);

@@ -80,10 +80,17 @@ static size_t recording_room_of(size_t commands) {
   return commands == 0 ? 0 : plus(AROUND, times(COMMAND, commands));
 }
 
+/* Each half of the list brings a copy of the book-keeping: so a larger one has a longer list, and costs a call no more. */
+static uint32_t calls_of(size_t book_room) {
+  enum { BYTES_OF_A_CALL = 256 };
+  size_t calls = doubled(CALLS, book_room / BYTES_OF_A_CALL);
+  return calls < CALL_LENGTH_MAX ? (uint32_t)calls : CALL_LENGTH_MAX;
+}
+
 /* The options of a group of domains. False where the settings of one are invalid. */
 static bool options_of(const iox2ps_domain_settings_t *settings, size_t count, iox2ps_processes_options_t *options) {
   *options = (iox2ps_processes_options_t){
-    .struct_size = sizeof *options, .max_processes = MAX_PROCESSES, .calls = CALLS, .permissions = PERMISSIONS, .reap_every_ms = REAP_EVERY_MS, .spins = SPINS
+    .struct_size = sizeof *options, .max_processes = MAX_PROCESSES, .permissions = PERMISSIONS, .reap_every_ms = REAP_EVERY_MS, .spins = SPINS
   };
   for (size_t i = 0; i < count; i++) {
     const iox2ps_config_t *config = settings[i].config;
@@ -92,6 +99,7 @@ static bool options_of(const iox2ps_domain_settings_t *settings, size_t count, i
     options->book_room = plus(options->book_room, book_room_of(config, slots));
     options->payload_room = plus(options->payload_room, payload_room_of(config, slots));
   }
+  options->calls = calls_of(options->book_room);
   return true;
 }
 

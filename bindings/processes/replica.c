@@ -15,6 +15,12 @@ void replica_copy_if_due(replica_t *it) {
   it->copy_due = copies_newest(&it->copies) + it->list.length / 2 - 1;
 }
 
+/* Before it is due, by one of those that have time; if that one dies or is stopped, it is made when it is due. */
+static void copy_early(const replica_t *it) {
+  uint64_t after = it->list.length / 8 * (it->only_follows ? 1 : 3);
+  if (is_copy_due(it, after) && copies_claim(&it->copies, it->memory->progress.made, after)) make_copy(it);
+}
+
 static replica_status_t load(replica_t *it) {
   for (uint32_t turn = 0; turn < it->loads; turn++) {
     switch (copies_load(&it->copies, it->memory)) {
@@ -68,7 +74,7 @@ replica_status_t replica_join(replica_t *it) {
 
 replica_status_t replica_follow(replica_t *it, uint64_t most, bool is_idle) {
   replica_status_t status = follow(it, most, UINT64_MAX, NULL);
-  if (status == REPLICA_OK && is_idle && is_copy_due(it, it->list.length / 8 * 3)) make_copy(it);
+  if (status == REPLICA_OK && is_idle) copy_early(it);
   return status;
 }
 

@@ -22,6 +22,7 @@ typedef struct replica_t {
   uint32_t loads; /* how many copies in a row may be overwritten while they are loaded */
   void (*before_copy)(replica_memory_t *memory); /* notes the size; or null, where that stays */
   uint64_t copy_due; /* no copy is due before so many calls are made */
+  bool only_follows; /* this process has no part in what the calls are for, and so makes copies before any other */
 } replica_t;
 
 typedef enum replica_status_t {
@@ -36,7 +37,7 @@ void replica_create(replica_t *it);
 /* Loads the newest copy, and makes the calls that came since. By a process that joins. */
 replica_status_t replica_join(replica_t *it);
 /* Makes the calls that others added, at most so many. `is_idle`: this process has nothing better to do, and so makes the
- * copy that will be due. */
+ * copy that will be due, unless another such process does. */
 replica_status_t replica_follow(replica_t *it, uint64_t most, bool is_idle);
 /* Makes a copy if the newest one is old, before a call is added. */
 void replica_copy_if_due(replica_t *it);

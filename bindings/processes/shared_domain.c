@@ -39,8 +39,15 @@ iox2ps_status_t shared_domain_reap_in_time(shared_domain_t *it) {
   return shared_domain_look(it);
 }
 
+bool shared_group_has_handles(const shared_group_t *it) {
+  for (uint32_t i = 0; i < it->memory->count; i++)
+    if (live_handles_first(&it->memory->domains[i].handles, it->member.replica.place) != NULL) return true;
+  return false;
+}
+
 iox2ps_status_t shared_domain_idle(shared_domain_t *it) {
   if (it->group->broken != IOX2PS_OK) return it->group->broken;
+  it->group->member.replica.only_follows = false;
   replica_status_t status = replica_follow(&it->group->member.replica, UINT64_MAX, true);
   if (status != REPLICA_OK) return shared_group_break(it->group, status);
   return shared_domain_reap_in_time(it);

@@ -94,6 +94,8 @@ static inline iox2ps_status_t shared_domain_end(shared_domain_t *it, domain_oper
 iox2ps_status_t shared_domain_wait(shared_domain_t *it, uint32_t brings, member_is_there_t *is_there, void *waiter, uint64_t timeout_ns);
 /* Makes the calls that others have added. */
 iox2ps_status_t shared_domain_follow(shared_domain_t *it);
+/* Whether this process has ports of its domains, or messages. */
+bool shared_group_has_handles(const shared_group_t *it);
 /* There is nothing better to do: makes the copy that will be due, and looks for the dead now and then. */
 iox2ps_status_t shared_domain_idle(shared_domain_t *it);
 /* Gives back what processes had that died, and tells of them. `found` may be null. */

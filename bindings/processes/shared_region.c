@@ -58,7 +58,8 @@ region_status_t shared_region_map(shared_region_t *it, uint64_t address, size_t 
   region_status_t status = address == 0 ? claim_any(it) : address % PAGE == 0 ? claim(it, address) : REGION_TAKEN;
   if (status != REGION_OK) return status;
   it->payloads = it->memory + it->room;
-  if (mmap(it->memory, it->room, PROT_READ | PROT_WRITE, MAP_PRIVATE | MAP_ANONYMOUS | MAP_FIXED, -1, 0) != MAP_FAILED) return REGION_OK;
+  /* All of it is touched, so that no call waits for a page. */
+  if (mmap(it->memory, it->room, PROT_READ | PROT_WRITE, MAP_PRIVATE | MAP_ANONYMOUS | MAP_FIXED | MAP_POPULATE, -1, 0) != MAP_FAILED) return REGION_OK;
   shared_region_unmap(it);
   return REGION_NO_MEMORY;
 }

@@ -35,6 +35,7 @@ iox2ps_status_t iox2ps_domain_brought_each(iox2ps_domain_t *domain, uint64_t cou
 iox2ps_status_t shared_domain_wait(shared_domain_t *it, uint32_t brings, member_is_there_t *is_there, void *waiter, uint64_t timeout_ns) {
   if (it->group->broken != IOX2PS_OK) return it->group->broken;
   bool was_there = false;
+  it->group->member.replica.only_follows = !shared_group_has_handles(it->group);
   replica_status_t status = member_wait(&it->group->member, brings, is_there, waiter, timeout_ns, &was_there);
   if (status != REPLICA_OK) return shared_group_break(it->group, status);
   shared_domain_tell_deaths(it);

@@ -28,7 +28,7 @@ FAULTS = (
     ("what own handles keep is waited for", NAMED, "  case Waits::Loan: return code == IOX2PS_LOAN_ERROR_OUT_OF_MEMORY;", "  case Waits::Loan: return waits_on(what, code);", "one_thread"),
     ("a loan isn't waited for", NAMED, "  case Waits::Loan: return code == IOX2PS_LOAN_ERROR_OUT_OF_MEMORY;\n", "  case Waits::Loan: break;\n", "one_thread"),
     ("a blocked send is lost where nobody can be waited for", HANDLES, "    if (code == detail::not_shared) return Error::ProcessesNotShared;\n", "", "one_thread"),
-    ("a loan is lost where nobody can be waited for", HANDLES, " || code == detail::not_shared) return detail::error_of(code);", ") return detail::error_of(code);", "one_thread"),
+    ("a loan is lost where nobody can be waited for", HANDLES, " || code == detail::not_shared)) return detail::error_of(code);", ")) return detail::error_of(code);", "one_thread"),
     ("a wait is ended by calls of its own process", NAMED, "iox2ps_domain_brought_by_others(&shared.domain, 1u << which, &count)", "iox2ps_domain_brought(&shared.domain, 1u << which, &count)", "one_thread"),
     ("a wait is for all at once", NAMED, "if ((brings >> which & 1) != 0) code", "code", "one_thread"),
     ("a subscriber is listed as a publisher", NODES, "  if (raw.kind != IOX2PS_PORT_PUBLISHER) return std::nullopt;\n", "", "nodes"),

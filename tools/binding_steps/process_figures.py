@@ -5,6 +5,7 @@ import os
 import statistics
 import subprocess
 import time
+from collections import defaultdict
 from contextlib import contextmanager, nullcontext
 from dataclasses import dataclass
 
@@ -79,9 +80,9 @@ def of_iceoryx(work, main):
     return work / "by_iceoryx"
 
 
-def programs(work, library):
-    """What carries messages, and its program."""
-    main = compiled(work, "gcc", "figures.c")
+def programs(work, library, times="figures.c"):
+    """What carries messages, and its program with what times them."""
+    main = compiled(work, "gcc", times)
     ours = work / "by_processes"
     said("gcc", main, compiled(work, "gcc", "by_processes.c", *library.includes()), library.packed, "-o", ours)
     said("g++", main, compiled(work, "g++", "by_cpp.cpp", *library.includes()), library.packed, "-pthread", "-o", work / "by_cpp")
@@ -108,9 +109,9 @@ def programs(work, library):
 
 
 @contextmanager
-def broker(program, row):
-    """iceoryx' broker, with room for the messages of a row."""
-    words = (program.parent / "broker", str(row.length), str(4 * row.buffer + 4 * row.subscribers))
+def broker(program, length, messages):
+    """iceoryx' broker, with room for so many messages."""
+    words = (program.parent / "broker", str(length), str(messages))
     with subprocess.Popen(words, stdout=subprocess.PIPE, stderr=subprocess.DEVNULL, text=True) as ran:
         try:
             while ran.stdout.readline() not in ("ready\n", ""):
@@ -118,6 +119,26 @@ def broker(program, row):
             yield
         finally:
             ran.terminate()
+
+
+def broker_of(name, program, length, buffer, subscribers):
+    """What has to run beside a carrier, with room for a row's messages."""
+    return broker(program, length, 4 * buffer + 4 * subscribers) if name == OTHER else nullcontext()
+
+
+def printed_by(name, words, what, beside):
+    """What a program prints, as numbers; or none."""
+    try:
+        with beside:
+            printed = subprocess.run([str(word) for word in words], capture_output=True, text=True, timeout=MOST_SECONDS,
+                                     env={**os.environ, "CYCLONEDDS_URI": CONFIG})
+    except subprocess.TimeoutExpired:
+        print(f"{name}, {what}: not in {MOST_SECONDS} s")
+        return None
+    if printed.returncode:
+        print(f"{name}, {what}: {printed.stderr.strip()[-300:] or printed.returncode}")
+        return None
+    return tuple(int(number) for number in printed.stdout.split())
 
 
 def can(name, row):
@@ -129,17 +150,7 @@ def measure(name, program, row, share):
     """What a program prints of a row, as numbers; or none."""
     count = max(20, int(row.count * share * (1 if name in (OURS, CPP, RUST, OTHER, FLAG) or row.length < 1 << 20 else 0.4)))
     words = (program, f"figures_{os.getpid()}", row.length, row.subscribers, row.how, row.what, count, row.buffer)
-    try:
-        with broker(program, row) if name == OTHER else nullcontext():
-            printed = subprocess.run([str(word) for word in words], capture_output=True, text=True, timeout=MOST_SECONDS,
-                                     env={**os.environ, "CYCLONEDDS_URI": CONFIG})
-    except subprocess.TimeoutExpired:
-        print(f"{name}, {row.words()}: not in {MOST_SECONDS} s")
-        return None
-    if printed.returncode:
-        print(f"{name}, {row.words()}: {printed.stderr.strip()[-300:] or printed.returncode}")
-        return None
-    return tuple(int(number) for number in printed.stdout.split())
+    return printed_by(name, words, row.words(), broker_of(name, program, row.length, row.buffer, row.subscribers))
 
 
 def say_row(row, by, figures):
@@ -184,12 +195,34 @@ BESIDE_C = (
 )
 
 
+# What is measured at a time, so that a machine has to be quiet for some minutes alone: which rows, and by which carriers, or all.
+PARTS = {
+    "beside_iceoryx": ([row for _, row, _ in PROMISES], (OURS, OTHER)),
+    "languages": ([row for _, row, _ in BESIDE_C], (OURS, CPP, RUST)),
+    "round_trips": ([row for row in ROWS if row.what == ROUND_TRIP and row.subscribers == 1], None),
+    "one_way": ([row for row in ROWS if row.what == ONE_WAY and row.subscribers == 1], None),
+    "subscribers": ([row for row in ROWS if row.subscribers > 1], None),
+}
+
+
+def plan_of(parts, by):
+    """Which carriers a row is measured by, in its order."""
+    plan = {}
+    for part in parts or ("round_trips", "one_way", "subscribers"):
+        rows, names = PARTS[part]
+        for row in rows:
+            plan[row] = [name for name in by if can(name, row) and (name in plan.get(row, ()) or not names or name in names)]
+    return plan
+
+
 def judge(figures):
     """Each promise in each round. Returns how many hold in all, and how many don't."""
     counts = [0, 0]
     print()
     for words, row, holds in PROMISES:
         pairs = list(zip(figures[row, OURS], figures[row, OTHER]))
+        if not pairs:
+            continue
         is_kept = all(ours and other and holds(ours[0], other[0]) for ours, other in pairs)
         ratios = ", ".join(f"{ours[0] / other[0]:.2f}" for ours, other in pairs if ours and other)
         print(f"{'holds' if is_kept else 'FAILS'}: {words}: {ratios} of iceoryx' in the rounds")
@@ -201,6 +234,8 @@ def judge_beside_c(figures, language):
     """What a language takes beside C. Returns the same."""
     counts = [0, 0]
     for words, row, ratio in BESIDE_C:
+        if not figures[row, language]:
+            continue
         its, of_c = ([found[0] for found in figures[row, name] if found] for name in (language, OURS))
         found = ratio(statistics.median(its), statistics.median(of_c)) if its and of_c else float("inf")
         print(f"{'holds' if found <= MOST_BESIDE_C else 'FAILS'}: {words}, takes at most {MOST_BESIDE_C} times C's by {language}: {found:.2f}")
@@ -208,21 +243,24 @@ def judge_beside_c(figures, language):
     return counts
 
 
-def run_figures(work, library, rounds, share):
-    """All of them, and the exit status."""
-    by = programs(work, library)
-    figures = {(row, name): [] for row in ROWS for name in by}
+def heading():
+    """Of what, when and where."""
+    return f"\niox2_pubsub {version()}, {time.strftime('%-d %B %Y')}; {machine.processor()}, {os.cpu_count()} processors; {machine.compilers()}"
+
+
+def run_figures(work, library, rounds, share, parts=()):
+    """These parts or all, and the exit status."""
+    by, figures = programs(work, library), defaultdict(list)
+    plan = plan_of(parts, by)
     for turn in range(rounds):
         print(f"round {turn + 1} of {rounds}, load {machine.load():.1f}", flush=True)
-        for row in ROWS:
-            for name, program in by.items():
-                if can(name, row):
-                    figures[row, name].append(measure(name, program, row, share))
+        for row, names in plan.items():
+            for name in names:
+                figures[row, name].append(measure(name, by[name], row, share))
             print(f"  {row.what}: {row.words()}", flush=True)
-    print(f"\niox2_pubsub {version()}, {time.strftime('%-d %B %Y')}; {machine.processor()}, {os.cpu_count()} processors; {machine.compilers()}")
+    print(heading())
     say_tables(by, figures)
-    judged = [judge(figures)] if OTHER in by else []
-    judged += [judge_beside_c(figures, language) for language in (CPP, RUST) if language in by]
+    judged = [judge(figures), *(judge_beside_c(figures, language) for language in (CPP, RUST))]
     passed, failed = (sum(counts) for counts in zip(*judged))
     print(f"{passed} passed, {failed} failed")
     return int(failed > 0)

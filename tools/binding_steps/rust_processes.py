@@ -5,7 +5,7 @@ import re
 import shutil
 from pathlib import Path
 
-from . import rust_beside
+from . import page_processes, rust_beside
 from .crates import compiler_of
 from .places import BINDINGS, is_here
 from .process_library import SOURCES
@@ -141,6 +141,7 @@ def run_rust(steps, work, library):
     for name in BETWEEN:
         steps.run(f"rust, tests/{name}.rs", lambda name=name: crates.test("--test", name))
     steps.run("rust, types that are refused", refuses, crates)
+    steps.run("bindings/PROCESSES.md, its programs", page_processes.meet, crates, library)
     steps.run("rust, instructions of a message", rust_beside.count_beside, work, library)
     for name in DOCUMENTED:
         steps.run(f"rust, comments of {name}.rs", lambda name=name: crates.test("--doc", name))

@@ -142,12 +142,12 @@ IN_RUST = [
 
 # The same of the headers, which cpp/threads.cpp has to see.
 IN_CPP = [
-    ("nobody is woken for what comes", "shared", "if (!list_.is_empty()) wake.ringer = next(brings);", ""),
-    ("a message that comes isn't counted", "shared", "      count(messages_);\n      wake.listeners", "      wake.listeners"),
+    ("nobody is woken for what comes", "shared", "if (list_.is_anybody_told()) wake.ringer = next(brings);", ""),
+    ("a message that comes isn't counted", "shared", "if ((brings & only(Waits::Message)) != 0) count(messages_);", ""),
     ("room that comes isn't counted", "shared", "if ((brings & ~only(Waits::Message)) != 0) count(others_);", ""),
     ("who is woken doesn't wake the next", "shared", "        wake = brought(brings, code);\n        is_over", "        brought(brings, code);\n        is_over"),
     ("what is given back for the next message frees no loan", "shared", "brought_by(brings, code) | std::exchange(too_, 0u);", "brought_by(brings, code);"),
-    ("a refused call wakes others", "shared", "brings = iox2ps_brought_by(brings, code) |", "brings |="),
+    ("a refused call wakes others", "shared", "return iox2ps_brought_by(brings, code) |", "return brings |"),
     ("threads that wait for a loan wake each other", "", "bring_too(iox2ps_brought_by(hold_->history, updated));", "bring_too(only(detail::Waits::Loan));"),
     ("a history that an update for a loan hands over wakes nobody", "", "        hold_.bring_too(iox2ps_brought_by(hold_->history, updated));\n", ""),
     ("a send that is blocked where it was wakes others", "", "if (code != IOX2PS_BLOCKED || stands_at(domain) != before) hold_.bring_too", "hold_.bring_too"),
@@ -155,7 +155,9 @@ IN_CPP = [
      "if (code != IOX2PS_BLOCKED && stands_at(domain) == before) hold_.bring_too"),
     ("a listener is called under the lock", "shared", "      wake = brought(brings, code);\n    }\n    wake.wake();",
      "      wake = brought(brings, code);\n      wake.wake();\n    }"),
-    ("no listener is called", "shared", "      wake.listeners = listeners_;\n    }\n    if ((brings & ~", "    }\n    if ((brings & ~"),
+    ("no listener is called", "shared", "if ((brings & only(Waits::Message)) != 0) wake.listeners = listeners_;", ""),
+    ("a thread that waits isn't told", "shared", "    last_ = &one;\n    told_++;", "    last_ = &one;"),
+    ("a listener isn't told", "shared", "      if (!listeners_) list_.has_listeners();\n", ""),
     ("a stop calls no listener", "shared", "      wake.listeners = listeners_;\n    }\n    wake.wake();", "    }\n    wake.wake();"),
     ("a call waits in a listener", "shared", "is_past(until) || calling().is_on", "is_past(until)"),
     ("a listener is called inside of itself", "events", "if (mine.is_on) return put_off(mine, std::move(due));", ""),
@@ -175,6 +177,7 @@ IN_CPP = [
 # The same of wait sets, which cpp/wait_sets.cpp has to see.
 OF_WAIT_SETS = [
     ("a set isn't woken", "wait_set", "    told.alarm_.raise();\n", ""),
+    ("a set that joins isn't told", "shared", "    joined_ = &one;\n    told_++;", "    joined_ = &one;"),
     ("what comes while a set looks is missed", "wait_set", "      alarm_.lower();\n      Found found = look_at_all();", "      Found found = look_at_all();\n      alarm_.lower();"),
     ("a set that was woken once looks without end", "wait_set", "is_raised_.exchange(false, std::memory_order_acq_rel);", ""),
     ("a message that waits is told of once", "wait_set", "    Member<M>::handle(event, now);\n    this->put_off();", "    Member<M>::handle(event, now);"),
@@ -208,7 +211,7 @@ BESIDE_A_GATEWAY = [
     ("a late gateway waits for a publisher's next message", "", "      connect_publishers();\n      hold_->add(sender);", "      hold_->add(sender);"),
     ("a gateway that goes isn't forgotten", "", "      hold_->remove(sender);\n", ""),
     ("a message that comes while a thread falls asleep is missed", "shared", "if (has_changed(mine.what, seen)) return false;", ""),
-    ("nobody is woken for what comes", "shared", "if (!list_.is_empty()) wake.ringer = next(brings);", ""),
+    ("nobody is woken for what comes", "shared", "if (list_.is_anybody_told()) wake.ringer = next(brings);", ""),
 ]
 
 

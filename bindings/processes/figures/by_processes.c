@@ -42,6 +42,16 @@ void carrier_open(uint32_t process) {
   if (receives) open_way(receives_on), must(iox2ps_subscriber_create(&domains[receives_on], &subscriber));
 }
 
+void carrier_follow(bool (*is_over)(void)) {
+  for (int which = 0; which < WAYS; which++) open_way(which);
+  while (!is_over())
+    for (int which = 0; which < WAYS; which++) {
+      iox2ps_status_t code = iox2ps_domain_wait(&domains[which], IOX2PS_BRINGS_DEAD_NODE, 0, 0);
+      if (code != IOX2PS_PROCESSES_TIMED_OUT) must(code);
+    }
+  carrier_close();
+}
+
 static uint64_t seen(int which, uint32_t brings) {
   uint64_t count;
   must(iox2ps_domain_brought(&domains[which], brings, &count));

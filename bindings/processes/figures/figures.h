@@ -1,5 +1,5 @@
 // SPDX-License-Identifier: Apache-2.0 OR MIT
-/* What figures.c measures, and each carrier of messages has. Process 0 sends to all others, and process 1 sends back to it. */
+/* What figures.c and tail.c measure, and each carrier of messages has. Process 0 sends to all others, and process 1 sends back to it. */
 #ifndef IOX2PS_FIGURES_H
 #define IOX2PS_FIGURES_H
 
@@ -26,6 +26,8 @@ void carrier_open(uint32_t process);
 void carrier_send(uint64_t number);
 uint64_t carrier_receive(void);
 void carrier_close(void);
+/* Of a carrier that has it, by a process of its own that passes no message: does what others would have to do otherwise, until it is over. */
+void carrier_follow(bool (*is_over)(void));
 
 #ifdef __cplusplus
 }

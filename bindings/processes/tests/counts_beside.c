@@ -1,7 +1,7 @@
 // SPDX-License-Identifier: Apache-2.0 OR MIT
 #define _GNU_SOURCE
 /* What another language's message costs beside one of C, where a process passes it to itself: at most a tenth more instructions in a domain
- * of one thread, and four tenths where calls take a lock, for most messages and with the copies of the book-keeping that come due; and no
+ * of one thread, and three tenths where calls take a lock, for most messages and with the copies of the book-keeping that come due; and no
  * call of the system. */
 #include "passed.h"
 #include "passed_beside.h"
@@ -17,7 +17,7 @@ static void run_beside(const char *name, pid_t self) {
   beside_close(it);
 }
 
-enum { MOST_PERCENT = 110, MOST_PERCENT_WITH_LOCK = 140 };
+enum { MOST_PERCENT = 110, MOST_PERCENT_WITH_LOCK = 130 };
 
 static bool is_cheap(uint64_t count, uint64_t of_c) { return 100 * count <= (with_threads ? MOST_PERCENT_WITH_LOCK : MOST_PERCENT) * of_c; }
 

@@ -85,9 +85,60 @@ static void killed_processes(void) {
   munmap(shared, shared_room());
 }
 
+static void call_often(replica_t *it, uint64_t count) {
+  for (uint64_t i = 0; i < count; i++) CHECK(replica_call(it, (uint64_t[CALL_ARGUMENTS]){i}) == REPLICA_OK);
+}
+
+/* The place that has made the newest copy, of all calls. */
+static uint32_t place_of_copy(const replica_t *it) {
+  CHECK(copies_newest(&it->copies) == it->memory->progress.made + 1);
+  return (uint32_t)(*it->copies.newest & ((1u << COPY_BUFFER_BITS) - 1)) / COPIES_OF_PLACE;
+}
+
+static bool has_copied(const replica_t *it) {
+  const copy_head_t *heads = &it->copies.heads[it->place * COPIES_OF_PLACE];
+  return heads[0].end != 0 || heads[1].end != 0;
+}
+
+static void idle(replica_t *it) { CHECK(replica_follow(it, UINT64_MAX, true) == REPLICA_OK); }
+
+/* Of those that have time one makes a copy before it is due: who only follows before the others, and any other process where that one
+ * doesn't end it. */
+static void one_of_many_copies(void) {
+  void *shared = create();
+  replica_t all[4];
+  for (uint32_t i = 0; i < 4; i++) {
+    all[i] = object_of(shared, i);
+    CHECK(replica_join(&all[i]) == REPLICA_OK);
+  }
+  replica_t *calls = &all[0], *one = &all[1], *other = &all[2], *follower = &all[3];
+  follower->only_follows = true;
+  call_often(calls, LENGTH / 8 * 3 - 1);
+  idle(one), idle(other);
+  CHECK(!has_copied(one) && !has_copied(other));
+  call_often(calls, 1);
+  idle(one), idle(other);
+  CHECK(place_of_copy(calls) == 1 && !has_copied(other));
+  call_often(calls, LENGTH / 8);
+  idle(other), idle(follower);
+  CHECK(place_of_copy(calls) == 3 && !has_copied(other));
+  call_often(calls, LENGTH / 8 * 3);
+  CHECK(copies_claim(&one->copies, calls->memory->progress.made, LENGTH / 8 * 3)); /* and it is stopped */
+  idle(other);
+  CHECK(!has_copied(other));
+  call_often(calls, LENGTH / 8);
+  CHECK(copies_newest(&calls->copies) + LENGTH / 2 == calls->memory->progress.made + 1);
+  CHECK(replica_follow(one, UINT64_MAX, false) == REPLICA_OK);
+  call_often(calls, 1);
+  CHECK(place_of_copy(one) == calls->place && !has_copied(other));
+  for (uint32_t i = 0; i < 4; i++) free(all[i].memory);
+  munmap(shared, shared_room());
+}
+
 int main(void) {
   processes_at_once();
   killed_processes();
+  one_of_many_copies();
   puts("the list: all processes have the same object");
   return 0;
 }

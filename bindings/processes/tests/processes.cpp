@@ -91,6 +91,17 @@ void all_threads_hear() {
   CHECK(status_of(child) == 0);
 }
 
+/* A listener is called for what comes, and not for what waits already. */
+void a_listener_begins_where_it_is_set() {
+  std::atomic<int> calls{0};
+  auto domain = opened(name_of("begins"));
+  auto subscriber = domain.subscriber().expect("a subscriber");
+  auto publisher = domain.publisher().expect("a publisher");
+  CHECK(publisher.send_copy({1, {}})->delivered() == 1u);
+  CHECK(subscriber.set_listener([&] { calls++; }).has_value() && calls == 0);
+  CHECK(publisher.send_copy({2, {}})->delivered() == 1u && calls == 1);
+}
+
 /* A listener, a descriptor and a wait set, of which no thread of this process waits in the domain. */
 void listeners_hear() {
   std::string name = name_of("listeners");
@@ -219,6 +230,7 @@ int main(int count, char **words) {
   if (has_played(count, words, {{"sends", sends}, {"receives", receives}, {"sends_one", sends_one}, {"has_a_publisher", has_a_publisher}, {"has_a_subscriber", has_a_subscriber}, {"throws", throws}})) return 0;
   messages_come_and_make_room();
   all_threads_hear();
+  a_listener_begins_where_it_is_set();
   listeners_hear();
   waits_are_ended();
   the_dead_give_back();

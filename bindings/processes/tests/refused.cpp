@@ -1,5 +1,6 @@
 // SPDX-License-Identifier: Apache-2.0 OR MIT
-/* What is refused in C++, and in which words: names, types, settings, builds, users, and a process too many; and what ends a wait. */
+/* What is refused in C++, and in which words: names, types, settings, builds, users, files, rooms, and a process too many; and what ends
+ * a wait. */
 #include "roles.hpp"
 #include <array>
 #include <cstring>
@@ -110,13 +111,70 @@ void no_permission() {
   CHECK(status_of(started("is_another_user", name)) == 0);
 }
 
+/* A name without letters that a file's name has otherwise. */
+std::string plain_name(const char *what) { return "test_cpp." + std::to_string(getpid()) + "." + what; }
+/* The file with the list of calls of such a name. */
+std::filesystem::path file_of(const std::string &name) {
+  for (const auto &file : std::filesystem::directory_iterator("/dev/shm"))
+    if (file.path().string().find(name) != std::string::npos && file.path().string().find("payloads") == std::string::npos) return file.path();
+  CHECK(false);
+  return {};
+}
+
+/* It is left as it is. */
+void a_file_of_another_program() {
+  std::string name = plain_name("foreign"), text = "another program's", found;
+  auto path = [&] {
+    auto domain = open_by<Alone>(name);
+    return file_of(name);
+  }();
+  CHECK(!std::filesystem::exists(path));
+  std::ofstream(path) << text;
+  is_refused(name, settings(), Error::OpenServiceInCorruptedState, "another program");
+  CHECK(!*Domain::exists(name) && std::getline(std::ifstream(path), found) && found == text);
+  std::filesystem::remove(path);
+}
+
+void no_room_and_bad_options() {
+  std::string name = name_of("room");
+  auto because = [&](const iox2ps::Config<Reading> &config, const iox2ps::ProcessesOptions &options, Error error) {
+    CHECK(Domain::create(name, config, options).error() == error && Alone::open_or_create(name, config, options).error() == error && !*Domain::exists(name));
+  };
+  because(settings(), iox2ps::ProcessesOptions().payload_room(std::size_t(1) << 40), Error::OpenInternalFailure);
+  CHECK(std::string(iox2ps::why_refused()).find("No space left") != std::string::npos);
+  because(settings(), iox2ps::ProcessesOptions().book_room(64), Error::OutOfMemory);
+  because(settings().max_subscribers(SIZE_MAX), {}, Error::WorstCaseTooLarge);
+  because(settings(), iox2ps::ProcessesOptions().max_processes(0), Error::OpenInvalidArgument);
+  because(settings(), iox2ps::ProcessesOptions().calls(100), Error::OpenInvalidArgument);
+  because(settings(), iox2ps::ProcessesOptions().permissions(01000), Error::OpenInvalidArgument);
+}
+
+/* Each wait ends, of threads and of one thread, and each call says why; the domain can be given back. */
+void files_that_are_written_over() {
+  std::string name = plain_name("damaged");
+  auto damaged = [](const auto &result) { return !result.has_value() && result.error() == Error::ProcessesDamaged; };
+  std::optional<Domain> domain = open_by<Domain>(name, by_looks);
+  auto publisher = domain->publisher().expect("a publisher");
+  auto subscriber = domain->subscriber().expect("a subscriber");
+  auto notifier = domain->notifier().expect("a notifier");
+  auto listener = domain->listener().expect("a listener");
+  std::thread receives([&] { CHECK(damaged(subscriber.blocking_receive())); });
+  std::thread listens([&] { CHECK(damaged(listener.blocking_wait_one())); });
+  std::fstream file(file_of(name), std::ios::in | std::ios::out | std::ios::binary);
+  std::string ones(static_cast<std::size_t>(std::filesystem::file_size(file_of(name))) - 4096, '\1');
+  CHECK(file.seekp(4096) && file.write(ones.data(), static_cast<std::streamsize>(ones.size())).flush());
+  receives.join(), listens.join();
+  CHECK(damaged(subscriber.receive()) && damaged(subscriber.timed_receive(1h)) && damaged(publisher.loan()) && damaged(publisher.send_copy({1, {}})));
+  CHECK(damaged(notifier.notify()) && damaged(domain->publisher()) && damaged(domain->nodes()) && damaged(domain->node_id()));
+  publisher.close(), subscriber.close(), listener.close();
+  domain.reset();
+}
+
 /* As if the others had another build: both sums are said. */
 void another_build() {
-  std::string name = "test_cpp." + std::to_string(getpid()) + ".build";
+  std::string name = plain_name("build");
   auto domain = open_by<Alone>(name);
-  std::filesystem::path path;
-  for (const auto &file : std::filesystem::directory_iterator("/dev/shm"))
-    if (file.path().string().find(name) != std::string::npos && file.path().string().find("payloads") == std::string::npos) path = file.path();
+  std::filesystem::path path = file_of(name);
   std::uint64_t build = iox2ps_processes_build(), other = build + 1;
   std::fstream file(path, std::ios::in | std::ios::out | std::ios::binary);
   std::array<char, 64> begins = {};
@@ -179,7 +237,10 @@ int main(int count, char **words) {
   names_are_refused_and_taken();
   one_process_too_many();
   no_permission();
+  a_file_of_another_program();
+  no_room_and_bad_options();
   another_build();
+  files_that_are_written_over();
   a_domain_is_closed_while_threads_wait();
   std::puts("refused in C++: each in its words");
 }

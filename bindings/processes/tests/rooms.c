@@ -156,6 +156,18 @@ static void file_by_default(void) {
   CHECK(iox2ps_domain_destroy(&domain) == IOX2PS_OK);
 }
 
+/* A large book-keeping has a long list, so that no call pays for more than some hundred bytes of copies. */
+static void list_by_default(void) {
+  const iox2ps_config_t small = settings(2, 8, 2, 2, 0, 1, 2), large = settings(1, 1, 1000, 1, 0, 1, 1), largest = settings(30, 60, 1000, 1, 0, 1, 1);
+  iox2ps_processes_options_t options;
+  iox2ps_processes_options_of(&small, &options);
+  CHECK(options.calls == 256);
+  iox2ps_processes_options_of(&large, &options);
+  CHECK(options.calls >= options.book_room / 256 && options.calls < options.book_room / 128 && (options.calls & (options.calls - 1)) == 0);
+  iox2ps_processes_options_of(&largest, &options);
+  CHECK(options.calls == 8192);
+}
+
 int main(void) {
   const iox2ps_config_t all[] = {
     settings(2, 8, 2, 2, 0, 1, 2), settings(1, 1, 1, 1, 0, 1, 1), settings(1, 1, 1000, 1, 0, 1, 1), settings(1, 1, 1, 1000, 0, 1, 1), settings(30, 1, 2, 2, 0, 1, 2),
@@ -164,6 +176,7 @@ int main(void) {
   for (size_t i = 0; i < sizeof all / sizeof *all; i++) all_ports(&all[i]);
   ports_come_and_go();
   file_by_default();
+  list_by_default();
   puts("rooms by default: all ports and messages have room");
   return 0;
 }

@@ -16,6 +16,12 @@ from other_process import SETTINGS, opened
 wants_processes()
 
 
+def calls_file(name):
+    """The file with the list of calls."""
+    (path,) = [path for path in Path("/dev/shm").iterdir() if name.split("/")[1] in path.name and path.name.endswith(".calls")]
+    return path
+
+
 def test_messages_come_from_another_process(name, start):
     with opened(name) as domain:
         subscriber = domain.subscriber()
@@ -249,7 +255,7 @@ def refused_as_another_user(call, path):
 @pytest.mark.parametrize("call", [ps.Domain.open, ps.Domain.open_or_create, ps.Domain.create])
 def test_without_permission_it_is_refused(name, call):
     with opened(name):
-        (path,) = [path for path in Path("/dev/shm").iterdir() if name.split("/")[1] in path.name and path.name.endswith(".calls")]
+        path = calls_file(name)
         assert refused_as_another_user(lambda: call(name, "i8", **SETTINGS), path)
     assert not ps.Domain.exists(name)
 
@@ -310,6 +316,38 @@ def test_what_cant_be_is_refused(name):
         with pytest.raises(kind):
             call()
     assert not ps.Domain.exists(name)
+
+
+def test_a_file_of_another_program_is_left_alone(name):
+    with opened(name):
+        path = calls_file(name)
+    path.write_text("another program's")
+    for call in (ps.Domain.open, ps.Domain.open_or_create, ps.Domain.create):
+        with pytest.raises(ps.OpenServiceInCorruptedState) as refused:
+            call(name, "i8", **SETTINGS)
+        assert isinstance(refused.value, OSError)
+    assert not ps.Domain.exists(name) and path.read_text() == "another program's"
+    path.unlink()
+
+
+def test_what_the_system_refuses_is_said(name):
+    with pytest.raises(ps.OpenInternalFailure, match="No space left"):
+        ps.Domain.create(name, "i8", payload_room=1 << 40)
+    assert not ps.Domain.exists(name)
+
+
+def test_another_build_is_refused_with_both_sums(name, start):
+    process = start("has_it", name)
+    assert hear(process) == "has it"
+    path, at = calls_file(name), 16  # behind what marks the file, and two versions
+    build = int.from_bytes(path.read_bytes()[at:at + 8], "little")
+    with path.open("r+b") as file:
+        file.seek(at)
+        file.write((build ^ 1).to_bytes(8, "little"))
+    with pytest.raises(ps.OpenVersionMismatch) as refused:
+        ps.Domain.open(name, "i8", **SETTINGS)
+    assert f"{build:x}" in str(refused.value) and f"{build ^ 1:x}" in str(refused.value)
+    process.kill()
 
 
 def test_names_of_types_are_those_of_rust():
@@ -380,7 +418,7 @@ def test_waits_end_where_the_files_are_written_over(name):
     domain = opened(name)
     subscriber, publisher = domain.subscriber(), domain.publisher()
     thread = waiting(domain, subscriber.receive, None)
-    (path,) = [path for path in Path("/dev/shm").iterdir() if name.split("/")[1] in path.name and path.name.endswith(".calls")]
+    path = calls_file(name)
     with path.open("r+b") as file:
         file.seek(4096)
         file.write(b"\1" * (path.stat().st_size - 4096))

@@ -486,6 +486,7 @@ fn each_cause_is_said() {
     drop(numbers(&name).open_or_create().unwrap());
     assert_eq!(refused(numbers(&name).open()), DoesNotExist);
     assert_eq!(refused(numbers(&name).book_room(64).create()), OutOfMemory);
+    assert_eq!(refused(numbers(&name).payload_room(1 << 40).create()), InternalFailure);
     let large = Domain::<u64>::builder(7).max_subscribers(usize::MAX);
     assert_eq!(refused(large.name(&name).create()), WorstCaseTooLarge);
     assert!(!Domain::exists(&name));
