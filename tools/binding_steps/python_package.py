@@ -5,7 +5,7 @@ import re
 import shutil
 import subprocess
 
-from . import python_costs, python_faults
+from . import python_costs, python_extension, python_faults
 from .places import BINDINGS, OUT, is_here
 from .programs import ARCHIVE, SANITIZERS
 from .python_wheels import (
@@ -64,7 +64,7 @@ def random_calls(work, python, script_of_run):
     order, stress = work / "lock_order.o", BINDINGS / "stress"
     said("gcc", "-O1", "-fPIC", "-I", OUT / "include", "-c", stress / "lock_order.c", "-o", order)
     wraps = [f"-Wl,--wrap={name}" for name in (stress / "wrapped.txt").read_text().split()]
-    package = python_faults.build(SOURCE / "src", include(), work / "ordered", order, *wraps)
+    package = python_extension.build(include(), work / "ordered", *wraps, beside=(order,))
     replies = 0
     for seed in SEEDS:
         program = (SOURCE / "tests/random_calls.py", seed, CALLS, 4, work / "script", work / "replies")
@@ -130,7 +130,7 @@ WATCHED = {"PYTHONMALLOC": "malloc", "PYTHONHASHSEED": "0"}
 
 def sanitized(work, python, others):
     """All tests with the extension under gcc's address and undefined sanitizers, which the interpreter isn't compiled with."""
-    package = python_faults.build(SOURCE / "src", include(), work / "sanitized", *SANITIZERS)
+    package = python_extension.build(include(), work / "sanitized", *SANITIZERS)
     runtime = said("gcc", "-print-file-name=libasan.so", both=False).strip()
     places = {**os.environ, **WATCHED, "PYTHONPATH": str(package), "LD_PRELOAD": runtime, "ASAN_OPTIONS": "detect_leaks=0:allocator_may_return_null=1", "IOX2_PUBSUB_CAMERAS": others}
     return said(python, "-m", "pytest", "-q", "-p", "no:cacheprovider", SOURCE / "tests", cwd=work, env=places)
@@ -138,7 +138,7 @@ def sanitized(work, python, others):
 
 def ground(work, python, *words):
     """A program of Python's under valgrind, which has to find nothing."""
-    package = python_faults.build(SOURCE / "src", include(), work / "ground", "-g")
+    package = python_extension.build(include(), work / "ground", "-g")
     grind = ("valgrind", "--quiet", "--error-exitcode=9", "--undef-value-errors=no", python)
     return said(*grind, *words, cwd=work, env={**os.environ, **WATCHED, "PYTHONPATH": str(package)}) or "nothing is found"
 
@@ -217,7 +217,8 @@ def run_python(steps, work, script_of_run):
         steps.skip("python, tests", lack)
         return
     python = environment(work, "with_numpy", "--system-site-packages")
-    steps.run("python, pytest", tested, work, python, cameras(work))
+    others = cameras(work)
+    steps.run("python, pytest", tested, work, python, others)
     steps.run("python, pytest over domains that processes share", tested_by_name, work, python)
     run_types(steps, work, python)
     run_page(steps, work, python)
@@ -227,6 +228,7 @@ def run_python(steps, work, script_of_run):
         steps.skip("python, random calls beside run", "pubsub_script (--script)")
     else:
         steps.run("python, random calls", random_calls, work, python, script_of_run)
+    python_faults.run_faults(steps, work, python, include(), others)
 
 
 def run_planted(steps, work):
