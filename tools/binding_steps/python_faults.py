@@ -8,7 +8,7 @@ from typing import NamedTuple
 
 from thread_steps.endings import how_it_ends
 
-from .python_extension import SOURCE, compiled, linked, objects_of
+from .python_build import SOURCE, compiled, linked, objects_of
 from .steps import Failed, said
 
 # Seconds of a processor, of which all these tests together, without a fault, may take no more either. One that looks for something for
