@@ -96,6 +96,12 @@ FAULTS = (
      "strlen(text) != (size_t)len", "len < 0"),
     ("a retry that is blocked where it was wakes those who wait for messages", "waits::test_a_retry_that_is_blocked_where_it_was_wakes_nobody", "sends.c",
      "? IOX2PS_PUBLISHER_IS_BLOCKED : code;", "? code : code;"),
+    ("a receive without memory keeps its sample", "memory::test_a_receive_holds_nothing", "subscribers.c",
+     "if (!message) return made(self->domain, BRINGS_LOAN, release_made, receiving), NULL;", "if (!message) return NULL;"),
+    ("a blocked send without memory isn't given up", "memory::test_a_send_that_is_blocked_is_given_up_with_its_exception", "sends.c",
+     "if (!blocked) return give_up_all(sending), NULL;", "if (!blocked) return NULL;"),
+    ("a send that nobody can retry is promised", "memory::test_a_send_that_is_blocked_is_given_up_with_its_exception", "sends.c",
+     "  if (blocked && PyObject_SetAttrString(value, \"blocked\", (PyObject *)blocked) == 0) {", "  if (blocked && (PyObject_SetAttrString(value, \"blocked\", (PyObject *)blocked) == 0 || (PyErr_Clear(), 1))) {"),
 )
 
 
