@@ -16,7 +16,7 @@ from .steps import Failed, said
 MOST_SECONDS = 40
 # So many faults are tried at a time: most tests sleep until it is clear that they wait for good.
 AT_ONCE = 3
-# What is wrong, which test sees it, in which file of src it is, and what stands there in place of what.
+# What is wrong, which test sees it, in which file of C or Python it is, and what stands there in place of what.
 FAULTS = (
     ("a loan with views is sent", "messages::test_a_loan_with_a_view_is_not_sent", "loans.c",
      'if (!is_usable(self) || !has_no_views(self, "send")) return NULL;', "if (!is_usable(self)) return NULL;"),
@@ -102,6 +102,22 @@ FAULTS = (
      "if (!blocked) return give_up_all(sending), NULL;", "if (!blocked) return NULL;"),
     ("a send that nobody can retry is promised", "memory::test_a_send_that_is_blocked_is_given_up_with_its_exception", "sends.c",
      "  if (blocked && PyObject_SetAttrString(value, \"blocked\", (PyObject *)blocked) == 0) {", "  if (blocked && (PyObject_SetAttrString(value, \"blocked\", (PyObject *)blocked) == 0 || (PyErr_Clear(), 1))) {"),
+    ("an event loop polls", "events::test_an_idle_loop_makes_no_call_of_the_system", "waits.py",
+     "        await raised\n", "        while not raised.done():\n            await asyncio.wait([raised], timeout=0.01)\n"),
+    ("a task's descriptor stays raised", "events::test_tasks_that_were_woken_for_nothing_sleep_again", "waits.py",
+     "            wait.lower()  # before the call that looks\n", ""),
+    ("a cancelled send is lost", "events::test_a_cancelled_send_isn_t_lost", "waits.py",
+     "        error.blocked = blocked  # type: ignore[attr-defined]\n", ""),
+    ("an iteration holds a message while it waits", "events::test_an_iteration_holds_no_message_that_its_body_let_go", "subscriber.py",
+     "            del sample  # or it would be held while the next is waited for\n", ""),
+    ("a dtype of objects is taken", "bad_input::test_a_dtype_that_no_message_has_is_refused", "values.py",
+     "if kind.hasobject:", "if False:"),
+    ("what numpy changes is sent", "bad_input::test_what_would_become_another_value_is_refused", "values.py",
+     'casting="unsafe" if counts else "same_kind"', 'casting="unsafe"'),
+    ("an array of another shape is sent", "bad_input::test_a_wrong_shape_is_refused", "values.py",
+     "if array.shape != inner if is_single else array.shape[1:] != inner or array.ndim == 0:", "if False:"),
+    ("another type than the other language's is joined", "languages::test_what_is_joined_has_settings_and_fits", "domain.py",
+     "if values.size != size or alignment % values.alignment:", "if False:"),
 )
 
 
@@ -117,14 +133,18 @@ class Planting(NamedTuple):
 
 def with_fault(planting, place, file, edits):
     """The package whose file has these edits, in a folder."""
-    text = (SOURCE / "src" / file).read_text()
+    is_c = file.endswith(".c")
+    text = (SOURCE / ("src" if is_c else "iox2_pubsub") / file).read_text()
     for old, new in zip(edits[::2], edits[1::2]):
         if text.count(old) != 1:
-            raise Failed(f"src/{file} has {text.count(old)} times: {old}")
+            raise Failed(f"{file} has {text.count(old)} times: {old}")
         text = text.replace(old, new)
     (place / file).write_text(text)
-    changed = compiled(place / file, planting.include, place)
-    return linked({**planting.objects, file: changed}.values(), place / "package")
+    changed = {file: compiled(place / file, planting.include, place)} if is_c else {}
+    package = linked({**planting.objects, **changed}.values(), place / "package")
+    if not is_c:
+        (place / file).rename(package / "iox2_pubsub" / file)
+    return package
 
 
 def tests_end(planting, package, tests):
