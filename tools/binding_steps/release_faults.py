@@ -8,7 +8,11 @@ from . import abi
 from .folder import kinds_of
 from .places import HEADER, is_here, version
 from .process_library import LIBRARY
-from .release import PROOFS, check_links, head, made, name_of, same_archive, same_crates, same_files, same_sums, same_target, unpacked, write_sums
+from .release import (
+    OF_THE_KIT, PROOFS, check_links, head, made, name_of, same_archive, same_crates, same_files, same_sums, same_target, told_proofs, unpacked,
+    write_sums
+)
+from .released import is_for_another_kit, same_proofs
 from .steps import Failed
 from .targets import AARCH64, PLAIN, TARGETS, X86_64, asked_for, stand_in
 
@@ -267,6 +271,23 @@ def other_crate_is_seen(work, packed):
     return refused("another crate", same_crates, folder)
 
 
+def other_kit_excuses_bytes(work, packed):
+    """Of a release that another kit made only the archives' bytes may differ: no other file, and not what is proved."""
+    for failures, proved_by, is_excused in (
+        ([OF_THE_KIT], "another", True),
+        ([OF_THE_KIT], "here", False),
+        ([OF_THE_KIT, "each file is the commit's"], "another", False),
+        (["each file is the commit's"], "another", False),
+    ):
+        if is_for_another_kit(failures, proved_by, "here") != is_excused:
+            raise Failed(f"where {proved_by} made it, {failures} {'are' if not is_excused else 'are not'} passed over")
+    (work / "kits").mkdir()
+    folder = unpacked(packed, work / "kits")
+    proofs = told_proofs(folder, X86_64)
+    same_proofs(folder, X86_64, proofs)
+    return refused("another proof", same_proofs, folder, X86_64, [*proofs[1:], "logic=proved functions=1"])
+
+
 def changed_byte_is_seen(work, packed):
     """Without sums made anew, the release's own sums say that a file was changed."""
     (work / "way").mkdir()
@@ -308,6 +329,7 @@ def run_faults(steps, work):
     steps.run("another crate than this clone's", other_crate_is_seen, work, first)
     steps.run("a link to a page that isn't in the release", lost_page_is_seen, work, first)
     steps.run("another archive than the proved one", other_archive_is_seen, work, first)
+    steps.run("another kit than the one that made a release", other_kit_excuses_bytes, work, first)
     if is_here("abidiff") and is_here("gcc"):
         steps.run("the binary interface is compared", interface_is_compared, work)
         steps.run("another interface wants another version", wants_new_version, work, first)
