@@ -8,7 +8,7 @@ import sys
 from collections import defaultdict
 from pathlib import Path
 
-from . import python_faults, python_package, python_wheels, rust_coverage
+from . import python_build, python_package, python_wheels, rust_coverage
 from .places import BINDINGS, OUT, is_here
 from .programs import WRAPS, compile_program
 from .steps import Failed, said
@@ -110,10 +110,10 @@ def python_extension(work):
     """The C of the package for Python, by its tests."""
     folder, source, counted = work / "python", python_wheels.SOURCE, defaultdict(Counted)
     folder.mkdir()
-    package = python_faults.build(source / "src", python_wheels.include(), folder / "package", "-O0", "--coverage")
+    package = python_build.build(python_wheels.include(), folder / "package", "-O0", "--coverage")
     places = {**os.environ, "PYTHONPATH": str(package), "IOX2_PUBSUB_CAMERAS": python_package.cameras(folder)}
     said(python_wheels.interpreter(), "-m", "pytest", "-q", "-p", "no:cacheprovider", source / "tests", cwd=folder, env=places)
-    add_counts(package / "iox2_pubsub", source / "src", counted)
+    add_counts(package / "objects", source / "src", counted)
     return counted
 
 

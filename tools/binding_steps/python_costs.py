@@ -2,35 +2,37 @@
 """What a message costs in Python: instructions, which are the same at each length, and time beside Python's queues."""
 import os
 import re
+from concurrent.futures import ThreadPoolExecutor
 
 from .places import BINDINGS, is_here
 from .steps import Failed, said
 
 PROGRAM = BINDINGS / "python/tests/compare.py"
 LENGTHS = (64, 1 << 20)
-# Messages of the two runs whose difference counts, which are both past the first use of each slot.
-FEW, MANY = 500, 1500
+# Messages of the two runs whose difference counts, which are both past the first use of each slot. What begins and ends a run takes some
+# 40,000 instructions more or fewer each time, so that fewer messages would count 40 more or fewer each.
+FEW, MANY = 500, 10_500
 # At most this number of instructions a message in place, with both of its arrays: one in a hundred more than Debian 12's CPython 3.11,
-# numpy 1.24 and gcc 12 take, 9,909. The first form of the extension, a single file, took 12,133 by the same calls.
-MOST = 10_010
+# numpy 1.24 and gcc 12 take, 9,846. The first form of the extension, a single file, takes 11,893 by the same calls.
+MOST = 9_945
 
 
 def instructions(work, python, bytes_, messages):
     """All of a run, as callgrind counts them."""
-    words = ("valgrind", "--tool=callgrind", f"--callgrind-out-file={work}/callgrind", python, PROGRAM, "messages", bytes_, messages)
+    counts = work / f"callgrind_{bytes_}_{messages}"
+    words = ("valgrind", "--tool=callgrind", f"--callgrind-out-file={counts}", python, PROGRAM, "messages", bytes_, messages)
     places = {**os.environ, "PYTHONHASHSEED": "0", "OPENBLAS_NUM_THREADS": "1"}
     return int(re.search(r"Collected : (\d+)", said(*words, env=places, cwd=work))[1])
 
 
-def message(work, python, bytes_):
-    """Of one message."""
-    few, many = (instructions(work, python, bytes_, messages) for messages in (FEW, MANY))
-    return (many - few) / (MANY - FEW)
-
-
 def same_at_each_length(work, python):
-    """A message takes as many at 64 bytes as at a megabyte, and not too many."""
-    short, long = (message(work, python, bytes_) for bytes_ in LENGTHS)
+    """A message takes as many at 64 bytes as at a megabyte, and not too many. The runs are counted side by side, behind one that isn't:
+    the first on a machine compiles Python's own files."""
+    said(python, PROGRAM, "messages", LENGTHS[0], 1, cwd=work)
+    runs = [(bytes_, messages) for bytes_ in LENGTHS for messages in (FEW, MANY)]
+    with ThreadPoolExecutor(2) as beside:
+        counted = dict(zip(runs, beside.map(lambda run: instructions(work, python, *run), runs)))
+    short, long = ((counted[bytes_, MANY] - counted[bytes_, FEW]) / (MANY - FEW) for bytes_ in LENGTHS)
     if abs(short - long) > short / 200 or short > MOST:
         raise Failed(f"{short:.0f} instructions at 64 bytes, {long:.0f} at a megabyte, {MOST} at most")
     return f"{short:.0f} instructions at 64 bytes, {long:.0f} at a megabyte"

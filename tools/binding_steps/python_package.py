@@ -5,7 +5,7 @@ import re
 import shutil
 import subprocess
 
-from . import python_costs, python_faults
+from . import python_build, python_costs, python_faults
 from .places import BINDINGS, OUT, is_here
 from .programs import ARCHIVE, SANITIZERS
 from .python_wheels import (
@@ -64,7 +64,7 @@ def random_calls(work, python, script_of_run):
     order, stress = work / "lock_order.o", BINDINGS / "stress"
     said("gcc", "-O1", "-fPIC", "-I", OUT / "include", "-c", stress / "lock_order.c", "-o", order)
     wraps = [f"-Wl,--wrap={name}" for name in (stress / "wrapped.txt").read_text().split()]
-    package = python_faults.build(SOURCE / "src", include(), work / "ordered", order, *wraps)
+    package = python_build.build(include(), work / "ordered", *wraps, beside=(order,))
     replies = 0
     for seed in SEEDS:
         program = (SOURCE / "tests/random_calls.py", seed, CALLS, 4, work / "script", work / "replies")
@@ -130,22 +130,20 @@ WATCHED = {"PYTHONMALLOC": "malloc", "PYTHONHASHSEED": "0"}
 
 def sanitized(work, python, others):
     """All tests with the extension under gcc's address and undefined sanitizers, which the interpreter isn't compiled with."""
-    package = python_faults.build(SOURCE / "src", include(), work / "sanitized", *SANITIZERS)
+    package = python_build.build(include(), work / "sanitized", *SANITIZERS)
     runtime = said("gcc", "-print-file-name=libasan.so", both=False).strip()
     places = {**os.environ, **WATCHED, "PYTHONPATH": str(package), "LD_PRELOAD": runtime, "ASAN_OPTIONS": "detect_leaks=0:allocator_may_return_null=1", "IOX2_PUBSUB_CAMERAS": others}
     return said(python, "-m", "pytest", "-q", "-p", "no:cacheprovider", SOURCE / "tests", cwd=work, env=places)
 
 
-def ground(work, python, *words):
+def ground(work, python, package, *words):
     """A program of Python's under valgrind, which has to find nothing."""
-    package = python_faults.build(SOURCE / "src", include(), work / "ground", "-g")
     grind = ("valgrind", "--quiet", "--error-exitcode=9", "--undef-value-errors=no", python)
     return said(*grind, *words, cwd=work, env={**os.environ, **WATCHED, "PYTHONPATH": str(package)}) or "nothing is found"
 
 
-def lost(work, python, messages, domains):
+def lost(work, python, package, messages, domains):
     """How many bytes nothing leads to at the end of a run, as valgrind finds."""
-    package = work / "ground"
     grind = ("valgrind", "--leak-check=full", "--show-leak-kinds=definite", "--undef-value-errors=no", python)
     words = [*map(str, (*grind, SOURCE / "tests/leaks.py", messages, domains))]
     places = {**os.environ, **WATCHED, "PYTHONPATH": str(package)}
@@ -157,9 +155,9 @@ def lost(work, python, messages, domains):
     return int(found[1].replace(",", ""))
 
 
-def nothing_is_lost(work, python):
+def nothing_is_lost(work, python, package):
     """Messages and domains leave no block that a run without any doesn't leave."""
-    before, after = lost(work, python, 0, 0), lost(work, python, 2000, 50)
+    before, after = (lost(work, python, package, *numbers) for numbers in ((0, 0), (2000, 50)))
     if after > before:
         raise Failed(f"{after - before} bytes are lost")
     return f"{after} bytes with messages and without"
@@ -176,10 +174,11 @@ def run_checked(steps, work):
     if not is_here("valgrind"):
         steps.skip("python by valgrind", "valgrind")
         return
-    steps.run("python, tests/without_numpy.py, valgrind", ground, work, python, SOURCE / "tests/without_numpy.py")
+    package = python_build.build(include(), work / "ground", "-g")
+    steps.run("python, tests/without_numpy.py, valgrind", ground, work, python, package, SOURCE / "tests/without_numpy.py")
     bad_input = ("-m", "pytest", "-q", "-p", "no:cacheprovider", SOURCE / "tests/test_bad_input.py", SOURCE / "tests/test_messages.py")
-    steps.run("python, bad input and messages, valgrind", ground, work, python, *bad_input)
-    steps.run("python, leaks by valgrind", nothing_is_lost, work, python)
+    steps.run("python, bad input and messages, valgrind", ground, work, python, package, *bad_input)
+    steps.run("python, leaks by valgrind", nothing_is_lost, work, python, package)
 
 
 def run_bench(work):
@@ -217,7 +216,8 @@ def run_python(steps, work, script_of_run):
         steps.skip("python, tests", lack)
         return
     python = environment(work, "with_numpy", "--system-site-packages")
-    steps.run("python, pytest", tested, work, python, cameras(work))
+    others = cameras(work)
+    steps.run("python, pytest", tested, work, python, others)
     steps.run("python, pytest over domains that processes share", tested_by_name, work, python)
     run_types(steps, work, python)
     run_page(steps, work, python)
@@ -227,6 +227,7 @@ def run_python(steps, work, script_of_run):
         steps.skip("python, random calls beside run", "pubsub_script (--script)")
     else:
         steps.run("python, random calls", random_calls, work, python, script_of_run)
+    python_faults.run_faults(steps, work, python, include(), others)
 
 
 def run_planted(steps, work):

@@ -1,9 +1,11 @@
 # SPDX-License-Identifier: Apache-2.0 OR MIT
 """How a program of many threads ends, whatever else the machine does: no clock says that it waits for good."""
+import os
 import resource
 import signal
 import subprocess
 import time
+from contextlib import contextmanager, suppress
 from pathlib import Path
 
 # So long all its threads have to sleep. The longest sleep in a test takes a fifth of a second.
@@ -57,11 +59,22 @@ def stood_still(process):
     return sleeps(before)
 
 
-def how_it_ends(*command, seconds=MOST_SECONDS, **more):
-    """Whether the program passes, fails, waits for good, or takes more processor time."""
+@contextmanager
+def begun(*command, seconds, **more):
+    """The program in a group of its own, of which nothing is left at the end."""
     limit = lambda: resource.setrlimit(resource.RLIMIT_CPU, (seconds, seconds))
     quiet = {"stdin": subprocess.DEVNULL, "stdout": subprocess.DEVNULL, "stderr": subprocess.DEVNULL}
-    with subprocess.Popen([str(word) for word in command], preexec_fn=limit, **quiet, **more) as process:
+    with subprocess.Popen([str(word) for word in command], preexec_fn=limit, start_new_session=True, **quiet, **more) as process:
+        try:
+            yield process
+        finally:
+            with suppress(ProcessLookupError):
+                os.killpg(process.pid, signal.SIGKILL)
+
+
+def how_it_ends(*command, seconds=MOST_SECONDS, **more):
+    """Whether the program passes, fails, waits for good, or takes more processor time."""
+    with begun(*command, seconds=seconds, **more) as process:
         while process.poll() is None:
             time.sleep(0.05)
             try:

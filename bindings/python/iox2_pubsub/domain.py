@@ -2,6 +2,7 @@
 """Domains."""
 from __future__ import annotations
 
+from numbers import Integral, Real
 from typing import Any, Callable
 
 from . import _core
@@ -15,12 +16,31 @@ from .values import type_name_of, values_of
 
 
 MOST_BYTES = 2**63  # of a message, which no memory holds
-OPTIONS = ("max_processes", "calls", "book_room", "payload_room", "permissions", "spins")  # of a domain that processes share
+MOST_SECONDS = 4_000_000  # some 46 days
+ROOMS = ("book_room", "payload_room")
+OPTIONS = (*ROOMS, "max_processes", "calls", "permissions", "spins")  # of a domain that processes share
 
 
 def _given(**settings: int | None) -> dict[str, int]:
     """Those that were said."""
     return {name: value for name, value in settings.items() if value is not None}
+
+
+def _milliseconds(reap_every: float) -> int:
+    if not isinstance(reap_every, Real):
+        raise TypeError(f"reap_every is a number of seconds, not {reap_every!r}")
+    if not 0 < reap_every <= MOST_SECONDS:
+        raise ValueError(f"reap_every is a number of seconds above 0, {MOST_SECONDS} at most, not {reap_every!r}")
+    return max(1, round(reap_every * 1000))
+
+
+def _commands(how: str, record: int) -> int:
+    if how != "create":
+        raise TypeError("record is for Domain.create: who opens a domain finds it recorded or not")
+    if not isinstance(record, Integral) or not 0 <= record < MOST_BYTES:
+        kind = ValueError if isinstance(record, Integral) else TypeError
+        raise kind(f"record is for how many commands of a domain with a name there is room, a number from 0 on, not {record!r}")
+    return int(record)
 
 
 def _type_and_settings(
@@ -160,11 +180,15 @@ class Domain(_core.Domain):
         reap_every, record, alignment = given.pop("reap_every", None), given.pop("record", None), given.pop("alignment", None)
         type_name = given.pop("type_name", None)
         if reap_every is not None:
-            options["reap_every_ms"] = max(1, round(reap_every * 1000))
+            options["reap_every_ms"] = _milliseconds(reap_every)
+        if empty := [room for room in ROOMS if options.get(room) == 0]:
+            raise ValueError(f"{empty[0]} is a number of bytes above 0")
         type_of, made = _type_and_settings(dtype, max_len, alignment, **given)
         if type_name is None:
             type_name = type_name_of(dtype, type_of[1])
-        return cls._open(how, name, type_name, *type_of, made, options, *([record] if record is not None else []))
+        if not isinstance(type_name, str):
+            raise TypeError(f"type_name is a text, not {type_name!r}")
+        return cls._open(how, name, type_name, *type_of, made, options, *([] if record is None else [_commands(how, record)]))
 
     @classmethod
     def join(cls, capsule: Any, dtype: Any = bytes) -> Domain:

@@ -63,8 +63,9 @@ int read_state(PyObject *number, void *state) {
 int read_id(PyObject *number, void *wide) { return wide_of(number, "an id", wide); }
 
 PyObject *made_of(const char *name, PyObject *args) {
-  PyObject *type = args ? PyDict_GetItemString(parts, name) : NULL, *made = type ? PyObject_CallObject(type, args) : NULL;
+  PyObject *key = args ? PyUnicode_FromString(name) : NULL, *type = key ? PyDict_GetItemWithError(parts, key) : NULL;
+  PyObject *made = type ? PyObject_CallObject(type, args) : NULL;
   if (!type && !PyErr_Occurred()) PyErr_SetString(PyExc_KeyError, name);
-  Py_XDECREF(args);
+  Py_XDECREF(key), Py_XDECREF(args);
   return made;
 }

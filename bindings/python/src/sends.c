@@ -75,22 +75,27 @@ typedef struct Blocked {
   char is_live;
 } Blocked;
 
-/* Hands the send over to the exception that is set. */
+/* The send as an object. Null with an exception, and the send is given up. */
+static Blocked *blocked_of(Sending *sending) {
+  Blocked *blocked = new_object(blocked_type);
+  if (!blocked) return give_up_all(sending), NULL;
+  blocked->port = (Port *)Py_NewRef((PyObject *)sending->port);
+  blocked->is_live = 1, blocked->blocked = sending->blocked;
+  return blocked;
+}
+
+/* Hands the send over to the exception that is set. Where there is no memory for that, a MemoryError is set in its place. */
 static PyObject *keep_blocked(Sending *sending) {
   PyObject *type, *value, *trace;
   PyErr_Fetch(&type, &value, &trace);
   PyErr_NormalizeException(&type, &value, &trace);
-  Blocked *blocked = new_object(blocked_type);
-  if (blocked) {
-    blocked->port = (Port *)Py_NewRef((PyObject *)sending->port);
-    blocked->is_live = 1, blocked->blocked = sending->blocked;
-    if (PyObject_SetAttrString(value, "blocked", (PyObject *)blocked) < 0) PyErr_Clear();
-    Py_DECREF((PyObject *)blocked);
+  Blocked *blocked = blocked_of(sending);
+  if (blocked && PyObject_SetAttrString(value, "blocked", (PyObject *)blocked) == 0) {
+    PyErr_Restore(type, value, trace);
   } else {
-    PyErr_Clear();
-    give_up_all(sending);
+    Py_XDECREF(type), Py_XDECREF(value), Py_XDECREF(trace);
   }
-  PyErr_Restore(type, value, trace);
+  Py_XDECREF((PyObject *)blocked);
   return NULL;
 }
 

@@ -16,6 +16,7 @@ OTHERWISE = {
     "test_a_refused_connection_is_ignored_warned_of_or_fails_the_call": "a domain of such settings is larger than its files may be",
     "test_a_subscriber_whose_connection_is_refused_later_answers_as_its_options_say": "the same",
     "test_bad_settings_are_refused_in_words": "the same",
+    "test_an_idle_loop_makes_no_call_of_the_system": "who waits looks for the dead five times a second",
 }
 numbers = itertools.count()
 of_one_process = Domain.__new__

@@ -14,8 +14,11 @@ names = itertools.count()
 
 @pytest.fixture
 def name():
-    """That of a domain which no other test has."""
-    return f"test_python/{next(names)}.{os.getpid()}"
+    """That of a domain which no other test has. No file of it is left, also by processes that were killed."""
+    name = f"test_python/{next(names)}.{os.getpid()}"
+    yield name
+    for file in Path("/dev/shm").glob(f"iox2ps.{name.replace('/', '%2f')}.*"):
+        file.unlink(missing_ok=True)
 
 
 @pytest.fixture

@@ -1,6 +1,7 @@
 # SPDX-License-Identifier: Apache-2.0 OR MIT
 """Domains that processes share by a name. None of the tests looks at a clock."""
 import asyncio
+import math
 import os
 import select
 import signal
@@ -348,6 +349,36 @@ def test_another_build_is_refused_with_both_sums(name, start):
         ps.Domain.open(name, "i8", **SETTINGS)
     assert f"{build:x}" in str(refused.value) and f"{build ^ 1:x}" in str(refused.value)
     process.kill()
+
+
+@pytest.mark.parametrize(
+    "option, kind, words",
+    [
+        *(({"reap_every": wrong}, ValueError, "reap_every is a number of seconds above 0") for wrong in (0, -1, math.nan, math.inf, 1e300)),
+        ({"reap_every": "1"}, TypeError, "reap_every is a number of seconds, not '1'"),
+        *(({"record": wrong}, TypeError, "record is for how many commands") for wrong in ((1, 2), "1", 1.5)),
+        *(({"record": wrong}, ValueError, "record is for how many commands") for wrong in (-1, 1 << 63)),
+        ({"type_name": 5}, TypeError, "type_name is a text, not 5"),
+        *(({room: wrong}, ps.OpenInvalidArgument, "lower what is too large") for room in ("payload_room", "book_room") for wrong in (1 << 63, (1 << 64) - 1)),
+        *(({room: 0}, ValueError, f"{room} is a number of bytes above 0") for room in ("payload_room", "book_room")),
+        *(({"calls": wrong}, ps.OpenInvalidArgument, "calls") for wrong in (0, 1 << 63)),
+        *(({"max_processes": wrong}, ps.OpenInvalidArgument, "places") for wrong in (0, 1 << 63)),
+        *(({name: -1}, ValueError, f"{name} is a number from 0") for name in ("payload_room", "book_room", "calls", "max_processes", "permissions", "spins")),
+        ({"permissions": 1 << 40}, ps.OpenInvalidArgument, "no such permissions"),
+        ({"max_len": 0}, ValueError, "1 at least"),
+        ({"max_len": 1 << 63}, ValueError, "max_len is the greatest number of values"),
+    ],
+)
+def test_an_option_that_cant_be_is_refused_in_words(name, option, kind, words):
+    with pytest.raises(kind, match=words):
+        ps.Domain.create(name, "i8", **option)
+    assert not ps.Domain.exists(name)
+
+
+def test_who_opens_a_domain_says_nothing_of_recordings(name):
+    for call in (ps.Domain.open, ps.Domain.open_or_create):
+        with pytest.raises(TypeError, match="record is for Domain.create"):
+            call(name, "i8", record=100)
 
 
 def test_names_of_types_are_those_of_rust():

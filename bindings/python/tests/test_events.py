@@ -3,6 +3,7 @@
 import asyncio
 import select
 import selectors
+import time
 
 import pytest
 from helpers import Beside, pair, value, waiting
@@ -94,6 +95,30 @@ def test_an_idle_loop_sleeps_once_for_a_message_without_a_poll():
 
     assert run(main(), *[lambda n=n: publisher.send_copy(n) for n in range(3)]) == 3
     assert publisher.domain.waiting == 0
+
+
+def switches(thread):
+    """How often a thread began or ended to run."""
+    with open(f"/proc/self/task/{thread.native_id}/status", encoding="ascii") as lines:
+        return [line for line in lines if "ctxt_switches" in line]
+
+
+def test_an_idle_loop_makes_no_call_of_the_system():
+    """Its thread doesn't run: one that polls does so each time."""
+    publisher, subscriber = pair()
+
+    async def main():
+        return value(await subscriber.receive_async())
+
+    def is_idle():
+        before = switches(reader)
+        time.sleep(0.2)
+        return switches(reader) == before
+
+    reader = waiting(publisher.domain, lambda: asyncio.run(main()))
+    assert any(is_idle() for _ in range(20))
+    publisher.send_copy(5)
+    assert reader.result() == 5
 
 
 def test_messages_are_iterated_until_waits_are_stopped():
