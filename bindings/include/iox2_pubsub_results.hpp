@@ -190,9 +190,12 @@ public:
  * error: value(), *, -> and expect(). */
 template <typename V> class [[nodiscard]] Result {
 public:
-  Result(V &&value) : held_(std::in_place_index<0>, std::move(value)) {} /**< a value */
-  Result(const V &value) : held_(std::in_place_index<0>, value) {}       /**< a value */
-  Result(Error error) : held_(std::in_place_index<1>, error) {}        /**< none */
+  /** a value; of what is copied bit by bit g++ 12 warns where it is taken by a reference */
+  Result(std::conditional_t<std::is_trivially_copyable_v<V>, V, V &&> value) : held_(std::in_place_index<0>, std::move(value)) {}
+  /** a value, copied */
+  template <typename U, std::enable_if_t<std::is_same_v<U, V> && !std::is_trivially_copyable_v<U>, int> = 0>
+  Result(const U &value) : held_(std::in_place_index<0>, value) {}
+  Result(Error error) : held_(std::in_place_index<1>, error) {} /**< none */
 
   [[nodiscard]] bool has_value() const noexcept { return held_.index() == 0; }       /**< whether there is a value */
   /** The same, but not of a Result<bool>: `if (subscriber.has_samples())` would ask whether there is an answer, and not what it is.
