@@ -59,6 +59,18 @@ def tested_by_name(work, python):
     return said(python, "-m", "pytest", "-q", "-p", "no:cacheprovider", "-p", "by_name", *files, cwd=work, env=places)
 
 
+# What is said of calls in their order. Threads that ran one after the other would take three turns.
+TURNS = re.compile(r"lock_order: \d+ calls, (\d+) of them by another thread")
+LEAST_TURNS = 10
+
+
+def check_turns(printed):
+    """That calls of several threads came in between."""
+    turns = TURNS.search(printed)
+    if not turns or int(turns[1]) < LEAST_TURNS:
+        raise Failed(f"no threads whose calls take turns: {printed[-300:]}")
+
+
 def random_calls(work, python, script_of_run):
     """Random calls of four threads, whose replies are those of run."""
     order, stress = work / "lock_order.o", BINDINGS / "stress"
@@ -68,12 +80,15 @@ def random_calls(work, python, script_of_run):
     replies = 0
     for seed in SEEDS:
         program = (SOURCE / "tests/random_calls.py", seed, CALLS, 4, work / "script", work / "replies")
-        said(python, *program, cwd=work, env={**os.environ, "PYTHONPATH": str(package)})
+        printed = said(python, *program, cwd=work, env={**os.environ, "PYTHONPATH": str(package)})
+        check_turns(printed)
         with (work / "script").open() as lines:
             wanted = subprocess.run([script_of_run], stdin=lines, stdout=subprocess.PIPE, check=True).stdout
         if wanted != (work / "replies").read_bytes():
             raise Failed(f"seed {seed}: the replies aren't those of run")
         replies += wanted.count(b"\n")
+    if replies < len(SEEDS) * CALLS // 4:
+        raise Failed(f"only {replies} replies")
     return f"{len(SEEDS)} lists of 4 threads, {replies} replies are those of run"
 
 

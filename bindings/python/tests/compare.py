@@ -189,7 +189,7 @@ def main():
         return
     columns = [times(bytes_, messages) for bytes_, messages in SIZES]
     rows = {name: row for (name, *_), *row in zip(WAYS, *columns)}
-    print("| One thread, µs a message | 64 B | 1 MB |\n|---|---|---|")
+    print("| µs a message | 64 B | 1 MB |\n|---|---|---|")
     for name, row in rows.items():
         print(f"| {name} | " + " | ".join(f"{value:.1f}" for value in row) + " |")
     shares = [shared / queued for shared, queued in zip(rows[SHARED], rows[QUEUE])]

@@ -1,6 +1,6 @@
 # SPDX-License-Identifier: Apache-2.0 OR MIT
-"""A million messages by all that sends and receives, and some thousands of domains without any, after which the process has no more
-memory than before: `leaks.py [MESSAGES [DOMAINS]]`."""
+"""A million messages in place and by copies, beside loans that are refused, and some thousands of domains without any, after which the
+process has no more memory than before: `leaks.py [MESSAGES [DOMAINS]]`."""
 import gc
 import sys
 import time
@@ -60,7 +60,7 @@ WAYS = (in_place, in_place, copied, in_place, viewed, copied, in_place, copied, 
 
 def run(messages):
     """So many messages, in domains of some thousands each."""
-    for _ in range(messages // (AT_ONCE * len(WAYS))):
+    for _ in range(-(-messages // (AT_ONCE * (len(WAYS) - 1)))):  # the last way sends none
         with ps.Domain(7, "f8", 8) as domain:
             publisher, subscriber = domain.publisher(), domain.subscriber()
             for _ in range(AT_ONCE):

@@ -1,6 +1,7 @@
 # SPDX-License-Identifier: Apache-2.0 OR MIT
 """Event loops: descriptors, and calls of asyncio."""
 import asyncio
+import os
 import select
 import selectors
 import time
@@ -115,7 +116,9 @@ def test_an_idle_loop_makes_no_call_of_the_system():
         time.sleep(0.2)
         return switches(reader) == before
 
+    others = set(os.listdir("/proc/self/task"))
     reader = waiting(publisher.domain, lambda: asyncio.run(main()))
+    assert set(os.listdir("/proc/self/task")) - others == {str(reader.native_id)}, "a thread beside the loop's"
     assert any(is_idle() for _ in range(20))
     publisher.send_copy(5)
     assert reader.result() == 5
