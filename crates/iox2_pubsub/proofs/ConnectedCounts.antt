@@ -1,7 +1,8 @@
 -- What waits for a subscriber after a send of a publisher that is connected with it, and after a publisher's close.
-use Rattle.std.proofs.Common.{◌≡◌, ℕ, suc, ◌<◌, Bool, true, false, cond, ◌&&◌, ◌||◌, [], length, refl, sym, ap, subst, ◌∙◌, Option, Some, inl, inr}
+use Rattle.std.proofs.Common.{◌≡◌, ℕ, suc, ◌<◌, Bool, true, false, cond, ◌&&◌, ◌||◌, List, [], length, refl, sym, ap, subst, ◌∙◌, Option, Some, inl, inr}
 use Rattle.std.specs.Prelude.{◌≢◌, MatchOption}
 use Rattle.std.specs.Option.{option_map, option_map_or}
+use Rattle.std.specs.declared.time.Duration.{Duration}
 use Rattle.std.proofs.lemmas.Bool.{true≢false, ne_eqb, eq-eqb, cases_eq}
 use Rattle.std.proofs.lemmas.Option.{none-some, same_Some}
 use Rattle.iox2_machine.specs.machine.Mailbox.{Mailbox, waiting_dropped, has_numbers}
@@ -12,7 +13,7 @@ use Rattle.iox2_machine.specs.machine.Releases.{pruned}
 use Rattle.iox2_machine.specs.machine.Delivery.{DeliveryEnd, Complete, Suspended}
 use Rattle.iox2_machine.specs.machine.PublisherUpdate.{UpdatePublisher}
 use Rattle.iox2_machine.specs.machine.Records.{Publisher, Subscriber, Loan, Environment}
-use Rattle.iox2_machine.specs.machine.Sends.{SendResult, Send, ConcludeSend, published, with_mailboxes}
+use Rattle.iox2_machine.specs.machine.Sends.{DeliverAndConclude, SendResult, Send, ConcludeSend, published, with_mailboxes}
 use Rattle.iox2_machine.specs.machine.State.{State, connected_publishers}
 use Rattle.iox2_machine.specs.machine.Waiting.{receives_from, waiting_from}
 use Rattle.iox2_machine.specs.machine.WellFormed.{IsWellFormed}
@@ -21,7 +22,7 @@ use Rattle.iox2_laws.proofs.Cases.{by_option, by_bool}
 use Rattle.iox2_laws.proofs.NumberLemmas.{contains_in_append}
 use Rattle.iox2_laws.proofs.PlaceLemmas.{leads_to}
 use Rattle.iox2_laws.proofs.Puts.{put_at-same, put_at-other}
-use Rattle.iox2_laws.proofs.UpToDate.{send_subscribers}
+use Rattle.iox2_laws.proofs.UpToDate.{goes_on_subscribers, send_subscribers}
 use Rattle.iox2_laws.proofs.WaitingCounts.{by_record, same_from, sum_same, sum_one_less, sum_below, waiting_for}
 use Rattle.iox2_pubsub.specs.ConnectedPorts.{Connects}
 use Rattle.iox2_pubsub.proofs.SendsServe.{connected-waits}
@@ -72,33 +73,61 @@ module _ {T U : Type 0} where
       record { ports = last.ports ∙ first.ports; lie = λ i away. last.lie i away ∙ first.lie i away })))
       (λ e _ j. record { ports = ap (λ (t : State T U). t.next_port) j.0 ∙ first.ports; lie = λ i away. ap (λ (t : State T U). t.mailboxes i) j.0 ∙ first.lie i away }))
 
-  -- what waits from another publisher waits as before
+  -- The mailboxes of all publishers but one are as they were, and the subscribers are the same.
+  pub record TouchesOnly (s s' : State T U) (p : ℕ) : Type 0 where
+    pub others : OthersLie s s' p
+    pub subscribers : s'.subscribers ≡ s.subscribers
+
+  pub send-touches : (environment : Environment) (s : State T U) (n : ℕ) (l : Loan T U) (s' : State T U) (result : SendResult) → Send environment s n l s' result → TouchesOnly s s' l.publisher
+  send-touches environment s n l s' result h = record { others = send-lies environment s n l s' result h; subscribers = send_subscribers environment s n l s' result h }
+
+  goes-on-lies : (s : State T U) (p n : ℕ) (boxes : ℕ → Mailbox) (how : DeliveryEnd) (s' : State T U) (result : SendResult) → ConcludeSend (with_mailboxes s p boxes) p n how s' result → OthersLie s s' p
+  goes-on-lies s p n boxes (Complete count has_failed) s' result h = record {
+    ports = ap (λ (t : State T U). t.next_port) h.0;
+    lie = λ i away. ap (λ (t : State T U). t.mailboxes i) h.0 ∙ put_at-other s.mailboxes p boxes i (ne_eqb i p away);
+  }
+  goes-on-lies s p n boxes (Suspended b) s' result h = record {
+    ports = ap (λ (t : State T U). t.next_port) h.0;
+    lie = λ i away. ap (λ (t : State T U). t.mailboxes i) h.0 ∙ put_at-other s.mailboxes p boxes i (ne_eqb i p away);
+  }
+
+  pub goes-on-touches : (environment : Environment) (s : State T U) (p n channel retries : ℕ) (elapsed : Duration) (place : ℕ) (ends : List (Option ℕ)) (count : ℕ) (has_failed : Bool) (s' : State T U)
+      (result : SendResult) → DeliverAndConclude environment s p n channel retries elapsed place ends count has_failed s' result → TouchesOnly s s' p
+  goes-on-touches environment s p n channel retries elapsed place ends count has_failed s' result h = record {
+    others = by_option (OthersLie s s' p) (s.publishers p) _ _ h (λ _ v. absurd v) (λ x _ k. goes-on-lies s p n k.1 k.0 s' result k.3);
+    subscribers = goes_on_subscribers environment s p n channel retries elapsed place ends count has_failed s' result h;
+  }
+
+  module _ (s s' : State T U) (p : ℕ) (touches : TouchesOnly s s' p) (q : ℕ) where
+    -- what waits from another publisher waits as before
+    pub others-wait : (i : ℕ) → i ≢ p → waiting_from s' i q ≡ waiting_from s i q
+    others-wait i away = same_from s s' i q (ap (λ (f : ℕ → Option Subscriber). f q) touches.subscribers) (ap (λ (row : ℕ → Mailbox). (row q).waiting) (touches.others.lie i away))
+
+    -- one more waits where one more waits from the publisher
+    pub one-more-waits : p < s.next_port → suc (length (waiting_from s p q)) ≡ length (waiting_from s' p q) → suc (waiting_for s q) ≡ waiting_for s' q
+    one-more-waits low more =
+        sum_one_less (λ i. length (waiting_from s i q)) (λ i. length (waiting_from s' i q)) p s.next_port low more (λ i away. ap length (sym (others-wait i away)))
+        ∙ ap (sum_below (λ i. length (waiting_from s' i q))) (sym touches.others.ports)
+
+    -- and as many where as many do
+    pub as-many-wait : length (waiting_from s p q) ≡ length (waiting_from s' p q) → waiting_for s q ≡ waiting_for s' q
+    as-many-wait same =
+        sum_same (λ i. length (waiting_from s i q)) (λ i. length (waiting_from s' i q)) s.next_port (λ i _. each i)
+        ∙ ap (sum_below (λ i. length (waiting_from s' i q))) (sym touches.others.ports)
+      where
+        each : (i : ℕ) → length (waiting_from s i q) ≡ length (waiting_from s' i q)
+        each i = elim (cases_eq i p) [
+          | inl here ↦ subst (λ k. length (waiting_from s k q) ≡ length (waiting_from s' k q)) (sym here) same
+          | inr away ↦ ap length (sym (others-wait i away))
+        ]
+
   pub send-others : (environment : Environment) (s : State T U) (n : ℕ) (l : Loan T U) (s' : State T U) (result : SendResult) → Send environment s n l s' result
       → (i q : ℕ) → i ≢ l.publisher → waiting_from s' i q ≡ waiting_from s i q
-  send-others environment s n l s' result h i q away =
-      same_from s s' i q (ap (λ (f : ℕ → Option Subscriber). f q) (send_subscribers environment s n l s' result h))
-      (ap (λ (row : ℕ → Mailbox). (row q).waiting) ((send-lies environment s n l s' result h).lie i away))
+  send-others environment s n l s' result h i q = others-wait s s' l.publisher (send-touches environment s n l s' result h) q i
 
-  -- one more waits where one more waits from the publisher
-  pub send-one-more : (environment : Environment) (s : State T U) (n : ℕ) (l : Loan T U) (s' : State T U) (result : SendResult) → l.publisher < s.next_port → Send environment s n l s' result
-      → (q : ℕ) → suc (length (waiting_from s l.publisher q)) ≡ length (waiting_from s' l.publisher q) → suc (waiting_for s q) ≡ waiting_for s' q
-  send-one-more environment s n l s' result low h q more =
-      sum_one_less (λ i. length (waiting_from s i q)) (λ i. length (waiting_from s' i q)) l.publisher s.next_port low more
-      (λ i away. ap length (sym (send-others environment s n l s' result h i q away)))
-      ∙ ap (sum_below (λ i. length (waiting_from s' i q))) (sym (send-lies environment s n l s' result h).ports)
-
-  -- and as many where as many do
   pub send-as-many : (environment : Environment) (s : State T U) (n : ℕ) (l : Loan T U) (s' : State T U) (result : SendResult) → Send environment s n l s' result
       → (q : ℕ) → length (waiting_from s l.publisher q) ≡ length (waiting_from s' l.publisher q) → waiting_for s q ≡ waiting_for s' q
-  send-as-many environment s n l s' result h q same =
-      sum_same (λ i. length (waiting_from s i q)) (λ i. length (waiting_from s' i q)) s.next_port (λ i _. each i)
-      ∙ ap (sum_below (λ i. length (waiting_from s' i q))) (sym (send-lies environment s n l s' result h).ports)
-    where
-      each : (i : ℕ) → length (waiting_from s i q) ≡ length (waiting_from s' i q)
-      each i = elim (cases_eq i l.publisher) [
-        | inl here ↦ subst (λ k. length (waiting_from s k q) ≡ length (waiting_from s' k q)) (sym here) same
-        | inr away ↦ ap length (sym (send-others environment s n l s' result h i q away))
-      ]
+  send-as-many environment s n l s' result h q = as-many-wait s s' l.publisher (send-touches environment s n l s' result h) q
 
 -- ---- a publisher's close
 

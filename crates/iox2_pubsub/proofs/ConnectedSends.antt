@@ -203,7 +203,7 @@ module _ {T U : Type 0} where
 
 module _ (environment : Environment) (c : ServiceConfig) (p : ℕ) (strategy : BackpressureStrategy) (handler : Option (Handler BackpressureAction)) (buffers : ℕ → Option ℕ) (n q : ℕ) where
   -- a subscriber to which none of the ends leads keeps its mailbox
-  deliver-misses : (retries : ℕ) (elapsed : Duration) (place : ℕ) (ends : List (Option ℕ)) (count : ℕ) (has_failed : Bool) (boxes : ℕ → Mailbox) (how : DeliveryEnd) (boxes' : ℕ → Mailbox)
+  pub deliver-misses : (retries : ℕ) (elapsed : Duration) (place : ℕ) (ends : List (Option ℕ)) (count : ℕ) (has_failed : Bool) (boxes : ℕ → Mailbox) (how : DeliveryEnd) (boxes' : ℕ → Mailbox)
       → contains (occupants ends) q ≡ false → Deliver environment c p strategy handler buffers n 0 retries elapsed place ends count has_failed boxes how boxes' → boxes' q ≡ boxes q
   deliver-misses retries elapsed place [] count has_failed boxes how boxes' absent h = ap (λ (f : ℕ → Mailbox). f q) h.1
   deliver-misses retries elapsed place (None ∷ rest) count has_failed boxes how boxes' absent h =
@@ -222,7 +222,7 @@ module _ (environment : Environment) (c : ServiceConfig) (p : ℕ) (strategy : B
   abbrev pub served : (buffer : ℕ) → Mailbox → Mailbox
   served buffer box = cond (has_room 0 buffer box || c.enable_safe_overflow) (with_appended 0 buffer n box) box
 
-  put-serves : (retries : ℕ) (elapsed : Duration) (buffer : ℕ) (box : Mailbox) (result : PutResult) (box' : Mailbox)
+  pub put-serves : (retries : ℕ) (elapsed : Duration) (buffer : ℕ) (box : Mailbox) (result : PutResult) (box' : Mailbox)
       → Put environment c p strategy handler buffers n 0 q retries elapsed (Some buffer) box result box' → box' ≡ served buffer box
   put-serves retries elapsed buffer box result box' h =
       by_bool (box' ≡ served buffer box) (has_room 0 buffer box || c.enable_safe_overflow) _ _ h

@@ -12,7 +12,7 @@ use Rattle.iox2_machine.specs.machine.Limits.{refusal_limit}
 use Rattle.iox2_machine.specs.machine.Numbers.{contains, put_at}
 use Rattle.iox2_machine.specs.machine.Ports.{CreatePublisher, publisher_closed, subscriber_closed}
 use Rattle.iox2_machine.specs.machine.Records.{Entry, Environment, Loan, Publisher, PublisherSettings, Subscriber as MachineSubscriber}
-use Rattle.iox2_machine.specs.machine.Sends.{Delivered_to, Send}
+use Rattle.iox2_machine.specs.machine.Sends.{Delivered_to}
 use Rattle.iox2_machine.specs.machine.State.{State, Messages, is_blocked}
 use Rattle.iox2_machine.specs.machine.Waiting.{waiting_from}
 use Rattle.iox2_machine.specs.declared.errors.PublisherCreateError.{PublisherCreateError}
@@ -32,10 +32,10 @@ use Rattle.iox2_pubsub.specs.Slices.{HasValues}
 use Rattle.iox2_pubsub.specs.declared.subscriber.Subscriber.{Subscriber}
 use Rattle.iox2_pubsub.proofs.ConnectionsMade.{create-publisher-connections, create-publisher-connects}
 use Rattle.iox2_pubsub.proofs.ConnectionsStay.{publisher-closed-connections, subscriber-closed-connections}
-use Rattle.iox2_pubsub.proofs.ConnectedCounts.{publisher-closed-keeps}
+use Rattle.iox2_pubsub.proofs.ConnectedCounts.{TouchesOnly, publisher-closed-keeps, send-touches}
 use Rattle.iox2_pubsub.proofs.LiveParts.{buffer-parts}
 use Rattle.iox2_pubsub.proofs.PayloadLists.{map_same}
-use Rattle.iox2_pubsub.proofs.ServedLists.{send-served, send-counts, send-full}
+use Rattle.iox2_pubsub.proofs.ServedLists.{ServedLists, no-more, one-more, send-served}
 use Rattle.iox2_pubsub.proofs.UpToDateShown.{connected, connected-in, up-to-date-in}
 use Rattle.iox2_pubsub.proofs.WaitingShown.{live-open, payload-is, payloads-from-are, same-payload, waiting-is}
 use Rattle.iox2_steps.proofs.sends.SentSlots.{values-of}
@@ -61,7 +61,7 @@ unfolding IsServed
 served-parts old new p subscriber values h = h
 
 -- a loan's message reads as the loan
-loan-values : {T U F G : Type 0} (kept : Kept T U F G) (m : Messages T U) (s : State T U) → Shows kept m s → (n : ℕ) (l : Loan T U) (values : List T) → s.loans n ≡ Some l → HasValues kept n values
+pub loan-values : {T U F G : Type 0} (kept : Kept T U F G) (m : Messages T U) (s : State T U) → Shows kept m s → (n : ℕ) (l : Loan T U) (values : List T) → s.loans n ≡ Some l → HasValues kept n values
     → (entry_of l).values ≡ values
 loan-values {T} {U} kept m s shown n l values out reads =
     let has = values-parts kept n values reads in
@@ -69,18 +69,17 @@ loan-values {T} {U} kept m s shown n l values out reads =
     ap (filter_map (λ (cell : Option T). cell)) (ap (λ (k : Loan T U). k.cells) same ∙ has.2) ∙ values-of values
 
 module _ {T U F G : Type 0} (old new : Kept T U F G) (m m' : Messages T U) (s s' : State T U) (shown : Shows old m s) (shown' : Shows new m' s') where
-  -- a send that was delivered serves each subscriber with which its publisher is connected
-  module _ (environment : Environment) (n : ℕ) (l : Loan T U) (count : ℕ) (sent : (k : ℕ) (entry : Entry T U) → m k ≡ Some entry → m' k ≡ Some entry) (is_sent : m' n ≡ Some (entry_of l))
-      (out : s.loans n ≡ Some l) (free : is_blocked s l.publisher ≡ false) (h : Send environment s n l s' (Delivered_to count)) (subscriber : Subscriber) (values : List T)
-      (is : IsConnected old l.publisher subscriber) (reads : HasValues old n values) where
-    c : Connects s l.publisher subscriber.id
-    c = connected-in old m s shown l.publisher subscriber is
+  -- the message n serves each subscriber with which its publisher is connected, where the machine puts it there
+  module _ (p n : ℕ) (entry : Entry T U) (sent : (k : ℕ) (entry : Entry T U) → m k ≡ Some entry → m' k ≡ Some entry) (is_sent : m' n ≡ Some entry)
+      (subscriber : Subscriber) (is : IsConnected old p subscriber) where
+    c : Connects s p subscriber.id
+    c = connected-in old m s shown p subscriber is
 
     abbrev before : List ℕ
-    before = waiting_from s l.publisher subscriber.id
+    before = waiting_from s p subscriber.id
 
     abbrev now : List ℕ
-    now = waiting_from s' l.publisher subscriber.id
+    now = waiting_from s' p subscriber.id
 
     abbrev eo : ℕ → List T
     eo = payload_of (entries_of old)
@@ -91,54 +90,52 @@ module _ {T U F G : Type 0} (old new : Kept T U F G) (m m' : Messages T U) (s s'
     -- what waited reads as it did
     kept-payloads : (ns : List ℕ) → ((k : ℕ) → contains ns k ≡ true → contains before k ≡ true) → ((k : ℕ) → contains ns k ≡ true → contains now k ≡ true) → map en ns ≡ map eo ns
     kept-payloads ns there here =
-        map_same en eo ns (λ k at. same-payload old new m m' s s' shown shown' sent l.publisher subscriber.id k (there k at) (here k at))
+        map_same en eo ns (λ k at. same-payload old new m m' s s' shown shown' sent p subscriber.id k (there k at) (here k at))
 
-    -- and the message reads as its loan did
-    reads-new : contains now n ≡ true → en n ≡ values
-    reads-new at = payload-is new m' s' shown' l.publisher subscriber.id n at (entry_of l) is_sent ∙ loan-values old m s shown n l values out reads
-
-    appended : (front : List ℕ) → ((k : ℕ) → contains front k ≡ true → contains before k ≡ true) → now ≡ front ++ n ∷ [] → payloads_from new l.publisher subscriber ≡ map eo front ++ values ∷ []
+    appended : (front : List ℕ) → ((k : ℕ) → contains front k ≡ true → contains before k ≡ true) → now ≡ front ++ n ∷ [] → payloads_from new p subscriber ≡ map eo front ++ entry.values ∷ []
     appended front there is =
-        from-shown new m' s' shown' l.publisher subscriber ∙ ap (map en) is ∙ map-append en front (n ∷ [])
+        from-shown new m' s' shown' p subscriber ∙ ap (map en) is ∙ map-append en front (n ∷ [])
         ∙ ap (λ xs. xs ++ en n ∷ []) (kept-payloads front there (λ k at. ap (λ ns. contains ns k) is ∙ contains_left front (n ∷ []) k at))
-        ∙ ap (λ v. map eo front ++ v ∷ []) (reads-new (ap (λ ns. contains ns n) is ∙ contains_right front (n ∷ []) n (contains_first n [])))
+        ∙ ap (λ v. map eo front ++ v ∷ []) (payload-is new m' s' shown' p subscriber.id n (ap (λ ns. contains ns n) is ∙ contains_right front (n ∷ []) n (contains_first n [])) entry is_sent)
 
-    old-payloads : map eo before ≡ payloads_from old l.publisher subscriber
-    old-payloads = sym (from-shown old m s shown l.publisher subscriber)
+    old-payloads : map eo before ≡ payloads_from old p subscriber
+    old-payloads = sym (from-shown old m s shown p subscriber)
 
     -- the mailbox is as full as the subscriber's record has it, which is as its handle has it
-    full-here : 0 < length before → (c.subscriber).buffer ≤ length before → IsFull old l.publisher subscriber
+    full-here : 0 < length before → (c.subscriber).buffer ≤ length before → IsFull old p subscriber
     full-here some full = record {
-      some = mapped-least eo before (payloads_from old l.publisher subscriber) 1 (sym old-payloads) some;
+      some = mapped-least eo before (payloads_from old p subscriber) 1 (sym old-payloads) some;
       full = λ its.
           let same : (c.subscriber).buffer ≡ subscriber.buffer_size = (buffer-parts old subscriber its).1 c.subscriber (ap (λ (t : State T U). t.subscribers subscriber.id) (sym shown.state) ∙ c.there) in
-          mapped-least eo before (payloads_from old l.publisher subscriber) subscriber.buffer_size (sym old-payloads) (omega (arith, same, full));
+          mapped-least eo before (payloads_from old p subscriber) subscriber.buffer_size (sym old-payloads) (omega (arith, same, full));
     }
 
-    pub served : IsServed old new l.publisher subscriber values
-    served =
-        served-parts old new l.publisher subscriber values (⊎_elim
+    -- The machine serves the subscriber, and touches no other publisher's mailboxes.
+    pub served : TouchesOnly s s' p → ((y : MachineSubscriber) → s.subscribers subscriber.id ≡ Some y → ServedLists before now n y.buffer (s.config).enable_safe_overflow) → IsServed old new p subscriber entry.values
+    served touches lists =
+        let low : p < s.next_port = (shown.well_formed.publishers p c.publisher c.stands).is_known in
+        served-parts old new p subscriber entry.values (⊎_elim
         (λ fits. inl (
-          appended before (λ k at. at) fits ∙ ap (λ xs. xs ++ values ∷ []) old-payloads,
-          waiting-is new m' s' shown' subscriber ∙ send-counts environment s n l s' count shown.well_formed free h subscriber.id c fits ∙ ap suc (sym (waiting-is old m s shown subscriber)),
+          appended before (λ k at. at) fits ∙ ap (λ xs. xs ++ entry.values ∷ []) old-payloads,
+          waiting-is new m' s' shown' subscriber ∙ one-more s s' p n subscriber.id touches low fits ∙ ap suc (sym (waiting-is old m s shown subscriber)),
         ))
         (λ full. inr (
           full-here (full.0).0 (full.0).1,
           subst (λ (b : Bool). MatchBool b
-              (payloads_from new l.publisher subscriber ≡ drop 1 (payloads_from old l.publisher subscriber) ++ values ∷ [])
-              (payloads_from new l.publisher subscriber ≡ payloads_from old l.publisher subscriber)) (ap (λ (t : State T U). (t.config).enable_safe_overflow) shown.state)
+              (payloads_from new p subscriber ≡ drop 1 (payloads_from old p subscriber) ++ entry.values ∷ [])
+              (payloads_from new p subscriber ≡ payloads_from old p subscriber)) (ap (λ (t : State T U). (t.config).enable_safe_overflow) shown.state)
               (matched (s.config).enable_safe_overflow full.1),
-          waiting-is new m' s' shown' subscriber ∙ send-full environment s n l s' count shown.well_formed free h subscriber.id c (full.0).0 full.1 ∙ sym (waiting-is old m s shown subscriber),
+          waiting-is new m' s' shown' subscriber ∙ no-more s s' p n subscriber.id touches (s.config).enable_safe_overflow (full.0).0 full.1 ∙ sym (waiting-is old m s shown subscriber),
         ))
-        (send-served environment s n l s' count shown.well_formed free h subscriber.id c))
+        (lists c.subscriber c.there))
       where
         matched : (overflow : Bool) → MatchBool overflow (now ≡ drop 1 before ++ n ∷ []) (now ≡ before)
             → MatchBool overflow
-            (payloads_from new l.publisher subscriber ≡ drop 1 (payloads_from old l.publisher subscriber) ++ values ∷ [])
-            (payloads_from new l.publisher subscriber ≡ payloads_from old l.publisher subscriber)
-        matched true is = appended (drop 1 before) (λ k at. contains_in_drop 1 before k at) is ∙ ap (λ xs. xs ++ values ∷ []) (sym (drop-map eo 1 before) ∙ ap (drop 1) old-payloads)
+            (payloads_from new p subscriber ≡ drop 1 (payloads_from old p subscriber) ++ entry.values ∷ [])
+            (payloads_from new p subscriber ≡ payloads_from old p subscriber)
+        matched true is = appended (drop 1 before) (λ k at. contains_in_drop 1 before k at) is ∙ ap (λ xs. xs ++ entry.values ∷ []) (sym (drop-map eo 1 before) ∙ ap (drop 1) old-payloads)
         matched false is =
-            from-shown new m' s' shown' l.publisher subscriber ∙ ap (map en) is ∙ kept-payloads before (λ k at. at) (λ k at. ap (λ ns. contains ns k) is ∙ at) ∙ old-payloads
+            from-shown new m' s' shown' p subscriber ∙ ap (map en) is ∙ kept-payloads before (λ k at. at) (λ k at. ap (λ ns. contains ns k) is ∙ at) ∙ old-payloads
 
   -- connections stay where a publisher is made
   pub made-connections : (environment : Environment) (given : PublisherSettings) (refusal : Option PublisherCreateError) → CreatePublisher environment s given s' refusal → ConnectionsStay old new
@@ -164,11 +161,17 @@ module _ {T U F G : Type 0} (old new : Kept T U F G) (m : Messages T U) (s : Sta
       → s.loans n ≡ Some l → l.publisher ≡ p → is_blocked (state_of old) p ≡ false → (subscriber : Subscriber) (values : List T) → IsConnected old p subscriber → HasValues old n values
       → IfOk result (λ outcome. IsDelivered outcome → IsServed old new p subscriber values)
   serves n l p (Ok (Delivered count)) s' shown' h unsent out its free subscriber values is reads = λ _.
+      let here : IsConnected old l.publisher subscriber = subst (λ i. IsConnected old i subscriber) (sym its) is in
+      let open_now : is_blocked s l.publisher ≡ false = ap (λ (t : State T U). is_blocked t l.publisher) shown.state ∙ ap (is_blocked (state_of old)) its ∙ free in
+      let c : Connects s l.publisher subscriber.id = connected-in old m s shown l.publisher subscriber here in
       subst (λ i. IsServed old new i subscriber values) its
-      (served old new m (put_at m n (Some (entry_of l))) s s' shown shown' environment n l count
+      (subst (IsServed old new l.publisher subscriber) (loan-values old m s shown n l values out reads)
+      (served old new m (put_at m n (Some (entry_of l))) s s' shown shown' l.publisher n (entry_of l)
       (λ k entry at. put_at-other m n (Some (entry_of l)) k (ne_eqb k n (λ same. none-some entry (sym unsent ∙ ap m (sym same) ∙ at))) ∙ at)
-      (put_at-same m n (Some (entry_of l))) out (ap (λ (t : State T U). is_blocked t l.publisher) shown.state ∙ ap (is_blocked (state_of old)) its ∙ free) h subscriber values
-      (subst (λ i. IsConnected old i subscriber) (sym its) is) reads)
+      (put_at-same m n (Some (entry_of l))) subscriber here (send-touches environment s n l s' (Delivered_to count) h)
+      (λ y there. subst (λ (z : MachineSubscriber). ServedLists (waiting_from s l.publisher subscriber.id) (waiting_from s' l.publisher subscriber.id) n z.buffer (s.config).enable_safe_overflow)
+      (same_Some c.subscriber y (sym c.there ∙ there))
+      (send-served environment s n l s' count shown.well_formed open_now h subscriber.id c))))
   serves n l p (Ok (Blocked blocked)) s' shown' h unsent out its free subscriber values is reads = λ no. absurd no
   serves n l p (Err error) s' shown' h unsent out its free subscriber values is reads = tt
 

@@ -15,7 +15,7 @@ pub waits-both : {T U F G : Type 0} {old mid new : Kept T U F G} → WaitingStay
 waits-both first second = record { all = second.all ∙ first.all; from = second.from ∙ first.from }
 
 -- as many wait
-same-count : {T U F G : Type 0} {old mid : Kept T U F G} → WaitingStays old mid → (subscriber : Subscriber) → waiting mid subscriber ≡ waiting old subscriber
+pub same-count : {T U F G : Type 0} {old mid : Kept T U F G} → WaitingStays old mid → (subscriber : Subscriber) → waiting mid subscriber ≡ waiting old subscriber
 same-count {T} waits subscriber = ap (λ (f : Subscriber → List (List T)). length (f subscriber)) waits.all
 
 pub none-still : {T U F G : Type 0} {old mid : Kept T U F G} → WaitingStays old mid → (subscriber : Subscriber) → waiting old subscriber ≡ 0 → waiting mid subscriber ≡ 0
@@ -27,16 +27,16 @@ pub connected-as : {T U F G : Type 0} {old new : Kept T U F G} → UpToDateStay 
 connected-as {T} {U} {F} {G} {old} {new} stay p lender its subscriber is = subst (λ i. IsConnected new i subscriber) (sym its) (stay.connections p subscriber is)
 
 module _ {T U F G : Type 0} (old mid new : Kept T U F G) (waits : WaitingStays old mid) where
-  from-since : (p : ℕ) (subscriber : Subscriber) → payloads_from mid p subscriber ≡ payloads_from old p subscriber
+  pub from-since : (p : ℕ) (subscriber : Subscriber) → payloads_from mid p subscriber ≡ payloads_from old p subscriber
   from-since p subscriber = ap (λ (f : ℕ → Subscriber → List (List T)). f p subscriber) waits.from
 
-  full-since : ((it : Subscriber) → HasItsBuffer old it → HasItsBuffer mid it) → (p : ℕ) (subscriber : Subscriber) → IsFull mid p subscriber → IsFull old p subscriber
+  pub full-since : ((it : Subscriber) → HasItsBuffer old it → HasItsBuffer mid it) → (p : ℕ) (subscriber : Subscriber) → IsFull mid p subscriber → IsFull old p subscriber
   full-since buffers p subscriber full = record {
     some = subst (λ (before : List (List T)). 0 < length before) (from-since p subscriber) full.some;
     full = λ its. subst (λ (before : List (List T)). subscriber.buffer_size ≤ length before) (from-since p subscriber) (full.full (buffers subscriber its));
   }
 
-  served-since : (settings : mid.config ≡ old.config) (buffers : (it : Subscriber) → HasItsBuffer old it → HasItsBuffer mid it) (p : ℕ) (subscriber : Subscriber) (values : List T)
+  pub served-since : (settings : mid.config ≡ old.config) (buffers : (it : Subscriber) → HasItsBuffer old it → HasItsBuffer mid it) (p : ℕ) (subscriber : Subscriber) (values : List T)
       → IsServed mid new p subscriber values → IsServed old new p subscriber values
   unfolding IsServed
   served-since settings buffers p subscriber values served =

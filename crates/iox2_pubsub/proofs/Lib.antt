@@ -62,11 +62,22 @@ pub mod ConnectionsMade
 pub mod ConnectedCounts
 pub mod ServedLists
 pub mod WaitingShown
+pub mod PendingDeliveries
+pub mod PendingSteps
+pub mod PendingShown
 pub mod UpToDateShown
 pub mod KeptReceives
 pub mod ConnectionSendShown
 pub mod PublisherWaits
+pub mod ShareSums
+pub mod ForCallers
+pub mod SinceThen
+pub mod ReceivedLaws
+pub mod AllSubscribers
+pub mod AllPublishers
 pub mod CopiesServe
+pub mod SendsPend
+pub mod ConnectionServes
 pub mod SubscribersMade
 pub mod AwaitedShown
 pub mod ConnectionsShown
@@ -75,6 +86,15 @@ pub mod ClosesWait
 pub mod DepartedShown
 pub mod LoansLeftShown
 mod BorrowsKept
+pub mod FullDomains
+pub mod DeliveryCounts
+pub mod SendCounts
+pub mod CountsShown
+pub mod CountLaws
+pub mod CopiesCount
+mod RefusedCopies
+pub mod PortLists
+mod NeverWaiting
 pub mod RoomySends
 pub mod BorrowsLeftShown
 mod AtOnce

@@ -34,24 +34,24 @@ module _ {T U F G : Type 0} (kept : Kept T U F G) (well : IsWellFormed (state_of
   q = subscriber.id
 
   -- the payloads of what waits from a publisher
-  abbrev lists : ℕ → List (List T)
+  abbrev pub lists : ℕ → List (List T)
   lists p = map (payload_of (entries_of kept)) (waiting_from (state_of kept) p q)
 
-  abbrev count : ℕ → ℕ
+  abbrev pub count : ℕ → ℕ
   count p = length (lists p)
 
-  abbrev ports : ℕ
+  abbrev pub ports : ℕ
   ports = (state_of kept).next_port
 
   -- how many wait, and how many of one publisher
-  all-is : waiting kept subscriber ≡ sum_below count ports
+  pub all-is : waiting kept subscriber ≡ sum_below count ports
   all-is = ap length (payloads-are kept subscriber) ∙ length-all_below lists ports
 
-  one-is : (p : ℕ) → length (payloads_from kept p subscriber) ≡ count p
+  pub one-is : (p : ℕ) → length (payloads_from kept p subscriber) ≡ count p
   one-is p = ap length (payloads-from-are kept p subscriber)
 
   -- who has sent anything is known
-  none-or-known : (p : ℕ) → (count p ≡ 0) ⊎ (p < ports)
+  pub none-or-known : (p : ℕ) → (count p ≡ 0) ⊎ (p < ports)
   none-or-known p = ⊎_elim
       (λ none. inl (ap (λ ns. length (map (payload_of (entries_of kept)) ns)) none))
       (λ some. inr (
@@ -122,7 +122,7 @@ module _ {T U F G : Type 0} (old new : Kept T U F G) (before : IsWellFormed (sta
       no-items (x ∷ xs) none = absurd (omega arith)
 
   -- what is served where there is room joins all that waits
-  served-joins : (values : List T) (earlier : List (List T)) → IsServed old new p subscriber values → AllFrom old p subscriber earlier → HasItsBuffer old subscriber
+  pub served-joins : (values : List T) (earlier : List (List T)) → IsServed old new p subscriber values → AllFrom old p subscriber earlier → HasItsBuffer old subscriber
       → length earlier < subscriber.buffer_size → AllFrom new p subscriber (earlier ++ values ∷ [])
   unfolding IsServed
   served-joins values earlier served all its room =

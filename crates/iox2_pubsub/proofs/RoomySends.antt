@@ -1,7 +1,7 @@
 -- Where each subscriber has room, no send waits and no handler is asked of full buffers.
-use Rattle.std.proofs.Common.{◌≡◌, ℕ, ◌+◌, ◌≤◌, ◌<◌, ◌||◌, Bool, true, false, cond, List, [], ◌∷◌, length, refl, sym, ap, subst, ◌∙◌, arith, Option, None, Some, Result, Ok, Err}
+use Rattle.std.proofs.Common.{◌≡◌, ℕ, ◌+◌, ◌≤◌, ◌<◌, ◌||◌, Bool, true, false, cond, List, [], ◌∷◌, length, refl, sym, ap, subst, ◌∙◌, arith, ⊎_elim, Option, None, Some, Result, Ok, Err}
 use Rattle.std.specs.Prelude.{◌≢◌, IfErr, IfOk}
-use Rattle.std.specs.Option.{option_and_then, option_map}
+use Rattle.std.specs.Option.{option_and_then}
 use Rattle.std.specs.declared.time.Duration.{Duration}
 use Rattle.std.proofs.lemmas.Bool.{true≢false, cond_both, lt-ltb, ne_eqb}
 use Rattle.std.proofs.lemmas.List.{length-map}
@@ -10,7 +10,7 @@ use Rattle.iox2_machine.specs.machine.Channel.{is_closed}
 use Rattle.iox2_machine.specs.machine.Delivery.{Deliver, DeliveryEnd, Complete, PutResult, Put, accepted_count, is_blocking, is_failed, no_time}
 use Rattle.iox2_machine.specs.machine.Mailbox.{Mailbox, has_room}
 use Rattle.iox2_machine.specs.machine.Numbers.{contains, last_n}
-use Rattle.iox2_machine.specs.machine.Places.{occupant, occupants}
+use Rattle.iox2_machine.specs.machine.Places.{occupants}
 use Rattle.iox2_machine.specs.machine.PublisherUpdate.{UpdatePublisher, history_for, sender_side}
 use Rattle.iox2_machine.specs.machine.Records.{Environment, Handler, Loan, Subscriber}
 use Rattle.iox2_machine.specs.machine.Sends.{Send, SendResult, Blocked_send, Send_error, published, with_mailboxes}
@@ -25,8 +25,8 @@ use Rattle.iox2_machine.specs.declared.errors.SendError.TheVariants.{ConnectionB
 use Rattle.iox2_machine.specs.declared.service_config.ServiceConfig.{ServiceConfig}
 use Rattle.iox2_laws.proofs.Cases.{by_option, by_bool}
 use Rattle.iox2_laws.proofs.MailboxWalks.{sender_side_keeps}
-use Rattle.iox2_laws.proofs.NumberLemmas.{contains_first, contains_later, length-last_n_le}
-use Rattle.iox2_laws.proofs.PlaceLemmas.{IsOnce-occupants, occupied_within}
+use Rattle.iox2_laws.proofs.NumberLemmas.{contains_in_cons, contains_first, contains_later, length-last_n_le}
+use Rattle.iox2_laws.proofs.PlaceLemmas.{IsOnce-occupants}
 use Rattle.iox2_laws.proofs.PublisherUpdates.{update_publisher_keeps}
 use Rattle.iox2_laws.proofs.Puts.{put_at-same, put_at-other}
 use Rattle.iox2_laws.proofs.UpToDate.{update_publisher_subscribers}
@@ -36,11 +36,12 @@ use Rattle.iox2_domain.specs.Shows.{Shows}
 use Rattle.iox2_pubsub.specs.ConnectedPorts.{Connects}
 use Rattle.iox2_pubsub.specs.Live.{HasItsBuffer, IsConnected, WaitingStays, payloads_from}
 use Rattle.iox2_pubsub.specs.Payloads.{payload_of}
-use Rattle.iox2_pubsub.specs.RoomyPublishers.{HasRoomAlone, HasRoomForAll, IsRoomy}
+use Rattle.iox2_pubsub.specs.RoomyPublishers.{HasRoomAlone, HasRoomAt, HasRoomAtAll, HasRoomAtEach, HasRoomForAll, IsRoomy}
 use Rattle.iox2_pubsub.specs.SendCalls.{IsDelivered, result_of_send}
 use Rattle.iox2_pubsub.specs.declared.send_outcome.SendOutcome.{SendOutcome}
 use Rattle.iox2_pubsub.specs.declared.send_outcome.SendOutcome.TheVariants.{Delivered, Blocked}
 use Rattle.iox2_pubsub.specs.declared.subscriber.Subscriber.{Subscriber as Handle}
+use Rattle.iox2_pubsub.proofs.FullDomains.{ids_of, no-other}
 use Rattle.iox2_pubsub.proofs.LiveParts.{buffer-parts}
 use Rattle.iox2_pubsub.proofs.SendsServe.{connected-waits}
 use Rattle.iox2_pubsub.proofs.UpToDateShown.{connected-in}
@@ -65,7 +66,7 @@ module _ (environment : Environment) (c : ServiceConfig) (p : ℕ) (strategy : B
       (λ full _. absurd (true≢false (sym (ap (λ b. b || c.enable_safe_overflow) (room buffer refl)) ∙ full)))
 
   -- a delivery that had not failed reaches all receivers, and fails at none
-  delivery-roomy : (retries : ℕ) (elapsed : Duration) (place : ℕ) (ends : List (Option ℕ)) (count : ℕ) (has_failed : Bool) (boxes : ℕ → Mailbox) (how : DeliveryEnd) (boxes' : ℕ → Mailbox)
+  pub delivery-roomy : (retries : ℕ) (elapsed : Duration) (place : ℕ) (ends : List (Option ℕ)) (count : ℕ) (has_failed : Bool) (boxes : ℕ → Mailbox) (how : DeliveryEnd) (boxes' : ℕ → Mailbox)
       → has_failed ≡ false → IsOnce (occupants ends) → HaveRoom ends boxes
       → Deliver environment c p strategy handler buffers n 0 retries elapsed place ends count has_failed boxes how boxes' → (took : ℕ) × (how ≡ Complete took false)
   delivery-roomy retries elapsed place [] count has_failed boxes how boxes' so_far once room h = (count, h.0 ∙ ap (Complete count) so_far)
@@ -117,7 +118,7 @@ module _ {T U : Type 0} (environment : Environment) (s : State T U) (w : IsWellF
       (λ _ h. subst RoomIn (sym h.0) (λ q y here is. (roomy q y here is).1)))
 
 -- who takes messages is open, and has this buffer
-opened-is : {T U : Type 0} (s : State T U) (p q buffer : ℕ) → channel_buffer s p 0 q ≡ Some buffer → (y : Subscriber) × (s.subscribers q ≡ Some y) × (y.is_open ≡ true) × (y.buffer ≡ buffer)
+pub opened-is : {T U : Type 0} (s : State T U) (p q buffer : ℕ) → channel_buffer s p 0 q ≡ Some buffer → (y : Subscriber) × (s.subscribers q ≡ Some y) × (y.is_open ≡ true) × (y.buffer ≡ buffer)
 opened-is s p q buffer opened = channel (is_closed (s.channels p q 0)) opened where
   receiver : (o : Option Subscriber) → s.subscribers q ≡ o → option_and_then (λ (y : Subscriber). cond y.is_open (Some y.buffer) None) o ≡ Some buffer
       → (y : Subscriber) × (s.subscribers q ≡ Some y) × (y.is_open ≡ true) × (y.buffer ≡ buffer)
@@ -170,28 +171,23 @@ module _ {T U F G : Type 0} (kept : Kept T U F G) (m : Messages T U) (s : State 
       let unblocked : is_blocked s l.publisher ≡ false = ap (λ (t : State T U). is_blocked t l.publisher) shown.state ∙ ap (is_blocked (state_of kept)) its ∙ free in
       roomy-send environment s shown.well_formed n l s' result unblocked (subst (HasRoomForAll s) (sym its) (roomy-in publisher is)) h
 
--- ---- a subscriber that is alone
+-- ---- a domain that has all subscribers that it allows
 
-first-place : (length-places place most : ℕ) → place < length-places → length-places ≤ most → most ≡ 1 → place ≡ 0
-first-place length-places place most low bound one = omega (arith, low, bound, one)
+module _ {T U F G : Type 0} (kept : Kept T U F G) (m : Messages T U) (s : State T U) (shown : Shows kept m s) (publisher : ℕ) where
+  -- one that is connected is there
+  connected-there : (subscribers : List Handle) → HasRoomAtEach kept publisher subscribers → (q : ℕ) → contains (ids_of subscribers) q ≡ true → (y : Subscriber) × (s.subscribers q ≡ Some y)
+  connected-there [] each q at = absurd (true≢false (sym at))
+  connected-there (subscriber ∷ others) each q at =
+      ⊎_elim
+      (λ same. let c = connected-in kept m s shown publisher subscriber (each.0).connected in (c.subscriber, ap s.subscribers (sym same) ∙ c.there))
+      (λ later. connected-there others each.1 q later)
+      (contains_in_cons subscriber.id q (ids_of others) at)
 
-module _ {T U F G : Type 0} (kept : Kept T U F G) (m : Messages T U) (s : State T U) (shown : Shows kept m s) (publisher : ℕ) (subscriber : Handle) (has : HasRoomAlone kept publisher subscriber) where
-  one : (s.config).max_subscribers ≡ 1
-  one = ap (λ (t : State T U). (t.config).max_subscribers) shown.state ∙ has.alone
-
-  -- whoever is there stands at the first place
-  stands-first : (q : ℕ) (y : Subscriber) → s.subscribers q ≡ Some y → occupant s.subscriber_places 0 ≡ Some q
-  stands-first q y here =
-      let places = (shown.well_formed).subscriber_places in
-      let at : occupant s.subscriber_places y.place ≡ Some q = places.stands q y.place (ap (option_map {T = Subscriber} {U = ℕ} (λ z. z.place)) here) in
-      let first : y.place ≡ 0 = first-place (length s.subscriber_places) y.place (s.config).max_subscribers (occupied_within s.subscriber_places y.place q at) places.bound one in
-      ap (occupant s.subscriber_places) (sym first) ∙ at
-
-  alone-room : HasRoomForAll s publisher
-  alone-room q y here is =
+  room-at : (subscriber : Handle) → HasRoomAt kept publisher subscriber → (q : ℕ) → subscriber.id ≡ q → (y : Subscriber) → s.subscribers q ≡ Some y
+      → ((s.config).history_size < y.buffer) × (length (s.mailboxes publisher q).waiting < y.buffer)
+  room-at subscriber has q its y here =
       let c : Connects s publisher subscriber.id = connected-in kept m s shown publisher subscriber has.connected in
-      let its : q ≡ subscriber.id = same_Some q subscriber.id (sym (stands-first q y here) ∙ stands-first subscriber.id c.subscriber c.there) in
-      let there : (state_of kept).subscribers subscriber.id ≡ Some y = ap (λ (t : State T U). t.subscribers subscriber.id) (sym shown.state) ∙ ap s.subscribers (sym its) ∙ here in
+      let there : (state_of kept).subscribers subscriber.id ≡ Some y = ap (λ (t : State T U). t.subscribers subscriber.id) (sym shown.state) ∙ ap s.subscribers its ∙ here in
       let size : y.buffer ≡ subscriber.buffer_size = (buffer-parts kept subscriber has.buffer).1 y there in
       let history : (s.config).history_size ≡ (kept.config).history_size = ap (λ (t : State T U). (t.config).history_size) shown.state in
       let small : (kept.config).history_size < subscriber.buffer_size = has.history in
@@ -199,12 +195,30 @@ module _ {T U F G : Type 0} (kept : Kept T U F G) (m : Messages T U) (s : State 
       let wait : length (payloads_from kept publisher subscriber) ≡ length (s.mailboxes publisher q).waiting =
       ap length (payloads-from-are kept publisher subscriber) ∙ length-map (waiting_from (state_of kept) publisher subscriber.id) (payload_of (entries_of kept))
       ∙ ap (λ (t : State T U). length (waiting_from t publisher subscriber.id)) (sym shown.state)
-      ∙ ap length (connected-waits s publisher subscriber.id c) ∙ ap (λ (i : ℕ). length (s.mailboxes publisher i).waiting) (sym its) in
+      ∙ ap length (connected-waits s publisher subscriber.id c) ∙ ap (λ (i : ℕ). length (s.mailboxes publisher i).waiting) its in
       (omega (arith, history, small, size), omega (arith, wait, some, size))
 
-  pub alone-roomy : IsRoomy kept publisher
+  room-at-each : (subscribers : List Handle) → HasRoomAtEach kept publisher subscribers → (q : ℕ) → contains (ids_of subscribers) q ≡ true → (y : Subscriber) → s.subscribers q ≡ Some y
+      → ((s.config).history_size < y.buffer) × (length (s.mailboxes publisher q).waiting < y.buffer)
+  room-at-each [] each q at y here = absurd (true≢false (sym at))
+  room-at-each (subscriber ∷ others) each q at y here =
+      ⊎_elim (λ same. room-at subscriber each.0 q same y here) (λ later. room-at-each others each.1 q later y here) (contains_in_cons subscriber.id q (ids_of others) at)
+
+  -- where there is room at all, there is at each that is open
+  pub all-roomy : (subscribers : List Handle) → HasRoomAtAll kept publisher subscribers → IsRoomy kept publisher
   unfolding IsRoomy
-  alone-roomy = subst (λ (t : State T U). HasRoomForAll t publisher) shown.state alone-room
+  all-roomy subscribers has =
+      let full : (s.config).max_subscribers ≤ length subscribers = subst (λ (t : State T U). (t.config).max_subscribers ≤ length subscribers) (sym shown.state) has.full in
+      subst (λ (t : State T U). HasRoomForAll t publisher) shown.state (λ q y here is.
+      room-at-each subscribers has.each q (no-other s shown.well_formed subscribers has.different full (connected-there subscribers has.each) q y here) y here)
+
+  -- so where the one that there may be has
+  pub alone-roomy : (subscriber : Handle) → HasRoomAlone kept publisher subscriber → IsRoomy kept publisher
+  alone-roomy subscriber has = all-roomy (subscriber ∷ []) (record {
+    different = (tt, tt);
+    full = let one : (kept.config).max_subscribers ≡ 1 = has.alone in omega (arith, one);
+    each = (record { connected = has.connected; buffer = has.buffer; history = has.history; room = has.room }, tt);
+  })
 
 -- it is so after a call that leaves this
 pub alone-since : {T U F G : Type 0} {old mid : Kept T U F G} → WaitingStays old mid → mid.config ≡ old.config → ((it : Handle) → HasItsBuffer old it → HasItsBuffer mid it)
@@ -217,6 +231,29 @@ alone-since {T} {U} {F} {G} {old} {mid} waits settings buffers p lender its subs
   room = subst (λ (ps : List (List T)). length ps < subscriber.buffer_size)
       (sym (ap (λ i. payloads_from mid i subscriber) its ∙ ap (λ (f : ℕ → Handle → List (List T)). f p subscriber) waits.from)) has.room;
 }
+
+-- and so is room at all
+module _ {T U F G : Type 0} {old mid : Kept T U F G} (waits : WaitingStays old mid) (settings : mid.config ≡ old.config) (buffers : (it : Handle) → HasItsBuffer old it → HasItsBuffer mid it)
+    (p lender : ℕ) (its : lender ≡ p) (connections : (it : Handle) → IsConnected old p it → IsConnected mid lender it) where
+  each-since : (subscribers : List Handle) → HasRoomAtEach old p subscribers → HasRoomAtEach mid lender subscribers
+  each-since [] each = tt
+  each-since (subscriber ∷ others) each = (
+    record {
+      connected = connections subscriber (each.0).connected;
+      buffer = buffers subscriber (each.0).buffer;
+      history = subst (λ (c : ServiceConfig). c.history_size < subscriber.buffer_size) (sym settings) (each.0).history;
+      room = subst (λ (ps : List (List T)). length ps < subscriber.buffer_size)
+          (sym (ap (λ i. payloads_from mid i subscriber) its ∙ ap (λ (f : ℕ → Handle → List (List T)). f p subscriber) waits.from)) (each.0).room;
+    },
+    each-since others each.1,
+  )
+
+  pub all-room-since : (subscribers : List Handle) → HasRoomAtAll old p subscribers → HasRoomAtAll mid lender subscribers
+  all-room-since subscribers has = record {
+    different = has.different;
+    full = subst (λ (c : ServiceConfig). c.max_subscribers ≤ length subscribers) (sym settings) has.full;
+    each = each-since subscribers has.each;
+  }
 
 -- such a send is delivered, and fails at no receiver
 pub unhindered-is : (result : Result SendOutcome SendError) → IsUnhindered (result_of_send result) → IfOk result IsDelivered × IfErr result (λ error. error ≢ UnableToDeliver)

@@ -12,7 +12,7 @@ use Rattle.iox2_laws.proofs.WaitingCounts.{waiting_for}
 use Rattle.iox2_machine.specs.machine.WellFormed.{IsWellFormed}
 use Rattle.iox2_pubsub.specs.ConnectedPorts.{Connects}
 use Rattle.iox2_pubsub.proofs.SendsServe.{connected-waits, send-serves, send-connections}
-use Rattle.iox2_pubsub.proofs.ConnectedCounts.{send-one-more, send-as-many}
+use Rattle.iox2_pubsub.proofs.ConnectedCounts.{TouchesOnly, as-many-wait, one-more-waits}
 
 -- The number stands last. Where there was no room, which there is where nothing is, the first went in its place, with overflow; without, it
 -- doesn't stand there.
@@ -20,7 +20,7 @@ abbrev pub ServedLists : (before now : List ℕ) → (n buffer : ℕ) → (overf
 ServedLists before now n buffer overflow =
     (now ≡ before ++ n ∷ []) ⊎ (((0 < length before) × (buffer ≤ length before)) × MatchBool overflow (now ≡ drop 1 before ++ n ∷ []) (now ≡ before))
 
-served-lists : (box : Mailbox) (n buffer : ℕ) (overflow : Bool) (now : List ℕ) → 0 < buffer → now ≡ (cond (has_room 0 buffer box || overflow) (with_appended 0 buffer n box) box).waiting
+pub served-lists : (box : Mailbox) (n buffer : ℕ) (overflow : Bool) (now : List ℕ) → 0 < buffer → now ≡ (cond (has_room 0 buffer box || overflow) (with_appended 0 buffer n box) box).waiting
     → ServedLists box.waiting now n buffer overflow
 served-lists box n buffer overflow now some is = by (has_room 0 buffer box) refl overflow is where
   by : (room : Bool) → has_room 0 buffer box ≡ room → (overflow : Bool) → now ≡ (cond (has_room 0 buffer box || overflow) (with_appended 0 buffer n box) box).waiting
@@ -47,18 +47,18 @@ module _ {T U : Type 0} (environment : Environment) (s : State T U) (n : ℕ) (l
       (connected-waits s' l.publisher q (send-connections environment s n l s' (Delivered_to count) w h l.publisher q c)
       ∙ ap (λ (box : Mailbox). box.waiting) (send-serves environment s n l s' count w free q c h)))
 
+module _ {T U : Type 0} (s s' : State T U) (p n q : ℕ) (touches : TouchesOnly s s' p) where
   -- one more waits, or as many
-  pub send-counts : (waiting_from s' l.publisher q ≡ waiting_from s l.publisher q ++ n ∷ []) → waiting_for s' q ≡ suc (waiting_for s q)
-  send-counts is =
-      let more : length (waiting_from s l.publisher q ++ n ∷ []) ≡ length (waiting_from s l.publisher q) + 1 = length-append (waiting_from s l.publisher q) (n ∷ []) in
-      let one : length (waiting_from s' l.publisher q) ≡ length (waiting_from s l.publisher q ++ n ∷ []) = ap length is in
-      sym (send-one-more environment s n l s' (Delivered_to count) (w.publishers l.publisher c.publisher c.stands).is_known h q (omega (arith, more, one)))
+  pub one-more : p < s.next_port → waiting_from s' p q ≡ waiting_from s p q ++ n ∷ [] → waiting_for s' q ≡ suc (waiting_for s q)
+  one-more low is =
+      let more : length (waiting_from s p q ++ n ∷ []) ≡ length (waiting_from s p q) + 1 = length-append (waiting_from s p q) (n ∷ []) in
+      let one : length (waiting_from s' p q) ≡ length (waiting_from s p q ++ n ∷ []) = ap length is in
+      sym (one-more-waits s s' p touches q low (omega (arith, more, one)))
 
-  pub send-full : 0 < length (waiting_from s l.publisher q)
-      → MatchBool (s.config).enable_safe_overflow (waiting_from s' l.publisher q ≡ drop 1 (waiting_from s l.publisher q) ++ n ∷ []) (waiting_from s' l.publisher q ≡ waiting_from s l.publisher q)
-      → waiting_for s' q ≡ waiting_for s q
-  send-full some is = sym (send-as-many environment s n l s' (Delivered_to count) h q (by (s.config).enable_safe_overflow is)) where
-    by : (overflow : Bool) → MatchBool overflow (waiting_from s' l.publisher q ≡ drop 1 (waiting_from s l.publisher q) ++ n ∷ []) (waiting_from s' l.publisher q ≡ waiting_from s l.publisher q)
-        → length (waiting_from s l.publisher q) ≡ length (waiting_from s' l.publisher q)
-    by true is = as-long (waiting_from s l.publisher q) n some ∙ ap length (sym is)
+  pub no-more : (overflow : Bool) → 0 < length (waiting_from s p q)
+      → MatchBool overflow (waiting_from s' p q ≡ drop 1 (waiting_from s p q) ++ n ∷ []) (waiting_from s' p q ≡ waiting_from s p q) → waiting_for s' q ≡ waiting_for s q
+  no-more overflow some is = sym (as-many-wait s s' p touches q (by overflow is)) where
+    by : (overflow : Bool) → MatchBool overflow (waiting_from s' p q ≡ drop 1 (waiting_from s p q) ++ n ∷ []) (waiting_from s' p q ≡ waiting_from s p q)
+        → length (waiting_from s p q) ≡ length (waiting_from s' p q)
+    by true is = as-long (waiting_from s p q) n some ∙ ap length (sym is)
     by false is = ap length (sym is)

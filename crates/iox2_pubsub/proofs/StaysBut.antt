@@ -12,7 +12,7 @@ use Rattle.iox2_machine.specs.declared.key.Key.{Key}
 use Rattle.iox2_machine.specs.declared.service_config.ServiceConfig.{ServiceConfig}
 use Rattle.iox2_laws.proofs.PortsStay.{Remain}
 use Rattle.iox2_laws.proofs.Waits.{IsAsItWas, StandsAsItDid, Waits}
-use Rattle.iox2_machine.specs.Stored.{In_mailbox}
+use Rattle.iox2_machine.specs.Stored.{In_blocked_send, In_mailbox, IsHeldMessage}
 use Rattle.iox2_domain.specs.Boxes.{DomainBoxes, box_of, boxes_of, degradation_box_of}
 use Rattle.iox2_domain.specs.declared.boxes.PortBox.{PortBox}
 use Rattle.iox2_domain.specs.declared.boxes.PortBoxes.{PortBoxes}
@@ -27,8 +27,10 @@ use Rattle.iox2_pubsub.proofs.LiveParts.{loan-parts, origin-parts, sample-parts}
 use Rattle.iox2_pubsub.proofs.PlacedLoans.{placed-after}
 use Rattle.iox2_pubsub.proofs.SliceParts.{cells-parts, values-parts}
 use Rattle.iox2_pubsub.specs.Handlers.{may_wait}
-use Rattle.iox2_pubsub.specs.Live.{sample_key, IsPlaced, degradation_box, handler_box, subscriber_box, IsSingleValued, IsPlacedPublisher, IsPlacedSubscriber, HasItsBuffer, IsPublisherKey, IsSubscriberKey, IsLoanKey, IsSampleKey, IsBlockedKey, HasMark, IsFromOrigin, LoanHasHeader, LoanHasUserHeader, SampleHasHeader, SampleHasUserHeader, Item, No_item, A_publisher, A_subscriber, A_loan, A_sample, A_blocked_send, A_sent_loan, A_sent_copy, Both, IsOtherPublisher, IsOtherSubscriber, IsOtherLoan, IsOtherSample, IsUnblocked, IsUnwritten, IsWritten, PassesFull, NeverFails, NeverWaits, IsOtherBlocked, StaysBut, Stays, IsNewIn, unwritten_key, written_key}
+use Rattle.iox2_pubsub.specs.Live.{sample_key, IsPlaced, degradation_box, handler_box, subscriber_box, IsConsistent, IsSingleValued, IsPlacedPublisher, IsPlacedSubscriber, HasItsBuffer, IsPublisherKey, IsSubscriberKey, IsLoanKey, IsSampleKey, IsBlockedKey, IsPending, HasPassed, HasMark, IsFromOrigin, LoanHasHeader, LoanHasUserHeader, SampleHasHeader, SampleHasUserHeader, Item, No_item, A_publisher, A_subscriber, A_loan, A_sample, A_blocked_send, A_sent_loan, A_sent_copy, Both, IsOtherPublisher, IsOtherSubscriber, IsOtherLoan, IsOtherSample, IsUnblocked, IsUnwritten, IsWritten, PassesFull, NeverFails, NeverWaits, IsOtherBlocked, StaysBut, Stays, IsNewIn, blocked_key, unwritten_key, written_key}
+use Rattle.iox2_pubsub.specs.PendingSends.{GoesTo, PassesBy}
 use Rattle.iox2_pubsub.specs.Slices.{HoldsSlices, IsSliced, HasUnwrittenCells, HasValues, SampleHasValues}
+use Rattle.iox2_pubsub.specs.declared.blocked_send.BlockedSend.{BlockedSend as BlockedHandle}
 use Rattle.iox2_pubsub.specs.declared.publisher.Publisher.{Publisher as PublisherHandle}
 use Rattle.iox2_pubsub.specs.Sample.{Sample}
 use Rattle.iox2_pubsub.specs.declared.sample_mut.SampleMut.{SampleMut}
@@ -179,12 +181,37 @@ module _ {T U : Type 0} where
     waits = λ key spared never. absurd (spared (other key.port));
   }
 
+module _ {T U F G : Type 0} (kept : Kept T U F G) (it : BlockedHandle) (whose : SubscriberHandle) where
+  -- the words of blocked sends, part by part
+  pub pending-parts : (values : List T) → IsPending kept it whose values
+      → IsBlockedKey kept (blocked_key it) × GoesTo (state_of kept) it.loan.publisher it.loan.number whose.id × SampleHasValues kept (blocked_key it) values
+  unfolding IsPending
+  pending-parts values has = has
+
+  pub pending-from : (values : List T) → IsBlockedKey kept (blocked_key it) × GoesTo (state_of kept) it.loan.publisher it.loan.number whose.id × SampleHasValues kept (blocked_key it) values
+      → IsPending kept it whose values
+  unfolding IsPending
+  pending-from values has = has
+
+  pub passed-parts : HasPassed kept it whose → IsBlockedKey kept (blocked_key it) × PassesBy (state_of kept) it.loan.publisher it.loan.number whose.id
+  unfolding HasPassed
+  passed-parts has = has
+
+  pub passed-from : IsBlockedKey kept (blocked_key it) × PassesBy (state_of kept) it.loan.publisher it.loan.number whose.id → HasPassed kept it whose
+  unfolding HasPassed
+  passed-from has = has
+
+-- a domain that shows some state is consistent
+pub consistent-shown : {T U F G : Type 0} (kept : Kept T U F G) (m : Messages T U) (s : State T U) → Shows kept m s → IsConsistent kept
+unfolding IsConsistent
+consistent-shown kept m s shown = (m, subst (Shows kept m) shown.state shown)
+
 module _ {T U F G : Type 0} (spent : Item) (old new : Kept T U F G) (remain : PortsRemainBut spent (state_of old) (state_of new)) (loans : LoansStayBut spent (state_of old) (state_of new))
     (samples : SamplesStayBut spent (state_of old) (state_of new)) (waits : Waits (IsSpared spent) (state_of old) (state_of new))
     (goes-on : SparedPublishers spent old (state_of old) (state_of new))
     (known : (p : ℕ) (x : Publisher) → (state_of old).publishers p ≡ Some x → p < (state_of old).next_port)
-    (entries : (n p q : ℕ) (entry : Entry T U) → entries_of old n ≡ Some entry → is_borrowed n ((state_of new).mailboxes p q) ≡ true → entries_of new n ≡ Some entry)
-    (boxes : BoxesStayBut spent old new) where
+    (entries : (n p : ℕ) (entry : Entry T U) → entries_of old n ≡ Some entry → IsHeldMessage (state_of new) p n → entries_of new n ≡ Some entry)
+    (consistent-now : IsConsistent new) (boxes : BoxesStayBut spent old new) where
   service : (id : ℕ) → id ≡ (old.config).service_id → id ≡ (new.config).service_id
   service id ours = ours ∙ sym (ap (λ (c : ServiceConfig). c.service_id) remain.config)
 
@@ -243,7 +270,8 @@ module _ {T U F G : Type 0} (spent : Item) (old new : Kept T U F G) (remain : Po
   sample-entry : (key : Key) → IsSampleKey old key → IsOtherSample spent key.port key.message → (entry : Entry T U) → entries_of old key.message ≡ Some entry
       → entries_of new key.message ≡ Some entry
   unfolding IsSampleKey
-  sample-entry key live other entry at = let has = sample key live other in entries key.message (has.1).0 key.port entry at (has.1).1
+  sample-entry key live other entry at = let has = sample key live other in
+      entries key.message (has.1).0 entry at (In_mailbox key.port (contains_borrowed ((state_of new).mailboxes (has.1).0 key.port) key.message (has.1).1))
 
   sample-header : (key : Key) (header : Header) → IsSampleKey old key → SampleHasHeader old key header → IsOtherSample spent key.port key.message → SampleHasHeader new key header
   unfolding SampleHasHeader
@@ -329,19 +357,43 @@ module _ {T U F G : Type 0} (spent : Item) (old new : Kept T U F G) (remain : Po
         ap may_fail_update before.2.degradation ∙ was.3 before.0 before.1,
   )
 
+  -- a publisher waits as it did
+  waiting-still : (p : ℕ) (x : Publisher) → (state_of old).publishers p ≡ Some x → IsOtherPublisher spent p → IsOtherBlocked spent p
+      → (x' : Publisher) × ((state_of new).publishers p ≡ Some x') × (x'.blocked ≡ x.blocked)
+  waiting-still p x at other apart =
+      let there = remain.publishers p x at other in
+      let before = waits.publishers p there.0 (known p x at) there.1 in
+      let both : Some before.0 ≡ Some x = sym before.1 ∙ at in
+      let same : before.0 ≡ x = cc in
+      (there.0, there.1, before.2.blocked (λ spared. spared apart) ∙ ap (λ (z : Publisher). z.blocked) same)
+
   blocked : (key : Key) → IsBlockedKey old key → IsOtherPublisher spent key.port → IsOtherBlocked spent key.port → IsBlockedKey new key
   unfolding IsBlockedKey
   blocked key live other apart =
       let has = live.1 in
-      let there = remain.publishers key.port has.0 has.2 other in
-      let before = waits.publishers key.port there.0 (known key.port has.0 has.2) there.1 in
-      let both : Some before.0 ≡ Some has.0 = sym before.1 ∙ has.2 in
-      let same : before.0 ≡ has.0 = cc in
-      (service key.service_id live.0, (there.0, has.1, there.1, before.2.blocked (λ spared. spared apart) ∙ ap (λ (x : Publisher). x.blocked) same ∙ has.3, has.4))
+      let now = waiting-still key.port has.0 has.2 other apart in
+      (service key.service_id live.0, (now.0, has.1, now.1, now.2 ∙ has.3, has.4))
+
+  goes-to : (p n q : ℕ) → GoesTo (state_of old) p n q → IsOtherPublisher spent p → IsOtherBlocked spent p → GoesTo (state_of new) p n q
+  goes-to p n q has other apart =
+      let now = waiting-still p has.publisher has.stands other apart in
+      record { publisher = now.0; blocked = has.blocked; stands = now.1; waits = now.2 ∙ has.waits; message = has.message; channel = has.channel; some = has.some; ahead = has.ahead }
+
+  passes-by : (p n q : ℕ) → PassesBy (state_of old) p n q → IsOtherPublisher spent p → IsOtherBlocked spent p → PassesBy (state_of new) p n q
+  passes-by p n q has other apart =
+      let now = waiting-still p has.publisher has.stands other apart in
+      record { publisher = now.0; blocked = has.blocked; stands = now.1; waits = now.2 ∙ has.waits; message = has.message; channel = has.channel; some = has.some; past = has.past }
+
+  -- the message of a blocked send reads as it did
+  blocked-values : (it : BlockedHandle) (q : ℕ) (values : List T) → GoesTo (state_of new) it.loan.publisher it.loan.number q → SampleHasValues old (blocked_key it) values → SampleHasValues new (blocked_key it) values
+  unfolding SampleHasValues
+  blocked-values it q values goes has =
+      (has.0, entries it.loan.number it.loan.publisher has.0 has.1 (In_blocked_send goes.publisher goes.blocked goes.stands goes.waits goes.message), has.2)
 
   stays-but : StaysBut spent old new
   stays-but = record {
     settings = remain.config;
+    consistent = λ was. consistent-now;
     single_valued = single;
     holds_slices = holds;
     sliced = slices;
@@ -374,6 +426,13 @@ module _ {T U F G : Type 0} (spent : Item) (old new : Kept T U F G) (remain : Po
     };
     never_fail = unfailed;
     blocked_sends = blocked;
+    pending = λ it whose values was other apart.
+        let has = pending-parts old it whose values was in
+        let goes = goes-to it.loan.publisher it.loan.number whose.id has.1 other apart in
+        pending-from new it whose values (blocked (blocked_key it) has.0 other apart, goes, blocked-values it whose.id values goes has.2);
+    passed = λ it whose was other apart.
+        let has = passed-parts old it whose was in
+        passed-from new it whose (blocked (blocked_key it) has.0 other apart, passes-by it.loan.publisher it.loan.number whose.id has.1 other apart);
     loan_cells = loan-cells;
     loan_payloads = loan-values;
     loan_headers = λ key header live. loan-header key header;
@@ -389,11 +448,11 @@ pub stays-between : {T U F G : Type 0} (spent : Item) (old new : Kept T U F G) (
     → BoxesStayBut spent old new → StaysBut spent old new
 stays-between {T} {U} spent old new m m' s s' shown shown' sent remain loans samples waits goes-on boxes =
     stays-but spent old new (between (PortsRemainBut spent) remain) (between (LoansStayBut spent) loans) (between (SamplesStayBut spent) samples)
-    (between (Waits (IsSpared spent)) waits) (between (SparedPublishers spent old) goes-on) (λ p x at. ((subst IsWellFormed shown.state shown.well_formed).publishers p x at).is_known) entries boxes
+    (between (Waits (IsSpared spent)) waits) (between (SparedPublishers spent old) goes-on) (λ p x at. ((subst IsWellFormed shown.state shown.well_formed).publishers p x at).is_known) entries (consistent-shown new m' s' shown') boxes
   where
-    entries : (n p q : ℕ) (entry : Entry T U) → entries_of old n ≡ Some entry → is_borrowed n ((state_of new).mailboxes p q) ≡ true → entries_of new n ≡ Some entry
-    entries n p q entry at borrowed =
-        let kept = shown'.complete p n (In_mailbox q (contains_borrowed ((state_of new).mailboxes p q) n borrowed)) in
+    entries : (n p : ℕ) (entry : Entry T U) → entries_of old n ≡ Some entry → IsHeldMessage (state_of new) p n → entries_of new n ≡ Some entry
+    entries n p entry at held =
+        let kept = shown'.complete p n held in
         let both : Some kept.0 ≡ Some entry = sym (shown'.entries n kept.0 kept.1) ∙ sent n entry (shown.entries n entry at) in
         kept.1 ∙ both
 
@@ -421,6 +480,8 @@ new-in {T} {U} start made publishers subscribers loans samples unblocked blocked
   payloads = λ n values has. let it = values-parts start n values has in loans n it.0 it.1;
   unblocked = unblocked;
   blocked_sends = blocked;
+  pending = λ it whose values has. blocked (blocked_key it) (pending-parts start it whose values has).0;
+  passed = λ it whose has. blocked (blocked_key it) (passed-parts start it whose has).0;
 }
   where
     out : (key : Key) → IsLoanKey start key → IsOtherLoan made key.message
@@ -434,6 +495,7 @@ nothing-is-new start = new-in start No_item (λ key live. tt) (λ key live. tt) 
 pub unchanged-stays : {T U F G : Type 0} (spent : Item) (kept : Kept T U F G) → StaysBut spent kept kept
 unchanged-stays spent kept = record {
   settings = refl;
+  consistent = λ was. was;
   single_valued = λ was. was;
   holds_slices = λ was. was;
   sliced = λ was. was;
@@ -456,6 +518,8 @@ unchanged-stays spent kept = record {
   never_wait = λ key was. was;
   never_fail = λ publisher was. was;
   blocked_sends = λ key live other alike. live;
+  pending = λ it whose values has other alike. has;
+  passed = λ it whose has other alike. has;
   loan_cells = λ n cells has other. has;
   loan_payloads = λ n values has other. has;
   loan_headers = λ key header live has other. has;
@@ -485,8 +549,13 @@ module _ {T U F G : Type 0} (start : Kept T U F G) where
     cells = λ n cells has. (a.cells n cells has, b.cells n cells has);
     payloads = λ n values has. (a.payloads n values has, b.payloads n values has);
     unblocked = λ key free. (((a.unblocked key free).0, (b.unblocked key free).0), ((a.unblocked key free).1, (b.unblocked key free).1));
-    blocked_sends = λ key live. (((a.blocked_sends key live).0, (b.blocked_sends key live).0), ((a.blocked_sends key live).1, (b.blocked_sends key live).1));
+    blocked_sends = blocked;
+    pending = λ it whose values has. blocked (blocked_key it) (pending-parts start it whose values has).0;
+    passed = λ it whose has. blocked (blocked_key it) (passed-parts start it whose has).0;
   }
+    where
+      blocked : (key : Key) → IsBlockedKey start key → IsOtherPublisher (Both first second) key.port × IsOtherBlocked (Both first second) key.port
+      blocked key live = (((a.blocked_sends key live).0, (b.blocked_sends key live).0), ((a.blocked_sends key live).1, (b.blocked_sends key live).1))
 
   -- a blocked send of a new publisher is new
   pub blocked-new : (p : ℕ) → IsNewIn start (A_publisher p) → IsNewIn start (A_blocked_send p)
@@ -537,6 +606,24 @@ sent-copy-part p is_blocked = record {
     apart true q other = other
     apart false q other = tt
 
+-- nothing is a part of each item
+pub no-part : (item : Item) → IsPartOf No_item item
+no-part item = record { publishers = λ p other. tt; subscribers = λ q other. tt; loans = λ n other. tt; samples = λ q n other. tt; blocked_sends = λ p other. tt }
+
+-- a loan that is sent is no more than the loan and what a copy spends
+pub sent-loan-copy-part : (n p : ℕ) (is_blocked : Bool) → IsPartOf (A_sent_loan n p is_blocked) (Both (A_loan n) (A_sent_copy p is_blocked))
+sent-loan-copy-part n p is_blocked = record {
+  publishers = λ p other. tt;
+  subscribers = λ q other. tt;
+  loans = λ k other. other.0;
+  samples = λ q k other. tt;
+  blocked_sends = λ r other. apart is_blocked r other.1;
+}
+  where
+    apart : (is_blocked : Bool) (r : ℕ) → IsOtherBlocked (A_sent_copy p is_blocked) r → IsOtherBlocked (A_sent_loan n p is_blocked) r
+    apart true r other = other
+    apart false r other = tt
+
 -- a loan that is sent is no more than the loan and a blocked send
 pub sent-loan-part : (n p : ℕ) (is_blocked : Bool) → IsPartOf (A_sent_loan n p is_blocked) (Both (A_loan n) (A_blocked_send p))
 sent-loan-part n p is_blocked = record {
@@ -566,12 +653,15 @@ part-new start part whole is new = record {
   payloads = λ n values has. is.loans n (new.payloads n values has);
   unblocked = λ key free. let apart = new.unblocked key free in (is.publishers key.port apart.0, is.blocked_sends key.port apart.1);
   blocked_sends = λ key live. let apart = new.blocked_sends key live in (is.publishers key.port apart.0, is.blocked_sends key.port apart.1);
+  pending = λ it whose values has. let apart = new.pending it whose values has in (is.publishers it.loan.publisher apart.0, is.blocked_sends it.loan.publisher apart.1);
+  passed = λ it whose has. let apart = new.passed it whose has in (is.publishers it.loan.publisher apart.0, is.blocked_sends it.loan.publisher apart.1);
 }
 
 -- what stays but for an item stays but for what that is a part of
 pub stays-but-whole : {T U F G : Type 0} (part whole : Item) → IsPartOf part whole → (old new : Kept T U F G) → StaysBut part old new → StaysBut whole old new
 stays-but-whole part whole is old new stays = record {
   settings = stays.settings;
+  consistent = stays.consistent;
   single_valued = stays.single_valued;
   holds_slices = stays.holds_slices;
   sliced = stays.sliced;
@@ -594,6 +684,8 @@ stays-but-whole part whole is old new stays = record {
   never_wait = stays.never_wait;
   never_fail = stays.never_fail;
   blocked_sends = λ key live other alike. stays.blocked_sends key live (is.publishers key.port other) (is.blocked_sends key.port alike);
+  pending = λ it whose values has other alike. stays.pending it whose values has (is.publishers it.loan.publisher other) (is.blocked_sends it.loan.publisher alike);
+  passed = λ it whose has other alike. stays.passed it whose has (is.publishers it.loan.publisher other) (is.blocked_sends it.loan.publisher alike);
   loan_cells = λ n cells has other. stays.loan_cells n cells has (is.loans n other);
   loan_payloads = λ n values has other. stays.loan_payloads n values has (is.loans n other);
   loan_headers = λ key header live has other. stays.loan_headers key header live has (is.loans key.message other);
@@ -629,6 +721,7 @@ stays-through : {T U F G : Type 0} (start old new : Kept T U F G) (first second 
     → ((key : Key) → IsUnblocked start key → IsOtherBlocked spent key.port → IsUnblocked new key) → StaysBut spent start new
 stays-through start old new first second spent spares before next unblocked = record {
   settings = next.settings ∙ before.settings;
+  consistent = λ was. next.consistent (before.consistent was);
   single_valued = λ was. next.single_valued (before.single_valued was);
   holds_slices = λ was. next.holds_slices (before.holds_slices was);
   sliced = λ was. next.sliced (before.sliced was);
@@ -655,6 +748,12 @@ stays-through start old new first second spent spares before next unblocked = re
   blocked_sends = λ key live other alike.
       let apart = spares.blocked_sends key live other alike in
       next.blocked_sends key (before.blocked_sends key live (apart.0).0 (apart.0).1) apart.1 apart.2;
+  pending = λ it whose values has other alike.
+      let apart = spares.blocked_sends (blocked_key it) (pending-parts start it whose values has).0 other alike in
+      next.pending it whose values (before.pending it whose values has (apart.0).0 (apart.0).1) apart.1 apart.2;
+  passed = λ it whose has other alike.
+      let apart = spares.blocked_sends (blocked_key it) (passed-parts start it whose has).0 other alike in
+      next.passed it whose (before.passed it whose has (apart.0).0 (apart.0).1) apart.1 apart.2;
   loan_cells = λ n cells has other. let apart = spares.cells n cells has other in next.loan_cells n cells (before.loan_cells n cells has apart.0) apart.1;
   loan_payloads = λ n values has other. let apart = spares.payloads n values has other in next.loan_payloads n values (before.loan_payloads n values has apart.0) apart.1;
   loan_headers = λ key header live has other.
@@ -713,6 +812,8 @@ module _ {T U F G : Type 0} (start old : Kept T U F G) (before : Stays start old
     payloads = λ n values has. new.payloads n values (before.loan_payloads n values has tt);
     unblocked = λ key free. new.unblocked key (before.unblocked key free tt);
     blocked_sends = λ key live. new.blocked_sends key (before.blocked_sends key live tt tt);
+    pending = λ it whose values has. new.pending it whose values (before.pending it whose values has tt tt);
+    passed = λ it whose has. new.passed it whose (before.passed it whose has tt tt);
   }
 
   -- where an item that was new is spent, all that was there before stays but for what is spent beside it
@@ -738,6 +839,15 @@ module _ {T U F G : Type 0} (start old : Kept T U F G) (before : Stays start old
   -- and where nothing is, all that was there before stays
   pub stays-on : (new : Kept T U F G) → IsNewIn start item → StaysBut item old new → Stays start new
   stays-on new apart next = stays-on-but No_item new apart (stays-but-more item No_item old new next)
+
+-- a new loan that is written and sent leaves what a copy leaves
+pub copy-stays : {T U F G : Type 0} (start lent mid new : Kept T U F G) (n p : ℕ) (is_blocked : Bool) → Stays start lent → IsNewIn start (A_loan n) → StaysBut (A_loan n) lent mid → StaysBut (A_sent_loan n p is_blocked) mid new
+    → StaysBut (A_sent_copy p is_blocked) start new
+copy-stays start lent mid new n p is_blocked before is_new wrote sent =
+    let both : Item = Both (A_loan n) (A_sent_copy p is_blocked) in
+    stays-on-but start lent before (A_loan n) (A_sent_copy p is_blocked) new is_new
+    (stays-twice both lent mid new (stays-but-more (A_loan n) (A_sent_copy p is_blocked) lent mid wrote)
+    (stays-but-whole (A_sent_loan n p is_blocked) both (sent-loan-copy-part n p is_blocked) mid new sent))
 
 -- ---- a send that blocked has ended
 

@@ -137,7 +137,7 @@ module _ {T U F G : Type 0} (old new : Kept T U F G) (m m' : Messages T U) (s s'
       ∙ sym (payloads-from-are old p subscriber)
 
   -- the payloads of a subscriber stay where the same messages wait for it
-  payloads-stay-for : AreKept → (subscriber : Subscriber) → s'.next_port ≡ s.next_port → ((p : ℕ) → waiting_from s' p subscriber.id ≡ waiting_from s p subscriber.id)
+  pub payloads-stay-for : AreKept → (subscriber : Subscriber) → s'.next_port ≡ s.next_port → ((p : ℕ) → waiting_from s' p subscriber.id ≡ waiting_from s p subscriber.id)
       → payloads new subscriber ≡ payloads old subscriber
   payloads-stay-for sent subscriber ports from =
       payloads-are new subscriber

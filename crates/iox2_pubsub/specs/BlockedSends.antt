@@ -1,7 +1,8 @@
 -- How far a blocked send still has to go, and what there is when it has ended.
-use Rattle.std.specs.Prelude.{ℕ, length, ◌≡◌, IfErr, IfOk, IsOk}
+use Rattle.std.specs.Prelude.{ℕ, List, [], ◌∷◌, ◌++◌, length, ◌≡◌, ◌<◌, IfErr, IfOk, IsOk}
 use Rattle.std.specs.Option.{option_and_then, option_map_or}
 use Rattle.std.specs.declared.option.Option.{Option}
+use Rattle.std.specs.declared.option.Option.TheVariants.{Some}
 use Rattle.std.specs.declared.result.Result.{Result}
 use Rattle.iox2_machine.specs.machine.Places.{occupant}
 use Rattle.iox2_machine.specs.machine.Records.{Publisher as MachinePublisher, BlockedSend as MachineBlocked}
@@ -9,14 +10,15 @@ use Rattle.iox2_machine.specs.machine.State.{State}
 use Rattle.iox2_machine.specs.declared.errors.SendError.{SendError}
 use Rattle.iox2_machine.specs.declared.errors.SendError.TheVariants.{UnableToDeliver}
 use Rattle.iox2_domain.specs.Kept.{Kept, state_of}
-use Rattle.iox2_pubsub.specs.Handles.{blocked_sender, written_lender}
-use Rattle.iox2_pubsub.specs.Live.{AddAtMost, IsBlockedSend, IsUnblocked, NeverFails, Stays, StaysBut, UpToDateStay, blocked_key, blocked_send, lender_key, written_key}
+use Rattle.iox2_pubsub.specs.Handles.{blocked_sender, buffer_size_of, written_lender}
+use Rattle.iox2_pubsub.specs.Live.{AddAtMost, AllFrom, HasItsBuffer, HasPassed, IsBlockedSend, IsConnected, IsPending, IsServed, IsServedOrPending, IsUnblocked, NeverFails, OthersSend, Stays, StaysBut, UpToDateStay, WaitsAsBefore, blocked_key, blocked_send, lender_key, written_key}
 use Rattle.iox2_pubsub.specs.BorrowsLeft.{BorrowsLeftStay}
 use Rattle.iox2_pubsub.specs.LoansLeft.{HasOneMoreLeft, LoansLeftStay}
 use Rattle.iox2_pubsub.specs.SendCalls.{IfBlocked, IsDelivered}
 use Rattle.iox2_pubsub.specs.declared.blocked_send.BlockedSend.{BlockedSend}
 use Rattle.iox2_pubsub.specs.declared.sample_mut.SampleMut.{SampleMut}
 use Rattle.iox2_pubsub.specs.declared.send_outcome.SendOutcome.{SendOutcome}
+use Rattle.iox2_pubsub.specs.declared.subscriber.Subscriber.{Subscriber}
 
 module _ {T U : Type 0} where
   -- At how many places the publisher p has receivers before it from the one on that it waits for, empty places counted; at none
@@ -56,3 +58,29 @@ module _ {T U F G : Type 0} where
     pub stays : StaysBut (blocked_send waited) old new
     pub stays_since : IfOk result IsDelivered → StaysSince waited old new
     pub since_again : IfOk result (λ outcome. IfBlocked outcome (λ again. (after : Kept T U F G) → StaysSince again new after → StaysSince waited old after))
+
+  -- The send waits for this subscriber.
+  unfoldable pub IsNext : Kept T U F G → BlockedSend → Subscriber → Type 0
+  IsNext domain blocked subscriber = waits_for (state_of domain) blocked.loan.publisher ≡ Some subscriber.id
+
+  -- The send waits for another than this subscriber.
+  abbrev pub IsNotNext : Kept T U F G → BlockedSend → Subscriber → Type 0
+  IsNotNext domain blocked subscriber = IsNext domain blocked subscriber → ⊥
+
+  -- The subscriber is left as it was, and the send comes to it no more.
+  abbrev pub IsLeftBehind : Subscriber → Result SendOutcome SendError → (old new : Kept T U F G) → Type 0
+  IsLeftBehind subscriber result old new = WaitsAsBefore old new subscriber × IfOk result (λ outcome. IfBlocked outcome (λ again. HasPassed new again subscriber))
+
+  -- The blocked send went on, and was tried at each of these subscribers that it had before it. When it has ended it has
+  -- served them, and where it is blocked again it has served each or has it before it still. Those behind it and what
+  -- waits of other publishers are left as they were.
+  pub record Resumes (IsTried : Subscriber → Type 0) (waited : BlockedSend) (result : Result SendOutcome SendError) (old new : Kept T U F G) : Type 0 where
+    pub serves : (subscriber : Subscriber) (values : List T) → IsTried subscriber → IsPending old waited subscriber values → IsConnected old (blocked_sender waited) subscriber
+        → IfOk result (λ outcome. IsDelivered outcome → IsServed old new (blocked_sender waited) subscriber values)
+    pub joins : (subscriber : Subscriber) (values : List T) (earlier : List (List T)) → IsTried subscriber → IsPending old waited subscriber values → IsConnected old (blocked_sender waited) subscriber
+        → AllFrom old (blocked_sender waited) subscriber earlier → HasItsBuffer old subscriber → length earlier < buffer_size_of subscriber
+        → IfOk result (λ outcome. IsDelivered outcome → AllFrom new (blocked_sender waited) subscriber (earlier ++ values ∷ []))
+    pub pending : (subscriber : Subscriber) (values : List T) → IsTried subscriber → IsPending old waited subscriber values → IsConnected old (blocked_sender waited) subscriber
+        → IfOk result (λ outcome. IfBlocked outcome (λ again. IsServedOrPending old new again subscriber values))
+    pub passed : (subscriber : Subscriber) → HasPassed old waited subscriber → IsLeftBehind subscriber result old new
+    pub others : OthersSend (blocked_sender waited) old new

@@ -1,4 +1,6 @@
+pub mod Domains
 pub mod ConnectedPorts
+pub mod PendingSends
 pub mod DepartedPorts
 pub mod Live
 pub mod Sample
@@ -10,7 +12,11 @@ pub mod UpdateCalls
 pub mod Payloads
 pub mod LoansLeft
 pub mod BorrowsLeft
+pub mod AllSubscribers
+pub mod AllPublishers
+pub mod Counts
 pub mod RoomyPublishers
+pub mod Shares
 pub mod GrantedLoans
 pub mod Leaves
 pub mod MachineSteps

@@ -4,9 +4,11 @@ use Rattle.std.specs.declared.option.Option.{Option}
 use Rattle.std.specs.Bool.{MatchBool}
 use Rattle.std.specs.List.{AllByRecursion}
 use Rattle.std.specs.declared.option.Option.TheVariants.{None, Some}
+use Rattle.iox2_machine.specs.machine.ChannelCalls.{connection_place}
 use Rattle.iox2_machine.specs.machine.Limits.{refusal_limit}
 use Rattle.iox2_machine.specs.machine.Mailbox.{is_borrowed}
 use Rattle.iox2_machine.specs.machine.Records.{BlockedSend as MachineBlocked, Entry, Loan, Publisher as MachinePublisher, Subscriber as MachineSubscriber}
+use Rattle.iox2_machine.specs.machine.State.{Messages}
 use Rattle.iox2_machine.specs.machine.SingleCalls.{HoldsPublisher, HoldsSubscriber, HoldsLoan, HoldsSample, HoldsBlocked}
 use Rattle.iox2_machine.specs.declared.header.Header.{Header}
 use Rattle.iox2_machine.specs.declared.key.Key.{Key}
@@ -16,10 +18,12 @@ use Rattle.iox2_domain.specs.Boxes.{box_of, degradation_box_of}
 use Rattle.iox2_domain.specs.Handlers.{may_fail, may_fail_update}
 use Rattle.iox2_domain.specs.Kept.{Kept, KeptBook, KeptMessage, is_numbered, state_of, entries_of}
 use Rattle.iox2_domain.specs.LoanCalls.{HasLoanHeader, HasLoanUserHeader}
+use Rattle.iox2_domain.specs.Shows.{Shows}
 use Rattle.iox2_pubsub.specs.ConnectedPorts.{Awaits, Connects}
 use Rattle.iox2_pubsub.specs.DepartedPorts.{HasRoom}
 use Rattle.iox2_pubsub.specs.Handlers.{may_wait}
 use Rattle.iox2_pubsub.specs.Payloads.{payload_of, payloads_for}
+use Rattle.iox2_pubsub.specs.PendingSends.{GoesTo, PassesBy}
 use Rattle.iox2_pubsub.specs.Slices.{HoldsSlices, IsSliced, HasUnwrittenCells, HasValues, SampleHasValues}
 use Rattle.iox2_pubsub.specs.declared.blocked_send.BlockedSend.{BlockedSend}
 use Rattle.iox2_pubsub.specs.declared.publisher.Publisher.{Publisher}
@@ -64,6 +68,11 @@ module _ {T U F G : Type 0} (domain : Kept T U F G) where
   -- In the domain a message is a single value of one unit.
   unfoldable pub IsSingleValued : Type 0
   IsSingleValued = ((domain.config).variant ≡ FixedSize) × ((domain.config).units_per_element ≡ 1)
+
+  -- The domain's parts agree, as those of each domain do that is changed by calls alone: it shows a state, with some
+  -- messages. So what waits for a subscriber in all is what waits for it of each publisher.
+  unfoldable pub IsConsistent : Type 0
+  IsConsistent = (messages : Messages T U) × Shows domain messages (state_of domain)
 
   -- The service overflows: each open subscriber takes a message, even if its buffer is full.
   abbrev pub Overflows : Type 0
@@ -249,6 +258,18 @@ module _ {T U F G : Type 0} (domain : Kept T U F G) where
     unfoldable pub SampleHasUserHeader : U → Type 0
     SampleHasUserHeader header = (entry : Entry T U) × (entries_of domain key.message ≡ Some entry) × (entry.user_header ≡ header)
 
+  -- ---- to whom a blocked send goes yet
+
+  -- The blocked send has a message with these values, and has the subscriber before it: it waits for this one, or comes to
+  -- it later.
+  unfoldable pub IsPending : BlockedSend → Subscriber → List T → Type 0
+  IsPending blocked subscriber values =
+      IsBlockedSend blocked × GoesTo (state_of domain) blocked.loan.publisher blocked.loan.number subscriber.id × SampleHasValues domain (blocked_key blocked) values
+
+  -- The blocked send comes to the subscriber no more: this took the message, or was passed over, or came later.
+  unfoldable pub HasPassed : BlockedSend → Subscriber → Type 0
+  HasPassed blocked subscriber = IsBlockedSend blocked × PassesBy (state_of domain) blocked.loan.publisher blocked.loan.number subscriber.id
+
   -- ---- what waits
 
   -- The payloads of the messages that wait for the subscriber, each the list of its values: by publisher, and of each
@@ -287,6 +308,10 @@ module _ {T U F G : Type 0} (domain : Kept T U F G) where
   -- The publisher with this id is due for an update, and connected with the subscriber by it, if memory isn't refused.
   unfoldable pub IsAwaited : (publisher : ℕ) → Subscriber → Type 0
   IsAwaited publisher subscriber = Awaits (state_of domain) publisher subscriber.id
+
+  -- The connection of the publisher with this id to the subscriber stands at this place.
+  unfoldable pub IsAtConnection : (publisher connection : ℕ) → Subscriber → Type 0
+  IsAtConnection publisher connection subscriber = connection_place (state_of domain) publisher subscriber.id ≡ Some connection
 
 -- Each subscriber has room for as many closed publishers as it had.
 abbrev pub RoomStays : {T U F G : Type 0} → (old new : Kept T U F G) → Type 0
@@ -343,6 +368,18 @@ IsServed old new publisher subscriber values =
     (payloads_from new publisher subscriber ≡ drop 1 (payloads_from old publisher subscriber) ++ values ∷ [])
     (payloads_from new publisher subscriber ≡ payloads_from old publisher subscriber)
     × (waiting new subscriber ≡ waiting old subscriber))
+
+-- For the subscriber the same messages wait as before, in all and from each publisher.
+pub record WaitsAsBefore {T U F G : Type 0} (old new : Kept T U F G) (subscriber : Subscriber) : Type 0 where
+  pub all : payloads new subscriber ≡ payloads old subscriber
+  pub from : (publisher : ℕ) → payloads_from new publisher subscriber ≡ payloads_from old publisher subscriber
+
+-- The send that is blocked now has served the subscriber with these values, comes to it no more, and waits for another
+-- one; or nothing moved for the subscriber, and the send has it before it.
+abbrev pub IsServedOrPending : {T U F G : Type 0} → (old new : Kept T U F G) → BlockedSend → Subscriber → List T → Type 0
+IsServedOrPending old new blocked subscriber values =
+    (IsServed old new blocked.loan.publisher subscriber values × HasPassed new blocked subscriber × ((old.config).max_subscribers ≢ 1))
+    ⊎ (WaitsAsBefore old new subscriber × IsPending new blocked subscriber values)
 
 -- Each other subscriber that was up to date is.
 abbrev pub OthersStayUpToDate : {T U F G : Type 0} → Subscriber → (old new : Kept T U F G) → Type 0
@@ -404,6 +441,16 @@ publisher_port publisher = A_publisher publisher.id
 -- The subscriber of this handle.
 abbrev pub subscriber_port : Subscriber → Item
 subscriber_port subscriber = A_subscriber subscriber.id
+
+-- The publishers with these ids.
+abbrev pub publisher_ports : List ℕ → Item
+publisher_ports [] = No_item
+publisher_ports (id ∷ ids) = Both (A_publisher id) (publisher_ports ids)
+
+-- The subscribers with these ids.
+abbrev pub subscriber_ports : List ℕ → Item
+subscriber_ports [] = No_item
+subscriber_ports (id ∷ ids) = Both (A_subscriber id) (subscriber_ports ids)
 
 -- The loan of this handle.
 abbrev pub unwritten_loan : SampleMutUninit → Item
@@ -471,9 +518,10 @@ AreApart first (Both second third) = AreApart first second × AreApart first thi
 module _ {T U F G : Type 0} where
   -- The settings stay, and each port, loan, sample and blocked send that was live is live and reads as it did, except
   -- the item that was consumed. A publisher without a blocked send stays so, and so does one whose sends are never
-  -- blocked, and one that no handler fails. Each port keeps its boxes and its place, and each subscriber its buffer.
+  -- blocked, and one that no handler fails. A blocked send has the same subscribers before it. Each port keeps its boxes and its place, and each subscriber its buffer.
   pub record StaysBut (spent : Item) (old new : Kept T U F G) : Type 0 where
     pub settings : new.config ≡ old.config
+    pub consistent : IsConsistent old → IsConsistent new
     pub single_valued : IsSingleValued old → IsSingleValued new
     pub holds_slices : HoldsSlices old → HoldsSlices new
     pub sliced : IsSliced old → IsSliced new
@@ -496,6 +544,10 @@ module _ {T U F G : Type 0} where
     pub never_wait : (key : Key) → NeverWaits old key → NeverWaits new key
     pub never_fail : (publisher : ℕ) → NeverFails old publisher → NeverFails new publisher
     pub blocked_sends : (key : Key) → IsBlockedKey old key → IsOtherPublisher spent key.port → IsOtherBlocked spent key.port → IsBlockedKey new key
+    pub pending : (blocked : BlockedSend) (subscriber : Subscriber) (values : List T) → IsPending old blocked subscriber values
+        → IsOtherPublisher spent blocked.loan.publisher → IsOtherBlocked spent blocked.loan.publisher → IsPending new blocked subscriber values
+    pub passed : (blocked : BlockedSend) (subscriber : Subscriber) → HasPassed old blocked subscriber
+        → IsOtherPublisher spent blocked.loan.publisher → IsOtherBlocked spent blocked.loan.publisher → HasPassed new blocked subscriber
     pub loan_cells : (number : ℕ) (cells : List (Option T)) → HasUnwrittenCells old number cells → IsOtherLoan spent number → HasUnwrittenCells new number cells
     pub loan_payloads : (number : ℕ) (values : List T) → HasValues old number values → IsOtherLoan spent number → HasValues new number values
     pub loan_headers : (key : Key) (header : Header) → IsLoanKey old key → LoanHasHeader old key header → IsOtherLoan spent key.message → LoanHasHeader new key header
@@ -526,3 +578,7 @@ module _ {T U F G : Type 0} where
     pub payloads : (number : ℕ) (values : List T) → HasValues old number values → IsOtherLoan made number
     pub unblocked : (key : Key) → IsUnblocked old key → IsOtherPublisher made key.port × IsOtherBlocked made key.port
     pub blocked_sends : (key : Key) → IsBlockedKey old key → IsOtherPublisher made key.port × IsOtherBlocked made key.port
+    pub pending : (blocked : BlockedSend) (subscriber : Subscriber) (values : List T) → IsPending old blocked subscriber values
+        → IsOtherPublisher made blocked.loan.publisher × IsOtherBlocked made blocked.loan.publisher
+    pub passed : (blocked : BlockedSend) (subscriber : Subscriber) → HasPassed old blocked subscriber
+        → IsOtherPublisher made blocked.loan.publisher × IsOtherBlocked made blocked.loan.publisher

@@ -1,5 +1,5 @@
 -- The payloads of what waits for a subscriber.
-use Rattle.std.specs.Prelude.{ℕ, zero, suc, List, [], ◌++◌, map}
+use Rattle.std.specs.Prelude.{ℕ, zero, suc, List, [], ◌∷◌, ◌++◌, map}
 use Rattle.std.specs.Option.{option_map_or}
 use Rattle.iox2_machine.specs.machine.Records.{Entry}
 use Rattle.iox2_machine.specs.machine.State.{State, Messages}
@@ -18,3 +18,8 @@ module _ {T U : Type 0} where
   -- The payloads of the messages that wait for q: by publisher, and of each the oldest first.
   abbrev pub payloads_for : State T U → Messages T U → (q : ℕ) → List (List T)
   payloads_for s messages q = all_below (λ p. map (payload_of messages) (waiting_from s p q)) s.next_port
+
+-- Each value as the payload of a message of its own.
+abbrev pub singles : {T : Type 0} → List T → List (List T)
+singles [] = []
+singles (value ∷ values) = (value ∷ []) ∷ singles values

@@ -1,9 +1,10 @@
 -- Which publishers have room for one message more at each subscriber.
-use Rattle.std.specs.Prelude.{ℕ, length, true, ◌≡◌, ◌<◌}
+use Rattle.std.specs.Prelude.{ℕ, List, [], ◌∷◌, length, true, ◌≡◌, ◌<◌, ◌≤◌}
 use Rattle.std.specs.declared.option.Option.TheVariants.{Some}
 use Rattle.iox2_machine.specs.machine.Records.{Subscriber as MachineSubscriber}
 use Rattle.iox2_machine.specs.machine.State.{State}
 use Rattle.iox2_domain.specs.Kept.{Kept, state_of}
+use Rattle.iox2_pubsub.specs.AllSubscribers.{AreDifferent}
 use Rattle.iox2_pubsub.specs.Live.{HasItsBuffer, IsConnected, payloads_from}
 use Rattle.iox2_pubsub.specs.declared.subscriber.Subscriber.{Subscriber}
 
@@ -25,3 +26,22 @@ pub record HasRoomAlone {T U F G : Type 0} (domain : Kept T U F G) (publisher : 
   pub buffer : HasItsBuffer domain subscriber
   pub history : (domain.config).history_size < subscriber.buffer_size
   pub room : length (payloads_from domain publisher subscriber) < subscriber.buffer_size
+
+module _ {T U F G : Type 0} (domain : Kept T U F G) (publisher : ℕ) where
+  -- The publisher with this id is connected with the subscriber, which has room for one message more of it.
+  pub record HasRoomAt (subscriber : Subscriber) : Type 0 where
+    pub connected : IsConnected domain publisher subscriber
+    pub buffer : HasItsBuffer domain subscriber
+    pub history : (domain.config).history_size < subscriber.buffer_size
+    pub room : length (payloads_from domain publisher subscriber) < subscriber.buffer_size
+
+  -- So it is with each of these.
+  abbrev pub HasRoomAtEach : List Subscriber → Type 0
+  HasRoomAtEach [] = Unit {0}
+  HasRoomAtEach (subscriber ∷ others) = HasRoomAt subscriber × HasRoomAtEach others
+
+  -- So it is with each of these, and they are as many as the domain allows.
+  pub record HasRoomAtAll (subscribers : List Subscriber) : Type 0 where
+    pub different : AreDifferent subscribers
+    pub full : (domain.config).max_subscribers ≤ length subscribers
+    pub each : HasRoomAtEach subscribers

@@ -1,5 +1,5 @@
 //! A send that waits for a subscriber.
-ghost use Rattle.std.specs.Prelude.{◌≡◌};
+ghost use Rattle.std.specs.Prelude.{◌≡◌, ◌≢◌};
 ghost use Rattle.iox2_pubsub.specs.Live.{blocked_key};
 
 mod retry;
@@ -64,9 +64,10 @@ impl BlockedSend {
     ghost use Rattle.std.specs.Prelude.{Some};
     ghost use Rattle.iox2_machine.specs.machine.State.{State, Messages};
     ghost use Rattle.iox2_domain.specs.Shows.{Shows};
-    ghost use Rattle.iox2_pubsub.specs.BlockedSends.{waits_for};
-    ghost use Rattle.iox2_pubsub.specs.Handles.{blocked_sender};
-    ghost use Rattle.iox2_pubsub.specs.Live.{IsBlockedSend};
+    ghost use Rattle.iox2_pubsub.specs.BlockedSends.{IsNext, IsNotNext, waits_for};
+    ghost use Rattle.iox2_pubsub.specs.Handles.{blocked_sender, subscriber_id};
+    ghost use Rattle.iox2_pubsub.specs.declared.subscriber.Subscriber.{Subscriber};
+    ghost use Rattle.iox2_pubsub.specs.Live.{HasPassed, IsBlockedSend};
 
     /// Names the subscriber whose full buffer the send waits for: the one that `retry` tries again, and that
     /// `give_up` passes over. So a program can say who holds a publisher up, or give up one subscriber and
@@ -79,7 +80,10 @@ impl BlockedSend {
         domain: &Domain<T, U, F, G>,
     ) -> UniqueSubscriberId
         requires live { IsBlockedSend domain.now self.now }
-        ensures { (m : Messages T U) (s : State T U) → Shows domain.now m s → waits_for s (blocked_sender self.now) ≡ Some result }
+        ensures whom { (m : Messages T U) (s : State T U) → Shows domain.now m s → waits_for s (blocked_sender self.now) ≡ Some result }
+        ensures next { (subscriber : Subscriber) → subscriber_id subscriber ≡ result → IsNext domain.now self.now subscriber }
+        ensures others { (subscriber : Subscriber) → subscriber_id subscriber ≢ result → IsNotNext domain.now self.now subscriber }
+        ensures unpassed { (subscriber : Subscriber) → subscriber_id subscriber ≡ result → HasPassed domain.now self.now subscriber → ⊥ }
     {
         let place = domain
             .state

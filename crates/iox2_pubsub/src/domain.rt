@@ -7,6 +7,7 @@ ghost use Rattle.iox2_machine.specs.machine.Limits.{warning_limit};
 ghost use Rattle.iox2_machine.specs.machine.State.{Messages};
 ghost use Rattle.iox2_domain.specs.Kept.{state_of};
 ghost use Rattle.iox2_domain.specs.Shows.{Shows};
+ghost use Rattle.iox2_pubsub.specs.Live.{IsConsistent};
 ghost use Rattle.iox2_pubsub.specs.NewDomains.{CarriesAs, IsNewDomain};
 
 mod holds;
@@ -90,6 +91,7 @@ impl<T: Drop, U: Default + Drop, F: BackpressureFn, G: DegradationFn> Domain<T, 
         ensures value { result.now ≡ self.now.config }
         ensures carries { CarriesAs result.now self.now }
         ensures shown { (messages : Messages T U) × Shows self.now messages (state_of self.now) }
+        ensures consistent { IsConsistent self.now }
     {
         self.state.config()
     }

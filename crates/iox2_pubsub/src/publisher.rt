@@ -6,6 +6,7 @@ mod channels;
 mod close;
 mod loan;
 mod loan_default;
+mod never_waits;
 mod send_copy;
 mod update_connections;
 

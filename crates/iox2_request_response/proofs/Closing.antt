@@ -1,11 +1,12 @@
 -- A client's subscribers are closed one after the other, or made.
 use Rattle.std.proofs.Common.{◌≡◌, ℕ, List, [], ◌∷◌, ◌++◌, length, refl, sym, ap, subst, ◌∙◌, inl, inr, slice_index_or, append_assoc}
 use Rattle.iox2_pubsub.specs.Handles.{subscriber_id}
-use Rattle.iox2_pubsub.specs.Live.{Both, IsLivePublisher, IsLiveSubscriber, IsNewIn, No_item, Stays, StaysBut, subscriber_key, subscriber_port}
+use Rattle.iox2_pubsub.specs.Live.{Both, IsLivePublisher, IsLiveSubscriber, IsNewIn, No_item, Stays, StaysBut, publisher_port, subscriber_key, subscriber_port}
 use Rattle.iox2_pubsub.specs.declared.publisher.Publisher.{Publisher}
 use Rattle.iox2_pubsub.specs.declared.subscriber.Subscriber.{Subscriber}
-use Rattle.iox2_pubsub.proofs.StaysBut.{both-new, first-part, new-since, part-new, second-part, stays-itself, stays-twice, unchanged-stays}
+use Rattle.iox2_pubsub.proofs.StaysBut.{both-new, first-part, new-since, part-new, second-part, stays-itself, stays-on, stays-twice, unchanged-stays}
 use Rattle.iox2_request_response.specs.Handles.{IsLiveClient}
+use Rattle.iox2_request_response.specs.Service.{StaysBoth}
 use Rattle.iox2_request_response.specs.Slots.{AreDistinct, AreOthers, HasIdle, idle_ports}
 use Rattle.iox2_request_response.specs.declared.client.Client.{Client}
 use Rattle.iox2_request_response.specs.declared.service.RequestResponse.{RequestResponse}
@@ -86,6 +87,14 @@ module _ {Q P F G : Type 0} (requests : Publisher) (start : RequestResponse Q P 
       slots = λ at subscriber idle. subscriber-live now.responses new.responses No_item subscriber stays tt (filling.slots at subscriber idle);
       distinct = filling.distinct;
       are_new = filling.are_new;
+    }
+
+    -- where they are closed again, all that was there before stays, but the publisher
+    pub closed-again : (closed : RequestResponse Q P F G) → StaysBoth (publisher_port client.requests) (idle_ports (client.slots).items) now closed → StaysBoth (publisher_port requests) No_item start closed
+    closed-again closed stays = record {
+      requests = subst (λ (p : Publisher). StaysBut (publisher_port p) start.requests closed.requests) filling.publisher
+          (subst (λ d. StaysBut (publisher_port client.requests) d closed.requests) filling.requests_stay stays.requests);
+      responses = stays-on start.responses now.responses filling.stays (idle_ports (client.slots).items) closed.responses filling.are_new stays.responses;
     }
 
     -- one more

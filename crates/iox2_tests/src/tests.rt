@@ -9,6 +9,7 @@ mod fixtures;
 mod growing_publishers;
 mod in_place;
 mod loans;
+mod never_waits;
 mod overrides;
 mod parts;
 mod payloads;

@@ -1,11 +1,6 @@
-pub mod Singles
-pub mod Sums
 pub mod Middles
 pub mod Waits
 pub mod VotesWait
 pub mod Moved
+pub mod Recordings
 pub mod QueueItems
-pub mod Stopped
-pub mod Pending
-pub mod Retried
-pub mod PendingStays

@@ -1,24 +1,18 @@
 -- What a relay has moved, turn by turn.
 use Rattle.std.proofs.Common.{◌≡◌, ℕ, ◌+◌, ◌-◌, ◌<◌, ◌≤◌, List, [], ◌∷◌, ◌++◌, length, refl, sym, ap, subst, ◌∙◌, arith}
 use Rattle.std.proofs.lemmas.List.{append_assoc, append-nil, length-append, nil_from_length}
-use Rattle.iox2_machine.specs.machine.Limits.{last_number}
-use Rattle.iox2_domain.specs.Kept.{Kept}
+use Rattle.iox2_pubsub.specs.Domains.{Kept}
 use Rattle.iox2_pubsub.specs.Live.{HasItsBuffer, UpToDateStay, WaitingStays, waiting}
-use Rattle.iox2_pubsub.specs.LoansLeft.{HasNumbersLeft}
 use Rattle.iox2_pubsub.specs.declared.publisher.Publisher.{Publisher}
 use Rattle.iox2_pubsub.specs.declared.subscriber.Subscriber.{Subscriber}
+use Rattle.iox2_pubsub.proofs.ForCallers.{all_from_stays, numbers_for_fewer, singles_none}
 use Rattle.message_patterns.specs.Moves.{HasMoved}
-use Rattle.message_patterns.specs.Values.{CanSend, TakesMore, Wait, singles}
-use Rattle.message_patterns.proofs.Singles.{append-one, singles-none}
-use Rattle.message_patterns.proofs.Waits.{takes-fewer, takes-stay, wait-stays}
-
--- numbers for more are numbers for fewer
-pub numbers-fewer : {T U F G : Type 0} (d : Kept T U F G) (more fewer : ℕ) → fewer ≤ more → HasNumbersLeft d more → HasNumbersLeft d fewer
-unfolding HasNumbersLeft
-numbers-fewer d more fewer less has = let has : d.next_message + more ≤ last_number = has in omega (arith, has, less)
+use Rattle.iox2_pubsub.specs.Payloads.{singles}
+use Rattle.message_patterns.specs.Values.{CanSend, TakesMore, Wait}
+use Rattle.message_patterns.proofs.Waits.{takes-fewer, takes-stay}
 
 pub can-send-fewer : {T U F G : Type 0} (d : Kept T U F G) (publisher : Publisher) (more fewer : ℕ) → fewer ≤ more → CanSend d publisher more → CanSend d publisher fewer
-can-send-fewer d publisher more fewer less can = record { loans = can.loans; numbers = numbers-fewer d more fewer less can.numbers }
+can-send-fewer d publisher more fewer less can = record { loans = can.loans; numbers = numbers_for_fewer d more fewer less can.numbers }
 
 module _ {U F G : Type 0} (from to from' to' : Kept ℕ U F G) (origin : ℕ) (receiver : Subscriber) (sender : ℕ) (reader : Subscriber) (values earlier : List ℕ) (count more : ℕ) where
   -- nothing moved
@@ -29,7 +23,7 @@ module _ {U F G : Type 0} (from to from' to' : Kept ℕ U F G) (origin : ℕ) (r
     left = has.left;
     split = has.split;
     counted = has.counted;
-    waits = wait-stays from from' same origin receiver has.left has.waits;
+    waits = all_from_stays from from' same origin receiver (singles has.left) has.waits;
     sent = takes-stay to to' same' stay buffers sender reader (earlier ++ has.moved) more has.sent;
   }
 
@@ -43,7 +37,7 @@ module _ {U F G : Type 0} (from to from' to' : Kept ℕ U F G) (origin : ℕ) (r
       record {
         moved = has.moved ++ value ∷ [];
         left = took.0;
-        split = has.split ∙ ap (λ (l : List ℕ). has.moved ++ l) took.1 ∙ append-one has.moved took.0 value;
+        split = has.split ∙ ap (λ (l : List ℕ). has.moved ++ l) took.1 ∙ sym (append_assoc has.moved (value ∷ []) took.0);
         counted = let was : length has.moved ≡ count = has.counted in let longer : length (has.moved ++ value ∷ []) ≡ length has.moved + 1 = length-append has.moved (value ∷ []) in omega (arith, was, longer);
         waits = took.2;
         sent = subst (λ (l : List ℕ). TakesMore to' sender reader l more) (append_assoc earlier has.moved (value ∷ [])) (sent reader (earlier ++ has.moved) more has.sent);
@@ -62,7 +56,7 @@ module _ {U F G : Type 0} (from to from' to' : Kept ℕ U F G) (origin : ℕ) (r
   -- all was moved
   pub moved-all : (has : HasMoved from to origin receiver sender reader values earlier count more) → waiting from receiver ≡ 0 → values ≡ has.moved
   moved-all has none =
-      let nothing : has.left ≡ [] = singles-none has.left (sym (ap length (has.waits).all) ∙ none) in
+      let nothing : has.left ≡ [] = singles_none has.left (sym (ap length (has.waits).all) ∙ none) in
       has.split ∙ ap (λ (l : List ℕ). has.moved ++ l) nothing ∙ append-nil has.moved
 
   -- as many as there were

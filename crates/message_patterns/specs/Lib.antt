@@ -2,4 +2,4 @@ pub mod Values
 pub mod Moves
 pub mod Votes
 pub mod Queues
-pub mod Blocking
+pub mod Recordings

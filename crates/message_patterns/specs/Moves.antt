@@ -1,6 +1,6 @@
 -- What a relay has moved.
 use Rattle.std.specs.Prelude.{ℕ, List, ◌++◌, ◌≡◌, length}
-use Rattle.iox2_domain.specs.Kept.{Kept}
+use Rattle.iox2_pubsub.specs.Domains.{Kept}
 use Rattle.iox2_pubsub.specs.declared.subscriber.Subscriber.{Subscriber}
 use Rattle.message_patterns.specs.Values.{TakesMore, Wait}
 

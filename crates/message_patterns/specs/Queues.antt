@@ -1,7 +1,9 @@
 -- A queue of numbers over a publisher and a subscriber.
-use Rattle.std.specs.Prelude.{ℕ, List, [], ◌∷◌, ◌++◌, ◌≡◌, ◌≤◌, length}
-use Rattle.iox2_domain.specs.Kept.{Kept}
+use Rattle.std.specs.Prelude.{ℕ, List, ◌≡◌, ◌≤◌, length}
+use Rattle.std.specs.List.{concat}
+use Rattle.iox2_pubsub.specs.Domains.{Kept}
 use Rattle.iox2_pubsub.specs.Live.{HasItsBuffer, IsConnected, IsLivePublisher, IsLiveSubscriber, IsSingleValued, IsUpToDate, payloads}
+use Rattle.iox2_pubsub.specs.BorrowsLeft.{HasBorrowsLeft}
 use Rattle.iox2_pubsub.specs.LoansLeft.{HasLoansLeft}
 use Rattle.iox2_pubsub.specs.declared.publisher.Publisher.{Publisher}
 use Rattle.iox2_pubsub.specs.declared.subscriber.Subscriber.{Subscriber}
@@ -12,13 +14,8 @@ pub record QueueView : Type 0 where
   pub items : List ℕ
   pub capacity : ℕ
 
--- The values of all payloads, one after the other.
-abbrev pub values_of : List (List ℕ) → List ℕ
-values_of [] = []
-values_of (values ∷ others) = values ++ values_of others
-
 module _ {U F G : Type 0} (domain : Kept ℕ U F G) (publisher : Publisher) (subscriber : Subscriber) where
-  -- The ports of a queue: they are live and connected, the subscriber is up to date, no send waits, and a slot is left.
+  -- The ports of a queue: they are live and connected, the subscriber is up to date, no send waits, and a slot and a borrow are left.
   pub record AreQueuePorts : Type 0 where
     pub single_valued : IsSingleValued domain
     pub sender : IsLivePublisher domain publisher
@@ -27,6 +24,7 @@ module _ {U F G : Type 0} (domain : Kept ℕ U F G) (publisher : Publisher) (sub
     pub connected : IsConnected domain publisher.id subscriber
     pub buffer : HasItsBuffer domain subscriber
     pub loans : HasLoansLeft domain publisher 1
+    pub borrows : HasBorrowsLeft domain subscriber 1
 
   -- So they are, and so many numbers wait, no more than the buffer takes.
   pub record IsQueue (count : ℕ) : Type 0 where
@@ -38,4 +36,4 @@ module _ {U F G : Type 0} (domain : Kept ℕ U F G) (publisher : Publisher) (sub
 
   -- What clauses see of it.
   abbrev pub queue_view : QueueView
-  queue_view = record { items = values_of (payloads domain subscriber); capacity = subscriber.buffer_size }
+  queue_view = record { items = concat (payloads domain subscriber); capacity = subscriber.buffer_size }

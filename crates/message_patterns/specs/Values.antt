@@ -4,16 +4,12 @@ use Rattle.std.specs.declared.option.Option.{Option}
 use Rattle.std.specs.declared.option.Option.TheVariants.{None, Some}
 use Rattle.std.specs.declared.result.Result.{Result}
 use Rattle.std.specs.declared.result.Result.TheVariants.{Ok, Err}
-use Rattle.iox2_domain.specs.Kept.{Kept}
+use Rattle.iox2_pubsub.specs.Domains.{Kept}
 use Rattle.iox2_pubsub.specs.Live.{AllFrom, HasItsBuffer, IsConnected}
+use Rattle.iox2_pubsub.specs.Payloads.{singles}
 use Rattle.iox2_pubsub.specs.LoansLeft.{HasLoansLeft, HasNumbersLeft}
 use Rattle.iox2_pubsub.specs.declared.publisher.Publisher.{Publisher}
 use Rattle.iox2_pubsub.specs.declared.subscriber.Subscriber.{Subscriber}
-
--- Each value as the payload of a message of its own.
-abbrev pub singles : List ℕ → List (List ℕ)
-singles [] = []
-singles (x ∷ xs) = (x ∷ []) ∷ singles xs
 
 -- The call gave no value: there was none, or an error.
 abbrev pub OnNoValue : {A E : Type 0} → Result (Option A) E → Type 0 → Type 0

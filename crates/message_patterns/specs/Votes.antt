@@ -1,7 +1,7 @@
 -- Votes, and the middle one of three.
 use Rattle.std.specs.Prelude.{ℕ, List, [], ◌∷◌, ◌+◌, ◌≡◌, ◌≢◌, ◌≤◌, ◌⊎◌, cond, length, nat_le}
-use Rattle.iox2_domain.specs.Kept.{Kept}
-use Rattle.iox2_pubsub.specs.Live.{payloads_from, waiting}
+use Rattle.iox2_pubsub.specs.Domains.{Kept}
+use Rattle.iox2_pubsub.specs.Shares.{AllFromEach, Share, share_of}
 use Rattle.iox2_pubsub.specs.declared.subscriber.Subscriber.{Subscriber}
 
 -- What a publisher has sent.
@@ -31,11 +31,6 @@ pub record IsMiddle (it a b c : ℕ) : Type 0 where
 abbrev pub vote_of : (publisher value : ℕ) → Vote
 vote_of publisher value = record { publisher = publisher; value = value }
 
--- Who has voted.
-abbrev pub voters : List Vote → List ℕ
-voters [] = []
-voters (vote ∷ votes) = vote.publisher ∷ voters votes
-
 -- The publisher is none of these.
 abbrev pub Apart : (publisher : ℕ) → List ℕ → Type 0
 Apart publisher [] = Unit {0}
@@ -46,14 +41,11 @@ abbrev pub AllApart : List ℕ → Type 0
 AllApart [] = Unit {0}
 AllApart (publisher ∷ publishers) = Apart publisher publishers × AllApart publishers
 
-module _ {U F G : Type 0} (domain : Kept ℕ U F G) (subscriber : Subscriber) where
-  -- Each vote waits for the subscriber, as the only message of its publisher.
-  abbrev pub Each : List Vote → Type 0
-  Each [] = Unit {0}
-  Each (vote ∷ votes) = (payloads_from domain vote.publisher subscriber ≡ (vote.value ∷ []) ∷ []) × Each votes
+-- Each vote as what waits of its publisher.
+abbrev pub shares_of : List Vote → List (Share ℕ)
+shares_of [] = []
+shares_of (vote ∷ votes) = share_of vote.publisher ((vote.value ∷ []) ∷ []) ∷ shares_of votes
 
-  -- These votes wait, of different publishers, and nothing else.
-  pub record VotesWait (votes : List Vote) : Type 0 where
-    pub count : waiting domain subscriber ≡ length votes
-    pub each : Each votes
-    pub apart : AllApart (voters votes)
+-- These votes wait, each as the only message of its publisher, and nothing else.
+abbrev pub VotesWait : {U F G : Type 0} → Kept ℕ U F G → Subscriber → List Vote → Type 0
+VotesWait domain subscriber votes = AllFromEach domain subscriber (shares_of votes)

@@ -2,10 +2,9 @@
 //! blocked send is given to the caller, who tries it again once there is room.
 ghost use Rattle.std.specs.Prelude.{ℕ, List, [], ◌∷◌, ◌++◌, ◌+◌, ◌<◌, ◌≤◌, ◌≡◌, length, IfNone, IfOk, IfSome, OnOk};
 ghost use Rattle.iox2_pubsub.specs.Handles.{blocked_sender, buffer_size_of, publisher_id};
-ghost use Rattle.iox2_pubsub.specs.Live.{A_blocked_send, HasItsBuffer, IsBlockedSend, IsConnected, IsLiveSubscriber, IsReadyPublisher, IsSingleValued, IsUpToDate, StaysBut, UpToDateStay, blocked_key, lender_key, publisher_key};
+ghost use Rattle.iox2_pubsub.specs.Live.{A_blocked_send, HasItsBuffer, IsBlockedSend, IsConnected, IsLiveSubscriber, IsPending, IsReadyPublisher, IsSingleValued, IsUpToDate, StaysBut, UpToDateStay, blocked_key, lender_key, publisher_key};
 ghost use Rattle.iox2_pubsub.specs.RoomyPublishers.{HasRoomAlone};
 ghost use Rattle.iox2_pubsub.specs.declared.subscriber.Subscriber.{Subscriber as Port};
-ghost use Rattle.message_patterns.specs.Blocking.{IsPending};
 ghost use Rattle.message_patterns.specs.Values.{TakesMore, Wait};
 
 use crate::Numbers;
@@ -30,18 +29,12 @@ pub fn push_or_wait<F: BackpressureFn, G: DegradationFn>(
         → IfOk result (λ waits. IfNone waits (TakesMore domain.new (publisher_id publisher.now) subscriber (earlier ++ value ∷ []) more)) }
     ensures roomy { (subscriber : Port) → HasRoomAlone domain.old (publisher_id publisher.now) subscriber → IfOk result (λ waits. IfSome waits (λ it. ⊥)) }
     ensures waits { (subscriber : Port) (earlier : List ℕ) → Wait domain.old (publisher_id publisher.now) subscriber earlier → IsConnected domain.old (publisher_id publisher.now) subscriber
-        → IfOk result (λ waits. IfSome waits (λ it. Wait domain.new (publisher_id publisher.now) subscriber earlier × IsPending domain.new it subscriber value)) }
+        → IfOk result (λ waits. IfSome waits (λ it. Wait domain.new (publisher_id publisher.now) subscriber earlier × IsPending domain.new it subscriber (value ∷ []))) }
     ensures blocked { IfOk result (λ waits. IfSome waits (λ it. IsBlockedSend domain.new it × (lender_key (blocked_key it) ≡ publisher_key publisher.now))) }
     ensures up_to_date { UpToDateStay domain.old domain.new }
     ensures stays { StaysBut (A_blocked_send (publisher_id publisher.now)) domain.old domain.new }
 {
-    let loan = match publisher.loan_uninit(domain) {
-        Ok(loan) => loan,
-        Err(error) => return Err(Failure::Loan(error)),
-    };
-    let message = loan.write_payload(domain, value);
-    domain.config();
-    match message.send(domain) {
+    match publisher.send_copy(domain, value) {
         Ok(SendOutcome::Delivered(_)) => Ok(None),
         Ok(SendOutcome::Blocked(waiting)) => Ok(Some(waiting)),
         Err(error) => Err(Failure::Send(error)),
@@ -55,15 +48,17 @@ pub fn push_again<F: BackpressureFn, G: DegradationFn>(
     waiting: BlockedSend,
 ) -> Result<Option<BlockedSend>, Failure>
     requires live { IsBlockedSend domain.old waiting }
-    ensures taken { (subscriber : Port) (value : ℕ) (earlier : List ℕ) → IsPending domain.old waiting subscriber value → Wait domain.old (blocked_sender waiting) subscriber earlier
+    requires one { (domain.old.config).max_subscribers ≡ 1 }
+    ensures taken { (subscriber : Port) (value : ℕ) (earlier : List ℕ) → IsPending domain.old waiting subscriber (value ∷ []) → IsConnected domain.old (blocked_sender waiting) subscriber
+        → Wait domain.old (blocked_sender waiting) subscriber earlier
         → HasItsBuffer domain.old subscriber → length earlier < buffer_size_of subscriber
         → IfOk result (λ waits. IfNone waits (Wait domain.new (blocked_sender waiting) subscriber (earlier ++ value ∷ []))) }
-    ensures waits { (subscriber : Port) (value : ℕ) (earlier : List ℕ) → IsPending domain.old waiting subscriber value → Wait domain.old (blocked_sender waiting) subscriber earlier
-        → IfOk result (λ waits. IfSome waits (λ it. Wait domain.new (blocked_sender waiting) subscriber earlier × IsPending domain.new it subscriber value)) }
+    ensures waits { (subscriber : Port) (value : ℕ) (earlier : List ℕ) → IsPending domain.old waiting subscriber (value ∷ []) → IsConnected domain.old (blocked_sender waiting) subscriber
+        → Wait domain.old (blocked_sender waiting) subscriber earlier
+        → IfOk result (λ waits. IfSome waits (λ it. Wait domain.new (blocked_sender waiting) subscriber earlier × IsPending domain.new it subscriber (value ∷ []))) }
     ensures blocked { IfOk result (λ waits. IfSome waits (λ it. IsBlockedSend domain.new it × (blocked_key it ≡ blocked_key waiting))) }
     ensures up_to_date { UpToDateStay domain.old domain.new }
 {
-    domain.config();
     match waiting.retry(domain, Duration::ZERO) {
         Ok(SendOutcome::Delivered(_)) => Ok(None),
         Ok(SendOutcome::Blocked(again)) => Ok(Some(again)),

@@ -1,7 +1,9 @@
 //! What a relay needs of its ports is shown by the clauses of their creation and by tests.
-ghost use Rattle.std.specs.Prelude.{ℕ, [], ◌≡◌, IfOk, IfSome, IsTrue};
+ghost use Rattle.std.specs.Prelude.{ℕ, [], ◌≡◌, IfOk, IfSome, IsTrue, OnOk};
+ghost use Rattle.iox2_pubsub.specs.BorrowsLeft.{BorrowsLeftStay};
 ghost use Rattle.iox2_pubsub.specs.Handles.{publisher_id};
-ghost use Rattle.iox2_pubsub.specs.Live.{HasItsBuffer, HasRoomFor, IsConnected, IsLivePublisher, IsLiveSubscriber, IsSingleValued, Stays, UpToDateStay};
+ghost use Rattle.iox2_pubsub.specs.Leaves.{LeavesButWaiting};
+ghost use Rattle.iox2_pubsub.specs.Live.{HasItsBuffer, HasRoomFor, IsConnected, IsLivePublisher, IsLiveSubscriber, IsSingleValued, IsUpToDate, Stays};
 ghost use Rattle.message_patterns.specs.Values.{Wait};
 
 use crate::Numbers;
@@ -52,12 +54,13 @@ pub fn relay_if_idle(
     Ok(Some(read))
 }
 
-// Whether nothing waits for the subscriber.
-fn is_idle(domain: &mut Numbers, subscriber: &Subscriber) -> Result<bool, Failure>
+/// Whether nothing waits for the subscriber.
+pub fn is_idle(domain: &mut Numbers, subscriber: &Subscriber) -> Result<bool, Failure>
     requires { IsLiveSubscriber domain.old subscriber.now }
     ensures none { IfOk result (λ idle. IsTrue idle → (publisher : ℕ) → Wait domain.new publisher subscriber.now []) }
-    ensures up_to_date { UpToDateStay domain.old domain.new }
-    ensures stays { Stays domain.old domain.new }
+    ensures updated { OnOk result (IsUpToDate domain.new subscriber.now) }
+    ensures borrows { BorrowsLeftStay domain.old domain.new }
+    ensures leaves { LeavesButWaiting subscriber.now domain.old domain.new }
 {
     match subscriber.has_samples(domain) {
         Ok(waits) => {

@@ -1,22 +1,28 @@
-//! Three programs over `iox2_pubsub`, whose promises are proved: a relay between two domains, a voter
-//! over three publishers, and a queue with a bound.
+//! Programs over `iox2_pubsub`, whose promises are proved: a relay between two domains, a voter over three
+//! publishers, a queue with a bound, and a recorder beside displays.
 #![tactic(auto)]
 
 mod blocking;
 mod failure;
 mod joining;
+mod pairing;
 mod passing;
 mod queues;
+mod recording;
 mod relaying;
+mod spreading;
 mod voter;
 
 pub use blocking::{push_again, push_or_wait, push_over};
 pub use failure::Failure;
 use iox2_pubsub::Domain;
-pub use joining::relay_if_idle;
+pub use joining::{is_idle, relay_if_idle};
+pub use pairing::{send_beside, send_both};
 pub use passing::{read_all, read_one, send_all, send_one};
 pub use queues::Queue;
+pub use recording::{record, record_again};
 pub use relaying::{relay, relay_all};
+pub use spreading::{spread, spread_again};
 pub use voter::{median, vote};
 
 /// A service whose messages are numbers.

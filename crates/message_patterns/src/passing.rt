@@ -4,9 +4,7 @@ ghost use Rattle.iox2_pubsub.specs.Handles.{publisher_id, unwritten_lender};
 ghost use Rattle.iox2_pubsub.specs.Live.{HasLender, IsLivePublisher, IsLiveSubscriber, IsSingleValued, IsUnblocked, IsUnwrittenLoan, IsUpToDate, KeepsAll, Stays, StaysBut, UpToDateStay, WaitingStays, payloads_from, unwritten_key, unwritten_loan, waiting};
 ghost use Rattle.iox2_pubsub.specs.LoansLeft.{HasOneMoreLeft, LoansLeftStay};
 ghost use Rattle.iox2_pubsub.specs.declared.subscriber.Subscriber.{Subscriber as Port};
-ghost use Rattle.iox2_pubsub.specs.declared.blocked_send.BlockedSend.{BlockedSend as Waiting};
-ghost use Rattle.message_patterns.specs.Blocking.{IsPending};
-ghost use Rattle.iox2_pubsub.specs.BorrowsLeft.{HasBorrowsLeft};
+ghost use Rattle.iox2_pubsub.specs.BorrowsLeft.{BorrowsLeftStay, HasBorrowsLeft};
 ghost use Rattle.message_patterns.specs.Values.{CanSend, OnNoValue, TakesMore, Wait};
 
 use crate::Numbers;
@@ -38,9 +36,10 @@ pub fn send_loan(domain: &mut Numbers, loan: SampleMutUninit, value: u32)
     requires loan { IsUnwrittenLoan domain.old loan }
     requires unblocked { IsUnblocked domain.old (unwritten_key loan) }
     requires lent { HasLender domain.old (unwritten_key loan) }
-    ensures sent { (reader : Port) (earlier : List ℕ) (more : ℕ) → TakesMore domain.old (unwritten_lender loan) reader earlier (more + 1)
-        → TakesMore domain.new (unwritten_lender loan) reader (earlier ++ value ∷ []) more }
+    ensures sent { (publisher : ℕ) (reader : Port) (earlier : List ℕ) (more : ℕ) → unwritten_lender loan ≡ publisher → TakesMore domain.old publisher reader earlier (more + 1)
+        → TakesMore domain.new publisher reader (earlier ++ value ∷ []) more }
     ensures loans { LoansLeftStay domain.old domain.new }
+    ensures borrows { BorrowsLeftStay domain.old domain.new }
     ensures given_back { HasOneMoreLeft (unwritten_lender loan) domain.old domain.new }
     ensures up_to_date { UpToDateStay domain.old domain.new }
     ensures stays { StaysBut (unwritten_loan loan) domain.old domain.new }
@@ -82,16 +81,14 @@ pub fn read_one(domain: &mut Numbers, subscriber: &Subscriber) -> Result<Option<
     ensures fewer { IfOk result (λ read. OnSome read (waiting domain.new subscriber.now < waiting domain.old subscriber.now)) }
     ensures none { IfOk result (λ read. IfNone read (waiting domain.new subscriber.now ≡ 0)) }
     ensures nothing { KeepsAll domain.old subscriber.now → IfOk result (λ read. IfNone read (waiting domain.old subscriber.now ≡ 0)) }
-    ensures granted { (n : ℕ) → IsUpToDate domain.old subscriber.now → HasBorrowsLeft domain.old subscriber.now (n + 1) → IsOk result }
-    ensures borrows { (n : ℕ) → HasBorrowsLeft domain.old subscriber.now (n + 1) → HasBorrowsLeft domain.new subscriber.now (n + 1) }
-    ensures pending { (blocked : Waiting) (reader : Port) (held : ℕ) → IsUpToDate domain.old subscriber.now → IsPending domain.old blocked reader held → IsPending domain.new blocked reader held }
+    ensures granted { IsUpToDate domain.old subscriber.now → HasBorrowsLeft domain.old subscriber.now 1 → IsOk result }
+    ensures borrows { HasBorrowsLeft domain.old subscriber.now 1 → HasBorrowsLeft domain.new subscriber.now 1 }
     ensures kept { KeepsAll domain.old subscriber.now → OnNoValue result (WaitingStays domain.old domain.new) }
     ensures up_to_date { UpToDateStay domain.old domain.new }
     ensures updated { OnOk result (IsUpToDate domain.new subscriber.now) }
     ensures loans { LoansLeftStay domain.old domain.new }
     ensures stays { Stays domain.old domain.new }
 {
-    domain.config();
     let sample = match subscriber.receive(domain) {
         Ok(Some(sample)) => sample,
         Ok(None) => return Ok(None),

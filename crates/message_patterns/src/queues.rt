@@ -1,5 +1,5 @@
 //! A queue of numbers with a bound: a publisher and a subscriber of a domain of its own.
-ghost use Rattle.std.specs.Prelude.{[], ◌∷◌, ◌++◌, ◌≡◌, ◌≤◌, ◌<◌, length, IfNone, IfOk, IfSome, OnErr};
+ghost use Rattle.std.specs.Prelude.{[], ◌∷◌, ◌++◌, ◌≡◌, ◌≤◌, ◌<◌, length, IfNone, IfOk, IfSome, IsOk, OnErr};
 ghost use Rattle.iox2_pubsub.specs.Handles.{buffer_size_of, publisher_id};
 ghost use Rattle.message_patterns.specs.Queues.{AreQueuePorts};
 ghost use Rattle.message_patterns.specs.Values.{Wait};
@@ -77,11 +77,11 @@ impl Queue {
         Ok(None)
     }
 
-    /// Takes the first number out. `None` where there is none.
+    /// Takes the first number out. `None` where there is none. It isn't refused.
     pub fn pop(&mut self) -> Result<Option<u32>, Failure>
         ensures first { IfOk result (λ it. IfSome it (λ value. self.old.items ≡ value ∷ self.new.items)) }
         ensures none { IfOk result (λ it. IfNone it ((self.old.items ≡ []) × (self.new ≡ self.old))) }
-        ensures failed { OnErr result (self.new ≡ self.old) }
+        ensures granted { IsOk result }
         ensures capacity { self.new.capacity ≡ self.old.capacity }
     {
         let value = read_one(&mut self.domain, &self.subscriber)?;

@@ -3,10 +3,11 @@ ghost use Rattle.std.specs.Prelude.{ℕ, List, [], ◌∷◌, ◌<◌, ◌≡◌
 ghost use Rattle.iox2_pubsub.specs.Handles.{publisher_id};
 ghost use Rattle.iox2_pubsub.specs.Live.{IsConnected, IsLivePublisher, IsLiveSubscriber, IsSingleValued, IsUpToDate, Stays, UpToDateStay, waiting};
 ghost use Rattle.iox2_pubsub.specs.declared.subscriber.Subscriber.{Subscriber as Port};
-ghost use Rattle.message_patterns.specs.Votes.{AllApart, Apart, IsMiddle, Picks, Vote, VotesWait, vote_of, voters};
+ghost use Rattle.message_patterns.specs.Votes.{AllApart, IsMiddle, Picks, Vote, VotesWait, vote_of};
 
 use crate::Numbers;
 use crate::failure::Failure;
+use crate::pairing::send_beside;
 use crate::passing::read_one;
 use iox2_pubsub::{Publisher, Subscriber};
 
@@ -56,9 +57,9 @@ fn cast_all(
     ensures up_to_date { UpToDateStay domain.old domain.new }
     ensures stays { Stays domain.old domain.new }
 {
-    cast(domain, first, readings.0)?;
-    cast(domain, second, readings.1)?;
-    cast(domain, third, readings.2)
+    send_beside(domain, first, readings.0)?;
+    send_beside(domain, second, readings.1)?;
+    send_beside(domain, third, readings.2)
 }
 
 // Takes three readings, and returns the middle one.
@@ -94,25 +95,6 @@ fn take(domain: &mut Numbers, subscriber: &Subscriber) -> Result<u32, Failure>
         unreachable!()
     };
     Ok(reading)
-}
-
-// Sends a reading.
-fn cast(domain: &mut Numbers, publisher: &Publisher, reading: u32) -> Result<(), Failure>
-    requires single_valued { IsSingleValued domain.old }
-    requires publisher { IsLivePublisher domain.old publisher.now }
-    ensures cast { (subscriber : Port) (votes : List Vote) → VotesWait domain.old subscriber votes → Apart (publisher_id publisher.now) (voters votes)
-        → IsConnected domain.old (publisher_id publisher.now) subscriber → OnOk result (VotesWait domain.new subscriber (vote_of (publisher_id publisher.now) reading ∷ votes)) }
-    ensures up_to_date { UpToDateStay domain.old domain.new }
-    ensures stays { Stays domain.old domain.new }
-{
-    domain.config();
-    match publisher.send_copy(domain, reading) {
-        Ok(outcome) => {
-            outcome.delivered();
-            Ok(())
-        }
-        Err(error) => Err(Failure::Send(error)),
-    }
 }
 
 /// The middle one of three numbers.

@@ -41,6 +41,7 @@ fn report_readings(rt: &HostRuntime) -> Result<(), Failure> {
 
 // Makes the publisher of a thermometer indoors, with up to two loans out at a time, and reports with
 // it.
+#[tactic(auto, using(iox2_pubsub::proofs::ForCallers::for_callers))]
 fn run(
     rt: &HostRuntime,
     domain: &mut Domain<Reading, ()>,

@@ -45,6 +45,7 @@ fn report(
 
 // Has two loans out at a time, sends the later one first, and shows both. Neither loan can be
 // refused, so there is no case for that.
+#[tactic(auto, using(iox2_pubsub::proofs::ForCallers::for_callers))]
 fn report_pair(
     rt: &HostRuntime,
     domain: &mut Domain<Reading, ()>,

@@ -26,6 +26,7 @@ pub fn exchange(alloc: Global) -> Result<Option<usize>, Failure> {
 }
 
 // Makes a publisher of series of three, with one loan out at a time, and sends two series with it.
+#[tactic(auto, using(iox2_pubsub::proofs::ForCallers::for_callers))]
 fn publish(domain: &mut Domain<u64, ()>, subscriber: &Subscriber) -> Result<Option<usize>, Failure>
     requires series { HasSeries domain.old }
     requires subscriber { IsLiveSubscriber domain.old (as_subscriber subscriber.now) }

@@ -1,9 +1,10 @@
 //! What each pattern starts from: a publisher and the subscriber that gets what it sends.
 ghost use Rattle.std.specs.Prelude.{◌≡◌, IfOk, OnOk};
-ghost use Rattle.iox2_machine.specs.declared.service_config.TypeVariant.TheVariants.{FixedSize};
-ghost use Rattle.iox2_pubsub.specs.Live.{ConnectionsStay, IsLivePublisher, IsLiveSubscriber, IsNewIn, IsSingleValued, RoomStays, Stays, publisher_port};
+ghost use Rattle.iox2_pubsub.specs.Domains.{FixedSize};
+ghost use Rattle.iox2_pubsub.specs.Live.{ConnectionsStay, IsLivePublisher, IsLiveSubscriber, IsNewIn, RoomStays, Stays, publisher_port};
+ghost use Rattle.iox2_pubsub.specs.BorrowsLeft.{BorrowsLeftStay};
 ghost use Rattle.iox2_pubsub.specs.LoansLeft.{LoansLeftStay};
-ghost use Rattle.three_patterns.specs.Ports.{AreJoined, CanRead};
+ghost use Rattle.three_patterns.specs.Ports.{AreJoined, CanRead, IsSetUp};
 
 use crate::failure::Failure;
 use iox2_pubsub::{BackpressureStrategy, Publisher, ServiceConfig, Subscriber};
@@ -30,15 +31,18 @@ impl Pair {
     }
 }
 
-/// The settings of a service with one subscriber, for which three messages of each publisher may wait.
+/// The settings of a service with one subscriber, for which three messages of each publisher may wait, and which
+/// holds one at a time.
 pub fn settings(service_id: u128) -> ServiceConfig
     ensures variant { result.variant ≡ FixedSize }
     ensures units { result.units_per_element ≡ 1 }
+    ensures borrows { result.subscriber_max_borrowed_samples ≡ 1 }
 {
     ServiceConfig {
         max_publishers: 3,
         max_subscribers: 1,
         subscriber_max_buffer_size: 3,
+        subscriber_max_borrowed_samples: 1,
         enable_safe_overflow: false,
         ..ServiceConfig::new(service_id)
     }
@@ -46,7 +50,7 @@ pub fn settings(service_id: u128) -> ServiceConfig
 
 /// Makes a subscriber, and a publisher that is connected with it.
 pub fn join(domain: &mut Numbers) -> Result<Pair, Failure>
-    requires { IsSingleValued domain.old }
+    requires { IsSetUp domain.old }
     ensures { IfOk result (λ it. AreJoined domain.new it.publisher it.subscriber) }
 {
     let subscriber = domain.subscriber_builder().create(domain)?;
@@ -73,6 +77,7 @@ pub fn connected_publisher(
     ensures connections { OnOk result (ConnectionsStay domain.old domain.new) }
     ensures room { OnOk result (RoomStays domain.old domain.new) }
     ensures loans { OnOk result (LoansLeftStay domain.old domain.new) }
+    ensures borrows { OnOk result (BorrowsLeftStay domain.old domain.new) }
     ensures stays { Stays domain.old domain.new }
 {
     let refused = domain.refused_connections();

@@ -1,8 +1,7 @@
 //! Numbers wait in a queue with a bound.
-ghost use Rattle.std.specs.Prelude.{ℕ, [], IfOk, IsTrue, OnOk};
+ghost use Rattle.std.specs.Prelude.{[], OnOk};
 ghost use Rattle.iox2_pubsub.specs.Handles.{publisher_id};
-ghost use Rattle.iox2_pubsub.specs.Leaves.{LeavesButWaiting};
-ghost use Rattle.iox2_pubsub.specs.Live.{IsLiveSubscriber, IsUpToDate, Stays};
+ghost use Rattle.iox2_pubsub.specs.Live.{Stays};
 ghost use Rattle.message_patterns.specs.Queues.{AreQueuePorts};
 ghost use Rattle.message_patterns.specs.Values.{Wait};
 ghost use Rattle.three_patterns.specs.Ports.{AreJoined};
@@ -10,7 +9,7 @@ ghost use Rattle.three_patterns.specs.Ports.{AreJoined};
 use crate::failure::Failure;
 use crate::ports::{Pair, join, settings};
 use iox2_pubsub::{Domain, Publisher, Subscriber};
-use message_patterns::{Numbers, Queue};
+use message_patterns::{Numbers, Queue, is_idle};
 use std::alloc::Global;
 
 /// What came of it: the number that found no room, and those that were taken out.
@@ -65,20 +64,4 @@ fn expect_idle(
         return Err(Failure::Busy);
     }
     Ok(())
-}
-
-// Whether nothing waits for the subscriber.
-fn is_idle(domain: &mut Numbers, subscriber: &Subscriber) -> Result<bool, Failure>
-    requires { IsLiveSubscriber domain.old subscriber.now }
-    ensures none { IfOk result (λ idle. IsTrue idle → (publisher : ℕ) → Wait domain.new publisher subscriber.now []) }
-    ensures updated { OnOk result (IsUpToDate domain.new subscriber.now) }
-    ensures leaves { LeavesButWaiting subscriber.now domain.old domain.new }
-{
-    match subscriber.has_samples(domain) {
-        Ok(waits) => {
-            domain.config();
-            Ok(!waits)
-        }
-        Err(error) => Err(Failure::Update(error)),
-    }
 }

@@ -1,6 +1,6 @@
 //! Numbers are relayed from one service to another.
 ghost use Rattle.std.specs.Prelude.{◌≡◌, IfOk};
-ghost use Rattle.iox2_pubsub.specs.Live.{IsSingleValued};
+ghost use Rattle.three_patterns.specs.Ports.{IsSetUp};
 
 use crate::failure::Failure;
 use crate::ports::{join, settings};
@@ -24,8 +24,8 @@ fn relay_between(
     to: &mut Numbers,
     numbers: &[u32],
 ) -> Result<Vec<u32>, Failure>
-    requires from { IsSingleValued from.old }
-    requires to { IsSingleValued to.old }
+    requires from { IsSetUp from.old }
+    requires to { IsSetUp to.old }
     ensures same { IfOk result (λ read. read.items ≡ numbers.now) }
 {
     let near = join(from)?;

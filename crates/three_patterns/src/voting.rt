@@ -1,9 +1,9 @@
 //! Three publishers vote.
 ghost use Rattle.std.specs.Prelude.{◌≢◌, IfOk};
 ghost use Rattle.iox2_pubsub.specs.Handles.{publisher_id};
-ghost use Rattle.iox2_pubsub.specs.Live.{IsSingleValued, Stays};
+ghost use Rattle.iox2_pubsub.specs.Live.{Stays};
 ghost use Rattle.message_patterns.specs.Votes.{IsMiddle};
-ghost use Rattle.three_patterns.specs.Ports.{AreJoined};
+ghost use Rattle.three_patterns.specs.Ports.{AreJoined, IsSetUp};
 
 use crate::failure::Failure;
 use crate::ports::{connected_publisher, join, settings};
@@ -21,7 +21,7 @@ pub fn vote_on(alloc: Global, readings: (u32, u32, u32)) -> Result<u32, Failure>
 
 // Makes the subscriber and the first publisher, and closes them.
 fn with_first(domain: &mut Numbers, readings: (u32, u32, u32)) -> Result<u32, Failure>
-    requires { IsSingleValued domain.old }
+    requires { IsSetUp domain.old }
     ensures { IfOk result (λ it. IsMiddle it readings.0 readings.1 readings.2) }
 {
     let pair = join(domain)?;

@@ -1,6 +1,6 @@
 //! A blocked send is tried again, or given up.
-ghost use Rattle.std.specs.Prelude.{◌≡◌, ◌≤◌, ◌<◌, IfOk};
-ghost use Rattle.iox2_pubsub.specs.BlockedSends.{GoesOn, receivers_ahead};
+ghost use Rattle.std.specs.Prelude.{◌≡◌, ◌≤◌, ◌<◌, IfOk, List, ⊤};
+ghost use Rattle.iox2_pubsub.specs.BlockedSends.{GoesOn, IsLeftBehind, IsNext, IsNotNext, Resumes, receivers_ahead};
 ghost use Rattle.iox2_pubsub.specs.SendCalls.{IfBlocked, result_of_send};
 
 use crate::blocked_send::BlockedSend;
@@ -16,7 +16,8 @@ impl BlockedSend {
     ghost use Rattle.iox2_machine.specs.machine.Records.{Publisher as Record, BlockedSend as Waiting};
     ghost use Rattle.iox2_machine.specs.machine.Sends.{Retry, GiveUp};
     ghost use Rattle.iox2_machine.specs.machine.State.{State, Messages};
-    ghost use Rattle.iox2_pubsub.specs.Live.{IsBlockedSend};
+    ghost use Rattle.iox2_pubsub.specs.Live.{IsBlockedSend, IsPending};
+    ghost use Rattle.iox2_pubsub.specs.declared.subscriber.Subscriber.{Subscriber};
     ghost use Rattle.iox2_domain.specs.Boxes.{answers_of};
     ghost use Rattle.iox2_domain.specs.Shows.{Shows};
     ghost use Rattle.iox2_pubsub.specs.Handles.{blocked_sender};
@@ -41,6 +42,7 @@ impl BlockedSend {
             → (s' : State T U) × Shows domain.new m s' × Retry (answers_of F.allows G.allows (domain.old.boxes).publishers) s (blocked_sender self) b elapsed s' (result_of_send result) }
         ensures no_more { IfOk result (λ outcome. IfBlocked outcome (λ blocked. receivers_ahead domain.new blocked ≤ receivers_ahead domain.old self)) }
         ensures goes_on { GoesOn self result domain.old domain.new }
+        ensures resumes { Resumes (λ subscriber. ⊤) self result domain.old domain.new }
     {
         let BlockedSend { service_id, loan } = self;
         let place = domain.state.find_live_publisher(loan.publisher, loan.place);
@@ -63,6 +65,8 @@ impl BlockedSend {
             → (s' : State T U) × Shows domain.new m s' × GiveUp (answers_of F.allows G.allows (domain.old.boxes).publishers) s (blocked_sender self) b s' (result_of_send result) }
         ensures fewer { IfOk result (λ outcome. IfBlocked outcome (λ blocked. receivers_ahead domain.new blocked < receivers_ahead domain.old self)) }
         ensures goes_on { GoesOn self result domain.old domain.new }
+        ensures resumes { Resumes (IsNotNext domain.old self) self result domain.old domain.new }
+        ensures skips { (subscriber : Subscriber) (values : List T) → IsNext domain.old self subscriber → IsPending domain.old self subscriber values → IsLeftBehind subscriber result domain.old domain.new }
     {
         let BlockedSend { service_id, loan } = self;
         let place = domain.state.find_live_publisher(loan.publisher, loan.place);

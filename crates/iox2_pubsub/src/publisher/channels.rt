@@ -1,5 +1,5 @@
 //! A publisher asks about the channels of its connections, and closes them.
-ghost use Rattle.std.specs.Prelude.{◌≡◌, ◌≢◌, ◌⊎◌, ◌<◌};
+ghost use Rattle.std.specs.Prelude.{◌≡◌, ◌≢◌, ◌⊎◌, ◌<◌, IfSome};
 
 use crate::domain::Domain;
 use crate::publisher::Publisher;
@@ -13,8 +13,9 @@ impl Publisher {
     ghost use Rattle.iox2_machine.specs.machine.State.{State, Messages};
     ghost use Rattle.iox2_domain.specs.Kept.{state_of};
     ghost use Rattle.iox2_pubsub.specs.Leaves.{LeavesButChannels};
-    ghost use Rattle.iox2_pubsub.specs.Live.{IsPlacedPublisher, IsPublisherKey, publisher_key};
+    ghost use Rattle.iox2_pubsub.specs.Live.{IsAtConnection, IsPlacedPublisher, IsPublisherKey, publisher_key};
     ghost use Rattle.iox2_pubsub.specs.Handles.{publisher_id, subscriber_id};
+    ghost use Rattle.iox2_pubsub.specs.declared.subscriber.Subscriber.{Subscriber};
     ghost use Rattle.iox2_domain.specs.Shows.{Shows};
 
     /// Names the publisher's connection to a subscriber, by the subscriber's place: for the calls on
@@ -31,7 +32,8 @@ impl Publisher {
     ) -> Option<usize>
         requires there { IsPublisherKey domain.now (publisher_key self.now) }
         requires placed { IsPlacedPublisher domain.now self.now }
-        ensures { (m : Messages T U) (s : State T U) → Shows domain.now m s → result ≡ connection_place s (publisher_id self.now) receiver_port_id }
+        ensures place { (m : Messages T U) (s : State T U) → Shows domain.now m s → result ≡ connection_place s (publisher_id self.now) receiver_port_id }
+        ensures at { IfSome result (λ connection. (subscriber : Subscriber) → subscriber_id subscriber ≡ receiver_port_id → IsAtConnection domain.now (publisher_id self.now) connection subscriber) }
     {
         place_of_receiver(&domain.state, self.place, receiver_port_id)
     }

@@ -7,13 +7,17 @@ use crate::send_outcome::SendOutcome;
 use iox2_machine::{BackpressureFn, DegradationFn, SendError};
 
 impl Publisher {
+    ghost use Rattle.iox2_machine.specs.declared.errors.LoanError.{LoanError};
     ghost use Rattle.iox2_machine.specs.machine.State.{State, Messages};
     ghost use Rattle.iox2_domain.specs.Boxes.{answers_of};
     ghost use Rattle.iox2_domain.specs.Shows.{Shows};
-    ghost use Rattle.iox2_pubsub.specs.Live.{A_blocked_send, AddAtMost, AllFrom, AreAllSlices, HasItsBuffer, IsBlockedSend, IsConnected, IsReadyPublisher, IsServed, IsSingleValued, NeverFails, NeverWaits, OthersSend, StaysBut, UpToDateStay, blocked_key, blocked_send, lender_key, payloads, publisher_key, waiting};
+    ghost use Rattle.iox2_pubsub.specs.Live.{A_blocked_send, AddAtMost, AllFrom, AreAllSlices, HasItsBuffer, IsBlockedSend, IsConnected, IsReadyPublisher, IsServed, IsServedOrPending, IsSingleValued, NeverFails, NeverWaits, OthersSend, StaysBut, UpToDateStay, blocked_key, blocked_send, lender_key, payloads, publisher_key, waiting};
     ghost use Rattle.iox2_pubsub.specs.BorrowsLeft.{BorrowsLeftStay};
+    ghost use Rattle.iox2_pubsub.specs.Leaves.{Leaves};
     ghost use Rattle.iox2_pubsub.specs.LoansLeft.{HasLoansLeft, HasNumbersLeft, TakesOneLeft};
-    ghost use Rattle.iox2_pubsub.specs.RoomyPublishers.{HasRoomAlone};
+    ghost use Rattle.iox2_pubsub.specs.AllSubscribers.{AreConnected, AreDifferent};
+    ghost use Rattle.iox2_pubsub.specs.Counts.{Counts};
+    ghost use Rattle.iox2_pubsub.specs.RoomyPublishers.{HasRoomAlone, HasRoomAtAll};
     ghost use Rattle.iox2_pubsub.specs.SendCalls.{FailsCopy, IfBlocked, IsDelivered, spent_by_copy};
     ghost use Rattle.iox2_pubsub.specs.WrittenLoans.{SendsCopy};
     ghost use Rattle.iox2_pubsub.specs.Handles.{buffer_size_of, publisher_id};
@@ -37,6 +41,7 @@ impl Publisher {
         ensures blocked { IfOk result (λ outcome. IfBlocked outcome (λ blocked. IsBlockedSend domain.new blocked × (lender_key (blocked_key blocked) ≡ publisher_key self.now))) }
         ensures whose { IfOk result (λ outcome. IfBlocked outcome (λ blocked. blocked_send blocked ≡ A_blocked_send (publisher_id self.now))) }
         ensures errors { IfErr result (FailsCopy domain.old self.now) }
+        ensures refused { IfErr result (λ error. (reason : LoanError) → error ≡ SendError.LoanError reason → Leaves domain.old domain.new) }
         ensures adds { AddAtMost ((domain.old.config).history_size + 1) domain.old domain.new }
         ensures brings { (subscriber : Subscriber) → (domain.old.config).history_size ≡ 0 → waiting domain.old subscriber ≡ 0 → AreAllSlices (payloads domain.new subscriber) (value ∷ []) }
         ensures serves { (subscriber : Subscriber) → IsConnected domain.old (publisher_id self.now) subscriber
@@ -46,7 +51,12 @@ impl Publisher {
         ensures joins { (subscriber : Subscriber) (earlier : List (List T)) → AllFrom domain.old (publisher_id self.now) subscriber earlier → HasItsBuffer domain.old subscriber
             → length earlier < buffer_size_of subscriber → IsConnected domain.old (publisher_id self.now) subscriber
             → IfOk result (λ outcome. IsDelivered outcome → AllFrom domain.new (publisher_id self.now) subscriber (earlier ++ (value ∷ []) ∷ [])) }
+        ensures pending { (subscriber : Subscriber) → IsConnected domain.old (publisher_id self.now) subscriber
+            → IfOk result (λ outcome. IfBlocked outcome (λ blocked. IsServedOrPending domain.old domain.new blocked subscriber (value ∷ []))) }
         ensures roomy_alone { (subscriber : Subscriber) → HasRoomAlone domain.old (publisher_id self.now) subscriber → IfOk result IsDelivered }
+        ensures roomy_at_all { (subscribers : List Subscriber) → HasRoomAtAll domain.old (publisher_id self.now) subscribers → IfOk result IsDelivered }
+        ensures counts { (subscribers : List Subscriber) → AreDifferent subscribers → AreConnected domain.old (publisher_id self.now) subscribers
+            → IfOk result (λ outcome. (count : ℕ) → outcome ≡ SendOutcome.Delivered count → Counts domain.old domain.new (publisher_id self.now) (value ∷ []) subscribers count) }
         ensures others { OthersSend (publisher_id self.now) domain.old domain.new }
         ensures up_to_date { UpToDateStay domain.old domain.new }
         ensures granted { (loans numbers : ℕ) → HasLoansLeft domain.old self.now (loans + 1) → HasNumbersLeft domain.old (numbers + 1)

@@ -22,12 +22,14 @@ use iox2_machine::{BackpressureFn, DegradationFn, SendError};
 use iox2_messages::{SendEnd, send};
 
 impl SampleMut {
-    ghost use Rattle.std.specs.Prelude.{List, Some, [], length, ◌<◌, ◌++◌, ◌∷◌, ◌≢◌};
+    ghost use Rattle.std.specs.Prelude.{ℕ, List, Some, [], length, ◌<◌, ◌++◌, ◌∷◌, ◌≢◌};
     ghost use Rattle.iox2_machine.specs.declared.errors.SendError.TheVariants.{UnableToDeliver};
     ghost use Rattle.iox2_machine.specs.machine.Records.{Loan};
     ghost use Rattle.iox2_machine.specs.machine.State.{State, Messages};
-    ghost use Rattle.iox2_pubsub.specs.Live.{AllFrom, HasItsBuffer, IsConnected, IsServed, IsUnblocked, IsWritten, written_key, AddAtMost, AreAllSlices, payloads, waiting};
-    ghost use Rattle.iox2_pubsub.specs.RoomyPublishers.{HasRoomAlone, IsRoomy};
+    ghost use Rattle.iox2_pubsub.specs.Live.{AllFrom, HasItsBuffer, IsConnected, IsServed, IsServedOrPending, IsUnblocked, IsWritten, written_key, AddAtMost, AreAllSlices, payloads, waiting};
+    ghost use Rattle.iox2_pubsub.specs.AllSubscribers.{AreConnected, AreDifferent};
+    ghost use Rattle.iox2_pubsub.specs.Counts.{Counts};
+    ghost use Rattle.iox2_pubsub.specs.RoomyPublishers.{HasRoomAlone, HasRoomAtAll, IsRoomy};
     ghost use Rattle.iox2_pubsub.specs.Slices.{HasValues};
     ghost use Rattle.iox2_pubsub.specs.SendCalls.{FailsSend, IsDelivered, Sends, SpendsLoan, messages_after};
     ghost use Rattle.iox2_pubsub.specs.declared.subscriber.Subscriber.{Subscriber};
@@ -65,6 +67,7 @@ impl SampleMut {
             → (s' : State T U) × Shows domain.new (messages_after m (written_number self) l result) s' × Sends (answers_of F.allows G.allows (domain.old.boxes).publishers) s (written_number self) l result s' }
         ensures roomy { IsRoomy domain.old (written_lender self) → IfOk result IsDelivered × IfErr result (λ error. error ≢ UnableToDeliver) }
         ensures roomy_alone { (subscriber : Subscriber) → HasRoomAlone domain.old (written_lender self) subscriber → IfOk result IsDelivered × IfErr result (λ error. error ≢ UnableToDeliver) }
+        ensures roomy_at_all { (subscribers : List Subscriber) → HasRoomAtAll domain.old (written_lender self) subscribers → IfOk result IsDelivered × IfErr result (λ error. error ≢ UnableToDeliver) }
         ensures adds { AddAtMost ((domain.old.config).history_size + 1) domain.old domain.new }
         ensures brings { (subscriber : Subscriber) (values : List T) → (domain.old.config).history_size ≡ 0 → waiting domain.old subscriber ≡ 0
             → HasValues domain.old (written_number self) values → AreAllSlices (payloads domain.new subscriber) values }
@@ -75,6 +78,10 @@ impl SampleMut {
         ensures joins { (subscriber : Subscriber) (values : List T) (earlier : List (List T)) → AllFrom domain.old (written_lender self) subscriber earlier → HasItsBuffer domain.old subscriber
             → length earlier < buffer_size_of subscriber → IsConnected domain.old (written_lender self) subscriber → HasValues domain.old (written_number self) values
             → IfOk result (λ outcome. IsDelivered outcome → AllFrom domain.new (written_lender self) subscriber (earlier ++ values ∷ [])) }
+        ensures pending { (subscriber : Subscriber) (values : List T) → IsConnected domain.old (written_lender self) subscriber → HasValues domain.old (written_number self) values
+            → IfOk result (λ outcome. IfBlocked outcome (λ blocked. IsServedOrPending domain.old domain.new blocked subscriber values)) }
+        ensures counts { (subscribers : List Subscriber) (values : List T) → AreDifferent subscribers → AreConnected domain.old (written_lender self) subscribers → HasValues domain.old (written_number self) values
+            → IfOk result (λ outcome. (count : ℕ) → outcome ≡ SendOutcome.Delivered count → Counts domain.old domain.new (written_lender self) values subscribers count) }
         ensures spends { SpendsLoan self result domain.old domain.new }
     {
         let SampleMut { service_id, loan } = self;

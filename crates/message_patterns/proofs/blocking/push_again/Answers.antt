@@ -1,19 +1,22 @@
-use Rattle.std.proofs.Common.{refl}
-use Rattle.iox2_machine.specs.machine.Sends.{Blocked_send, Delivered_to}
-use Rattle.iox2_domain.specs.Boxes.{answers_of}
-use Rattle.message_patterns.proofs.Retried.{again-taken, again-waits}
+use Rattle.std.proofs.Common.{◌≡◌, ℕ, ◌<◌, ◌∷◌, [], List, length, arith, subst, sym, ⊎_elim}
+use Rattle.iox2_pubsub.specs.Handles.{blocked_sender, buffer_size_of}
+use Rattle.iox2_pubsub.specs.Live.{AllFrom}
+use Rattle.iox2_pubsub.proofs.ForCallers.{all_from_as_before, length_singles, singles_append}
+use Rattle.iox2_pubsub.specs.Payloads.{singles}
 use Rattle.message_patterns.proofs.blocking.push_again.Goals as goal
 
 pub returns-in-Ok-Blocked-clause-waits : goal.returns-in-Ok-Blocked-clause-waits
-returns-in-Ok-Blocked-clause-waits g c = λ subscriber value earlier pending wait.
-    let old = c.args.domain.now in
+returns-in-Ok-Blocked-clause-waits g c = λ subscriber value earlier pending joined wait.
     let sent = rw c.in-Ok-Blocked.field-0-is at c.in-Ok-Blocked.ensures in
-    again-waits old c.retry.new.domain c.config.ensures.shown (answers_of g.F.BackpressureFn.allows g.G.DegradationFn.allows old.boxes.publishers) _ c.args.waiting Blocked_send sent.retries subscriber value earlier pending wait refl
-    c.in-Ok-Blocked.again sent.goes_on.blocked.1
+    ⊎_elim
+    (λ it. absurd (it.2 c.requires.one))
+    (λ it. (all_from_as_before c.args.domain.now c.retry.new.domain subscriber it.0 (blocked_sender c.args.waiting) (singles earlier) wait, it.1))
+    (sent.resumes.pending subscriber (value ∷ []) tt pending joined)
 
 pub returns-in-Ok-Delivered-clause-taken : goal.returns-in-Ok-Delivered-clause-taken
-returns-in-Ok-Delivered-clause-taken g c = λ subscriber value earlier pending wait its room.
-    let old = c.args.domain.now in
+returns-in-Ok-Delivered-clause-taken g c = λ subscriber value earlier pending joined wait its room.
     let sent = rw c.in-Ok-Delivered.field-0-is at c.in-Ok-Delivered.ensures in
-    again-taken old c.retry.new.domain c.config.ensures.shown (answers_of g.F.BackpressureFn.allows g.G.DegradationFn.allows old.boxes.publishers) _ c.args.waiting (Delivered_to c.in-Ok-Delivered.field-0-0) sent.retries subscriber value earlier pending wait
-    c.in-Ok-Delivered.field-0-0 refl its room
+    let same : length (singles earlier) ≡ length earlier = length_singles earlier in
+    let fits : length (singles earlier) < buffer_size_of subscriber = omega (arith, same, room) in
+    subst (λ (l : List (List ℕ)). AllFrom c.retry.new.domain (blocked_sender c.args.waiting) subscriber l) (sym (singles_append earlier value))
+    (sent.resumes.joins subscriber (value ∷ []) (singles earlier) tt pending joined wait its fits tt)

@@ -1,7 +1,7 @@
 use Rattle.std.proofs.Common.{◌≡◌, ◌<◌, ℕ, Bool, true, false, IsTrue, arith, inl, inr, ⊎_elim, refl, ◌⊎◌}
 use Rattle.std.specs.Prelude.{not}
 use Rattle.iox2_pubsub.specs.Live.{waiting}
-use Rattle.message_patterns.proofs.VotesWait.{wait-none}
+use Rattle.iox2_pubsub.proofs.ForCallers.{none_from_each}
 use Rattle.message_patterns.proofs.joining.is_idle.Goals as goal
 
 -- a number is 0 or more
@@ -12,4 +12,4 @@ none-if-not n true idle some = let clash : false ≡ true = idle in absurd cc
 pub returns-in-Ok-clause-none : goal.returns-in-Ok-clause-none
 returns-in-Ok-clause-none g c = λ idle publisher.
     let domain = c.has_samples.new.domain in
-    wait-none domain c.config.ensures.shown.1.well_formed c.args.subscriber.now (none-if-not (waiting domain c.args.subscriber.now) c.in-Ok.waits idle c.in-Ok.ensures.waits.1) publisher
+    none_from_each domain c.config.ensures.consistent c.args.subscriber.now (none-if-not (waiting domain c.args.subscriber.now) c.in-Ok.waits idle c.in-Ok.ensures.waits.1) publisher

@@ -1,33 +1,35 @@
-use Rattle.std.proofs.Common.{rules, sym}
-use Rattle.message_patterns.proofs.PendingStays.{from-origin, pending-after, pending-error, pending-none}
-use Rattle.message_patterns.proofs.Waits.{read-first, read-oldest}
+use Rattle.std.proofs.Common.{ℕ, List, [], ◌∷◌, suc, length, ap, sym, ◌∙◌}
+use Rattle.iox2_pubsub.specs.Payloads.{singles}
+use Rattle.iox2_pubsub.proofs.ForCallers.{all_from_stays, waits_as_before}
+use Rattle.iox2_pubsub.proofs.ReceivedLaws.{received_first, received_oldest}
 use Rattle.message_patterns.proofs.passing.read_one.Goals as goal
 
 pub returns-clause-first : goal.returns-clause-first
 returns-clause-first g c = λ publisher values wait.
     let received = rw c.in-Ok-Some.field-0-is at c.in-Ok-Some.ensures in
-    read-first c.args.domain.now c.receive.new.domain c.release.new.domain c.args.subscriber.now c.in-Ok-Some.sample received.received c.payload-value.result.now c.payload-value.ensures.same c.release.ensures.leaves.waits publisher values wait
+    let got = received_first c.args.domain.now c.receive.new.domain c.args.subscriber.now c.in-Ok-Some.sample received.received publisher values wait in (
+      got.1,
+      got.2 ∙ ap (λ (value : ℕ). value ∷ got.1) (sym (c.payload-value.ensures.same got.0 got.3)),
+      all_from_stays c.receive.new.domain c.release.new.domain c.release.ensures.leaves.waits publisher c.args.subscriber.now (singles got.1) got.4,
+    )
 
 pub returns-clause-oldest : goal.returns-clause-oldest
 returns-clause-oldest g c = λ keeps.
     let received = rw c.in-Ok-Some.field-0-is at c.in-Ok-Some.ensures in
-    read-oldest c.args.domain.now c.receive.new.domain c.release.new.domain c.args.subscriber.now c.in-Ok-Some.sample received.received c.payload-value.result.now c.payload-value.ensures.reads c.release.ensures.leaves.waits keeps
+    let sample = c.in-Ok-Some.sample in
+    let value = c.payload-value.result.now in
+    let same = waits_as_before c.receive.new.domain c.release.new.domain c.args.subscriber.now c.release.ensures.leaves.waits in (
+      sample.origin,
+      received_oldest c.args.domain.now c.receive.new.domain c.args.subscriber.now sample received.received (value ∷ []) c.payload-value.ensures.reads
+          ∙ ap (λ (later : List (List ℕ)). (value ∷ []) ∷ later) (sym (same.from sample.origin)),
+      λ other away. same.from other ∙ received.received.rest keeps other away,
+      ap (λ (all : List (List ℕ)). suc (length all)) same.all ∙ received.received.one_fewer keeps,
+    )
 
 pub returns-clause-borrows : goal.returns-clause-borrows
-returns-clause-borrows g c = λ n left.
+returns-clause-borrows g c = λ left.
     let received = rw c.in-Ok-Some.field-0-is at c.in-Ok-Some.ensures in
-    c.release.ensures.gives_back c.args.subscriber.now n (sym received.received.subscriber) (received.takes.own n left)
+    c.release.ensures.gives_back c.args.subscriber.now 0 (sym received.received.subscriber) (received.takes.own 0 left)
 
-pub returns-in-Ok-None-clause-pending : goal.returns-in-Ok-None-clause-pending
-returns-in-Ok-None-clause-pending g c = λ blocked reader held updated pending.
-    pending-none c.args.domain.now c.receive.new.domain c.config.ensures.shown c.args.subscriber.now updated blocked reader held pending (rw c.in-Ok-None.field-0-is at c.in-Ok-None.ensures)
-
-pub returns-in-Err-clause-pending : goal.returns-in-Err-clause-pending
-returns-in-Err-clause-pending g c = λ blocked reader held updated pending.
-    pending-error c.args.domain.now c.receive.new.domain c.config.ensures.shown c.args.subscriber.now updated blocked reader held pending c.in-Err.error c.in-Err.ensures
-
-pub returns-clause-pending : goal.returns-clause-pending
-returns-clause-pending g c = λ blocked reader held updated pending.
-    let received = rw c.in-Ok-Some.field-0-is at c.in-Ok-Some.ensures in
-    pending-after c.args.domain.now c.receive.new.domain c.config.ensures.shown c.args.subscriber.now updated blocked reader held pending c.in-Ok-Some.sample received c.release.new.domain
-    (search rules) (from-origin c.receive.new.domain c.in-Ok-Some.sample received.received.origin) c.release.ensures.released
+pub returns-in-Err-clause-granted : goal.returns-in-Err-clause-granted
+returns-in-Err-clause-granted g c = λ updated left. c.in-Err.ensures.granted 0 updated left

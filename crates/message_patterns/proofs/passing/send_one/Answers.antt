@@ -1,7 +1,7 @@
 use Rattle.std.proofs.Common.{refl, sym}
 use Rattle.std.proofs.lemmas.Bool.{true≢false}
 use Rattle.iox2_pubsub.specs.Handles.{publisher_id}
-use Rattle.message_patterns.specs.Values.{singles}
+use Rattle.iox2_pubsub.specs.Payloads.{singles}
 use Rattle.message_patterns.proofs.Waits.{room-for-one, takes-next}
 use Rattle.message_patterns.proofs.passing.send_one.Goals as goal
 

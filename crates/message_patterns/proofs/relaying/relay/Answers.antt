@@ -1,8 +1,9 @@
 use Rattle.std.proofs.Common.{refl, sym, arith, rules, ◌+◌, ◌-◌, ◌<◌, ◌≤◌, ◌≡◌, ℕ, suc}
 use Rattle.std.proofs.lemmas.Bool.{true≢false}
 use Rattle.iox2_pubsub.specs.Handles.{publisher_id}
+use Rattle.iox2_pubsub.proofs.ForCallers.{keeps_all_stays}
 use Rattle.message_patterns.proofs.Moved.{can-send-fewer, moved-more, moved-stays}
-use Rattle.message_patterns.proofs.Waits.{keeps-stay, takes-fewer}
+use Rattle.message_patterns.proofs.Waits.{takes-fewer}
 use Rattle.message_patterns.proofs.relaying.relay.Goals as goal
 
 pub loop-moved-preserved : goal.loop-moved-preserved
@@ -36,7 +37,7 @@ returns-in_default-clause-moves g c = λ origin reader values earlier more keeps
     let moved = c.loop-moved.moved in
     let within : moved ≤ c.args.n = omega arith in
     let has = c.loop-moved.invariant.moves origin reader values earlier more keeps wait (takes-fewer c.args.to.now publisher reader earlier (c.args.n + more) (moved + more) (omega arith) takes) in
-    let kept = (rw c.in_default.is at c.in_ok-_value.ensures.kept) (keeps-stay c.args.from.now c.loop-moved.from c.loop-moved.invariant.up_to_date.0 c.args.subscriber.now keeps) in
+    let kept = (rw c.in_default.is at c.in_ok-_value.ensures.kept) (keeps_all_stays c.args.from.now c.loop-moved.from c.args.subscriber.now c.loop-moved.invariant.up_to_date.0 keeps) in
     let unsent = rw c.in_default.is at c.in_ok-_value.ensures.unsent in (
       moved,
       within,
@@ -51,7 +52,7 @@ returns-in_err-_value-clause-moves g c = λ origin reader values earlier more ke
     let moved = c.loop-moved.moved in
     let within : moved ≤ c.args.n = omega arith in
     let has = c.loop-moved.invariant.moves origin reader values earlier more keeps wait (takes-fewer c.args.to.now publisher reader earlier (c.args.n + more) (moved + more) (omega arith) takes) in
-    let kept = c.in_err-_value.ensures.kept (keeps-stay c.args.from.now c.loop-moved.from c.loop-moved.invariant.up_to_date.0 c.args.subscriber.now keeps) in (
+    let kept = c.in_err-_value.ensures.kept (keeps_all_stays c.args.from.now c.loop-moved.from c.args.subscriber.now c.loop-moved.invariant.up_to_date.0 keeps) in (
       moved,
       within,
       moved-stays c.loop-moved.from c.loop-moved.to c.relay_one.new.from c.relay_one.new.to origin c.args.subscriber.now publisher reader values earlier moved more has kept c.in_err-_value.ensures.unsent

@@ -1,7 +1,7 @@
-use Rattle.std.proofs.Common.{refl, sym, ◌+◌, ◌++◌, ◌∷◌, []}
+use Rattle.std.proofs.Common.{refl, sym, ◌+◌}
 use Rattle.std.proofs.lemmas.Bool.{true≢false}
-use Rattle.iox2_pubsub.specs.Handles.{publisher_id, unwritten_lender}
-use Rattle.message_patterns.proofs.Waits.{takes-renamed, takes-stay}
+use Rattle.iox2_pubsub.specs.Handles.{publisher_id}
+use Rattle.message_patterns.proofs.Waits.{takes-stay}
 use Rattle.message_patterns.proofs.relaying.relay_one.Goals as goal
 
 pub returns-in-Err-clause-granted : goal.returns-in-Err-clause-granted
@@ -9,13 +9,10 @@ returns-in-Err-clause-granted g c = λ updated borrows left can. absurd (true≢
 
 pub returns-in-Ok-Some-clause-sent : goal.returns-in-Ok-Some-clause-sent
 returns-in-Ok-Some-clause-sent g c = λ reader earlier more takes.
-    let lent = c.in-Ok.ensures.loan.lent.publisher in
     let leaves = c.in-Ok.ensures.leaves in
     let publisher = publisher_id c.args.publisher.now in
-    let lender = unwritten_lender c.in-Ok.loan in
-    let before = takes-stay c.args.to.now c.loan_uninit.new.domain leaves.waits leaves.up_to_date leaves.stays.buffers publisher reader earlier (more + 1) takes in
-    takes-renamed c.send_loan.new.domain lender publisher lent reader (earlier ++ c.in-Ok-Some.value ∷ []) more
-    (c.send_loan.ensures.sent reader earlier more (takes-renamed c.loan_uninit.new.domain publisher lender (sym lent) reader earlier (more + 1) before))
+    c.send_loan.ensures.sent publisher reader earlier more c.in-Ok.ensures.loan.lent.publisher
+    (takes-stay c.args.to.now c.loan_uninit.new.domain leaves.waits leaves.up_to_date leaves.stays.buffers publisher reader earlier (more + 1) takes)
 
 pub returns-in-Ok-Some-clause-granted : goal.returns-in-Ok-Some-clause-granted
 returns-in-Ok-Some-clause-granted g c = λ updated borrows left can. (
@@ -35,14 +32,5 @@ returns-in-Ok-None-clause-granted g c = λ updated borrows left can. (
   },
 )
 
-pub returns-in-Ok-Some-clause-borrows : goal.returns-in-Ok-Some-clause-borrows
-returns-in-Ok-Some-clause-borrows g c = c.read_one.ensures.borrows 0
-
-pub returns-in-Ok-None-clause-borrows : goal.returns-in-Ok-None-clause-borrows
-returns-in-Ok-None-clause-borrows g c = c.read_one.ensures.borrows 0
-
-pub returns-in-Err-read_one-clause-borrows : goal.returns-in-Err-read_one-clause-borrows
-returns-in-Err-read_one-clause-borrows g c = c.read_one.ensures.borrows 0
-
 pub returns-in-Err-read_one-clause-granted : goal.returns-in-Err-read_one-clause-granted
-returns-in-Err-read_one-clause-granted g c = λ updated borrows left can. absurd (true≢false (sym (c.in-Err-read_one.ensures.granted 0 updated borrows)))
+returns-in-Err-read_one-clause-granted g c = λ updated borrows left can. absurd (true≢false (sym (c.in-Err-read_one.ensures.granted updated borrows)))

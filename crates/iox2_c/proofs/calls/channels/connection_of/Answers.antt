@@ -9,7 +9,7 @@ pub returns-in-Some-place-clause-tells : goal.returns-in-Some-place-clause-tells
 returns-in-Some-place-clause-tells c = λ ok m s shows.
     sym (told (λ s p. connection_place s p c.get.result) c.get_connection_id_of-place.result
     c.service.inside.domain c.args.service.now.domain _ (wide c.args.numbers.now.id) (ap (λ (s : Serving). s.domain) c.service.view_is) c.in-Some.ensures.id
-    c.get_connection_id_of-place.ensures m s shows
+    c.get_connection_id_of-place.ensures.place m s shows
     ∙ ap (connection_place s (wide c.args.numbers.now.id)) c.get.ensures)
     ∙ c.in-Some-place.is
 
@@ -17,6 +17,6 @@ pub returns-in-None-clause-none : goal.returns-in-None-clause-none
 returns-in-None-clause-none c = λ ok m s shows.
     sym (told (λ s p. connection_place s p c.get.result) c.get_connection_id_of-place.result
     c.service.inside.domain c.args.service.now.domain _ (wide c.args.numbers.now.id) (ap (λ (s : Serving). s.domain) c.service.view_is) c.in-Some.ensures.id
-    c.get_connection_id_of-place.ensures m s shows
+    c.get_connection_id_of-place.ensures.place m s shows
     ∙ ap (connection_place s (wide c.args.numbers.now.id)) c.get.ensures)
     ∙ c.in-None.is

@@ -13,6 +13,7 @@ use Rattle.iox2_pubsub.proofs.LiveParts.{unfailed-parts}
 use Rattle.iox2_pubsub.proofs.UnfailedSends.{IsMild, retry-unfailed}
 use Rattle.iox2_pubsub.proofs.BorrowsLeftShown.{retry-borrows}
 use Rattle.iox2_pubsub.proofs.LoansLeftShown.{retry-left, retry-gives, sent-free}
+use Rattle.iox2_pubsub.proofs.PendingShown.{retry-resumes}
 use Rattle.iox2_pubsub.proofs.ReceiversAhead.{retry-no-more, where-blocked}
 use Rattle.iox2_pubsub.specs.BlockedSends.{receivers_ahead}
 use Rattle.iox2_pubsub.specs.declared.blocked_send.BlockedSend.{BlockedSend as Handle}
@@ -60,6 +61,11 @@ returns-clause-goes_on g c =
       borrows_left = retry-borrows {T = g.row.T.Denot} {U = g.row.U.Denot} c.args.domain.now (keeping _ c.retry_send-end.new.state) it.m it.m it.s it.step.0 it.shown it.step.1 (answers_of g.F.BackpressureFn.allows g.G.DegradationFn.allows c.args.domain.now.boxes.publishers) c.args.self.loan.publisher it.held.1 c.args.elapsed (result_of_send c.outcome_of.result) it.step.2;
       given_back = λ ends. retry-gives {T = g.row.T.Denot} {U = g.row.U.Denot} c.args.domain.now (keeping _ c.retry_send-end.new.state) it.m it.m it.s it.step.0 it.shown it.step.1 c.args.self.loan.publisher it.held.0 it.held.1 it.at it.held.3 (answers_of g.F.BackpressureFn.allows g.G.DegradationFn.allows c.args.domain.now.boxes.publishers) c.args.elapsed (result_of_send c.outcome_of.result) (sent-free c.outcome_of.result ends) it.step.2;
     })
+
+pub returns-clause-resumes : goal.returns-clause-resumes
+returns-clause-resumes g c =
+    let it = from-blocked {T = g.row.T.Denot} {U = g.row.U.Denot} c.domain.inside.state c.domain.invariant c.args.domain.now c.domain.view_is c.args.self c.requires.live (returns-clause-retries g c) in
+    retry-resumes {T = g.row.T.Denot} {U = g.row.U.Denot} c.args.domain.now (keeping _ c.retry_send-end.new.state) it.m it.s it.step.0 it.shown it.step.1 c.args.self c.outcome_of.result c.outcome_of.ensures.blocked (returns-clause-goes_on g c).blocked (answers_of g.F.BackpressureFn.allows g.G.DegradationFn.allows c.args.domain.now.boxes.publishers) it.held.0 it.held.1 it.at it.held.3 c.args.elapsed it.step.2
 
 pub invariant_of-domain : goal.invariant_of-domain
 invariant_of-domain g c = (goes-there {T = g.row.T.Denot} {U = g.row.U.Denot} c.domain.inside.state c.domain.invariant c.args.domain.now c.domain.view_is c.args.self c.requires.live c.find_live_publisher-place.result c.find_live_publisher-place.ensures c.retry_send-end.ensures.goes).agrees

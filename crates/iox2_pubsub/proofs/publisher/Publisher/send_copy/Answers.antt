@@ -1,18 +1,23 @@
-use Rattle.std.proofs.Common.{ap, inl, inr, refl, sym, ◌∙◌, List, [], ◌∷◌, ◌++◌, ℕ}
+use Rattle.std.proofs.Common.{ap, inl, inr, refl, sym, ◌∙◌, List, [], ◌∷◌, ◌++◌, ℕ, subst}
 use Rattle.std.proofs.lemmas.Result.{err_from_is_err_and}
 use Rattle.iox2_machine.specs.declared.key.Key.{Key}
 use Rattle.iox2_machine.specs.machine.Loans.{written}
 use Rattle.iox2_machine.specs.machine.State.{State}
 use Rattle.iox2_domain.specs.Boxes.{answers_of}
-use Rattle.iox2_pubsub.specs.Live.{publisher_key, written_key}
+use Rattle.iox2_pubsub.specs.Live.{A_sent_loan, No_item, StaysBut, publisher_key, written_key}
 use Rattle.iox2_pubsub.proofs.BoxesAlike.{sends-kept, written-lender}
 use Rattle.iox2_pubsub.proofs.SendShown.{fails-copy, fails-there, whose-blocked}
-use Rattle.iox2_pubsub.specs.SendCalls.{FailsCopy}
+use Rattle.iox2_pubsub.specs.SendCalls.{FailsCopy, is_blocked_send, spent_by_copy}
 use Rattle.iox2_pubsub.proofs.WrittenLoanCalls.{with_value, written-out, copy-sent, written-refused}
 use Rattle.iox2_machine.specs.declared.service_config.ServiceConfig.{ServiceConfig}
+use Rattle.iox2_pubsub.proofs.CopiesCount.{copy-counts, each-connected}
 use Rattle.iox2_pubsub.proofs.CopiesServe.{all-since, connected-as, copy-arrives, copy-others, copy-serves, none-are-all, none-still, waits-both}
 use Rattle.iox2_pubsub.specs.declared.subscriber.Subscriber.{Subscriber}
-use Rattle.iox2_pubsub.proofs.RoomySends.{alone-since}
+use Rattle.iox2_pubsub.specs.Leaves.{Leaves}
+use Rattle.iox2_pubsub.proofs.RefusedCopies.{lent-not-refused}
+use Rattle.iox2_pubsub.proofs.RoomySends.{all-room-since, alone-since}
+use Rattle.iox2_pubsub.proofs.SendsPend.{copy-pends}
+use Rattle.iox2_pubsub.proofs.StaysBut.{copy-stays, no-part, stays-but-whole}
 use Rattle.iox2_pubsub.proofs.publisher.Publisher.send_copy.Goals as goal
 
 pub returns-in_err-loan-clause-sends : goal.returns-in_err-loan-clause-sends
@@ -76,6 +81,20 @@ returns-clause-errors g c =
     fails-copy c.args.domain.now _ c.args.self.now (written_key c.write_payload.result) (ap (λ (k : Key). k.port) c.write_payload.ensures.becomes.key ∙ c.in_ok-loan.ensures.loan.lent.publisher)
     (c.write_payload.ensures.becomes.lent c.in_ok-loan.ensures.loan.lent.lent) (λ never. c.write_payload.ensures.becomes.leaves.stays.never_fail _ (c.in_ok-loan.ensures.leaves.stays.never_fail _ never)) c.send.result c.send.ensures.errors
 
+pub returns-in_err-loan-clause-refused : goal.returns-in_err-loan-clause-refused
+returns-in_err-loan-clause-refused g c =
+    let refused = err_from_is_err_and c.from_residual.result c.from_residual.ensures.1 in
+    rw refused.1 (λ reason is. record {
+      stays = c.in_err-loan.ensures.leaves.stays;
+      waits = c.in_err-loan.ensures.leaves.waits;
+      up_to_date = c.in_err-loan.ensures.leaves.up_to_date;
+      loans_left = c.in_err-loan.ensures.refused;
+      borrows_left = c.in_err-loan.ensures.leaves.borrows_left;
+    })
+
+pub returns-clause-refused : goal.returns-clause-refused
+returns-clause-refused g c = lent-not-refused c.write_payload.new.domain (written_key c.write_payload.result) (Leaves c.args.domain.now c.send.new.domain) c.send.result c.send.ensures.errors
+
 pub returns-in_err-loan-clause-brings : goal.returns-in_err-loan-clause-brings
 returns-in_err-loan-clause-brings g c = λ subscriber no_history none. none-are-all _ _ (none-still c.in_err-loan.ensures.leaves.waits subscriber none)
 
@@ -137,3 +156,46 @@ returns-clause-roomy_alone g c = λ subscriber has.
     (c.send.ensures.roomy_alone subscriber
     (alone-since waits settings (λ it its. c.write_payload.ensures.becomes.leaves.stays.buffers it (c.in_ok-loan.ensures.leaves.stays.buffers it its)) c.args.self.now.id c.write_payload.result.loan.publisher lender subscriber
     (connected-as c.write_payload.ensures.becomes.leaves.up_to_date c.args.self.now.id c.write_payload.result.loan.publisher lender subscriber still) has)).0
+
+pub returns-clause-pending : goal.returns-clause-pending
+returns-clause-pending g c = λ subscriber connected.
+    let waits = waits-both c.in_ok-loan.ensures.leaves.waits c.write_payload.ensures.becomes.leaves.waits in
+    let settings = c.write_payload.ensures.becomes.leaves.stays.settings ∙ c.in_ok-loan.ensures.leaves.stays.settings in
+    let lender = ap (λ (k : Key). k.port) c.write_payload.ensures.becomes.key ∙ c.in_ok-loan.ensures.loan.lent.publisher in
+    let still = c.in_ok-loan.ensures.leaves.up_to_date.connections c.args.self.now.id subscriber connected in
+    copy-pends c.args.domain.now _ _ waits settings (λ it its. c.write_payload.ensures.becomes.leaves.stays.buffers it (c.in_ok-loan.ensures.leaves.stays.buffers it its)) subscriber (c.args.value ∷ []) c.send.result
+    (c.send.ensures.pending subscriber (c.args.value ∷ []) (connected-as c.write_payload.ensures.becomes.leaves.up_to_date c.args.self.now.id c.write_payload.result.loan.publisher lender subscriber still) c.write_payload.ensures.reads)
+
+pub returns-clause-roomy_at_all : goal.returns-clause-roomy_at_all
+returns-clause-roomy_at_all g c = λ subscribers has.
+    let waits = waits-both c.in_ok-loan.ensures.leaves.waits c.write_payload.ensures.becomes.leaves.waits in
+    let settings = c.write_payload.ensures.becomes.leaves.stays.settings ∙ c.in_ok-loan.ensures.leaves.stays.settings in
+    let lender = ap (λ (k : Key). k.port) c.write_payload.ensures.becomes.key ∙ c.in_ok-loan.ensures.loan.lent.publisher in
+    (c.send.ensures.roomy_at_all subscribers
+    (all-room-since waits settings (λ it its. c.write_payload.ensures.becomes.leaves.stays.buffers it (c.in_ok-loan.ensures.leaves.stays.buffers it its)) c.args.self.now.id c.write_payload.result.loan.publisher lender
+    (λ it is. connected-as c.write_payload.ensures.becomes.leaves.up_to_date c.args.self.now.id c.write_payload.result.loan.publisher lender it (c.in_ok-loan.ensures.leaves.up_to_date.connections c.args.self.now.id it is)) subscribers has)).0
+
+pub returns-clause-counts : goal.returns-clause-counts
+returns-clause-counts g c = λ subscribers different connected.
+    let waits = waits-both c.in_ok-loan.ensures.leaves.waits c.write_payload.ensures.becomes.leaves.waits in
+    let settings = c.write_payload.ensures.becomes.leaves.stays.settings ∙ c.in_ok-loan.ensures.leaves.stays.settings in
+    let lender = ap (λ (k : Key). k.port) c.write_payload.ensures.becomes.key ∙ c.in_ok-loan.ensures.loan.lent.publisher in
+    copy-counts c.args.domain.now _ _ waits settings (λ it its. c.write_payload.ensures.becomes.leaves.stays.buffers it (c.in_ok-loan.ensures.leaves.stays.buffers it its)) c.args.self.now.id (c.args.value ∷ []) c.write_payload.result.loan.publisher lender subscribers c.send.result
+    (c.send.ensures.counts subscribers (c.args.value ∷ []) different
+    (each-connected c.args.domain.now _ c.args.self.now.id c.write_payload.result.loan.publisher
+    (λ it is. connected-as c.write_payload.ensures.becomes.leaves.up_to_date c.args.self.now.id c.write_payload.result.loan.publisher lender it (c.in_ok-loan.ensures.leaves.up_to_date.connections c.args.self.now.id it is)) subscribers connected)
+    c.write_payload.ensures.reads)
+
+pub returns-in_err-loan-clause-stays : goal.returns-in_err-loan-clause-stays
+returns-in_err-loan-clause-stays g c =
+    stays-but-whole No_item (spent_by_copy c.args.self.now c.from_residual.result) (no-part (spent_by_copy c.args.self.now c.from_residual.result)) c.args.domain.now c.loan_uninit.new.domain c.in_err-loan.ensures.leaves.stays
+
+pub returns-clause-stays : goal.returns-clause-stays
+returns-clause-stays g c =
+    let n = c.in_ok-loan.loan.loan.number in
+    let message = ap (λ (k : Key). k.message) c.write_payload.ensures.becomes.key in
+    let lender = ap (λ (k : Key). k.port) c.write_payload.ensures.becomes.key ∙ c.in_ok-loan.ensures.loan.lent.publisher in
+    let sent = subst (λ (k : ℕ). StaysBut (A_sent_loan k c.args.self.now.id (is_blocked_send c.send.result)) c.write_payload.new.domain c.send.new.domain) message
+    (subst (λ (p : ℕ). StaysBut (A_sent_loan c.write_payload.result.loan.number p (is_blocked_send c.send.result)) c.write_payload.new.domain c.send.new.domain) lender c.send.ensures.spends.stays) in
+    copy-stays c.args.domain.now c.loan_uninit.new.domain c.write_payload.new.domain c.send.new.domain n c.args.self.now.id (is_blocked_send c.send.result) c.in_ok-loan.ensures.leaves.stays c.in_ok-loan.ensures.loan.lent.is_new
+    c.write_payload.ensures.becomes.leaves.stays sent

@@ -15,10 +15,13 @@ use Rattle.iox2_messages.specs.SendEnds.{end_result}
 use Rattle.iox2_pubsub.specs.Live.{IsBlockedKey, blocked_key, written_key}
 use Rattle.iox2_pubsub.specs.SendCalls.{result_of_send}
 use Rattle.iox2_pubsub.proofs.SentLoans.{from-shown}
+use Rattle.iox2_pubsub.proofs.ConnectionServes.{sends-to-alone, sends-to-counts, sends-to-pends, sends-to-roomy, sends-to-serves}
 use Rattle.iox2_pubsub.proofs.ConnectionSendShown.{leaves-sent-to, machine-sends-to, sent-to-stays, sent-to-others, sent-to-up_to_date, sent-to-ok, fails-delivery, to-never-waits, to-spends}
 use Rattle.iox2_pubsub.proofs.LiveParts.{written-parts, unblocked-parts, unblocked-test, blocked-live}
 use Rattle.iox2_pubsub.proofs.BorrowsLeftShown.{send-to-borrows}
 use Rattle.iox2_pubsub.proofs.LoansLeftShown.{send-to-left, send-to-gives, sent-free}
+use Rattle.iox2_pubsub.proofs.PublisherWaits.{send-arrives, send-joins}
+use Rattle.iox2_pubsub.proofs.RoomySends.{unhindered-is}
 use Rattle.iox2_pubsub.proofs.SendShown.{is-blocked, is-delivered, leaves-shown}
 use Rattle.iox2_pubsub.proofs.StaysBut.{same-boxes}
 use Rattle.iox2_pubsub.proofs.WaitingShown.{send-to-adds}
@@ -90,3 +93,44 @@ returns-clause-spends g c =
       given_back = λ ends. send-to-gives {T = g.row.T.Denot} {U = g.row.U.Denot} c.args.domain.now _ it.m _ it.s it.step.0 it.shown it.step.1 (answers_of g.F.BackpressureFn.allows g.G.DegradationFn.allows c.args.domain.now.boxes.publishers) c.args.self.loan.number it.l it.out c.args.self.loan.publisher it.its c.args.channel c.args.connection (result_of_send c.outcome_of.result) (sent-free c.outcome_of.result ends) it.step.2;
       stays = stays;
     }
+
+pub returns-clause-serves : goal.returns-clause-serves
+returns-clause-serves g c = λ subscriber values first at connected reads.
+    let it = from-shown {T = g.row.T.Denot} {U = g.row.U.Denot} c.domain.inside.state c.domain.invariant c.args.domain.now c.domain.view_is c.args.self c.requires.live (returns-clause-sent g c) in
+    sends-to-serves {T = g.row.T.Denot} {U = g.row.U.Denot} c.args.domain.now _ it.m it.s it.shown (answers_of g.F.BackpressureFn.allows g.G.DegradationFn.allows c.args.domain.now.boxes.publishers) c.args.self.loan.number it.l it.out c.args.self.loan.publisher it.its c.args.channel c.args.connection first c.outcome_of.result it.step.0 it.step.1 it.step.2
+    subscriber values at connected reads
+
+pub returns-clause-pending : goal.returns-clause-pending
+returns-clause-pending g c = λ subscriber values first at connected reads.
+    let it = from-shown {T = g.row.T.Denot} {U = g.row.U.Denot} c.domain.inside.state c.domain.invariant c.args.domain.now c.domain.view_is c.args.self c.requires.live (returns-clause-sent g c) in
+    sends-to-pends {T = g.row.T.Denot} {U = g.row.U.Denot} c.args.domain.now _ it.m it.s it.shown (answers_of g.F.BackpressureFn.allows g.G.DegradationFn.allows c.args.domain.now.boxes.publishers) c.args.self.loan.number it.l it.out c.args.self.loan.publisher it.its c.args.channel c.args.connection first c.outcome_of.result it.step.0 it.step.1 it.step.2
+    (written_key c.args.self) refl refl (returns-clause-spends g c).blocked subscriber values at connected reads
+
+pub returns-clause-counts : goal.returns-clause-counts
+returns-clause-counts g c = λ subscriber values first at connected reads.
+    let it = from-shown {T = g.row.T.Denot} {U = g.row.U.Denot} c.domain.inside.state c.domain.invariant c.args.domain.now c.domain.view_is c.args.self c.requires.live (returns-clause-sent g c) in
+    sends-to-counts {T = g.row.T.Denot} {U = g.row.U.Denot} c.args.domain.now _ it.m it.s it.shown (answers_of g.F.BackpressureFn.allows g.G.DegradationFn.allows c.args.domain.now.boxes.publishers) c.args.self.loan.number it.l it.out c.args.self.loan.publisher it.its c.args.channel c.args.connection first c.outcome_of.result it.step.0 it.step.1 it.step.2
+    subscriber values at connected reads
+
+pub returns-clause-roomy : goal.returns-clause-roomy
+returns-clause-roomy g c = λ subscriber first at connected its few.
+    let it = from-shown {T = g.row.T.Denot} {U = g.row.U.Denot} c.domain.inside.state c.domain.invariant c.args.domain.now c.domain.view_is c.args.self c.requires.live (returns-clause-sent g c) in
+    unhindered-is c.outcome_of.result
+    (sends-to-roomy {T = g.row.T.Denot} {U = g.row.U.Denot} c.args.domain.now (keeping (record { publishers = c.domain.inside.boxes.boxes; subscribers = c.domain.inside.subscriber_boxes.boxes }) c.send_to_connection-end.new.state) it.m it.s it.shown (answers_of g.F.BackpressureFn.allows g.G.DegradationFn.allows c.args.domain.now.boxes.publishers) c.args.self.loan.number it.l it.out c.args.self.loan.publisher it.its c.args.channel c.args.connection first c.outcome_of.result it.step.0 it.step.1 it.step.2 subscriber at connected its few)
+
+pub returns-clause-arrives : goal.returns-clause-arrives
+returns-clause-arrives g c = λ subscriber values first at none connected reads.
+    let it = from-shown {T = g.row.T.Denot} {U = g.row.U.Denot} c.domain.inside.state c.domain.invariant c.args.domain.now c.domain.view_is c.args.self c.requires.live (returns-clause-sent g c) in
+    send-arrives {T = g.row.T.Denot} {U = g.row.U.Denot} c.args.domain.now _ it.m _ it.s it.step.0 it.shown it.step.1
+    subscriber c.args.self.loan.publisher values none c.outcome_of.result (returns-clause-serves g c subscriber values first at connected reads)
+
+pub returns-clause-joins : goal.returns-clause-joins
+returns-clause-joins g c = λ subscriber values earlier first at all its room connected reads.
+    let it = from-shown {T = g.row.T.Denot} {U = g.row.U.Denot} c.domain.inside.state c.domain.invariant c.args.domain.now c.domain.view_is c.args.self c.requires.live (returns-clause-sent g c) in
+    send-joins {T = g.row.T.Denot} {U = g.row.U.Denot} c.args.domain.now _ it.m _ it.s it.step.0 it.shown it.step.1
+    subscriber c.args.self.loan.publisher values earlier all its room c.outcome_of.result (returns-clause-serves g c subscriber values first at connected reads)
+
+pub returns-clause-alone : goal.returns-clause-alone
+returns-clause-alone g c = λ subscriber other first at connected away.
+    let it = from-shown {T = g.row.T.Denot} {U = g.row.U.Denot} c.domain.inside.state c.domain.invariant c.args.domain.now c.domain.view_is c.args.self c.requires.live (returns-clause-sent g c) in
+    sends-to-alone {T = g.row.T.Denot} {U = g.row.U.Denot} c.args.domain.now _ it.m it.s it.shown (answers_of g.F.BackpressureFn.allows g.G.DegradationFn.allows c.args.domain.now.boxes.publishers) c.args.self.loan.number it.l it.out c.args.self.loan.publisher it.its c.args.channel c.args.connection first c.outcome_of.result it.step.0 it.step.1 it.step.2 subscriber at connected other away

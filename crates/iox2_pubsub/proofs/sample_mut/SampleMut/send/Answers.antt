@@ -1,4 +1,4 @@
-use Rattle.std.proofs.Common.{◌≡◌, ℕ, List, false, ap, sym, subst, ◌∙◌}
+use Rattle.std.proofs.Common.{◌≡◌, ℕ, List, false, ap, sym, subst, ◌∙◌, refl}
 use Rattle.iox2_machine.specs.machine.State.{is_blocked}
 use Rattle.iox2_machine.specs.machine.SingleCalls.{HoldsBlocked}
 use Rattle.iox2_machine.specs.declared.service_config.ServiceConfig.{ServiceConfig}
@@ -19,7 +19,9 @@ use Rattle.iox2_pubsub.proofs.SendShown.{machine-sends, steady-ok, never-unconne
 use Rattle.iox2_pubsub.specs.Live.{IsBlockedKey, blocked_key, lender_key, written_key}
 use Rattle.iox2_pubsub.specs.SendCalls.{result_of_send}
 use Rattle.iox2_pubsub.proofs.CallsStay.{sent-stays, send-spends}
+use Rattle.iox2_pubsub.proofs.SendsPend.{send-pends}
 use Rattle.iox2_pubsub.proofs.SentLoans.{from-shown}
+use Rattle.iox2_pubsub.proofs.CountsShown.{sends-count}
 use Rattle.iox2_pubsub.proofs.LiveParts.{publisher-parts, written-parts, unblocked-parts, unblocked-test, blocked-live}
 use Rattle.iox2_pubsub.proofs.WaitingShown.{send-adds, send-brings}
 use Rattle.iox2_pubsub.proofs.UpToDateShown.{send-leaves}
@@ -28,7 +30,7 @@ use Rattle.iox2_pubsub.proofs.BorrowsLeftShown.{send-borrows}
 use Rattle.iox2_pubsub.proofs.LoansLeftShown.{send-left, send-gives, sent-free}
 use Rattle.iox2_pubsub.proofs.PublisherWaits.{send-arrives, send-joins}
 use Rattle.iox2_pubsub.proofs.KeptReceives.{others-send}
-use Rattle.iox2_pubsub.proofs.RoomySends.{alone-roomy, roomy-free, unhindered-is}
+use Rattle.iox2_pubsub.proofs.RoomySends.{all-roomy, alone-roomy, roomy-free, unhindered-is}
 use Rattle.iox2_pubsub.proofs.StaysBut.{same-boxes}
 use Rattle.iox2_pubsub.proofs.PlacedLoans.{written-lies}
 use Rattle.iox2_pubsub.proofs.sample_mut.SampleMut.send.Goals as goal
@@ -98,6 +100,11 @@ returns-clause-roomy_alone g c = λ subscriber has.
     let it = from-shown {T = g.row.T.Denot} {U = g.row.U.Denot} c.domain.inside.state c.domain.invariant c.args.domain.now c.domain.view_is c.args.self c.requires.live (returns-clause-sent g c) in
     returns-clause-roomy g c (alone-roomy {T = g.row.T.Denot} {U = g.row.U.Denot} c.args.domain.now it.m it.s it.shown c.args.self.loan.publisher subscriber has)
 
+pub returns-clause-roomy_at_all : goal.returns-clause-roomy_at_all
+returns-clause-roomy_at_all g c = λ subscribers has.
+    let it = from-shown {T = g.row.T.Denot} {U = g.row.U.Denot} c.domain.inside.state c.domain.invariant c.args.domain.now c.domain.view_is c.args.self c.requires.live (returns-clause-sent g c) in
+    returns-clause-roomy g c (all-roomy {T = g.row.T.Denot} {U = g.row.U.Denot} c.args.domain.now it.m it.s it.shown c.args.self.loan.publisher subscribers has)
+
 pub returns-clause-brings : goal.returns-clause-brings
 returns-clause-brings g c = λ subscriber values no_history none reads.
     let it = from-shown {T = g.row.T.Denot} {U = g.row.U.Denot} c.domain.inside.state c.domain.invariant c.args.domain.now c.domain.view_is c.args.self c.requires.live (returns-clause-sent g c) in
@@ -164,3 +171,17 @@ returns-clause-spends g c =
       given_back = λ ends. send-gives {T = g.row.T.Denot} {U = g.row.U.Denot} c.args.domain.now _ it.m _ it.s it.step.0 it.shown it.step.1 (answers_of g.F.BackpressureFn.allows g.G.DegradationFn.allows c.args.domain.now.boxes.publishers) c.args.self.loan.number it.l it.out c.args.self.loan.publisher it.its (result_of_send c.send_loan.result) (sent-free c.send_loan.result ends) it.step.2;
       stays = stays;
     }
+
+pub returns-clause-pending : goal.returns-clause-pending
+returns-clause-pending g c = λ subscriber values connected reads.
+    let it = from-shown {T = g.row.T.Denot} {U = g.row.U.Denot} c.domain.inside.state c.domain.invariant c.args.domain.now c.domain.view_is c.args.self c.requires.live (returns-clause-sent g c) in
+    send-pends {T = g.row.T.Denot} {U = g.row.U.Denot} c.args.domain.now _ it.m it.s (answers_of g.F.BackpressureFn.allows g.G.DegradationFn.allows c.args.domain.now.boxes.publishers) it.shown c.args.self.loan.number it.l c.args.self.loan.publisher c.send_loan.result it.step.0 it.step.1 it.step.2
+    (it.shown.unsent c.args.self.loan.number it.l it.out) it.out it.its (unblocked-test c.args.domain.now (written_key c.args.self) c.requires.unblocked) (written_key c.args.self) refl refl (returns-clause-spends g c).blocked
+    subscriber values connected reads
+
+pub returns-clause-counts : goal.returns-clause-counts
+returns-clause-counts g c = λ subscribers values different connected reads.
+    let it = from-shown {T = g.row.T.Denot} {U = g.row.U.Denot} c.domain.inside.state c.domain.invariant c.args.domain.now c.domain.view_is c.args.self c.requires.live (returns-clause-sent g c) in
+    sends-count {T = g.row.T.Denot} {U = g.row.U.Denot} c.args.domain.now _ it.m it.s (answers_of g.F.BackpressureFn.allows g.G.DegradationFn.allows c.args.domain.now.boxes.publishers) it.shown c.args.self.loan.number it.l c.args.self.loan.publisher it.its
+    (unblocked-test c.args.domain.now (written_key c.args.self) c.requires.unblocked) subscribers values different connected c.send_loan.result it.step.0 it.step.1 it.step.2
+    (λ subscriber at. returns-clause-serves g c subscriber values at reads)

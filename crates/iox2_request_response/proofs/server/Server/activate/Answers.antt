@@ -6,7 +6,7 @@ returns-then-is_connected-clause-tagged g c = record {
   tag = c.user_header-tag.result.now;
   reads = c.user_header-tag.ensures.reads;
   number = refl;
-  place = λ m s shown. sym (c.get_connection_id_of.ensures m s shown) ∙ c.in-Some.is;
+  place = λ m s shown. sym (c.get_connection_id_of.ensures.place m s shown) ∙ c.in-Some.is;
 }
 
 pub returns-then-is_connected-clause-connected : goal.returns-then-is_connected-clause-connected

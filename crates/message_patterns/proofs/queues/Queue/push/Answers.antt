@@ -1,10 +1,10 @@
 use Rattle.std.proofs.Common.{◌≡◌, ◌≤◌, ◌<◌, ◌+◌, ◌++◌, ◌∷◌, [], List, ℕ, length, refl, sym, ap, subst, ◌∙◌, arith, rules}
 use Rattle.std.proofs.lemmas.List.{length-append}
-use Rattle.iox2_pubsub.specs.Handles.{publisher_id, unwritten_lender}
+use Rattle.iox2_pubsub.specs.Handles.{publisher_id}
 use Rattle.message_patterns.specs.Queues.{QueueView}
 use Rattle.message_patterns.specs.Values.{TakesMore}
 use Rattle.message_patterns.proofs.QueueItems.{queue-count, wait-items}
-use Rattle.message_patterns.proofs.Waits.{takes-renamed, takes-stay}
+use Rattle.message_patterns.proofs.Waits.{takes-stay}
 use Rattle.message_patterns.proofs.queues.Queue.push.Given.{Over}
 use Rattle.message_patterns.proofs.queues.Queue.push.Goals as goal
 
@@ -24,14 +24,11 @@ all-taken g c =
     let publisher = publisher_id c.self.inside.publisher in
     let subscriber = c.self.inside.subscriber in
     let leaves = c.in-Ok.ensures.leaves in
-    let lent = c.in-Ok.ensures.loan.lent.publisher in
-    let lender = unwritten_lender c.in-Ok.loan in
     let counted : length is.items ≡ c.self.inside.count = is.counted in
     let less : c.self.inside.count < subscriber.buffer_size = omega (arith, c.buffer_size.ensures) in
     let takes : TakesMore c.self.inside.domain publisher subscriber is.items (0 + 1) = record { wait = is.wait; connected = is.ports.connected; buffer = is.ports.buffer; room = omega (arith, counted, less) } in
-    let before = takes-stay c.self.inside.domain c.loan_uninit.new.domain leaves.waits leaves.up_to_date leaves.stays.buffers publisher subscriber is.items (0 + 1) takes in
-    takes-renamed c.send_loan.new.domain lender publisher lent subscriber (is.items ++ c.args.value ∷ []) 0
-    (c.send_loan.ensures.sent subscriber is.items 0 (takes-renamed c.loan_uninit.new.domain publisher lender (sym lent) subscriber is.items (0 + 1) before))
+    c.send_loan.ensures.sent publisher subscriber is.items 0 c.in-Ok.ensures.loan.lent.publisher
+    (takes-stay c.self.inside.domain c.loan_uninit.new.domain leaves.waits leaves.up_to_date leaves.stays.buffers publisher subscriber is.items (0 + 1) takes)
 
 pub invariant_of-self-2 : goal.invariant_of-self-2
 invariant_of-self-2 g c =
@@ -49,6 +46,7 @@ invariant_of-self-2 g c =
         connected = takes.connected;
         buffer = takes.buffer;
         loans = c.send_loan.ensures.given_back c.self.inside.publisher 0 (sym c.in-Ok.ensures.loan.lent.publisher) (c.in-Ok.ensures.leaves.loans_left.loans 0 is.ports.loans);
+        borrows = c.send_loan.ensures.borrows c.self.inside.subscriber 1 (c.in-Ok.ensures.leaves.borrows_left c.self.inside.subscriber 1 is.ports.borrows);
       };
       items = is.items ++ c.args.value ∷ [];
       wait = takes.wait;

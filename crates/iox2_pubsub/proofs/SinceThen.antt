@@ -1,0 +1,62 @@
+-- Laws that callers' proofs may cite: who was served or left alone, seen from before or later.
+use Rattle.std.proofs.Common.{◌≡◌, ℕ, suc, ◌<◌, ◌≤◌, List, [], ◌∷◌, ◌++◌, length, drop, sym, ap, subst, ◌∙◌, inl, inr, ⊎_elim}
+use Rattle.std.specs.Bool.{MatchBool}
+use Rattle.iox2_machine.specs.declared.service_config.ServiceConfig.{ServiceConfig}
+use Rattle.iox2_domain.specs.Kept.{Kept}
+use Rattle.iox2_pubsub.specs.Live.{HasItsBuffer, IsServed, IsServedOrPending, WaitsAsBefore, payloads_from, waiting}
+use Rattle.iox2_pubsub.specs.declared.blocked_send.BlockedSend.{BlockedSend}
+use Rattle.iox2_pubsub.specs.declared.subscriber.Subscriber.{Subscriber}
+
+module _ {T U F G : Type 0} (start old new : Kept T U F G) (subscriber : Subscriber) where
+  -- where nothing moved for a subscriber twice, nothing moved
+  pub as_before_twice : WaitsAsBefore start old subscriber → WaitsAsBefore old new subscriber → WaitsAsBefore start new subscriber
+  as_before_twice before same = record { all = same.all ∙ before.all; from = λ publisher. same.from publisher ∙ before.from publisher }
+
+  -- who was served is so still, where nothing moved for it since
+  pub served_still : (publisher : ℕ) (values : List T) → IsServed start old publisher subscriber values → WaitsAsBefore old new subscriber → IsServed start new publisher subscriber values
+  unfolding IsServed
+  served_still publisher values served same =
+      let count : waiting new subscriber ≡ waiting old subscriber = ap length same.all in
+      ⊎_elim
+      (λ came. inl (same.from publisher ∙ came.0, count ∙ came.1))
+      (λ full. inr (
+        full.0,
+        subst (λ (now : List (List T)). MatchBool (start.config).enable_safe_overflow
+            (now ≡ drop 1 (payloads_from start publisher subscriber) ++ values ∷ [])
+            (now ≡ payloads_from start publisher subscriber)) (sym (same.from publisher)) full.1,
+        count ∙ full.2,
+      ))
+      served
+
+  -- who was served now was so since then, where nothing moved for it before
+  pub served_since : old.config ≡ start.config → (HasItsBuffer start subscriber → HasItsBuffer old subscriber) → (publisher : ℕ) (values : List T) → WaitsAsBefore start old subscriber
+      → IsServed old new publisher subscriber values → IsServed start new publisher subscriber values
+  unfolding IsServed
+  served_since settings its publisher values same served =
+      let lists : payloads_from old publisher subscriber ≡ payloads_from start publisher subscriber = same.from publisher in
+      let count : waiting old subscriber ≡ waiting start subscriber = ap length same.all in
+      ⊎_elim
+      (λ came. inl (came.0 ∙ ap (λ (before : List (List T)). before ++ values ∷ []) lists, came.1 ∙ ap suc count))
+      (λ full. inr (
+        record {
+          some = subst (λ (before : List (List T)). 0 < length before) lists (full.0).some;
+          full = λ it. subst (λ (before : List (List T)). subscriber.buffer_size ≤ length before) lists ((full.0).full (its it));
+        },
+        subst (λ (c : ServiceConfig). MatchBool c.enable_safe_overflow
+            (payloads_from new publisher subscriber ≡ drop 1 (payloads_from start publisher subscriber) ++ values ∷ [])
+            (payloads_from new publisher subscriber ≡ payloads_from start publisher subscriber)) settings
+            (subst (λ (before : List (List T)). MatchBool (old.config).enable_safe_overflow
+            (payloads_from new publisher subscriber ≡ drop 1 before ++ values ∷ [])
+            (payloads_from new publisher subscriber ≡ before)) lists full.1),
+        full.2 ∙ count,
+      ))
+      served
+
+  -- and so with a send that is blocked again
+  pub served_or_pending_since : old.config ≡ start.config → (HasItsBuffer start subscriber → HasItsBuffer old subscriber) → (blocked : BlockedSend) (values : List T) → WaitsAsBefore start old subscriber
+      → IsServedOrPending old new blocked subscriber values → IsServedOrPending start new blocked subscriber values
+  served_or_pending_since settings its blocked values same came =
+      ⊎_elim
+      (λ served. inl (served_since settings its blocked.loan.publisher values same served.0, served.1, λ one. served.2 (ap (λ (c : ServiceConfig). c.max_subscribers) settings ∙ one)))
+      (λ pending. inr (as_before_twice same pending.0, pending.1))
+      came

@@ -1,0 +1,51 @@
+//! Several publishers send to one subscriber.
+ghost use Rattle.std.specs.Prelude.{List, [], ◌∷◌, ◌≡◌, ◌≢◌, ℕ, OnOk};
+ghost use Rattle.iox2_pubsub.specs.Handles.{publisher_id};
+ghost use Rattle.iox2_pubsub.specs.Live.{IsConnected, IsLivePublisher, IsSingleValued, Stays, UpToDateStay, waiting};
+ghost use Rattle.iox2_pubsub.specs.Shares.{AllFromEach, HasNoShare, Share, share_of};
+ghost use Rattle.iox2_pubsub.specs.declared.subscriber.Subscriber.{Subscriber as Port};
+
+use crate::Numbers;
+use crate::failure::Failure;
+use iox2_pubsub::{Publisher, Subscriber};
+
+/// Each publisher sends its reading to the subscriber, for which nothing waits before.
+pub fn send_both(
+    domain: &mut Numbers,
+    left: &Publisher,
+    right: &Publisher,
+    subscriber: &Subscriber,
+    readings: (u32, u32),
+) -> Result<(), Failure>
+    requires single_valued { IsSingleValued domain.old }
+    requires left { IsLivePublisher domain.old left.now }
+    requires right { IsLivePublisher domain.old right.now }
+    requires apart { publisher_id left.now ≢ publisher_id right.now }
+    requires connected { IsConnected domain.old (publisher_id left.now) subscriber.now × IsConnected domain.old (publisher_id right.now) subscriber.now }
+    requires drained { waiting domain.old subscriber.now ≡ 0 }
+    ensures each { OnOk result (AllFromEach domain.new subscriber.now (share_of (publisher_id right.now) ((readings.1 ∷ []) ∷ []) ∷ share_of (publisher_id left.now) ((readings.0 ∷ []) ∷ []) ∷ [])) }
+    ensures up_to_date { UpToDateStay domain.old domain.new }
+    ensures stays { Stays domain.old domain.new }
+{
+    send_beside(domain, left, readings.0)?;
+    send_beside(domain, right, readings.1)
+}
+
+/// Sends a reading of a publisher to subscribers for which nothing of it waits.
+pub fn send_beside(domain: &mut Numbers, publisher: &Publisher, reading: u32) -> Result<(), Failure>
+    requires single_valued { IsSingleValued domain.old }
+    requires publisher { IsLivePublisher domain.old publisher.now }
+    ensures begins { (subscriber : Port) (shares : List (Share ℕ)) → AllFromEach domain.old subscriber shares → HasNoShare (publisher_id publisher.now) shares
+        → IsConnected domain.old (publisher_id publisher.now) subscriber → OnOk result (AllFromEach domain.new subscriber (share_of (publisher_id publisher.now) ((reading ∷ []) ∷ []) ∷ shares)) }
+    ensures up_to_date { UpToDateStay domain.old domain.new }
+    ensures stays { Stays domain.old domain.new }
+{
+    domain.config();
+    match publisher.send_copy(domain, reading) {
+        Ok(outcome) => {
+            outcome.delivered();
+            Ok(())
+        }
+        Err(error) => Err(Failure::Send(error)),
+    }
+}
