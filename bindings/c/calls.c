@@ -904,30 +904,6 @@ static void closed_channels_end_waits_and_get_no_history(void) {
   IS(iox2ps_domain_destroy(&domain), IOX2PS_OK);
 }
 
-/* For a change of a channel there is no command: what follows is no run of the commands before. */
-static void a_recording_ends_before_a_channel_changes(void) {
-  iox2ps_domain_t domain = IOX2PS_DOMAIN_INIT;
-  iox2ps_config_t config;
-  iox2ps_subscriber_t subscriber;
-  char text[200];
-  size_t len;
-  uint64_t missed;
-  uint32_t answer;
-  iox2ps_config_defaults(&config, 7, 1, 1);
-  for (int change = 0; change < 2; change++) {
-    IS(iox2ps_domain_create_recorded(&domain, &config, 10, 0), IOX2PS_OK);
-    IS(iox2ps_subscriber_create(&domain, &subscriber), IOX2PS_OK);
-    IS(iox2ps_subscriber_at_least_one_channel_has_state(&domain, &subscriber, 0, 0, &answer), IOX2PS_OK);
-    IS(iox2ps_subscriber_close_channel(&domain, &subscriber, 1, 0), IOX2PS_NO_SUCH_CHANNEL);
-    if (change) IS(iox2ps_subscriber_close_channel(&domain, &subscriber, 0, 0), IOX2PS_OK);
-    IS(iox2ps_subscriber_update_connections(&domain, &subscriber), IOX2PS_OK);
-    IS(iox2ps_domain_recording(&domain, text, sizeof text - 1, &len, &missed), IOX2PS_OK);
-    text[len] = 0;
-    CHECK(missed == (change ? 2u : 0u) && strstr(text, change ? "\nend 1 " : "\nend 2 ") != NULL);
-    IS(iox2ps_domain_destroy(&domain), IOX2PS_OK);
-  }
-}
-
 /* All codes, and the kinds of warnings. */
 static const uint32_t codes[] = {
     IOX2PS_OK, IOX2PS_NO_DOMAIN, IOX2PS_NOT_LIVE, IOX2PS_NO_SAMPLE, IOX2PS_OUT_OF_MEMORY, IOX2PS_HAS_DOMAIN, IOX2PS_BLOCKED,
@@ -1067,7 +1043,6 @@ int main(void) {
   further_channels_have_states_of_their_own();
   a_message_goes_to_one_connection();
   closed_channels_end_waits_and_get_no_history();
-  a_recording_ends_before_a_channel_changes();
   texts_are_iceoryx2s();
   a_text_names_the_setting();
   each_code_has_a_text_that_no_other_has();

@@ -1,5 +1,5 @@
 // SPDX-License-Identifier: Apache-2.0 OR MIT
-/* Makes random calls with random numbers: `random_calls SEED CALLS SCRIPT REPLIES`.
+/* Makes random calls with random numbers, a fifth of them on channels: `random_calls SEED CALLS SCRIPT REPLIES`.
  *
  * Most numbers are of things that are live, some of things that are spent, of another kind or domain, or with
  * bits turned; and hints are turned too. The program keeps a list of what is live. A call whose numbers name
@@ -11,6 +11,7 @@
  * is received, which is a line of SCRIPT too. */
 #include "iox2_pubsub.h"
 #include "random_numbers.h"
+#include "recording_file.h"
 #include <inttypes.h>
 #include <stdio.h>
 #include <stdlib.h>
@@ -341,6 +342,84 @@ static void close_port(iox2ps_domain_t *domain) {
   spend(kind, port);
 }
 
+/* ---- calls on channels, of which a connection may have none, as the publisher may have no connection */
+
+static size_t any_channel(const iox2ps_config_t *config) {
+  return one_in(20) ? (one_in(2) ? config->number_of_channels : (size_t)next()) : below(config->number_of_channels);
+}
+
+static size_t any_place(const iox2ps_config_t *config) { return one_in(20) ? (size_t)next() : below(config->max_subscribers + 1); }
+
+static uint64_t any_state(void) {
+  static const uint64_t some[] = {IOX2PS_CHANNEL_STATE_OPEN, IOX2PS_CHANNEL_STATE_OPEN, 1, IOX2PS_CHANNEL_STATE_CLOSED};
+  return one_in(20) ? next() : some[below(4)];
+}
+
+/* The reply of a call that was made, or of one on a channel that isn't there. */
+static void reply_of(iox2ps_status_t code, const char *text) {
+  if (code != IOX2PS_OK && code != IOX2PS_NO_SUCH_CHANNEL) fail("a call on a channel is refused otherwise");
+  reply(code == IOX2PS_OK ? text : "skipped");
+}
+
+static void deliver(iox2ps_domain_t *domain, const iox2ps_config_t *config) {
+  numbers_t of = choose(LOAN), blocked = {{0}};
+  thing_t *loan = named(LOAN, &of);
+  size_t channel = any_channel(config), place = any_place(config), receivers = 0;
+  iox2ps_status_t code = iox2ps_loan_deliver_offset_to_connection(domain, &of.loan, channel, place, &receivers, &blocked.blocked);
+  if (!is_live(loan, code)) return;
+  fprintf(script, "deliver %zu %zu %zu\n", loan->command, channel, place);
+  if (code == IOX2PS_NO_SUCH_CHANNEL) {
+    reply("skipped");
+    return;
+  }
+  if (code != IOX2PS_PUBLISHER_IS_BLOCKED) spend(LOAN, loan);
+  sent(code, receivers, blocked);
+}
+
+static void connection_of(iox2ps_domain_t *domain) {
+  numbers_t of = choose(PUBLISHER);
+  thing_t *publisher = named(PUBLISHER, &of);
+  iox2ps_wide_t receiver = {.low = below(20)};
+  size_t place = 0;
+  iox2ps_status_t code = iox2ps_publisher_get_connection_id_of(domain, &of.publisher, &receiver, &place);
+  if (!is_live(publisher, code)) return;
+  if (code != IOX2PS_OK && code != IOX2PS_NO_CONNECTION) fail("a connection is neither there nor not");
+  fprintf(script, "connection %zu %" PRIu64 "\n", publisher->command, receiver.low);
+  if (code == IOX2PS_OK) reply_number(place);
+  else reply("none");
+}
+
+static void publisher_channel(iox2ps_domain_t *domain, const iox2ps_config_t *config) {
+  static const char *const words_of[] = {"state", "hinted", "shut"};
+  numbers_t of = choose(PUBLISHER);
+  thing_t *publisher = named(PUBLISHER, &of);
+  size_t channel = any_channel(config), place = any_place(config), which = below(3);
+  uint64_t state = any_state();
+  uint32_t answer = 0;
+  iox2ps_status_t code = which == 0   ? iox2ps_publisher_has_channel_state(domain, &of.publisher, channel, place, state, &answer)
+                         : which == 1 ? iox2ps_publisher_has_disconnect_hint(domain, &of.publisher, channel, place, state, &answer)
+                                      : iox2ps_publisher_close_channel(domain, &of.publisher, channel, place, state);
+  if (!is_live(publisher, code)) return;
+  fprintf(script, "%s %zu %zu %zu %" PRIu64 "\n", words_of[which], publisher->command, channel, place, state);
+  reply_of(code, which == 2 ? "ok" : answer ? "true" : "false");
+}
+
+static void subscriber_channel(iox2ps_domain_t *domain, const iox2ps_config_t *config) {
+  static const char *const words_of[] = {"shut", "hint", "state", "open", "open"};
+  numbers_t of = choose(SUBSCRIBER);
+  thing_t *subscriber = named(SUBSCRIBER, &of);
+  size_t channel = any_channel(config), which = below(5);
+  uint64_t state = any_state();
+  uint32_t answer = 0;
+  iox2ps_status_t code = which == 0   ? iox2ps_subscriber_close_channel(domain, &of.subscriber, channel, state)
+                         : which == 1 ? iox2ps_subscriber_set_disconnect_hint(domain, &of.subscriber, channel, state)
+                         : which == 2 ? iox2ps_subscriber_at_least_one_channel_has_state(domain, &of.subscriber, channel, state, &answer)
+                                      : iox2ps_subscriber_set_channel_state(domain, &of.subscriber, channel, state, &answer);
+  if (!is_live(subscriber, code)) return;
+  fprintf(script, "%s %zu %zu %" PRIu64 "\n", words_of[which], subscriber->command, channel, state);
+  reply_of(code, which < 2 ? "ok" : answer ? "true" : "false");
+}
+
 /* What is in each live loan and sample stays, whatever else is called. */
 static void look_at_all_messages(void) {
   for (size_t i = 0; i < live_count[LOAN]; i++) {
@@ -352,7 +431,7 @@ static void look_at_all_messages(void) {
 }
 
 static void call(iox2ps_domain_t *domain, const iox2ps_config_t *config) {
-  size_t which = below(100);
+  size_t which = below(125);
   if (which < 4) create_publisher(domain, config);
   else if (which < 8) create_subscriber(domain, config);
   else if (which < 20) lend(domain);
@@ -365,7 +444,11 @@ static void call(iox2ps_domain_t *domain, const iox2ps_config_t *config) {
   else if (which < 79) update(domain);
   else if (which < 84) read_message(domain);
   else if (which < 97) release(domain);
-  else close_port(domain);
+  else if (which < 100) close_port(domain);
+  else if (which < 105) deliver(domain, config);
+  else if (which < 107) connection_of(domain);
+  else if (which < 114) publisher_channel(domain, config);
+  else subscriber_channel(domain, config);
 }
 
 /* ---- another domain, whose numbers are tried here; nothing of it may change */
@@ -404,21 +487,6 @@ static void end_foreign(iox2ps_domain_t *domain) {
   }
 }
 
-/* ---- what was recorded of all this */
-
-static void write_recording(iox2ps_domain_t *domain, const char *name) {
-  FILE *file = fopen(name, "w");
-  size_t len, room;
-  uint64_t missed;
-  if (!file || iox2ps_domain_recording(domain, &len, 0, &room, &missed) != IOX2PS_TOO_SMALL) fail("there is no recording");
-  void *text = malloc(room);
-  if (iox2ps_domain_recording(domain, text, room, &len, &missed) || missed || fwrite(text, 1, len, file) != len
-      || fclose(file)) {
-    fail("the recording can't be written");
-  }
-  free(text);
-}
-
 int main(int count, char **arguments) {
   iox2ps_domain_t domain = IOX2PS_DOMAIN_INIT, other = IOX2PS_DOMAIN_INIT;
   iox2ps_config_t config;
@@ -437,9 +505,10 @@ int main(int count, char **arguments) {
   config.history_size = below(4);
   config.subscriber_expired_connection_buffer = below(4);
   config.enable_safe_overflow = (uint32_t)below(2);
-  fprintf(script, "domain %zu %zu %zu %zu %zu %zu %s\n", config.max_publishers, config.max_subscribers,
+  config.number_of_channels = 1 + below(3);
+  fprintf(script, "domain %zu %zu %zu %zu %zu %zu %s channels %zu\n", config.max_publishers, config.max_subscribers,
           config.subscriber_max_buffer_size, config.subscriber_max_borrowed_samples, config.history_size,
-          config.subscriber_expired_connection_buffer, config.enable_safe_overflow ? "overflow" : "keep");
+          config.subscriber_expired_connection_buffer, config.enable_safe_overflow ? "overflow" : "keep", config.number_of_channels);
   if (count == 6 ? iox2ps_domain_create_recorded(&domain, &config, 100 * calls, 8) : iox2ps_domain_create(&domain, &config)) {
     fail("the domain isn't made");
   }
@@ -449,7 +518,7 @@ int main(int count, char **arguments) {
     look_at_all_messages();
   }
   end_foreign(&other);
-  if (count == 6) write_recording(&domain, arguments[5]);
+  if (count == 6 && !write_recording(&domain, arguments[5])) fail("the recording can't be written");
   if (iox2ps_domain_destroy(&domain)) fail("the domain isn't destroyed");
   if (fclose(script) || fclose(replies)) fail("the files can't be written");
   printf("%zu calls, %zu of them refused for their numbers, %zu lines of script\n", calls, wrong_numbers, command);

@@ -1,5 +1,6 @@
 // SPDX-License-Identifier: Apache-2.0 OR MIT
-/* Makes random calls, most of them on channels, and holds each to a small model: `random_channels SEED CALLS`.
+/* Makes random calls, most of them on channels, and holds each to a small model: `random_channels SEED CALLS`. With the name of a file
+ * behind that it writes the recording there, whose replay compares the calls that change something with `run`.
  *
  * The model knows of each connection what waits and is borrowed there, and the state of its one to three
  * channels. A message may be sent to all connections, into channel 0, or into one channel of one connection.
@@ -9,6 +10,7 @@
  * bytes, which are a number that no other message has. */
 #include "iox2_pubsub.h"
 #include "random_numbers.h"
+#include "recording_file.h"
 #include <inttypes.h>
 #include <stdio.h>
 #include <stdlib.h>
@@ -724,11 +726,11 @@ static void choose_settings(void) {
 
 int main(int count, char **arguments) {
   iox2ps_domain_t domain = IOX2PS_DOMAIN_INIT;
-  if (count != 3) fail("usage: random_channels SEED CALLS");
+  if (count != 3 && count != 4) fail("usage: random_channels SEED CALLS [RECORDING]");
   random_state = strtoull(arguments[1], NULL, 10);
   size_t calls = strtoull(arguments[2], NULL, 10), on_channels = 0, by_nothing = 0;
   choose_settings();
-  is_code(iox2ps_domain_create(&domain, &config), IOX2PS_OK);
+  is_code(count == 4 ? iox2ps_domain_create_recorded(&domain, &config, 100 * calls, 8) : iox2ps_domain_create(&domain, &config), IOX2PS_OK);
   for (size_t i = 0; i < calls; i++) {
     channel_calls = not_live = 0;
     call(&domain);
@@ -736,6 +738,7 @@ int main(int count, char **arguments) {
     by_nothing += not_live > 0;
     look_at_all_channels(&domain);
   }
+  if (count == 4) is_so(write_recording(&domain, arguments[3]), "the recording can't be written");
   is_code(iox2ps_domain_destroy(&domain), IOX2PS_OK);
   printf("%zu calls, %zu of them on channels, and %zu by numbers of nothing; closed channels let %zu messages pass, end %zu waits "
          "and keep %zu histories back; %zu messages go into other channels, and %zu loans are lost\n",

@@ -120,6 +120,30 @@ static void ask(run_t *run) {
   CHECK(waits == 1);
 }
 
+static void shut_channel(run_t *run) { IS(iox2ps_subscriber_close_channel(&run->domain, &run->first, 0, 0), IOX2PS_OK); }
+
+static void open_channel(run_t *run) {
+  uint32_t were_closed;
+  IS(iox2ps_subscriber_set_channel_state(&run->domain, &run->first, 0, 0, &were_closed), IOX2PS_OK);
+  CHECK(were_closed == 1);
+}
+
+static void hint(run_t *run) { IS(iox2ps_subscriber_set_disconnect_hint(&run->domain, &run->first, 0, 0), IOX2PS_OK); }
+
+static void shut_nothing(run_t *run) { IS(iox2ps_publisher_close_channel(&run->domain, &run->publisher, 0, 9, 0), IOX2PS_OK); }
+
+static void shut_no_channel(run_t *run) { IS(iox2ps_publisher_close_channel(&run->domain, &run->publisher, 1, 0, 0), IOX2PS_NO_SUCH_CHANNEL); }
+
+static void deliver_as(run_t *run, size_t channel, iox2ps_status_t code) {
+  IS(iox2ps_loan_deliver_offset_to_connection(&run->domain, &run->loan, channel, 9, NULL, &run->blocked), code);
+}
+
+static void deliver_elsewhere(run_t *run) { deliver_as(run, 1, IOX2PS_NO_SUCH_CHANNEL); }
+
+static void deliver(run_t *run) { deliver_as(run, 0, IOX2PS_OK); }
+
+static void deliver_again(run_t *run) { deliver_as(run, 0, IOX2PS_NOT_LIVE); }
+
 static void update(run_t *run) { IS(iox2ps_publisher_update_connections(&run->domain, &run->publisher), IOX2PS_OK); }
 
 static void close_first(run_t *run) { IS(iox2ps_subscriber_close(&run->domain, &run->first), IOX2PS_OK); }
@@ -129,7 +153,8 @@ static void close_again(run_t *run) { IS(iox2ps_subscriber_close(&run->domain, &
 static void (*const calls[])(run_t *) = {
     make_publisher, make_first, make_second, make_third, copy_first, lend, send, send_again, copy_too_long, lend, lend_other, copy_blocked,
     copy_refused, send_refused, retry_blocked, receive, release, receive_copy, receive_nothing, receive_without_room, ask, retry, release,
-    send_blocked, give_up, discard, update, close_first, close_again,
+    send_blocked, give_up, discard, shut_channel, open_channel, hint, shut_nothing, shut_no_channel, lend, deliver_elsewhere, deliver,
+    deliver_again, update, close_first, close_again,
 };
 
 #define CALLS (sizeof calls / sizeof calls[0])
@@ -211,6 +236,54 @@ static void a_refused_send_writes_nothing(void) {
   IS(iox2ps_domain_destroy(&run.domain), IOX2PS_OK);
 }
 
+/* ---- channels */
+
+/* A change is recorded as any other call, also where it is refused for the channel; a question isn't. */
+static void changes_of_channels_are_recorded(void) {
+  iox2ps_domain_t domain = IOX2PS_DOMAIN_INIT;
+  iox2ps_config_t config;
+  iox2ps_publisher_t publisher;
+  iox2ps_subscriber_t subscriber;
+  iox2ps_loan_t loan;
+  iox2ps_blocked_t blocked;
+  void *payload;
+  size_t place;
+  uint64_t missed;
+  uint32_t answer;
+  iox2ps_config_defaults(&config, 7, 1, 1);
+  config.number_of_channels = 4;
+  config.enable_safe_overflow = 0;
+  IS(iox2ps_domain_create_recorded(&domain, &config, 50, 1), IOX2PS_OK);
+  IS(iox2ps_publisher_create(&domain, &publisher), IOX2PS_OK);
+  IS(iox2ps_subscriber_create(&domain, &subscriber), IOX2PS_OK);
+  IS(iox2ps_publisher_update_connections(&domain, &publisher), IOX2PS_OK);
+  IS(iox2ps_subscriber_at_least_one_channel_has_state(&domain, &subscriber, 0, 0, &answer), IOX2PS_OK);
+  IS(iox2ps_publisher_has_channel_state(&domain, &publisher, 0, 0, 0, &answer), IOX2PS_OK);
+  IS(iox2ps_publisher_has_disconnect_hint(&domain, &publisher, 0, 0, 0, &answer), IOX2PS_OK);
+  IS(iox2ps_publisher_get_connection_id_of(&domain, &publisher, &subscriber.id, &place), IOX2PS_OK);
+  IS(iox2ps_subscriber_close_channel(&domain, &subscriber, 4, 0), IOX2PS_NO_SUCH_CHANNEL);
+  IS(iox2ps_subscriber_close_channel(&domain, &subscriber, 3, 0), IOX2PS_OK);
+  IS(iox2ps_subscriber_set_channel_state(&domain, &subscriber, 3, 7, &answer), IOX2PS_OK);
+  IS(iox2ps_subscriber_set_channel_state(&domain, &subscriber, 3, 8, &answer), IOX2PS_OK);
+  IS(iox2ps_subscriber_set_disconnect_hint(&domain, &subscriber, 3, 7), IOX2PS_OK);
+  IS(iox2ps_publisher_close_channel(&domain, &publisher, 3, 0, 7), IOX2PS_OK);
+  for (uint8_t i = 0; i < 2; i++) {
+    IS(iox2ps_publisher_loan(&domain, &publisher, 1, &loan, &payload), IOX2PS_OK);
+    *(uint8_t *)payload = (uint8_t)(9 + i);
+    IS(iox2ps_loan_deliver_offset_to_connection(&domain, &loan, 4, 0, NULL, &blocked), IOX2PS_NO_SUCH_CHANNEL);
+    IS(iox2ps_loan_deliver_offset_to_connection(&domain, &loan, 2, 0, NULL, &blocked), IOX2PS_OK);
+  }
+  IS(iox2ps_publisher_close(&domain, &publisher), IOX2PS_OK);
+  IS(iox2ps_publisher_close_channel(&domain, &publisher, 3, 0, 7), IOX2PS_NOT_LIVE);
+  read_recording(&domain, &missed);
+  CHECK(missed == 0);
+  CHECK(strstr(text, "\nupdate 1 = done\nshut 2 4 0 = skipped\nshut 2 3 0 = done\nopen 2 3 7 = all were closed\n"
+                     "open 2 3 8 = not all were closed\nhint 2 3 7 = done\nshut 1 3 0 7 = done\n") != NULL);
+  CHECK(strstr(text, "\nslice 1 1 = loaned\ndeliver 10 4 0 = skipped\nwrite 10 9 = done\ndeliver 10 2 0 = delivered 1\n") != NULL);
+  CHECK(strstr(text, "\nclose 1 = done\nshut 0 3 0 7 = skipped\nend ") != NULL);
+  IS(iox2ps_domain_destroy(&domain), IOX2PS_OK);
+}
+
 /* ---- memory */
 
 /* Two domains with the same settings, the second of which is recorded. */
@@ -274,6 +347,12 @@ static void a_recorded_call_takes_no_more_memory(size_t count, size_t bytes) {
   BOTH(release(run));
   BOTH(ask(run));
   BOTH(update(run));
+  BOTH(shut_channel(run));
+  BOTH(open_channel(run));
+  BOTH(hint(run));
+  BOTH(shut_nothing(run));
+  BOTH(lend(run));
+  BOTH(deliver(run));
   BOTH(close_first(run));
   BOTH(close_again(run));
   uint64_t missed;
@@ -286,6 +365,7 @@ int main(void) {
   a_call_is_kept_whole_or_not_at_all(3);
   a_call_is_kept_whole_or_not_at_all(16);
   a_refused_send_writes_nothing();
+  changes_of_channels_are_recorded();
   a_recorded_call_takes_no_more_memory(40, 0);
   a_recorded_call_takes_no_more_memory(67, 5);
   return checked();

@@ -1,5 +1,5 @@
 // SPDX-License-Identifier: Apache-2.0 OR MIT
-/* Recordings that lack a line or have one too many: the tests have to see each. A fault is put between the archive and a test, which
+/* Recordings that lack a line or a number, or have a line too many: the tests have to see each. A fault is put between the archive and a test, which
  * reads recordings by this call alone.
  *
  * It is compiled with -DFAULT=.. and linked to a test with -Wl,--wrap=iox2ps_domain_recording. With NO_FAULT the test has to pass. */
@@ -16,6 +16,7 @@ enum fault {
   SETS_FOLLOW_A_REFUSED_SEND,
   THE_LAST_CALL_LACKS_ITS_END,
   ROOM_IS_FOR_FOURTEEN_COMMANDS,
+  CHANNELS_ARE_LEFT_OUT,
   NOTHING_IS_KEPT
 };
 
@@ -42,6 +43,7 @@ static size_t add_command(const char *line, size_t len, size_t before, int is_la
                    || FAULT == NOTHING_IS_KEPT;
   if (is_missing) return 0;
   add(line, len);
+  if (FAULT == CHANNELS_ARE_LEFT_OUT && (begins(line, "shut ") || begins(line, "open ") || begins(line, "hint "))) strchr(strchr(made + made_len - len, ' ') + 1, ' ')[1] = '0';
   if (FAULT == A_READ_HAS_ANOTHER_VALUE && is_first_read) made[made_len - 2] ^= 1;
   if (FAULT == A_READ_IS_THERE_TWICE && is_first_read) {
     add(line, len);

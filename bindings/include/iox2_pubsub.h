@@ -468,16 +468,15 @@ IOX2PS_NODISCARD iox2ps_status_t iox2ps_domain_create(iox2ps_domain_t *domain, c
 
 /** The same, and keeps a recording of the first calls, as many as give this number of commands, with this number of
  * bytes of each message; the others are 0 in the recording. Memory for the commands is taken here, some 190 bytes for
- * each. A call that makes, sends, receives, closes or updates is one command, and so is each byte of a message that has to
- * be written or is read; questions that change nothing are none. */
+ * each. A call that makes, sends, receives, closes, updates or changes a channel is one command, and so is each byte of a
+ * message that has to be written or is read; questions that change nothing are none, also about a channel. */
 IOX2PS_NODISCARD iox2ps_status_t iox2ps_domain_create_recorded(iox2ps_domain_t *domain, const iox2ps_config_t *config,
                                                                size_t commands, size_t bytes);
 
 /** Writes the recording as text, which tools/replay runs again and tools/draw draws: docs/RECORDINGS.md says what is in
- * it. missed says how many commands had no room, with the calls for which there is no command, as those that change a
- * channel: the recording ends before the first of these. len says how long the text is, also with IOX2PS_TOO_SMALL, where
- * it has more than room bytes and nothing is written; it has no zero byte. The recording stays, and goes on. That of a
- * domain that isn't recorded is empty. IOX2PS_OUT_OF_MEMORY. */
+ * it. missed says how many commands had no room: the recording ends before the first of these. len says how long the text
+ * is, also with IOX2PS_TOO_SMALL, where it has more than room bytes and nothing is written; it has no zero byte. The
+ * recording stays, and goes on. That of a domain that isn't recorded is empty. IOX2PS_OUT_OF_MEMORY. */
 IOX2PS_NODISCARD iox2ps_status_t iox2ps_domain_recording(iox2ps_domain_t *domain, void *bytes, size_t room, size_t *len,
                                                          uint64_t *missed);
 
@@ -708,9 +707,8 @@ iox2ps_status_t iox2ps_sample_release(iox2ps_domain_t *domain, const iox2ps_samp
  * goes past it when it is tried again. The calls return IOX2PS_NO_SUCH_CHANNEL for each channel from
  * number_of_channels on, except channel 0.
  *
- * Calls that only ask aren't recorded, and nothing recorded depends on them. For calls that change a channel, and for a
- * send to one connection, there is no command, so that a recording ends before the first of them: it and what follows are
- * counted as missed.
+ * A recording has each of these calls that changes a channel or sends. Those that only ask aren't recorded, and nothing
+ * recorded depends on them.
  * @{ */
 
 #define IOX2PS_CHANNEL_STATE_OPEN UINT64_C(0)  /**< the state of a new channel */

@@ -151,6 +151,13 @@ def record_random_calls(work, replayer, seed):
     return replay(recording, replayer)
 
 
+def record_random_channels(work, replayer, seed):
+    """And random calls on channels, which a model of their own compares, too."""
+    program, recording = work / "random_channels_recorded", work / "recording"
+    said(program, seed, 3000, recording)
+    return replay(recording, replayer)
+
+
 def run_recordings(steps, work, replayer):
     """All of these."""
     for c, cpp in (pair for pair in PAIRS if is_here(pair[0]) and is_here(pair[1])):
@@ -162,3 +169,6 @@ def run_recordings(steps, work, replayer):
     compile_program("gcc", "c/random_calls.c", "c11", work / "random_recorded", "-O1", *SANITIZERS)
     for seed in range(21, 26):
         steps.run(f"c/random_calls.c, recorded, seed {seed}", record_random_calls, work, replayer, seed)
+    compile_program("gcc", "c/random_channels.c", "c11", work / "random_channels_recorded", "-O1", *SANITIZERS)
+    for seed in range(31, 36):
+        steps.run(f"c/random_channels.c, recorded, seed {seed}", record_random_channels, work, replayer, seed)

@@ -16,7 +16,6 @@ typedef struct random_caller_t {
   iox2ps_domain_t domain;
   uint64_t state, number; /* of the random numbers; of the last message, with the caller's own number above */
   uint64_t received;
-  bool has_no_channels; /* a recording would end */
   struct { bool is_there; iox2ps_publisher_t is; } publishers[MOST];
   struct { bool is_there; iox2ps_subscriber_t is; } subscribers[MOST];
   struct { bool is_there; iox2ps_loan_t is; uint64_t *words; } loans[MOST];
@@ -183,8 +182,7 @@ static void deliver(random_caller_t *it) {
 
 static void call_by_random(random_caller_t *it) {
   static void (*const calls[])(random_caller_t *) = {change_publisher, change_subscriber, lend, lend, lend, spend, spend, spend, deliver, change_channel, go_on, receive, receive, receive, release, release};
-  uint64_t which = random_below(it, sizeof calls / sizeof *calls);
-  if (!it->has_no_channels || (calls[which] != deliver && calls[which] != change_channel)) calls[which](it);
+  calls[random_below(it, sizeof calls / sizeof *calls)](it);
 }
 
 #endif

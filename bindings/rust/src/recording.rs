@@ -27,8 +27,7 @@ pub struct Recording {
     /// The recording, which `tools/replay` runs again and `tools/draw` draws. It is empty where nothing is
     /// recorded.
     pub text: String,
-    /// How many commands had no room, with the calls for which there is no command, as those that change
-    /// a channel: the recording ends before the first of these.
+    /// How many commands had no room: the recording ends before the first of these.
     pub missed: u64,
 }
 

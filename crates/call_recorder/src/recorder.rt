@@ -89,9 +89,8 @@ impl Recorder {
         self.replies.push_reserved(reply);
     }
 
-    /// One command more isn't kept, and none after it: what is kept would be no run without it. A call is
-    /// missed so for which there is no command.
-    pub fn miss(&mut self)
+    // One command more isn't kept, and none after it: what is kept would be no run without it.
+    fn miss(&mut self)
         ensures missed { self.new.missed ≢ 0 }
         ensures counted { self.new.missed ≡ with_missed self.old.missed 1 }
         ensures stays { self.new ≡ record (self.old) { missed = self.new.missed } }

@@ -1,3 +1,4 @@
+mod channels;
 mod names;
 mod reads;
 mod rooms;

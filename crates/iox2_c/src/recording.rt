@@ -1,6 +1,7 @@
 //! What is recorded of a domain, if anything is. No clause of a call speaks of it.
 
 mod answers;
+mod channels;
 mod messages;
 mod ports;
 
@@ -48,13 +49,6 @@ impl Recording {
         match &self.recorder {
             Some(recorder) => recorder.missed(),
             None => 0,
-        }
-    }
-
-    /// A call was made for which there is no command: the recording ends before it.
-    pub fn end(&mut self) {
-        if let Some(recorder) = &mut self.recorder {
-            recorder.miss();
         }
     }
 

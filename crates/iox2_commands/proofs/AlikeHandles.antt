@@ -20,13 +20,15 @@ use Rattle.iox2_machine.specs.declared.errors.SubscriberCreateError.{SubscriberC
 use Rattle.iox2_laws.proofs.Cases.{by_option, by_bool}
 use Rattle.iox2_machine.specs.machine.Environments.{ample_memory}
 use Rattle.iox2_commands.specs.Outcomes.{Handle, No_handle, Subscriber_handle, Sample_handle, Outcome, replied, done, skipped}
-use Rattle.iox2_commands.specs.Step.{Step, after_publisher, after_subscriber, after_loan, after_send, after_retry, after_receive, after_update, after_question, unblocked_at, subscriber_at, loan_at, unwritten_at, written_at, with_cell_at, sendable_at, blocked_at, sample_at, if_single_units, if_fixed_size, if_dynamic}
+use Rattle.iox2_commands.specs.Step.{Step, after_publisher, after_subscriber, after_loan, after_send, after_retry, after_receive, after_update, after_question, unblocked_at, subscriber_at, loan_at, unwritten_at, written_at, with_cell_at, sendable_at, blocked_at, sample_at, if_single_units, if_fixed_size, if_dynamic, if_channel}
 use Rattle.iox2_commands.specs.declared.command.Command.{Command}
-use Rattle.iox2_commands.specs.declared.command.Command.TheVariants.{Nothing, CreatePublisher, CreateSubscriber, LoanUninit, Loan as LoanDefault, LoanSlice, WriteCell, WriteAll, AssumeInit, WriteHeader, SetPayload, Send as SendLoan, SendCopy, Discard, Retry, GiveUp, Update, Receive, HasSamples, Read, ReadHeader, ReadUserHeader, Release, Close}
+use Rattle.iox2_commands.specs.declared.command.Command.TheVariants.{Nothing, CreatePublisher, CreateSubscriber, LoanUninit, Loan as LoanDefault, LoanSlice, WriteCell, WriteAll, AssumeInit, WriteHeader, SetPayload, Send as SendLoan, SendCopy, Discard, Retry, GiveUp, Update, Receive, HasSamples, Read, ReadHeader, ReadUserHeader, Release, Close, SendToConnection as SendLoanTo, ConnectionPlace, PublisherChannel, SubscriberChannel}
 use Rattle.iox2_commands.specs.declared.reply.Reply.{Reply}
 use Rattle.iox2_commands.specs.declared.reply.Reply.TheVariants.{SubscriberMade, Unwritten}
 use Rattle.iox2_commands.proofs.Named.{in_single_units}
 use Rattle.iox2_commands.proofs.AlikeNamed.{subscriber_handle_at}
+use Rattle.iox2_commands.proofs.ChannelOutcomes.{OnChannels, is_of_channels, on_channels}
+use Rattle.std.proofs.lemmas.Bool.{true≢false}
 
 -- The handle is neither a subscriber's nor a sample's.
 abbrev pub is_plain : Handle → Bool
@@ -94,6 +96,13 @@ module _ {T U : Type 0} where
   plain_send s' p n entry (Send_error (NotLoaned e)) = (refl, refl)
   plain_send s' p n entry (Send_error (ConnectionError e)) = (refl, refl)
   plain_send s' p n entry (Send_error InternalError) = (refl, refl)
+
+  not_made : (r : Reply T U) → is_of_channels r ≡ true → tells_subscriber r ≡ false
+  not_made (SubscriberMade r) h = absurd (true≢false (sym h))
+  not_made _ h = refl
+
+  plain_channels : (s : State T U) (o : Outcome T U) → OnChannels s o → Plain o
+  plain_channels s o k = subst Plain (sym k.is) (refl, not_made k.reply k.plain)
 
   sample_made : (s' : State T U) (handles : List Handle) (of r : ℕ) (result : ReceiveResult) → slice_get handles of ≡ Some (Subscriber_handle r)
       → MayMakeSample handles of (after_receive s' r result)
@@ -167,6 +176,7 @@ module _ {T U : Type 0} where
     step_fits (WriteHeader of value) o h = live o (loan_at s handles of) _ h (λ loan _ k. by o _ k (refl, refl))
     step_fits (SetPayload of at value) o h = live o (with_cell_at at (written_at s handles of)) _ h (λ loan _ k. by o _ k (refl, refl))
     step_fits (SendLoan of) o h = live o (sendable_at s handles of) _ h (λ loan _ k. by o _ k.3 (plain_send k.0 _ _ _ k.1))
+    step_fits (SendLoanTo of channel place) o h = live o (if_channel s channel (sendable_at s handles of)) _ h (λ loan _ k. by o _ k.3 (plain_send k.0 _ _ _ k.1))
     step_fits (SendCopy of value) o h =
         live o (if_single_units s (if_fixed_size s (unblocked_at s handles of))) _ h (λ publisher _ k.
         by_option (Plain o) k.1 _ _ k.3
@@ -204,3 +214,6 @@ module _ {T U : Type 0} where
         by_option (Plain o) (unblocked_at s handles of) _ _ h
         (λ _ j. live o (subscriber_at s handles of) _ j (λ subscriber _ k. by o _ k (refl, refl)))
         (λ publisher _ k. by o _ k (refl, refl))
+    step_fits (ConnectionPlace of receiver) o h = plain_channels s o (on_channels ample_memory default_value default_header m s handles (ConnectionPlace of receiver) o refl h)
+    step_fits (PublisherChannel of channel place call) o h = plain_channels s o (on_channels ample_memory default_value default_header m s handles (PublisherChannel of channel place call) o refl h)
+    step_fits (SubscriberChannel of channel call) o h = plain_channels s o (on_channels ample_memory default_value default_header m s handles (SubscriberChannel of channel call) o refl h)

@@ -1,5 +1,5 @@
 -- An independent state stays independent.
-use Rattle.std.proofs.Common.{◌≡◌, ⊎_elim, ℕ, Bool, true, false, cond, List, [], ◌∷◌, ◌++◌, refl, sym, ap, subst, ◌∙◌, Option, None, Some}
+use Rattle.std.proofs.Common.{◌≡◌, ⊎_elim, ℕ, Bool, true, false, cond, List, [], ◌∷◌, ◌++◌, refl, sym, ap, subst, ◌∙◌, Option, None, Some, take, drop}
 use Rattle.std.specs.Prelude.{◌≢◌}
 use Rattle.std.specs.Option.{option_map}
 use Rattle.std.proofs.lemmas.Bool.{cases_eq}
@@ -11,7 +11,7 @@ use Rattle.iox2_machine.specs.machine.PublisherUpdate.{UpdatePublisher}
 use Rattle.iox2_machine.specs.machine.SubscriberUpdate.{UpdateSubscriber}
 use Rattle.iox2_machine.specs.machine.Loans.{GrantLoan, is_static, loan_discarded}
 use Rattle.iox2_machine.specs.machine.SingleCalls.{GrantWrittenLoan}
-use Rattle.iox2_machine.specs.machine.Sends.{Send, SendResult, Publish}
+use Rattle.iox2_machine.specs.machine.Sends.{Send, SendResult, Publish, SendToConnection}
 use Rattle.iox2_machine.specs.machine.Receives.{Receive, ReceiveResult}
 use Rattle.iox2_machine.specs.machine.Releases.{released, pruned, unborrowed, subscriber_pruned, is_unused, place_freed, freed_if_unused}
 use Rattle.iox2_machine.specs.machine.Ports.{FirstPublisherUpdate, FirstSubscriberUpdate, new_publisher, new_subscriber, with_new_publisher, with_new_subscriber, with_failure_warning, CreatePublisher, CreateSubscriber, slots_for, publisher_gone, publisher_closed, subscribers_pruned, subscriber_shut, subscriber_closed}
@@ -30,9 +30,12 @@ use Rattle.iox2_machine.specs.machine.Environments.{ample_memory}
 use Rattle.iox2_commands.specs.Isolation.{IsIndependentPublisher, HasBorrowedNothing, never_waits}
 use Rattle.iox2_commands.proofs.AlikeViews.{View, view_of}
 use Rattle.iox2_commands.proofs.AlikeCloses.{before_going, closed_at_once}
-use Rattle.iox2_commands.proofs.AlikeSends.{delivered_view, published_view, publish_is}
+use Rattle.iox2_commands.proofs.AlikeSends.{delivered_view, published_view, publish_is, delivered, sent_there_view}
 use Rattle.iox2_commands.proofs.ApartSteps.{AllOpen, changed_open}
 use Rattle.iox2_commands.proofs.Keeping.{keeping}
+use Rattle.iox2_commands.proofs.ChannelOutcomes.{OnChannels}
+use Rattle.iox2_machine.specs.machine.Delivery.{no_time}
+use Rattle.iox2_commands.specs.Outcomes.{Outcome}
 
 -- a change of what independence doesn't look at leaves a publisher independent
 independent_changed : (c : ServiceConfig) (x x' : Publisher) → x'.allocation_strategy ≡ x.allocation_strategy → x'.slots ≡ x.slots
@@ -170,8 +173,8 @@ module _ {T U : Type 0} (q : ℕ) where
   publish_open : (s s' : State T U) (p n : ℕ) (x : Publisher) (result : SendResult) → s.publishers p ≡ Some x → Publish ample_memory s p n s' result → StaysOpen s
       → StaysOpen s'
   publish_open s s' p n x result e h k =
-      let seen : (r : ℕ) → view_of r s' ≡ delivered_view r p n x.ends (published_view r p n (view_of r s)) = λ r. (publish_is r s s' p n x result e (k.publishers p x e).never_waits h).2 in
-      let independent : AllIndependent s.config (delivered_view 0 p n x.ends (published_view 0 p n (view_of 0 s))).publishers =
+      let seen : (r : ℕ) → view_of r s' ≡ delivered_view r p n 0 x.ends (published_view r p n (view_of r s)) = λ r. (publish_is r s s' p n x result e (k.publishers p x e).never_waits h).2 in
+      let independent : AllIndependent s.config (delivered_view 0 p n 0 x.ends (published_view 0 p n (view_of 0 s))).publishers =
       map_independent s.config (published_view 0 p n (view_of 0 s)).publishers p (λ x. record x { loans = without n x.loans; blocked = None })
       (map_independent s.config s.publishers p (λ x. record x { history = last_n (s.config).history_size (x.history ++ n ∷ []) }) k.publishers (λ x. independent_changed s.config x _ refl refl refl refl refl refl))
       (λ x c. independent_changed s.config x _ refl refl refl (sym c.unblocked) refl refl c) in
@@ -189,6 +192,26 @@ module _ {T U : Type 0} (q : ℕ) where
       by_option (StaysOpen s') h.1 _ _ h.3
       (λ _ j. publish_open h.0 s' l.publisher n (record x { ends = changed.0; is_due = changed.1 }) result changed.2 j mid)
       (λ f _ j. subst StaysOpen (sym j.0) (loan_discarded_open h.0 n l mid)))
+
+  -- a send to one connection
+  pub connection_open : (s s' : State T U) (n : ℕ) (l : Loan T U) (channel place : ℕ) (result : SendResult) → SendToConnection ample_memory s n l channel place s' result
+      → StaysOpen s → StaysOpen s'
+  connection_open s s' n l channel place result h k =
+      by_option (StaysOpen s') (s.publishers l.publisher) _ _ h (λ _ h. subst StaysOpen (sym h.0) (with_loan_open s n None k)) (λ x e h.
+      let p : ℕ = l.publisher in
+      let seen : (r : ℕ) → view_of r s' ≡ sent_there_view r p n channel place x (view_of r s) = λ r.
+      (delivered r (with_loan s n None) s' p n channel 0 no_time place (take 1 (drop place x.ends)) 0 x result e (k.publishers p x e).never_waits h).2 in
+      let independent : AllIndependent s.config (sent_there_view 0 p n channel place x (view_of 0 s)).publishers =
+      map_independent s.config s.publishers p (λ x. record x { loans = without n x.loans; blocked = None }) k.publishers
+      (λ x c. independent_changed s.config x _ refl refl refl (sym c.unblocked) refl refl c) in
+      record {
+        publishers = subst (λ (v : View T U). AllIndependent v.config v.publishers) (sym (seen 0)) independent;
+        all_open = λ r y apart f. k.all_open r y apart (sym (ap (λ (v : View T U). v.own) (seen r)) ∙ f);
+      })
+
+  -- channels alone change
+  pub channels_open : (s : State T U) (o : Outcome T U) → OnChannels s o → StaysOpen s → StaysOpen o.state
+  channels_open s o k kept = subst (λ (v : Outcome T U). StaysOpen v.state) (sym k.is) (record { publishers = kept.publishers; all_open = kept.all_open })
 
   -- ---- ports
 

@@ -1,6 +1,6 @@
 -- What a position names in two states that look alike to a subscriber.
 use Rattle.std.proofs.Common.{◌≡◌, ℕ, Bool, true, false, cond, not, List, refl, sym, ap, subst, ◌∙◌, Option, None, Some, is_none, is_some, eqb}
-use Rattle.std.specs.Prelude.{slice_get, map}
+use Rattle.std.specs.Prelude.{slice_get, map, nat_lt}
 use Rattle.std.specs.Option.{option_map, option_map_or, option_and_then}
 use Rattle.std.proofs.lemmas.Bool.{eqb-true, eqb-false, eq-eqb, ne_eqb, true≢false}
 use Rattle.std.proofs.lemmas.Option.{none-some, same_Some, slice_get-map}
@@ -11,9 +11,10 @@ use Rattle.iox2_machine.specs.declared.service_config.TypeVariant.TheVariants.{F
 use Rattle.iox2_commands.specs.Outcomes.{Handle, No_handle, Publisher_handle, Subscriber_handle, Loan_handle, Blocked_handle, Sample_handle}
 use Rattle.iox2_commands.specs.Views.{PublicPart, public_part, seen_handle}
 use Rattle.iox2_commands.specs.Isolation.{is_of_others}
-use Rattle.iox2_commands.specs.Step.{publisher_at, unblocked_at, subscriber_at, loan_at, unwritten_at, written_at, sendable_at, sample_at, if_single_units, if_fixed_size, if_dynamic}
+use Rattle.iox2_commands.specs.Step.{publisher_at, unblocked_at, subscriber_at, loan_at, unwritten_at, written_at, sendable_at, sample_at, if_single_units, if_fixed_size, if_dynamic, if_channel}
 use Rattle.iox2_commands.proofs.Named.{kept_if}
 use Rattle.iox2_commands.proofs.AlikeViews.{view_of}
+use Rattle.iox2_machine.specs.machine.Limits.{channel_count}
 
 -- ---- handles alone
 
@@ -233,7 +234,8 @@ module _ {T U : Type 0} (q : ℕ) (a b : State T U) (handles handles' : List Han
   pub names_subscriber_same : names_subscriber q (slice_get handles of) ≡ names_subscriber q (slice_get handles' of)
   names_subscriber_same = sym (unseen q (names_subscriber q) (λ p r n. refl) (slice_get handles of)) ∙ ap (names_subscriber q) looked_up ∙ unseen q (names_subscriber q) (λ p r n. refl) (slice_get handles' of)
 
-  publisher_at_same : publisher_at a handles of ≡ publisher_at b handles' of
+  -- the publisher
+  pub publisher_at_same : publisher_at a handles of ≡ publisher_at b handles' of
   publisher_at_same =
       sym (unseen q (publisher_in a.publishers) (λ p r n. refl) (slice_get handles of))
       ∙ (λ i. publisher_in (e i).publishers (looked_up i))
@@ -282,6 +284,10 @@ module _ {T U : Type 0} (q : ℕ) (a b : State T U) (handles handles' : List Han
   -- or for slices
   pub dynamic_same : {A : Type 0} (o o' : Option A) → o ≡ o' → if_dynamic a o ≡ if_dynamic b o'
   dynamic_same o o' f = λ i. elim ((e i).config).variant [ FixedSize ↦ None | Dynamic ↦ f i ]
+
+  -- and connections have the same channels
+  pub channel_same : {A : Type 0} (channel : ℕ) (o o' : Option A) → o ≡ o' → if_channel a channel o ≡ if_channel b channel o'
+  channel_same channel o o' f = λ i. cond (nat_lt channel (channel_count (e i).config)) (f i) None
 
   -- a sample of q is named in both or in neither
   pub names_sample_same : names_sample q (slice_get handles of) ≡ names_sample q (slice_get handles' of)

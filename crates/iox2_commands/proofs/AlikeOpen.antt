@@ -21,14 +21,15 @@ use Rattle.iox2_laws.proofs.Cases.{by_option}
 use Rattle.iox2_machine.specs.machine.Environments.{ample_memory}
 use Rattle.iox2_commands.specs.Isolation.{IsIndependent, HasBorrowedNothing, makes_independent_publisher, never_waits}
 use Rattle.iox2_commands.specs.Outcomes.{Handle, Subscriber_handle, Outcome, replied, done, skipped}
-use Rattle.iox2_commands.specs.Step.{Step, after_publisher, after_subscriber, after_loan, after_send, after_retry, after_receive, after_update, after_question, publisher_settings, unblocked_at, subscriber_at, loan_at, unwritten_at, written_at, with_cell_at, sendable_at, blocked_at, sample_at, if_single_units, if_fixed_size, if_dynamic}
+use Rattle.iox2_commands.specs.Step.{Step, after_publisher, after_subscriber, after_loan, after_send, after_retry, after_receive, after_update, after_question, publisher_settings, unblocked_at, subscriber_at, loan_at, unwritten_at, written_at, with_cell_at, sendable_at, blocked_at, sample_at, if_single_units, if_fixed_size, if_dynamic, if_channel}
 use Rattle.iox2_commands.specs.declared.command.Command.{Command}
 use Rattle.iox2_commands.specs.declared.new_publisher.NewPublisher.{NewPublisher}
-use Rattle.iox2_commands.specs.declared.command.Command.TheVariants.{Nothing, CreatePublisher as PublisherCommand, CreateSubscriber as SubscriberCommand, LoanUninit, Loan as LoanDefault, LoanSlice, WriteCell, WriteAll, AssumeInit, WriteHeader, SetPayload, Send as SendLoan, SendCopy, Discard, Retry, GiveUp, Update, Receive, HasSamples, Read, ReadHeader, ReadUserHeader, Release, Close}
+use Rattle.iox2_commands.specs.declared.command.Command.TheVariants.{Nothing, CreatePublisher as PublisherCommand, CreateSubscriber as SubscriberCommand, LoanUninit, Loan as LoanDefault, LoanSlice, WriteCell, WriteAll, AssumeInit, WriteHeader, SetPayload, Send as SendLoan, SendCopy, Discard, Retry, GiveUp, Update, Receive, HasSamples, Read, ReadHeader, ReadUserHeader, Release, Close, SendToConnection as SendLoanTo, ConnectionPlace, PublisherChannel, SubscriberChannel}
 use Rattle.iox2_commands.specs.declared.reply.Reply.TheVariants.{PublisherMade, Unwritten}
 use Rattle.iox2_commands.proofs.AlikeNamed.{subscriber_handle_at}
-use Rattle.iox2_commands.proofs.AlikeIndependent.{StaysOpen, AreIndependentSettings, update_publisher_open, update_subscriber_open, receive_open, released_open, with_loan_open, grant_loan_open, grant_written_loan_open, loan_discarded_open, send_open, create_publisher_open, create_subscriber_open, publisher_closed_open, subscriber_closed_open}
+use Rattle.iox2_commands.proofs.AlikeIndependent.{StaysOpen, AreIndependentSettings, update_publisher_open, update_subscriber_open, receive_open, released_open, with_loan_open, grant_loan_open, grant_written_loan_open, loan_discarded_open, send_open, create_publisher_open, create_subscriber_open, publisher_closed_open, subscriber_closed_open, connection_open, channels_open}
 use Rattle.iox2_commands.proofs.AlikeSteps.{open_of, none_blocked}
+use Rattle.iox2_commands.proofs.ChannelOutcomes.{on_channels}
 
 -- what a command says of an independent publisher
 independent_settings : (c : ServiceConfig) (asked : NewPublisher)
@@ -141,6 +142,9 @@ module _ {T U : Type 0} where
         live o (with_cell_at at (written_at s handles of)) _ h (λ loan _ k. by o _ _ k refl (with_loan_open q s loan.0 _ kept))
     step_open (SendLoan of) o makes closes h =
         live o (sendable_at s handles of) _ h (λ loan _ k. by o _ k.0 k.3 (state_send k.0 _ _ _ k.1) (send_open q s k.0 loan.0 loan.1 k.1 k.2 kept))
+    step_open (SendLoanTo of channel place) o makes closes h =
+        live o (if_channel s channel (sendable_at s handles of)) _ h (λ loan _ k.
+        by o _ k.0 k.3 (state_send k.0 _ _ _ k.1) (connection_open q s k.0 loan.0 loan.1 channel place k.1 k.2 kept))
     step_open (SendCopy of value) o makes closes h =
         live o (if_single_units s (if_fixed_size s (unblocked_at s handles of))) _ h (λ publisher _ k.
         let mid : StaysOpen q k.0 = grant_written_loan_open q value default_header false 1 s k.0 publisher.0 k.1 k.2 kept in
@@ -180,3 +184,6 @@ module _ {T U : Type 0} where
         (λ _ j. live o (subscriber_at s handles of) _ j (λ subscriber e k.
         by o _ _ k refl (subscriber_closed_open q s subscriber.0 subscriber.1 (λ apart. closes of subscriber.0 apart refl (subscriber_handle_at 0 s handles of subscriber e)) kept)))
         (λ publisher _ k. by o _ _ k refl (publisher_closed_open q s publisher.0 publisher.1 kept))
+    step_open (ConnectionPlace of receiver) o makes closes h = channels_open q s o (on_channels ample_memory default_value default_header m s handles (ConnectionPlace of receiver) o refl h) kept
+    step_open (PublisherChannel of channel place call) o makes closes h = channels_open q s o (on_channels ample_memory default_value default_header m s handles (PublisherChannel of channel place call) o refl h) kept
+    step_open (SubscriberChannel of channel call) o makes closes h = channels_open q s o (on_channels ample_memory default_value default_header m s handles (SubscriberChannel of channel call) o refl h) kept

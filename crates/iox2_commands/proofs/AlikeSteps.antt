@@ -23,24 +23,25 @@ use Rattle.iox2_machine.specs.machine.Environments.{ample_memory}
 use Rattle.iox2_commands.specs.Views.{seen_handle}
 use Rattle.iox2_commands.specs.Isolation.{IsIndependent, IsIndependentPublisher, HasBorrowedNothing, ClosesUnborrowed, reads_at}
 use Rattle.iox2_commands.specs.Outcomes.{Handle, Subscriber_handle, Sample_handle, Outcome, replied, done, skipped}
-use Rattle.iox2_commands.specs.Step.{Step, after_publisher, after_subscriber, after_loan, after_send, after_receive, after_update, publisher_settings, unblocked_at, subscriber_at, loan_at, unwritten_at, written_at, with_cell_at, sendable_at, blocked_at, sample_at, if_single_units, if_fixed_size, if_dynamic}
+use Rattle.iox2_commands.specs.Step.{Step, after_publisher, after_subscriber, after_loan, after_send, after_receive, after_update, publisher_settings, unblocked_at, subscriber_at, loan_at, unwritten_at, written_at, with_cell_at, sendable_at, blocked_at, sample_at, if_single_units, if_fixed_size, if_dynamic, if_channel, publisher_at, of_subscriber_channel}
 use Rattle.iox2_commands.specs.declared.command.Command.{Command}
-use Rattle.iox2_commands.specs.declared.command.Command.TheVariants.{Nothing, CreatePublisher as PublisherCommand, CreateSubscriber as SubscriberCommand, LoanUninit, Loan as LoanDefault, LoanSlice, WriteCell, WriteAll, AssumeInit, WriteHeader, SetPayload, Send as SendLoan, SendCopy, Discard, Retry, GiveUp, Update, Receive, HasSamples, Read, ReadHeader, ReadUserHeader, Release, Close}
+use Rattle.iox2_commands.specs.declared.command.Command.TheVariants.{Nothing, CreatePublisher as PublisherCommand, CreateSubscriber as SubscriberCommand, LoanUninit, Loan as LoanDefault, LoanSlice, WriteCell, WriteAll, AssumeInit, WriteHeader, SetPayload, Send as SendLoan, SendCopy, Discard, Retry, GiveUp, Update, Receive, HasSamples, Read, ReadHeader, ReadUserHeader, Release, Close, SendToConnection as SendLoanTo, ConnectionPlace, PublisherChannel, SubscriberChannel}
 use Rattle.iox2_commands.specs.declared.reply.Reply.TheVariants.{Unwritten, SendRefused, Cell}
-use Rattle.iox2_commands.proofs.Named.{blocked_is, kept_if, in_single_units}
+use Rattle.iox2_commands.proofs.Named.{blocked_is, kept_if, in_single_units, has_channel}
 use Rattle.iox2_commands.proofs.AlikeViews.{View, view_of}
 use Rattle.iox2_commands.proofs.AlikeUpdates.{update_publisher_alike}
 use Rattle.iox2_commands.proofs.AlikeReceives.{IsAlike, alike_equal, alike_sym, alike_trans, update_subscriber_alike, receive_alike, after_update_alike, after_question_alike}
-use Rattle.iox2_commands.proofs.AlikeSends.{send_alike, loan_discarded_alike}
+use Rattle.iox2_commands.proofs.AlikeSends.{send_alike, loan_discarded_alike, connection_alike}
 use Rattle.iox2_commands.proofs.AlikeLoans.{grant_loan_alike, grant_written_loan_alike}
 use Rattle.iox2_commands.proofs.AlikePorts.{create_publisher_alike, create_subscriber_alike, publisher_closed_alike, released_alike, own_closed_alike}
-use Rattle.iox2_commands.proofs.AlikeNamed.{names_subscriber, names_sample, named-subscriber, named-sample, same_sample, subscriber_handle_at, subscriber_apart, own_at, own_sample_at, no_sample_at, looked_up, subscriber_id_same, names_subscriber_same, names_sample_same, unblocked_at_same, loan_at_same, unwritten_at_same, written_at_same, sendable_at_same, single_same, fixed_size_same, dynamic_same}
+use Rattle.iox2_commands.proofs.AlikeNamed.{names_subscriber, names_sample, named-subscriber, named-sample, same_sample, subscriber_handle_at, subscriber_apart, own_at, own_sample_at, no_sample_at, looked_up, subscriber_id_same, names_subscriber_same, names_sample_same, unblocked_at_same, loan_at_same, unwritten_at_same, written_at_same, sendable_at_same, single_same, fixed_size_same, dynamic_same, publisher_at_same, channel_same}
 use Rattle.iox2_commands.proofs.AlikeCloses.{subscriber_closed_alike}
 use Rattle.iox2_commands.proofs.AlikeIndependent.{StaysOpen, grant_written_loan_open}
 use Rattle.iox2_machine.specs.machine.Receives.{Receive as Receives}
 use Rattle.iox2_commands.specs.declared.reply.Reply.{Reply}
 use Rattle.iox2_commands.proofs.HeaderReads.{ReadsHeader}
-use Rattle.iox2_commands.proofs.ApartCalls.{read_quiet, header_quiet, receive_of_other, question_of_other, update_of_other, release_of_other}
+use Rattle.iox2_commands.proofs.ApartCalls.{read_quiet, header_quiet, receive_of_other, question_of_other, update_of_other, release_of_other, channels_of_other}
+use Rattle.iox2_commands.proofs.AlikeChannels.{publisher_channel_alike, subscriber_channel_alike}
 
 -- a subscriber that is named under its own id
 own_id : (q : ℕ) (o : Option Subscriber) (named : ℕ × Subscriber) → option_and_then {U = ℕ × Subscriber} (λ y. cond y.is_open (Some (q, y)) None) o ≡ Some named
@@ -257,6 +258,10 @@ module _ {T U : Type 0} where
       step_alike (SendLoan of) o o' closes h k replies =
           live o o' (sendable_at a handles of) (sendable_at b handles' of) _ _ (sendable_at_same q a b handles handles' e same of) h k
           (λ loan _ j l. sends_alike a b loan.0 loan.1 o o' e (λ z. independent.publishers (loan.1).publisher z) j l)
+      step_alike (SendLoanTo of channel place) o o' closes h k replies =
+          live o o' (if_channel a channel (sendable_at a handles of)) (if_channel b channel (sendable_at b handles' of)) _ _
+          (channel_same q a b handles handles' e same of channel _ _ (sendable_at_same q a b handles handles' e same of)) h k
+          (λ loan _ j l. alike_equal q o _ o' _ j.3 l.3 (connection_alike q a b j.0 l.0 loan.0 loan.1 channel place j.1 l.1 e (λ z. independent.publishers (loan.1).publisher z) j.2 l.2))
       step_alike (SendCopy of value) o o' closes h k replies =
           live o o' (if_single_units a (if_fixed_size a (unblocked_at a handles of))) (if_single_units b (if_fixed_size b (unblocked_at b handles' of))) _ _
           (single_same q a b handles handles' e same of _ _ (fixed_size_same q a b handles handles' e same of _ _ (unblocked_at_same q a b handles handles' e same of))) h k (λ publisher _ j l.
@@ -330,6 +335,22 @@ module _ {T U : Type 0} where
           alike_equal q o _ o' _ j (l ∙ ap (λ (r : ℕ). done (subscriber_closed b r named'.1)) (sym is))
           (done_alike _ _ (subscriber_closed_alike q a b named.0 named.1 named'.1 nothing.0 nothing.1 e)))))
           (λ publisher _ j l. alike_equal q o _ o' _ j l (done_alike _ _ (publisher_closed_alike q a b publisher.0 publisher.1 e)))
+      step_alike (ConnectionPlace of receiver) o o' closes h k replies =
+          live o o' (publisher_at a handles of) (publisher_at b handles' of) _ _ (publisher_at_same q a b handles handles' e same of) h k
+          (λ publisher _ j l. alike_equal q o _ o' _ j l (record { state = e; event = refl; handle = refl }))
+      step_alike (PublisherChannel of channel place call) o o' closes h k replies =
+          live o o' (if_channel a channel (publisher_at a handles of)) (if_channel b channel (publisher_at b handles' of)) _ _
+          (channel_same q a b handles handles' e same of channel _ _ (publisher_at_same q a b handles handles' e same of)) h k
+          (λ publisher _ j l. alike_equal q o _ o' _ j l (publisher_channel_alike q a b publisher.0 channel place call e))
+      step_alike (SubscriberChannel of channel call) o o' closes h k replies =
+          by_subscriber of (IsAlike q o o')
+          (λ t. let own : (slice_get handles of ≡ Some (Subscriber_handle q)) × (subscriber_at a handles of ≡ subscriber_at b handles' of) × ((named : ℕ × Subscriber) → subscriber_at a handles of ≡ Some named → named.0 ≡ q) = own_same of t in
+          live o o' (if_channel a channel (subscriber_at a handles of)) (if_channel b channel (subscriber_at b handles' of)) _ _ (channel_same q a b handles handles' e same of channel _ _ own.1) h k (λ subscriber f j l.
+          let is : subscriber.0 ≡ q = own.2 subscriber (has_channel a channel (subscriber_at a handles of) subscriber f).1 in
+          alike_equal q o _ o' _ (j ∙ ap (λ i. of_subscriber_channel a i channel call) is) (l ∙ ap (λ i. of_subscriber_channel b i channel call) is)
+          (subscriber_channel_alike q a b channel call e)))
+          (λ f g. both_quiet o o' (channels_of_other q default_value default_header m a handles of channel call o f h)
+          (channels_of_other q default_value default_header m' b handles' of channel call o' g k))
 
       -- ---- reads
 

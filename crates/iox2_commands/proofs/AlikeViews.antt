@@ -82,12 +82,12 @@ module _ {T U : Type 0} where
   receiving_buffer_seen s r =
       elim (s.subscribers r) as (λ (o : Option Subscriber). option_and_then (λ (y : Subscriber). cond y.is_open (Some y.buffer) None) o ≡ buffer_seen (public_part o)) [ None ↦ refl | Some y ↦ refl ]
 
-  -- The buffer into which messages of p are put, in channel 0.
-  abbrev pub own_buffer : (q p : ℕ) → View T U → Option ℕ
-  own_buffer q p v = cond (is_closed (v.channels p 0)) None (buffer_seen (v.others q))
+  -- The buffer into which messages of p are put in that channel.
+  abbrev pub own_buffer : (q p channel : ℕ) → View T U → Option ℕ
+  own_buffer q p channel v = cond (is_closed (v.channels p channel)) None (buffer_seen (v.others q))
 
-  pub own_buffer_seen : (s : State T U) (p q : ℕ) → channel_buffer s p 0 q ≡ own_buffer q p (view_of q s)
-  own_buffer_seen s p q = ap (λ (o : Option ℕ). cond (is_closed (s.channels p q 0)) None o) (receiving_buffer_seen s q)
+  pub own_buffer_seen : (s : State T U) (p channel q : ℕ) → channel_buffer s p channel q ≡ own_buffer q p channel (view_of q s)
+  own_buffer_seen s p channel q = ap (λ (o : Option ℕ). cond (is_closed (s.channels p q channel)) None o) (receiving_buffer_seen s q)
 
   -- ---- channels of ports that aren't connected any more
 

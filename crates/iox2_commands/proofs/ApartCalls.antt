@@ -12,17 +12,19 @@ use Rattle.iox2_laws.proofs.Cases.{by_option}
 use Rattle.iox2_machine.specs.machine.Environments.{ample_memory}
 use Rattle.iox2_commands.specs.Isolation.{is_of_others, subscriber_call}
 use Rattle.iox2_commands.specs.Outcomes.{Handle, No_handle, Sample_handle, Outcome, done, skipped}
-use Rattle.iox2_commands.specs.Step.{Step, after_receive, after_update, after_question, unblocked_at, subscriber_at, sample_at, loan_at, with_cell_at, if_single_units}
+use Rattle.iox2_commands.specs.Step.{Step, after_receive, after_update, after_question, unblocked_at, subscriber_at, sample_at, loan_at, with_cell_at, if_single_units, if_channel}
 use Rattle.iox2_commands.specs.declared.command.Command.{Command}
-use Rattle.iox2_commands.specs.declared.command.Command.TheVariants.{Nothing, CreatePublisher, CreateSubscriber, LoanUninit, Loan as LoanDefault, LoanSlice, WriteCell, WriteAll, AssumeInit, WriteHeader, SetPayload, Send, SendCopy, Discard, Retry, GiveUp, Update, Receive, HasSamples, Read, ReadHeader, ReadUserHeader, Release, Close}
+use Rattle.iox2_commands.specs.declared.command.Command.TheVariants.{Nothing, CreatePublisher, CreateSubscriber, LoanUninit, Loan as LoanDefault, LoanSlice, WriteCell, WriteAll, AssumeInit, WriteHeader, SetPayload, Send, SendCopy, Discard, Retry, GiveUp, Update, Receive, HasSamples, Read, ReadHeader, ReadUserHeader, Release, Close, SendToConnection as SendLoanTo, ConnectionPlace, PublisherChannel, SubscriberChannel}
 use Rattle.iox2_commands.specs.declared.reply.Reply.{Reply}
-use Rattle.iox2_commands.proofs.Named.{in_single_units}
+use Rattle.iox2_commands.proofs.Named.{in_single_units, has_channel}
 use Rattle.iox2_commands.proofs.HeaderReads.{ReadsHeader}
 use Rattle.iox2_commands.proofs.AlikeViews.{view_of}
 use Rattle.iox2_commands.proofs.AlikeReceives.{IsAlike, alike_equal}
 use Rattle.iox2_commands.proofs.AlikeNamed.{names_subscriber, names_sample, others_no_subscriber, others_no_sample, no_publisher_at, subscriber_apart, sample_apart}
 use Rattle.iox2_machine.specs.machine.SubscriberUpdate.{UpdateSubscriber}
 use Rattle.iox2_commands.proofs.ApartSteps.{AllOpen, update_apart, receive_apart, released_apart}
+use Rattle.iox2_commands.specs.declared.channel_calls.SubscriberChannelCall.{SubscriberChannelCall}
+use Rattle.iox2_commands.proofs.AlikeChannels.{subscriber_channel_apart}
 
 module _ {T U : Type 0} (q : ℕ) where
   -- a receive of another subscriber, as an outcome
@@ -106,6 +108,14 @@ module _ {T U : Type 0} (q : ℕ) where
         live o (sample_at s handles of) _ h (λ sample e k.
         stays o _ k (record { state = released_apart q sample.1 (sample_apart q s handles of sample other e) s sample.0 sample.2 all; event = refl; handle = refl }))
 
+    -- a call on channels where q isn't named
+    pub channels_of_other : (of channel : ℕ) (call : SubscriberChannelCall) (o : Outcome T U) → names_subscriber q (slice_get handles of) ≡ false
+        → Steps (SubscriberChannel of channel call) o → IsAlike q o (done s)
+    channels_of_other of channel call o other h =
+        live o (if_channel s channel (subscriber_at s handles of)) _ h (λ subscriber e k.
+        let apart : eqb q subscriber.0 ≡ false = subscriber_apart q s handles of subscriber other (has_channel s channel (subscriber_at s handles of) subscriber e).1 in
+        stays o _ k (subscriber_channel_apart q s subscriber.0 channel call apart))
+
     -- A call of others is as if nothing was done.
     pub others_alike : (command : Command T U) (of : ℕ) (o : Outcome T U) → AllOpen q s → subscriber_call command ≡ Some of
         → is_of_others q (slice_get handles of) ≡ true → Steps command o → IsAlike q o (done s)
@@ -137,3 +147,8 @@ module _ {T U : Type 0} (q : ℕ) where
     others_alike (Retry a b) of o all e other h = absurd (none-some of e)
     others_alike (GiveUp a) of o all e other h = absurd (none-some of e)
     others_alike (Close a) of o all e other h = absurd (none-some of e)
+    others_alike (SubscriberChannel of' channel call) of o all e other h =
+        channels_of_other of' channel call o (others_no_subscriber q _ (subst (λ i. is_of_others q (slice_get handles i) ≡ true) (sym (same_Some of' of e)) other)) h
+    others_alike (SendLoanTo a b c) of o all e other h = absurd (none-some of e)
+    others_alike (ConnectionPlace a b) of o all e other h = absurd (none-some of e)
+    others_alike (PublisherChannel a b c d) of o all e other h = absurd (none-some of e)

@@ -1,15 +1,15 @@
 -- What is borrowed after a step: what was and isn't released by it, and what a receive took.
-use Rattle.std.proofs.Common.{◌≡◌, ◌⊎◌, inl, inr, ⊎_elim, ℕ, Bool, true, false, cond, List, [], refl, sym, ap, subst, ◌∙◌, Option, None, Some}
+use Rattle.std.proofs.Common.{◌≡◌, ◌⊎◌, inl, inr, ⊎_elim, ℕ, Bool, true, false, cond, List, [], take, drop, refl, sym, ap, subst, ◌∙◌, Option, None, Some}
 use Rattle.std.specs.Prelude.{MatchOption, slice_get}
 use Rattle.std.specs.declared.time.Duration.{Duration}
 use Rattle.std.proofs.lemmas.Bool.{true≢false, cases_eq}
 use Rattle.std.proofs.lemmas.Option.{none-some, same_Some}
 use Rattle.iox2_machine.specs.machine.Mailbox.{is_borrowed}
 use Rattle.iox2_machine.specs.machine.Records.{Loan, Environment}
-use Rattle.iox2_machine.specs.machine.State.{State, Messages, channel_buffer}
-use Rattle.iox2_machine.specs.machine.Delivery.{DeliveryEnd, Complete, Suspended}
+use Rattle.iox2_machine.specs.machine.State.{State, Messages, channel_buffer, with_loan}
+use Rattle.iox2_machine.specs.machine.Delivery.{DeliveryEnd, Complete, Suspended, no_time}
 use Rattle.iox2_machine.specs.machine.Loans.{is_initialized, initialized}
-use Rattle.iox2_machine.specs.machine.Sends.{Send, Publish, DeliverAndConclude, ConcludeSend, SendResult, with_mailboxes, published}
+use Rattle.iox2_machine.specs.machine.Sends.{Send, SendToConnection, Publish, DeliverAndConclude, ConcludeSend, SendResult, with_mailboxes, published}
 use Rattle.iox2_machine.specs.machine.Receives.{Receive as Receives, ReceiveResult, Got_sample, No_sample, Receive_error}
 use Rattle.iox2_machine.specs.machine.Releases.{released}
 use Rattle.iox2_machine.specs.machine.SingleCalls.{GrantWrittenLoan}
@@ -22,14 +22,15 @@ use Rattle.iox2_laws.proofs.PortsStay.{update_publisher_stays, update_subscriber
 use Rattle.iox2_laws.proofs.Puts.{at_each}
 use Rattle.iox2_laws.proofs.SamplesStay.{IsReceived, received_one, nothing_received, released_now, released_others}
 use Rattle.iox2_commands.specs.Outcomes.{Handle, Subscriber_handle, Sample_handle, Outcome, replied, done, skipped}
-use Rattle.iox2_commands.specs.Step.{Step, after_receive, unblocked_at, subscriber_at, loan_at, unwritten_at, written_at, with_cell_at, sendable_at, blocked_at, sample_at, if_single_units, if_fixed_size, if_dynamic}
+use Rattle.iox2_commands.specs.Step.{Step, after_receive, unblocked_at, subscriber_at, loan_at, unwritten_at, written_at, with_cell_at, sendable_at, blocked_at, sample_at, if_single_units, if_fixed_size, if_dynamic, if_channel}
 use Rattle.iox2_commands.specs.declared.command.Command.{Command}
-use Rattle.iox2_commands.specs.declared.command.Command.TheVariants.{Nothing, CreatePublisher as PublisherCommand, CreateSubscriber as SubscriberCommand, LoanUninit, Loan as LoanDefault, LoanSlice, WriteCell, WriteAll, AssumeInit, WriteHeader, SetPayload, Send as SendLoan, SendCopy, Discard, Retry, GiveUp, Update, Receive, HasSamples, Read, ReadHeader, ReadUserHeader, Release, Close}
+use Rattle.iox2_commands.specs.declared.command.Command.TheVariants.{Nothing, CreatePublisher as PublisherCommand, CreateSubscriber as SubscriberCommand, LoanUninit, Loan as LoanDefault, LoanSlice, WriteCell, WriteAll, AssumeInit, WriteHeader, SetPayload, Send as SendLoan, SendCopy, Discard, Retry, GiveUp, Update, Receive, HasSamples, Read, ReadHeader, ReadUserHeader, Release, Close, SendToConnection as SendLoanTo, ConnectionPlace, PublisherChannel, SubscriberChannel}
 use Rattle.iox2_commands.specs.declared.reply.Reply.TheVariants.{Unwritten, Sample}
 use Rattle.iox2_commands.proofs.Named.{in_single_units}
 use Rattle.iox2_commands.proofs.AlikeNamed.{subscriber_handle_at, own_sample_at}
 use Rattle.iox2_commands.proofs.AlikeOpen.{state_publisher, state_subscriber, state_loan, state_update, state_question, state_send, state_retry}
 use Rattle.iox2_commands.proofs.ReadSteps.{IsSpared}
+use Rattle.iox2_commands.proofs.ChannelOutcomes.{OnChannels, on_channels}
 
 -- three numbers are these, or they aren't
 same_three : (i p j q k n : ℕ) → ((i ≡ p) × (j ≡ q) × (k ≡ n)) ⊎ (i ≡ p → j ≡ q → k ≡ n → ⊥)
@@ -73,6 +74,13 @@ module _ {T U : Type 0} where
       published_borrows mid first h =
           by_option (SameBorrows s s') (mid.publishers l.publisher) _ _ h (λ _ v. absurd v) (λ x _ h.
           λ p q. delivered_borrows environment (published mid l.publisher n) l.publisher n 0 0 _ 0 x.ends 0 false s' result h p q ∙ first p q)
+
+  connection_borrows : (environment : Environment) (s : State T U) (n : ℕ) (l : Loan T U) (channel place : ℕ) (s' : State T U) (result : SendResult)
+      → SendToConnection environment s n l channel place s' result → SameBorrows s s'
+  connection_borrows environment s n l channel place s' result h =
+      by_option (SameBorrows s s') (s.publishers l.publisher) _ _ h
+      (λ _ k. subst (SameBorrows s) (sym k.0) (λ p q. refl))
+      (λ x _ k. delivered_borrows environment (with_loan s n None) l.publisher n channel 0 no_time place (take 1 (drop place x.ends)) 0 false s' result k)
 
   written_loan_borrows : (environment : Environment) (value : T) (default_header : U) (checks_length : Bool) (len : ℕ) (s : State T U) (p : ℕ) (s' : State T U) (refusal : Option LoanError)
       → GrantWrittenLoan environment value default_header checks_length len s p s' refusal → SameBorrows s s'
@@ -133,6 +141,9 @@ module _ {T U : Type 0} where
         (λ sample _ k. by_option (SameBorrows s o.state) (m sample.2) _ _ k (λ _ v. absurd v)
         (λ entry _ j. live o (slice_get entry.values at) _ j (λ value e. same o _ e refl)))
 
+    channels_same : (o : Outcome T U) → OnChannels s o → SameBorrows s o.state
+    channels_same o k = by o _ _ k.is refl (λ p q. refl)
+
     -- Each command but a receive and a release leaves what is borrowed.
     step_borrows : (command : Command T U) (o : Outcome T U) → takes_or_gives command ≡ false → Steps command o → SameBorrows s o.state
     step_borrows Nothing o k h = same o (done s) h refl
@@ -159,6 +170,9 @@ module _ {T U : Type 0} where
     step_borrows (SetPayload of at value) o k h = live o (with_cell_at at (written_at s handles of)) _ h (λ loan j. by o _ _ j refl (λ p q. refl))
     step_borrows (SendLoan of) o k h =
         live o (sendable_at s handles of) _ h (λ loan j. by o _ j.0 j.3 (state_send j.0 _ _ _ j.1) (send_borrows environment s loan.0 loan.1 j.0 j.1 j.2))
+    step_borrows (SendLoanTo of channel place) o k h =
+        live o (if_channel s channel (sendable_at s handles of)) _ h (λ loan j.
+        by o _ j.0 j.3 (state_send j.0 _ _ _ j.1) (connection_borrows environment s loan.0 loan.1 channel place j.0 j.1 j.2))
     step_borrows (SendCopy of value) o k h =
         live o (if_single_units s (if_fixed_size s (unblocked_at s handles of))) _ h (λ publisher j.
         let mid : SameBorrows s j.0 = written_loan_borrows environment value default_header false 1 s publisher.0 j.0 j.1 j.2 in
@@ -193,6 +207,9 @@ module _ {T U : Type 0} where
         by_option (SameBorrows s o.state) (unblocked_at s handles of) _ _ h
         (λ _ j. live o (subscriber_at s handles of) _ j (λ subscriber j. by o _ _ j refl (subscriber_closed_borrowed s subscriber.0 subscriber.1)))
         (λ publisher _ j. by o _ _ j refl (publisher_closed_borrowed s publisher.0 publisher.1))
+    step_borrows (ConnectionPlace of receiver) o k h = channels_same o (on_channels environment default_value default_header m s handles (ConnectionPlace of receiver) o refl h)
+    step_borrows (PublisherChannel of channel place call) o k h = channels_same o (on_channels environment default_value default_header m s handles (PublisherChannel of channel place call) o refl h)
+    step_borrows (SubscriberChannel of channel call) o k h = channels_same o (on_channels environment default_value default_header m s handles (SubscriberChannel of channel call) o refl h)
 
     -- ---- what is borrowed afterwards
 

@@ -1,5 +1,5 @@
 -- Each call on a store comes to something, where memory is ample and handlers are fixed.
-use Rattle.std.proofs.Common.{◌≡◌, ◌⊎◌, inl, inr, ℕ, ◌+◌, ◌*◌, ◌^◌, ◌≤◌, ◌<◌, Bool, true, false, cond, List, [], ◌∷◌, ◌++◌, arith, refl, sym, ap, subst, ◌∙◌, Option, None, Some, eqb, ltb}
+use Rattle.std.proofs.Common.{◌≡◌, ◌⊎◌, inl, inr, ℕ, ◌+◌, ◌*◌, ◌^◌, ◌≤◌, ◌<◌, Bool, true, false, cond, List, [], ◌∷◌, ◌++◌, take, drop, arith, refl, sym, ap, subst, ◌∙◌, Option, None, Some, eqb, ltb}
 use Rattle.std.specs.Prelude.{MatchOption, max, nat_lt}
 use Rattle.std.specs.Bool.{MatchBool}
 use Rattle.std.specs.Option.{option_map}
@@ -19,7 +19,7 @@ use Rattle.iox2_machine.specs.machine.PublisherUpdate.{UpdatePublisher}
 use Rattle.iox2_machine.specs.machine.SubscriberUpdate.{UpdateSubscriber}
 use Rattle.iox2_machine.specs.machine.Loans.{GrantLoan, StaticLoan, DynamicLoan, IsGuaranteed, NoSegmentFits, known_length, loan_granted, limit_error, is_static, loan_discarded, written}
 use Rattle.iox2_machine.specs.machine.SingleCalls.{GrantWrittenLoan}
-use Rattle.iox2_machine.specs.machine.Sends.{Send, Publish, DeliverAndConclude, ConcludeSend, SendResult, Delivered_to, Blocked_send, Send_error, with_mailboxes, published, send_ended, send_blocked}
+use Rattle.iox2_machine.specs.machine.Sends.{Send, SendToConnection, Publish, DeliverAndConclude, ConcludeSend, SendResult, Delivered_to, Blocked_send, Send_error, with_mailboxes, published, send_ended, send_blocked}
 use Rattle.iox2_machine.specs.machine.Receives.{Receive, HasSamples, TakeSample, ReceiveResult, Got_sample, No_sample, Receive_error, has_any_data, can_receive_of}
 use Rattle.iox2_machine.specs.machine.Releases.{released, freed_if_unused, subscriber_pruned, is_unused, place_freed, unborrowed}
 use Rattle.iox2_machine.specs.machine.Ports.{CreatePublisher, CreateSubscriber, with_new_publisher, with_new_subscriber, new_publisher, new_subscriber, with_failure_warning, first_segment_fits, buffer_for, publisher_closed, subscriber_closed, subscriber_shut}
@@ -43,6 +43,8 @@ use Rattle.iox2_laws.proofs.PublisherUpdates.{update_publisher_changes}
 use Rattle.iox2_machine.specs.machine.Environments.{ample_memory}
 use Rattle.iox2_commands.proofs.ExistUpdates.{ComesWith, anything, comes_option, comes_bool, is_fixed, AllFixed, deliver_comes, update_publisher_comes, update_subscriber_comes}
 use Rattle.iox2_laws.proofs.WaitingReceives.{passes_at}
+use Rattle.iox2_commands.proofs.ChannelOutcomes.{OnChannels}
+use Rattle.iox2_commands.specs.Outcomes.{Outcome}
 
 -- ---- fixed handlers
 
@@ -127,6 +129,10 @@ module _ {T U : Type 0} where
 
   pub loan_discarded_fixed : (s : State T U) (n : ℕ) (l : Loan T U) → IsFixed s → IsFixed (loan_discarded s n l)
   loan_discarded_fixed s n l k = changed_fixed (with_loan s n None) l.publisher (λ x. record x { loans = without n x.loans }) (λ x. refl) (with_loan_fixed s n None k)
+
+  -- where channels alone change, it stays so
+  pub channels_fixed : (s : State T U) (o : Outcome T U) → OnChannels s o → IsFixed s → IsFixed o.state
+  channels_fixed s o k j = subst (λ (v : Outcome T U). IsFixed v.state) (sym k.is) (record { message = j.message; handlers = j.handlers })
 
   -- ---- updates
 
@@ -286,6 +292,14 @@ module _ {T U : Type 0} where
       (λ _. publish_comes u.0 l.publisher (record x { ends = changed.0; is_due = changed.1 }) changed.2 u.3 n)
       (λ e _. (loan_discarded u.0 n l, Send_error (ConnectionError e), (refl, refl), loan_discarded_fixed u.0 n l u.3)) in
       (v.0, v.1, (u.0, u.1, u.2, v.2), v.3))
+
+  -- A loan is sent to one connection.
+  pub connection_comes : (s : State T U) (n : ℕ) (l : Loan T U) (channel place : ℕ) → IsFixed s → ComesTo SendResult (SendToConnection ample_memory s n l channel place)
+  connection_comes s n l channel place k =
+      comes_option (State T U) SendResult (λ s' r. IsFixed s') (s.publishers l.publisher) _ _
+      (λ _. (with_loan s n None, Send_error ConnectionBrokenSinceSenderNoLongerExists, (refl, refl), with_loan_fixed s n None k))
+      (λ x present.
+      delivers (with_loan s n None) l.publisher x present (with_loan_fixed s n None k) n channel 0 no_time place (take 1 (drop place x.ends)) 0 false)
 
   -- ---- receives
 

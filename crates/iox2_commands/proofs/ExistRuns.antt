@@ -10,7 +10,7 @@ use Rattle.iox2_machine.specs.machine.Records.{Entry, Loan, Publisher, Handler, 
 use Rattle.iox2_machine.specs.machine.State.{State, Messages, fresh, no_messages, with_loan}
 use Rattle.iox2_machine.specs.machine.Loans.{GrantLoan, is_initialized, initialized, entry_of, written, with_cell, loan_discarded}
 use Rattle.iox2_machine.specs.machine.SingleCalls.{GrantWrittenLoan}
-use Rattle.iox2_machine.specs.machine.Sends.{Send, SendResult}
+use Rattle.iox2_machine.specs.machine.Sends.{Send, SendToConnection, SendResult}
 use Rattle.iox2_machine.specs.machine.Receives.{HasSamples as Asks}
 use Rattle.iox2_machine.specs.declared.service_config.ServiceConfig.{ServiceConfig}
 use Rattle.iox2_machine.specs.declared.backpressure.BackpressureAction.{BackpressureAction}
@@ -20,22 +20,24 @@ use Rattle.iox2_machine.specs.declared.errors.SendError.TheVariants.{LoanError a
 use Rattle.iox2_laws.proofs.Enough.{fresh_is_well_formed}
 use Rattle.iox2_laws.proofs.NumberLemmas.{contains_right}
 use Rattle.iox2_commands.specs.Outcomes.{Handle, Sample_handle, Event, Outcome, replied, done, skipped, messages_after}
-use Rattle.iox2_commands.specs.Step.{Step, after_publisher, after_subscriber, after_loan, after_send, after_retry, after_receive, after_update, after_question, unblocked_at, subscriber_at, loan_at, unwritten_at, written_at, with_cell_at, sendable_at, blocked_at, sample_at, if_single_units, if_fixed_size, if_dynamic}
+use Rattle.iox2_commands.specs.Step.{Step, after_publisher, after_subscriber, after_loan, after_send, after_retry, after_receive, after_update, after_question, unblocked_at, subscriber_at, loan_at, unwritten_at, written_at, with_cell_at, sendable_at, blocked_at, sample_at, if_single_units, if_fixed_size, if_dynamic, publisher_at, if_channel, of_publisher_channel, of_subscriber_channel}
 use Rattle.iox2_machine.specs.machine.Environments.{ample_memory}
 use Rattle.iox2_commands.specs.Runs.{RunFrom, only_defaults}
 use Rattle.iox2_commands.specs.Existence.{EveryListRuns}
 use Rattle.iox2_commands.specs.declared.command.Command.{Command}
-use Rattle.iox2_commands.specs.declared.command.Command.TheVariants.{Nothing, CreatePublisher as PublisherCommand, CreateSubscriber as SubscriberCommand, LoanUninit, Loan as LoanDefault, LoanSlice, WriteCell, WriteAll, AssumeInit, WriteHeader, SetPayload, Send as SendLoan, SendCopy, Discard, Retry, GiveUp, Update, Receive, HasSamples, Read, ReadHeader, ReadUserHeader, Release, Close}
+use Rattle.iox2_commands.specs.declared.command.Command.TheVariants.{Nothing, CreatePublisher as PublisherCommand, CreateSubscriber as SubscriberCommand, LoanUninit, Loan as LoanDefault, LoanSlice, WriteCell, WriteAll, AssumeInit, WriteHeader, SetPayload, Send as SendLoan, SendCopy, Discard, Retry, GiveUp, Update, Receive, HasSamples, Read, ReadHeader, ReadUserHeader, Release, Close, SendToConnection as SendLoanTo, ConnectionPlace, PublisherChannel, SubscriberChannel}
 use Rattle.iox2_commands.specs.declared.reply.Reply.{Reply}
-use Rattle.iox2_commands.specs.declared.reply.Reply.TheVariants.{Unwritten, SendRefused, Cell, Header as HeaderRead, UserHeader}
+use Rattle.iox2_commands.specs.declared.reply.Reply.TheVariants.{Unwritten, SendRefused, Cell, Header as HeaderRead, UserHeader, Place}
 use Rattle.iox2_commands.proofs.Named.{unblocked_is, subscriber_is, blocked_is, passes, in_single_units, in_fixed_size, in_dynamic}
 use Rattle.iox2_commands.proofs.HeaderReads.{ReadsHeader}
 use Rattle.iox2_commands.proofs.ReadSteps.{PastSends, past_after}
 use Rattle.iox2_commands.proofs.Reached.{HasReached, goes_on}
 use Rattle.iox2_commands.proofs.AlikeOpen.{state_publisher, state_subscriber, state_loan, state_update, state_question, state_receive, state_retry, state_send}
 use Rattle.iox2_commands.proofs.ExistUpdates.{ComesWith, is_fixed}
-use Rattle.iox2_commands.proofs.ExistCalls.{IsFixed, ComesTo, Grants, with_loan_fixed, loan_discarded_fixed, publisher_updates, subscriber_updates, grant_comes, grant_written_comes, delivers, send_comes, receive_comes, has_samples_comes, released_fixed, publisher_closed_fixed, subscriber_closed_fixed, create_publisher_comes, create_subscriber_comes}
+use Rattle.iox2_commands.proofs.ExistCalls.{IsFixed, ComesTo, Grants, with_loan_fixed, loan_discarded_fixed, publisher_updates, subscriber_updates, grant_comes, grant_written_comes, delivers, send_comes, connection_comes, channels_fixed, receive_comes, has_samples_comes, released_fixed, publisher_closed_fixed, subscriber_closed_fixed, create_publisher_comes, create_subscriber_comes}
 use Rattle.iox2_laws.proofs.Cases.{match_some}
+use Rattle.iox2_commands.proofs.ChannelOutcomes.{publisher_call_on, subscriber_call_on}
+use Rattle.iox2_machine.specs.machine.ChannelCalls.{connection_place}
 
 -- a handler that a command gives is fixed
 given_fixed : (o : Option BackpressureAction) → is_fixed (option_map {U = Handler BackpressureAction} (λ action. Fixed action) o) ≡ true
@@ -183,6 +185,10 @@ module _ {T U : Type 0} where
     step_comes (SetPayload of at value) =
         live (with_cell_at at (written_at s handles of)) _ (λ loan _. ends_so (done (with_loan s loan.0 (Some (with_cell loan.1 at value)))) (with_loan_fixed s loan.0 _ k))
     step_comes (SendLoan of) = live (sendable_at s handles of) _ (λ loan _. sends_loan s loan.0 loan.1 k)
+    step_comes (SendLoanTo of channel place) =
+        live (if_channel s channel (sendable_at s handles of)) _ (λ loan _.
+        ends_call SendResult (SendToConnection ample_memory s loan.0 loan.1 channel place) (λ s' r. after_send s' _ loan.0 (entry_of loan.1) r)
+        (λ s' r. state_send s' _ loan.0 (entry_of loan.1) r) (connection_comes s loan.0 loan.1 channel place k))
     step_comes (SendCopy of value) =
         live (if_single_units s (if_fixed_size s (unblocked_at s handles of))) _ (λ publisher e.
         sends_copy value publisher.0 publisher.1 (unblocked_is s handles of publisher (in_fixed_size s _ publisher (in_single_units s _ publisher e))).0)
@@ -224,6 +230,13 @@ module _ {T U : Type 0} where
         ends_option (unblocked_at s handles of) _ _
         (λ _. live (subscriber_at s handles of) _ (λ subscriber _. ends_so _ (subscriber_closed_fixed s subscriber.0 subscriber.1 k)))
         (λ publisher _. ends_so _ (publisher_closed_fixed s publisher.0 publisher.1 k))
+    step_comes (ConnectionPlace of receiver) = live (publisher_at s handles of) _ (λ publisher _. ends_so (replied (Place (connection_place s publisher.0 receiver)) s) k)
+    step_comes (PublisherChannel of channel place call) =
+        live (if_channel s channel (publisher_at s handles of)) _ (λ publisher _.
+        ends_so (of_publisher_channel s publisher.0 channel place call) (channels_fixed s _ (publisher_call_on s publisher.0 channel place call) k))
+    step_comes (SubscriberChannel of channel call) =
+        live (if_channel s channel (subscriber_at s handles of)) _ (λ subscriber _.
+        ends_so (of_subscriber_channel s subscriber.0 channel call) (channels_fixed s _ (subscriber_call_on s subscriber.0 channel call) k))
 
   abbrev Runs : (default_value : T) → (default_header : U) → Messages T U → State T U → List Handle → List (Command T U) → Type 0
   Runs default_value default_header m s handles commands =

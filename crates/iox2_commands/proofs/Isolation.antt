@@ -18,7 +18,7 @@ use Rattle.iox2_commands.specs.Runs.{RunTo, only_defaults}
 use Rattle.iox2_commands.specs.Views.{PublicPart, public_part, seen_handle, SameView, may_be_omitted, OmitsOthersFrom}
 use Rattle.iox2_commands.specs.Isolation.{IsIndependent, makes_independent_publisher, AreIndependent, is_of_others, subscriber_call, SameViewAfter, ViewsStayAlike, HasReleased, ClosesUnborrowed, CallsLeaveOthersViews, AlikeStatesStayAlike, SubscribersAreIsolated, IsIndependentPublisher, reads_at}
 use Rattle.iox2_commands.specs.declared.command.Command.{Command}
-use Rattle.iox2_commands.specs.declared.command.Command.TheVariants.{Nothing, Receive, HasSamples, Update, Release, Read, ReadHeader, ReadUserHeader}
+use Rattle.iox2_commands.specs.declared.command.Command.TheVariants.{Nothing, Receive, HasSamples, Update, Release, Read, ReadHeader, ReadUserHeader, SubscriberChannel}
 use Rattle.iox2_commands.specs.declared.reply.Reply.{Reply}
 use Rattle.iox2_commands.specs.declared.reply.Reply.TheVariants.{PublisherMade, SubscriberMade}
 use Rattle.iox2_commands.proofs.EnoughRuns.{run_sound}
@@ -195,6 +195,7 @@ module _ {T U : Type 0} where
   left_out position q whole replies handles (Receive of) fit h = (of, refl, fit.others of h)
   left_out position q whole replies handles (HasSamples of) fit h = (of, refl, fit.others of h)
   left_out position q whole replies handles (Update of) fit h = (of, refl, fit.others of h)
+  left_out position q whole replies handles (SubscriberChannel of channel call) fit h = (of, refl, fit.others of h)
   left_out position q whole replies handles (Release of) fit h = (of, refl, fit.samples of h)
   left_out position q whole replies handles (Read of at) fit h = (of, refl, fit.samples of h)
   left_out position q whole replies handles (ReadHeader of) fit h = (of, refl, fit.samples of h)

@@ -2,6 +2,8 @@ pub mod GrowingLists
 pub mod Named
 pub mod HeaderReads
 pub mod Keeping
+pub mod ChannelOutcomes
+pub mod ConnectionSendLaws
 pub mod StepLaws
 pub mod Lift
 pub mod EnoughRuns
@@ -35,6 +37,7 @@ pub mod AlikePorts
 pub mod AlikeNamed
 pub mod AlikeCloses
 pub mod AlikeIndependent
+pub mod AlikeChannels
 pub mod ApartCalls
 pub mod AlikeSteps
 pub mod AlikeOpen

@@ -1,14 +1,16 @@
 -- What a position names is in the state.
-use Rattle.std.proofs.Common.{◌≡◌, ℕ, Bool, true, false, cond, List, refl, sym, subst, Option, None, Some, is_none, is_some}
-use Rattle.std.specs.Prelude.{slice_get, ◌==◌}
+use Rattle.std.proofs.Common.{◌≡◌, ◌<◌, ℕ, Bool, true, false, cond, List, refl, sym, subst, Option, None, Some, is_none, is_some}
+use Rattle.std.specs.Prelude.{slice_get, ◌==◌, nat_lt}
 use Rattle.std.specs.Option.{option_and_then, option_map, option_map_or}
 use Rattle.std.proofs.lemmas.Option.{none-some, same_Some}
+use Rattle.std.proofs.lemmas.Bool.{ltb-true}
+use Rattle.iox2_machine.specs.machine.Limits.{channel_count}
 use Rattle.iox2_machine.specs.machine.Records.{Loan, Publisher, Subscriber, BlockedSend}
 use Rattle.iox2_machine.specs.machine.State.{State, is_blocked}
 use Rattle.iox2_machine.specs.declared.service_config.TypeVariant.{TypeVariant}
 use Rattle.iox2_machine.specs.declared.service_config.TypeVariant.TheVariants.{FixedSize, Dynamic}
 use Rattle.iox2_commands.specs.Outcomes.{Handle, Publisher_handle, Subscriber_handle, Loan_handle, Blocked_handle}
-use Rattle.iox2_commands.specs.Step.{publisher_at, unblocked_at, subscriber_at, loan_at, unwritten_at, written_at, sendable_at, blocked_at, if_single_units, if_fixed_size, if_dynamic}
+use Rattle.iox2_commands.specs.Step.{publisher_at, unblocked_at, subscriber_at, loan_at, unwritten_at, written_at, sendable_at, blocked_at, if_single_units, if_fixed_size, if_dynamic, if_channel}
 
 -- what passes a test is there, and passes it
 pub passes : {A : Type 0} (test : A → Bool) (o : Option A) (a : A) → option_and_then (λ v. cond (test v) (Some v) None) o ≡ Some a → (o ≡ Some a) × (test a ≡ true)
@@ -124,6 +126,14 @@ in_dynamic {T} {U} {A} s o a e = at (s.config).variant e
     at : (v : TypeVariant) → elim v [ FixedSize ↦ None | Dynamic ↦ o ] ≡ Some a → o ≡ Some a
     at FixedSize e = absurd (none-some a e)
     at Dynamic e = e
+
+-- and so is what is named with a channel, which connections have
+pub has_channel : {T U A : Type 0} (s : State T U) (channel : ℕ) (o : Option A) (a : A) → if_channel s channel o ≡ Some a → (channel < channel_count s.config) × (o ≡ Some a)
+has_channel {T} {U} {A} s channel o a e = at (nat_lt channel (channel_count s.config)) refl e
+  where
+    at : (b : Bool) → nat_lt channel (channel_count s.config) ≡ b → cond b o None ≡ Some a → (channel < channel_count s.config) × (o ≡ Some a)
+    at true t e = (ltb-true channel (channel_count s.config) t, e)
+    at false t e = absurd (none-some a e)
 
 -- a publisher without a blocked send isn't blocked
 pub not_blocked : {T U : Type 0} (s : State T U) (p : ℕ) (x : Publisher) → s.publishers p ≡ Some x → is_none x.blocked ≡ true → is_blocked s p ≡ false

@@ -1,15 +1,15 @@
 -- Each command of a run keeps the order in which messages were sent and received.
-use Rattle.std.proofs.Common.{◌≡◌, ℕ, ◌≤◌, Bool, true, false, cond, List, [], ◌∷◌, ◌++◌, refl, sym, ap, subst, ◌∙◌, ltb, length, ◌⊎◌, inl, inr, ⊎_elim, Option, None, Some, is_none, is_some}
+use Rattle.std.proofs.Common.{◌≡◌, ℕ, ◌≤◌, Bool, true, false, cond, List, [], ◌∷◌, ◌++◌, take, drop, refl, sym, ap, subst, ◌∙◌, ltb, length, ◌⊎◌, inl, inr, ⊎_elim, Option, None, Some, is_none, is_some}
 use Rattle.std.specs.Prelude.{MatchOption, slice_get, ◌==◌, ⊤}
 use Rattle.std.specs.Option.{option_and_then, option_map}
 use Rattle.std.proofs.lemmas.Bool.{cond_both, true≢false}
 use Rattle.std.proofs.lemmas.Option.{none-some, same_Some}
 use Rattle.iox2_machine.specs.machine.Numbers.{put_at}
 use Rattle.iox2_machine.specs.machine.Records.{Entry, Loan, Publisher, Subscriber, BlockedSend, Environment}
-use Rattle.iox2_machine.specs.machine.State.{State, Messages, is_blocked}
+use Rattle.iox2_machine.specs.machine.State.{State, Messages, is_blocked, with_loan}
 use Rattle.iox2_machine.specs.machine.Delivery.{DeliveryEnd, Complete, Suspended}
 use Rattle.iox2_machine.specs.machine.Loans.{GrantLoan, written, with_cell, is_initialized, initialized, entry_of}
-use Rattle.iox2_machine.specs.machine.Sends.{Send, SendResult, Delivered_to, Blocked_send, Send_error, ConcludeSend, Publish, published, with_mailboxes}
+use Rattle.iox2_machine.specs.machine.Sends.{Send, SendToConnection, DeliverAndConclude, SendResult, Delivered_to, Blocked_send, Send_error, ConcludeSend, Publish, published, with_mailboxes}
 use Rattle.iox2_machine.specs.machine.Receives.{ReceiveResult, Got_sample, No_sample, Receive_error}
 use Rattle.iox2_machine.specs.machine.WellFormed.{IsWellFormed}
 use Rattle.iox2_machine.specs.declared.errors.ConnectionFailure.{ConnectionFailure}
@@ -21,17 +21,20 @@ use Rattle.iox2_laws.proofs.Cases.{by_option}
 use Rattle.iox2_laws.proofs.PublisherUpdates.{update_publisher_keeps, update_publisher_leaves}
 use Rattle.iox2_laws.proofs.LoanLaws.{grant_written_loan_keeps, grant_written_loan_publisher, grant_written_loan_unblocked}
 use Rattle.iox2_commands.specs.Outcomes.{Handle, No_handle, Publisher_handle, Subscriber_handle, Loan_handle, Blocked_handle, Sample_handle, Event, No_event, Message_sent, Message_received, Outcome, replied, done, skipped}
-use Rattle.iox2_commands.specs.Step.{Step, after_publisher, after_subscriber, after_loan, after_send, after_retry, after_update, after_receive, after_question, publisher_at, unblocked_at, subscriber_at, loan_at, unwritten_at, written_at, with_cell_at, sendable_at, blocked_at, sample_at, if_single_units, if_fixed_size, if_dynamic}
+use Rattle.iox2_commands.specs.Step.{Step, after_publisher, after_subscriber, after_loan, after_send, after_retry, after_update, after_receive, after_question, publisher_at, unblocked_at, subscriber_at, loan_at, unwritten_at, written_at, with_cell_at, sendable_at, blocked_at, sample_at, if_single_units, if_fixed_size, if_dynamic, if_channel}
 use Rattle.iox2_commands.specs.declared.command.Command.{Command}
-use Rattle.iox2_commands.specs.declared.command.Command.TheVariants.{Nothing, CreatePublisher, CreateSubscriber, LoanUninit, Loan as LoanDefault, LoanSlice, WriteCell, WriteAll, AssumeInit, WriteHeader, SetPayload, Send as SendLoan, SendCopy, Discard, Retry as RetrySend, GiveUp as GiveUpSend, Update, Receive, HasSamples, Read, ReadHeader, ReadUserHeader, Release, Close}
+use Rattle.iox2_commands.specs.declared.command.Command.TheVariants.{Nothing, CreatePublisher, CreateSubscriber, LoanUninit, Loan as LoanDefault, LoanSlice, WriteCell, WriteAll, AssumeInit, WriteHeader, SetPayload, Send as SendLoan, SendCopy, Discard, Retry as RetrySend, GiveUp as GiveUpSend, Update, Receive, HasSamples, Read, ReadHeader, ReadUserHeader, Release, Close, SendToConnection as SendLoanTo, ConnectionPlace, PublisherChannel, SubscriberChannel}
 use Rattle.iox2_commands.specs.declared.reply.Reply.{Reply}
 use Rattle.iox2_commands.specs.declared.reply.Reply.TheVariants.{Unwritten}
-use Rattle.iox2_commands.proofs.Named.{unblocked_is, loan_is, unwritten_is, written_is, sendable_is, blocked_is, passes, fails, kept_if, in_single_units, in_fixed_size, in_dynamic, not_blocked}
+use Rattle.iox2_commands.proofs.Named.{unblocked_is, loan_is, unwritten_is, written_is, sendable_is, blocked_is, passes, fails, kept_if, in_single_units, in_fixed_size, in_dynamic, has_channel, not_blocked}
 use Rattle.iox2_commands.proofs.Ordered.{Ordered, Quiet, quiet_keeps}
-use Rattle.iox2_commands.proofs.OrderSteps.{loan_changed_quiet, loan_gone_quiet, loan_discarded_quiet, grant_loan_quiet, grant_written_loan_ordered, released_ordered, subscriber_closed_ordered, publisher_closed_ordered}
+use Rattle.iox2_commands.proofs.OrderSteps.{loan_changed_quiet, loan_gone_quiet, channels_quiet, loan_discarded_quiet, grant_loan_quiet, grant_written_loan_ordered, released_ordered, subscriber_closed_ordered, publisher_closed_ordered}
 use Rattle.iox2_commands.proofs.OrderUpdates.{update_publisher_quiet, update_subscriber_quiet, create_publisher_ordered, create_subscriber_ordered}
-use Rattle.iox2_commands.proofs.OrderStates.{publish_ordered, retry_ordered, give_up_ordered}
+use Rattle.iox2_commands.proofs.OrderStates.{publish_ordered, connection_ordered, retry_ordered, give_up_ordered}
 use Rattle.iox2_commands.proofs.OrderReceives.{got_after, receive_ordered}
+use Rattle.iox2_commands.proofs.ChannelOutcomes.{OnChannels, on_channels}
+use Rattle.iox2_machine.specs.machine.Delivery.{no_time}
+use Rattle.std.specs.declared.time.Duration.{Duration}
 
 -- ---- handles name what the run made
 
@@ -185,11 +188,16 @@ module _ {T U : Type 0} (p0 n0 : ℕ) (out : ℕ → List ℕ) (got : ℕ → �
       subst SentWith (sym h.1) (cond_both has_failed (Send_error UnableToDeliver) (Delivered_to count) SentWith (λ _. inr (inr refl)) (λ _. inl (count, refl)))
   concluded s p n (Suspended b) s' result h = inr (inl h.1)
 
+  delivery_sends : (environment : Environment) (s : State T U) (p n channel retries : ℕ) (elapsed : Duration) (place : ℕ) (ends : List (Option ℕ)) (count : ℕ) (has_failed : Bool)
+      (s' : State T U) (result : SendResult) → DeliverAndConclude environment s p n channel retries elapsed place ends count has_failed s' result → SentWith result
+  delivery_sends environment s p n channel retries elapsed place ends count has_failed s' result h =
+      by_option (SentWith result) (s.publishers p) _ _ h (λ _ v. absurd v) (λ y _ h. concluded (with_mailboxes s p h.1) p n h.0 s' result h.3)
+
   publish_sends : (environment : Environment) (s : State T U) (p n : ℕ) (s' : State T U) (result : SendResult) → Publish environment s p n s' result
       → SentWith result
   publish_sends environment s p n s' result h =
       by_option (SentWith result) (s.publishers p) _ _ h (λ _ v. absurd v) (λ x _ h.
-      by_option (SentWith result) ((published s p n).publishers p) _ _ h (λ _ v. absurd v) (λ y _ h. concluded (with_mailboxes (published s p n) p h.1) p n h.0 s' result h.3))
+      delivery_sends environment (published s p n) p n 0 0 no_time 0 x.ends 0 false s' result h)
 
   after_send_goes : (s : State T U) (p n : ℕ) (entry : Entry T U) (result : SendResult) → p0 ≤ p → SentWith result
       → Ordered p0 n0 (put_at out p (out p ++ n ∷ [])) got s → Goes (after_send s p n entry result)
@@ -228,6 +236,23 @@ module _ {T U : Type 0} (p0 n0 : ℕ) (out : ℕ → List ℕ) (got : ℕ → �
       (λ e _ k. subst (λ (r : SendResult). Goes (after_send s' p n (entry_of l) r)) (sym k.1)
       (silently _ s' (subst (Ordered p0 n0 out got) (sym k.0) (quiet_keeps p0 n0 out got mid _ w' (loan_discarded_quiet p0 mid n l)))))))
 
+  -- A loan is sent to one connection.
+  connection_goes : (environment : Environment) (s : State T U) (n : ℕ) (l : Loan T U) (channel place : ℕ) (o : Outcome T U) → Ordered p0 n0 out got s → IsWellFormed s → n0 ≤ n
+      → s.loans n ≡ Some l
+      → ((s' : State T U) × (result : SendResult) × SendToConnection environment s n l channel place s' result × (o ≡ after_send s' l.publisher n (entry_of l) result)) → Goes o
+  connection_goes environment s n l channel place o w v new held h =
+      let p : ℕ = l.publisher in
+      let new_p : p0 ≤ p = w.loans n l held new in
+      let s' : State T U = h.0 in
+      let result : SendResult = h.1 in
+      by_equal o _ h.3 (by_option (Goes (after_send s' p n (entry_of l) result)) (s.publishers p) _ _ h.2
+      (λ _ j. subst (λ (r : SendResult). Goes (after_send s' p n (entry_of l) r)) (sym j.1)
+      (silently _ s' (subst (Ordered p0 n0 out got) (sym j.0) (quiet_keeps p0 n0 out got s _ w (loan_gone_quiet p0 s n)))))
+      (λ x present j.
+      after_send_goes s' p n (entry_of l) result new_p
+      (delivery_sends environment (with_loan s n None) p n channel 0 no_time place (take 1 (drop place x.ends)) 0 false s' result j)
+      (connection_ordered p0 n0 out got s p n x l w v new_p held present environment channel place s' result j)))
+
   -- ---- the commands
 
   module _ (environment : Environment) (default_value : T) (default_header : U) (m : Messages T U) (s : State T U) (handles : List Handle) (v : IsWellFormed s) (w : Ordered p0 n0 out got s) (new : AllNew p0 n0 handles) where
@@ -242,6 +267,10 @@ module _ {T U : Type 0} (p0 n0 : ℕ) (out : ℕ → List ℕ) (got : ℕ → �
 
     unchanged : (o : Outcome T U) (reply : Reply T U) → o ≡ replied reply s → Goes o
     unchanged o reply e = by_equal o (replied reply s) e (silently reply s w)
+
+    -- what follows where channels alone change
+    channels_go : (o : Outcome T U) → OnChannels s o → Goes o
+    channels_go o k = quietly o k.reply (record s { channels = k.channels }) k.is (channels_quiet p0 s k.channels)
 
     loan_goes : (checks_length : Bool) (len : ℕ) (named : Option (ℕ × Publisher)) (o : Outcome T U)
         → ((publisher : ℕ × Publisher) → named ≡ Some publisher → p0 ≤ publisher.0)
@@ -294,6 +323,10 @@ module _ {T U : Type 0} (p0 n0 : ℕ) (out : ℕ → List ℕ) (got : ℕ → �
         live o (sendable_at s handles of) _ h (λ loan e k.
         let is : (s.loans loan.0 ≡ Some loan.1) × (is_blocked s loan.1.publisher ≡ false) = sendable_is s handles of loan e in
         send_goes environment s loan.0 loan.1 o w v (sendable_new p0 n0 s handles new of loan e) is.0 is.1 k)
+    command_goes (SendLoanTo of channel place) o h =
+        live o (if_channel s channel (sendable_at s handles of)) _ h (λ loan e k.
+        let named : sendable_at s handles of ≡ Some loan = (has_channel s channel (sendable_at s handles of) loan e).1 in
+        connection_goes environment s loan.0 loan.1 channel place o w v (sendable_new p0 n0 s handles new of loan named) (sendable_is s handles of loan named).0 k)
     command_goes (SendCopy of value) o h =
         live o (if_single_units s (if_fixed_size s (unblocked_at s handles of))) _ h (λ publisher e k.
         let named : unblocked_at s handles of ≡ Some publisher = in_fixed_size s _ publisher (in_single_units s _ publisher e) in
@@ -356,3 +389,8 @@ module _ {T U : Type 0} (p0 n0 : ℕ) (out : ℕ → List ℕ) (got : ℕ → �
         by_option (Goes o) (unblocked_at s handles of) _ _ h
         (λ _ j. live o (subscriber_at s handles of) _ j (λ subscriber _ k. by_equal o _ k (silently _ _ (subscriber_closed_ordered p0 n0 out got s subscriber.0 subscriber.1 w))))
         (λ publisher _ k. by_equal o _ k (silently _ _ (publisher_closed_ordered p0 n0 out got s publisher.0 publisher.1 w)))
+    command_goes (ConnectionPlace of receiver) o h = channels_go o (on_channels environment default_value default_header m s handles (ConnectionPlace of receiver) o refl h)
+    command_goes (PublisherChannel of channel place call) o h =
+        channels_go o (on_channels environment default_value default_header m s handles (PublisherChannel of channel place call) o refl h)
+    command_goes (SubscriberChannel of channel call) o h =
+        channels_go o (on_channels environment default_value default_header m s handles (SubscriberChannel of channel call) o refl h)

@@ -1,5 +1,5 @@
 -- A message that is sent or received in a state of a run.
-use Rattle.std.proofs.Common.{◌≡◌, ℕ, ◌≤◌, ◌<◌, ◌+◌, Bool, true, false, List, [], ◌∷◌, ◌++◌, drop, refl, sym, ap, subst, ◌∙◌, arith, eqb, ⊎_elim, Option, None, Some}
+use Rattle.std.proofs.Common.{◌≡◌, ℕ, ◌≤◌, ◌<◌, ◌+◌, Bool, true, false, List, [], ◌∷◌, ◌++◌, take, drop, refl, sym, ap, subst, ◌∙◌, arith, eqb, ⊎_elim, Option, None, Some}
 use Rattle.std.specs.Option.{option_map}
 use Rattle.std.specs.declared.time.Duration.{Duration}
 use Rattle.std.proofs.lemmas.Bool.{eqb-true, eqb-false}
@@ -17,10 +17,11 @@ use Rattle.iox2_laws.proofs.Puts.{at_each, found_put, found_removed, put_at-same
 use Rattle.iox2_laws.proofs.PlaceLemmas.{occupant-drop}
 use Rattle.iox2_laws.proofs.NumberLemmas.{absent_in_append, absent_one, contains_in_append, contains_one, IsOnce-push}
 use Rattle.iox2_commands.specs.Runs.{IsSubsequence}
-use Rattle.iox2_commands.proofs.Subsequences.{IsSubsequence-trans, IsSubsequence-last_n, IsSubsequence-push, IsSubsequence-more}
+use Rattle.iox2_commands.proofs.Subsequences.{IsSubsequence-refl, IsSubsequence-trans, IsSubsequence-last_n, IsSubsequence-push, IsSubsequence-more}
 use Rattle.iox2_commands.proofs.Ordered.{Ordered, BlockedInOrder}
 use Rattle.iox2_commands.proofs.OrderSends.{Serving, LeftSo, deliver_in_order}
 use Rattle.iox2_laws.proofs.SendLaws.{injective_drop}
+use Rattle.iox2_laws.proofs.BegunSends.{begun_send}
 
 -- the one key or another
 by_key : (i k : ℕ) (R : Type 0) → (i ≡ k → R) → (eqb i k ≡ false → R) → R
@@ -196,12 +197,11 @@ module _ {T U : Type 0} where
   -- ---- a message is sent
 
   module _ (p0 n0 : ℕ) (out : ℕ → List ℕ) (got : ℕ → ℕ → List ℕ) where
-    module _ (s : State T U) (p n : ℕ) (x : Publisher) (l : Loan T U) (w : Ordered p0 n0 out got s) (v : IsWellFormed s) (new : p0 ≤ p) (held : s.loans n ≡ Some l) (present : s.publishers p ≡ Some x) where
-      abbrev first_wait : BlockedSend
-      first_wait = record { message = n; channel = 0; place = 0; ends = x.ends; retries = 0; count = 0; has_failed = false }
-
+    module _ (s : State T U) (p n : ℕ) (x : Publisher) (l : Loan T U) (w : Ordered p0 n0 out got s) (v : IsWellFormed s) (new : p0 ≤ p) (held : s.loans n ≡ Some l) (present : s.publishers p ≡ Some x)
+        (first_wait : BlockedSend) (of_it : first_wait.message ≡ n) (history : List ℕ) (part : IsSubsequence history (x.history ++ n ∷ [])) where
+      -- The publisher before anybody was asked.
       abbrev pending : Publisher
-      pending = record x { history = last_n (s.config).history_size (x.history ++ n ∷ []); blocked = Some first_wait }
+      pending = record x { history = history; blocked = Some first_wait }
 
       abbrev with_pending : State T U
       with_pending = record (with_loan s n None) { publishers = put_at s.publishers p (Some pending) }
@@ -210,7 +210,7 @@ module _ {T U : Type 0} where
       out_then = put_at out p (out p ++ n ∷ [])
 
       pending_blocked : BlockedInOrder p0 out_then got with_pending p first_wait
-      pending_blocked = record { before = out p; last = put_at-same out p (out p ++ n ∷ []); unserved = λ q new_q _. w.order p q new_q }
+      pending_blocked = record { before = out p; last = put_at-same out p (out p ++ n ∷ []) ∙ ap (λ k. out p ++ k ∷ []) (sym of_it); unserved = λ q new_q _. w.order p q new_q }
 
       -- Once the message counts as sent, nobody has got it.
       pending_ordered : Ordered p0 n0 out_then got with_pending
@@ -222,7 +222,7 @@ module _ {T U : Type 0} where
         silent = w.silent;
         history = λ i z new_i e. found_put s.publishers p pending (λ i z. p0 ≤ i → IsSubsequence z.history (out_then i)) i z e
             (λ _ _. subst (IsSubsequence pending.history) (sym (put_at-same out p (out p ++ n ∷ [])))
-            (IsSubsequence-trans (IsSubsequence-last_n (s.config).history_size (x.history ++ n ∷ [])) (IsSubsequence-push (w.history p x new present) n)))
+            (IsSubsequence-trans part (IsSubsequence-push (w.history p x new present) n)))
             (λ apart old high. subst (IsSubsequence z.history) (sym (put_at-other out p (out p ++ n ∷ []) i apart)) (w.history i z high old)) new_i;
         unconnected = λ i q z new_i new_q e. found_put s.publishers p pending (λ i z. p0 ≤ i → is_open s q ≡ true → (LeadsTo z.ends q → ⊥) → got i q ≡ []) i z e
             (λ _ high. w.unconnected p q x high new_q present) (λ _ old high. w.unconnected i q z high new_q old) new_i;
@@ -246,8 +246,18 @@ module _ {T U : Type 0} where
             }) new_i;
       }
 
+    module _ (s : State T U) (p n : ℕ) (x : Publisher) (l : Loan T U) (w : Ordered p0 n0 out got s) (v : IsWellFormed s) (new : p0 ≤ p) (held : s.loans n ≡ Some l) (present : s.publishers p ≡ Some x) where
+      abbrev first_to_all : BlockedSend
+      first_to_all = record { message = n; channel = 0; place = 0; ends = x.ends; retries = 0; count = 0; has_failed = false }
+
+      abbrev longer : List ℕ
+      longer = last_n (s.config).history_size (x.history ++ n ∷ [])
+
+      abbrev all_pending : State T U
+      all_pending = with_pending s p n x l w v new held present first_to_all refl longer (IsSubsequence-last_n (s.config).history_size (x.history ++ n ∷ []))
+
       -- the state in which it is delivered
-      published_row : RowChanged with_pending (published s p n) p pending (record x { history = last_n (s.config).history_size (x.history ++ n ∷ []) }) (s.mailboxes p)
+      published_row : RowChanged all_pending (published s p n) p (record x { history = longer; blocked = Some first_to_all }) (record x { history = longer }) (s.mailboxes p)
       published_row = record {
         next_port = refl;
         next_message = refl;
@@ -256,7 +266,7 @@ module _ {T U : Type 0} where
         here = put_at-same s.publishers p _ ∙ ap (option_map {T = Publisher} (λ (y : Publisher). record y { history = last_n (s.config).history_size (y.history ++ n ∷ []) })) present;
         history = refl;
         ends = refl;
-        others = λ i apart. put_at-other s.publishers p _ i apart ∙ sym (put_at-other s.publishers p (Some pending) i apart);
+        others = λ i apart. put_at-other s.publishers p _ i apart ∙ sym (put_at-other s.publishers p (Some (record x { history = longer; blocked = Some first_to_all })) i apart);
         row = refl;
         rows = λ _ _. refl;
       }
@@ -265,8 +275,44 @@ module _ {T U : Type 0} where
       pub publish_ordered : (environment : Environment) (s' : State T U) (result : SendResult) → Publish environment s p n s' result
           → Ordered p0 n0 (put_at out p (out p ++ n ∷ [])) got s'
       publish_ordered environment s' result h =
-          by_option (Ordered p0 n0 out_then got s') (s.publishers p) _ _ h (λ _ j. absurd j) (λ y found j.
+          by_option (Ordered p0 n0 (put_at out p (out p ++ n ∷ [])) got s') (s.publishers p) _ _ h (λ _ j. absurd j) (λ y found j.
           let same : y ≡ x = same_Some y x (sym found ∙ present) in
-          deliver_ordered p0 n0 out_then got environment with_pending (published s p n) p pending _ first_wait pending_ordered new (put_at-same s.publishers p (Some pending)) refl published_row
+          deliver_ordered p0 n0 (put_at out p (out p ++ n ∷ [])) got environment all_pending (published s p n) p (record x { history = longer; blocked = Some first_to_all }) _ first_to_all
+          (pending_ordered s p n x l w v new held present first_to_all refl longer (IsSubsequence-last_n (s.config).history_size (x.history ++ n ∷ [])))
+          new (put_at-same s.publishers p (Some (record x { history = longer; blocked = Some first_to_all }))) refl published_row
           0 0 no_time 0 x.ends 0 false s' result (v.publishers p x present).ends_apart (λ q l. l)
           (subst (λ (r : Publisher). DeliverAndConclude environment (published s p n) p n 0 0 no_time 0 r.ends 0 false s' result) same j))
+
+      -- A message is delivered to one connection.
+      pub connection_ordered : (environment : Environment) (channel place : ℕ) (s' : State T U) (result : SendResult)
+          → DeliverAndConclude environment (with_loan s n None) p n channel 0 no_time place (take 1 (drop place x.ends)) 0 false s' result
+          → Ordered p0 n0 (put_at out p (out p ++ n ∷ [])) got s'
+      connection_ordered environment channel place s' result h =
+          deliver_ordered p0 n0 (put_at out p (out p ++ n ∷ [])) got environment
+          (with_pending s p n x l w v new held present first refl x.history more) (with_loan s n None) p waiting x first
+          (pending_ordered s p n x l w v new held present first refl x.history more) new (put_at-same s.publishers p (Some waiting)) refl delivered_row
+          channel 0 no_time place (take 1 (drop place x.ends)) 0 false s' result
+          (injective_take 1 (drop place x.ends) (injective_drop place x.ends (v.publishers p x present).ends_apart)) (λ q l. l) h
+        where
+          first : BlockedSend
+          first = begun_send x n channel place
+
+          waiting : Publisher
+          waiting = record x { blocked = Some first }
+
+          more : IsSubsequence x.history (x.history ++ n ∷ [])
+          more = IsSubsequence-more (IsSubsequence-refl x.history) n
+
+          delivered_row : RowChanged (with_pending s p n x l w v new held present first refl x.history more) (with_loan s n None) p waiting x (s.mailboxes p)
+          delivered_row = record {
+            next_port = refl;
+            next_message = refl;
+            loans = λ _. refl;
+            opened = λ _. refl;
+            here = present;
+            history = refl;
+            ends = refl;
+            others = λ i apart. sym (put_at-other s.publishers p (Some waiting) i apart);
+            row = refl;
+            rows = λ _ _. refl;
+          }

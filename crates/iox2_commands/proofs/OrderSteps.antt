@@ -172,8 +172,8 @@ module _ {T U : Type 0} (p0 : ℕ) where
     mailboxes = λ i j _. same_waiting p0 s i j (s.mailboxes i j) refl;
   }
 
-  -- channels don't matter
-  channels_quiet : (s : State T U) (channels : ℕ → ℕ → ℕ → Channel) → Quiet p0 s (record s { channels = channels })
+  -- Channels don't matter.
+  pub channels_quiet : (s : State T U) (channels : ℕ → ℕ → ℕ → Channel) → Quiet p0 s (record s { channels = channels })
   channels_quiet s channels = record {
     next_port = omega arith;
     next_message = omega arith;

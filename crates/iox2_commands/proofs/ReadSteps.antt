@@ -1,13 +1,13 @@
 -- What each step tells of messages: who sent them, who received them, and what stays borrowed.
-use Rattle.std.proofs.Common.{◌≡◌, ℕ, ◌≤◌, Bool, true, false, List, length, ltb, refl, sym, ap, subst, ◌∙◌, eqb, Option, None, Some, ◌⊎◌, inl, inr, ⊎_elim}
+use Rattle.std.proofs.Common.{◌≡◌, ℕ, ◌≤◌, Bool, true, false, List, take, drop, length, ltb, refl, sym, ap, subst, ◌∙◌, eqb, Option, None, Some, ◌⊎◌, inl, inr, ⊎_elim}
 use Rattle.std.specs.Prelude.{MatchOption, slice_get}
 use Rattle.std.proofs.lemmas.Bool.{true≢false, cond_both, eqb-false}
 use Rattle.iox2_machine.specs.machine.Mailbox.{is_borrowed}
 use Rattle.iox2_machine.specs.machine.Records.{Entry, Loan, Publisher, Environment}
 use Rattle.iox2_machine.specs.machine.State.{State, Messages, with_loan}
 use Rattle.iox2_machine.specs.machine.Loans.{GrantLoan, written, with_cell, is_initialized, initialized, loan_discarded, entry_of}
-use Rattle.iox2_machine.specs.machine.Delivery.{DeliveryEnd, Complete, Suspended}
-use Rattle.iox2_machine.specs.machine.Sends.{Send, Publish, ConcludeSend, SendResult, Delivered_to, Blocked_send, Send_error, with_mailboxes, published}
+use Rattle.iox2_machine.specs.machine.Delivery.{DeliveryEnd, Complete, Suspended, no_time}
+use Rattle.iox2_machine.specs.machine.Sends.{Send, SendToConnection, DeliverAndConclude, Publish, ConcludeSend, SendResult, Delivered_to, Blocked_send, Send_error, with_mailboxes, published}
 use Rattle.iox2_machine.specs.machine.Receives.{Receive as Receives, ReceiveResult, Got_sample, No_sample, Receive_error}
 use Rattle.iox2_machine.specs.machine.Releases.{released}
 use Rattle.iox2_machine.specs.machine.Ports.{publisher_closed, subscriber_closed}
@@ -19,15 +19,18 @@ use Rattle.iox2_machine.specs.declared.errors.PublisherCreateError.{PublisherCre
 use Rattle.iox2_machine.specs.declared.errors.SubscriberCreateError.{SubscriberCreateError}
 use Rattle.iox2_laws.proofs.Cases.{by_option}
 use Rattle.iox2_commands.specs.Outcomes.{Handle, No_handle, Sample_handle, Event, No_event, Message_sent, Message_received, Outcome, replied, done, skipped}
-use Rattle.iox2_commands.specs.Step.{Step, after_publisher, after_subscriber, after_loan, after_send, after_retry, after_update, after_receive, after_question, unblocked_at, subscriber_at, loan_at, unwritten_at, written_at, with_cell_at, sendable_at, blocked_at, sample_at, if_single_units, if_fixed_size, if_dynamic}
+use Rattle.iox2_commands.specs.Step.{Step, after_publisher, after_subscriber, after_loan, after_send, after_retry, after_update, after_receive, after_question, unblocked_at, subscriber_at, loan_at, unwritten_at, written_at, with_cell_at, sendable_at, blocked_at, sample_at, if_single_units, if_fixed_size, if_dynamic, if_channel}
 use Rattle.iox2_commands.specs.declared.command.Command.{Command}
-use Rattle.iox2_commands.specs.declared.command.Command.TheVariants.{Nothing, CreatePublisher, CreateSubscriber, LoanUninit, Loan as LoanDefault, LoanSlice, WriteCell, WriteAll, AssumeInit, WriteHeader, SetPayload, Send as SendLoan, SendCopy, Discard, Retry as RetrySend, GiveUp as GiveUpSend, Update, Receive, HasSamples, Read, ReadHeader, ReadUserHeader, Release, Close}
+use Rattle.iox2_commands.specs.declared.command.Command.TheVariants.{Nothing, CreatePublisher, CreateSubscriber, LoanUninit, Loan as LoanDefault, LoanSlice, WriteCell, WriteAll, AssumeInit, WriteHeader, SetPayload, Send as SendLoan, SendCopy, Discard, Retry as RetrySend, GiveUp as GiveUpSend, Update, Receive, HasSamples, Read, ReadHeader, ReadUserHeader, Release, Close, SendToConnection as SendLoanTo, ConnectionPlace, PublisherChannel, SubscriberChannel}
 use Rattle.iox2_commands.specs.declared.reply.Reply.{Reply}
 use Rattle.iox2_commands.specs.declared.reply.Reply.TheVariants.{Unwritten, SendRefused, Sample, Cell, Header, UserHeader}
 use Rattle.iox2_laws.proofs.LoanLaws.{grant_written_loan_keeps}
-use Rattle.iox2_commands.proofs.Named.{loan_is, unwritten_is, written_is, sendable_is, blocked_is, passes, in_single_units, in_fixed_size, in_dynamic}
+use Rattle.iox2_commands.proofs.Named.{loan_is, unwritten_is, written_is, sendable_is, blocked_is, passes, in_single_units, in_fixed_size, in_dynamic, has_channel}
 use Rattle.iox2_commands.proofs.Owned.{IsOwn, AreOwn, unblocked_own, subscriber_own, sendable_own, blocked_own, sample_is}
-use Rattle.iox2_commands.proofs.Follows.{Scope, IsTraced, Follows, LoanTraced, MailboxesTraced, PublishersTraced, follows_itself, traced_after, follows_trans, update_publisher_follows, update_subscriber_follows, receive_follows, received_was_sent, released_traced, released_stays, grant_loan_follows, with_loan_follows, grant_written_loan_follows, without_loan_follows, loan_discarded_follows, publish_follows, retry_follows, give_up_follows, create_publisher_follows, create_subscriber_follows, publisher_closed_follows, subscriber_closed_follows}
+use Rattle.iox2_commands.proofs.Follows.{Scope, IsTraced, Follows, LoanTraced, MailboxesTraced, PublishersTraced, follows_itself, traced_after, follows_trans, update_publisher_follows, update_subscriber_follows, receive_follows, received_was_sent, released_traced, released_stays, grant_loan_follows, with_loan_follows, grant_written_loan_follows, without_loan_follows, loan_discarded_follows, publish_follows, deliver_follows, retry_follows, give_up_follows, create_publisher_follows, create_subscriber_follows, publisher_closed_follows, subscriber_closed_follows}
+use Rattle.iox2_commands.proofs.ChannelOutcomes.{OnChannels, is_of_channels, on_channels}
+use Rattle.std.specs.declared.time.Duration.{Duration}
+use Rattle.iox2_laws.proofs.Puts.{found_removed}
 
 -- What a run has done so far: ports and loans from these numbers on are its own, and it sent these messages.
 pub record PastSends (T U : Type 0) : Type 1 where
@@ -81,6 +84,11 @@ module _ {T U : Type 0} where
   is_sample (Sample p) = true
   is_sample _ = false
 
+  -- a call on channels replies no sample
+  not_sample : (r : Reply T U) → is_of_channels r ≡ true → is_sample r ≡ false
+  not_sample (Sample p) h = absurd (true≢false (sym h))
+  not_sample _ h = refl
+
   -- an event that sends nothing leaves the state traced
   still_traced : (past : PastSends T U) (s : State T U) (event : Event T U) → ((p n : ℕ) (entry : Entry T U) → event ≡ Message_sent p n entry → ⊥)
       → IsTraced (scope_of past) s → IsTraced (scope_of (past_after past event)) s
@@ -115,6 +123,11 @@ module _ {T U : Type 0} where
     silent : (o : Outcome T U) → o.event ≡ No_event → is_sample o.reply ≡ false → names_sample o.handle ≡ false → IsOwn past.first_port past.first_message o.handle
         → Follows (scope_of past) s o.state → Tells o
     silent o e f g own h = quiet o e f g own (traced_after (scope_of past) s o.state h) (λ p q n _ k. (h.0 p q).1 n k)
+
+    -- channels alone change
+    channels_tell : (o : Outcome T U) → IsTraced (scope_of past) s → OnChannels s o → Tells o
+    channels_tell o t k =
+        subst Tells (sym k.is) (silent (replied k.reply (record s { channels = k.channels })) refl (not_sample k.reply k.plain) refl tt (follows_itself (scope_of past) s t))
 
     -- nothing is done
     nothing : (o o' : Outcome T U) → o ≡ o' → o'.event ≡ No_event → is_sample o'.reply ≡ false → o'.handle ≡ No_handle → o'.state ≡ s → IsTraced (scope_of past) s
@@ -175,17 +188,25 @@ module _ {T U : Type 0} where
 
     -- ---- a loan is sent
 
-    -- what holds of each answer to a message that was published holds of the answer
-    published_answers : (environment : Environment) (from : State T U) (p n : ℕ) (s' : State T U) (result : SendResult) (R : SendResult → Type 0)
-        → ((count : ℕ) → R (Delivered_to count)) → R Blocked_send → R (Send_error UnableToDeliver) → Publish environment from p n s' result → R result
-    published_answers environment from p n s' result R delivered blocked failed h =
-        by_option (R result) (from.publishers p) _ _ h (λ _ v. absurd v) (λ x _ k.
-        by_option (R result) ((published from p n).publishers p) _ _ k (λ _ v. absurd v) (λ _ _ j. concluded j.0 (with_mailboxes (published from p n) p j.1) j.3))
+    -- what holds of each answer to a message that was delivered holds of the answer
+    delivery_answers : (environment : Environment) (at : State T U) (p n channel retries : ℕ) (elapsed : Duration) (place : ℕ) (ends : List (Option ℕ)) (count : ℕ) (has_failed : Bool)
+        (s' : State T U) (result : SendResult) (R : SendResult → Type 0)
+        → ((count : ℕ) → R (Delivered_to count)) → R Blocked_send → R (Send_error UnableToDeliver)
+        → DeliverAndConclude environment at p n channel retries elapsed place ends count has_failed s' result → R result
+    delivery_answers environment at p n channel retries elapsed place ends count has_failed s' result R delivered blocked failed h =
+        by_option (R result) (at.publishers p) _ _ h (λ _ v. absurd v) (λ _ _ j. concluded j.0 (with_mailboxes at p j.1) j.3)
       where
         concluded : (how : DeliveryEnd) (at : State T U) → ConcludeSend at p n how s' result → R result
         concluded (Complete count has_failed) at h =
             subst R (sym h.1) (cond_both has_failed (Send_error UnableToDeliver) (Delivered_to count) R (λ _. failed) (λ _. delivered count))
         concluded (Suspended b) at h = subst R (sym h.1) blocked
+
+    -- what holds of each answer to a message that was published holds of the answer
+    published_answers : (environment : Environment) (from : State T U) (p n : ℕ) (s' : State T U) (result : SendResult) (R : SendResult → Type 0)
+        → ((count : ℕ) → R (Delivered_to count)) → R Blocked_send → R (Send_error UnableToDeliver) → Publish environment from p n s' result → R result
+    published_answers environment from p n s' result R delivered blocked failed h =
+        by_option (R result) (from.publishers p) _ _ h (λ _ v. absurd v) (λ x _ k.
+        delivery_answers environment (published from p n) p n 0 0 no_time 0 x.ends 0 false s' result R delivered blocked failed k)
 
     module _ (environment : Environment) (from : State T U) (f : Follows (scope_of past) s from) (n : ℕ) (l : Loan T U) (is : from.loans n ≡ Some l)
         (own : past.first_port ≤ l.publisher) (header : (l.header).publisher_id ≡ l.publisher) where
@@ -217,20 +238,28 @@ module _ {T U : Type 0} where
           borrowed = λ p q k _ h. subst (λ (r : State T U). is_borrowed k (r.mailboxes p q) ≡ true) (sym same) (stays p q k h);
         }
 
+      -- where the message counts as sent, mailboxes and publishers are traced still, and so are the other loans
+      boxes_later : (mid : State T U) → Follows (scope_of past) s mid → MailboxesTraced (scope_of (past_after past message)) mid
+      boxes_later mid g p q k h low = let v : (scope_of past).WasSent p k = (g.0 p q).0 k h low in (v.0, inl v.1, v.2)
+
+      publishers_later : (mid : State T U) → Follows (scope_of past) s mid → PublishersTraced (scope_of (past_after past message)) mid.publishers
+      publishers_later mid g p x e low = (
+        λ k h. let v : (scope_of past).WasSent p k = (g.1 p x e low).0 k h in (v.0, inl v.1, v.2),
+        λ b e'. let v : (scope_of past).WasSent p b.message = (g.1 p x e low).1 b e' in (v.0, inl v.1, v.2),
+      )
+
+      others_later : (mid : State T U) → Follows (scope_of past) s mid → (i : ℕ) (z : Loan T U) → eqb i n ≡ false → mid.loans i ≡ Some z
+          → LoanTraced (scope_of (past_after past message)) i z
+      others_later mid g i z apart e = (
+        λ p entry w. ⊎_elim (λ old. (g.2 i z e).0 p entry old) (λ new. let same : n ≡ i = cc in eqb-false i n apart (sym same)) w,
+        (g.2 i z e).1,
+      )
+
       publish_tells : (mid : State T U) → Follows (scope_of past) s mid → (s' : State T U) (result : SendResult) → Publish environment mid l.publisher n s' result
           → Tells (after_send s' l.publisher n (entry_of l) result)
       publish_tells mid g s' result h =
           let later : Scope = scope_of (past_after past message) in
-          let boxes : MailboxesTraced later mid = λ p q k h low. let v : (scope_of past).WasSent p k = (g.0 p q).0 k h low in (v.0, inl v.1, v.2) in
-          let publishers : PublishersTraced later mid.publishers = λ p x e low. (
-            λ k h. let v : (scope_of past).WasSent p k = (g.1 p x e low).0 k h in (v.0, inl v.1, v.2),
-            λ b e'. let v : (scope_of past).WasSent p b.message = (g.1 p x e low).1 b e' in (v.0, inl v.1, v.2),
-          ) in
-          let others : (i : ℕ) (z : Loan T U) → eqb i n ≡ false → mid.loans i ≡ Some z → LoanTraced later i z = λ i z apart e. (
-            λ p entry w. ⊎_elim (λ old. (g.2 i z e).0 p entry old) (λ new. let same : n ≡ i = cc in eqb-false i n apart (sym same)) w,
-            (g.2 i z e).1,
-          ) in
-          let k : Follows later mid s' = publish_follows later environment mid l.publisher n s' result (entry_of l, inr refl, header) boxes publishers others h in
+          let k : Follows later mid s' = publish_follows later environment mid l.publisher n s' result (entry_of l, inr refl, header) (boxes_later mid g) (publishers_later mid g) (others_later mid g) h in
           let t : IsTraced later s' = traced_after later mid s' k in
           let stays : (p q i : ℕ) → is_borrowed i (s.mailboxes p q) ≡ true → is_borrowed i (s'.mailboxes p q) ≡ true = λ p q i h. (k.0 p q).1 i ((g.0 p q).1 i h) in
           published_answers environment mid l.publisher n s' result (λ r. Tells (after_send s' l.publisher n (entry_of l) r))
@@ -239,15 +268,42 @@ module _ {T U : Type 0} where
           (sending s' t stays (after_send s' l.publisher n (entry_of l) (Send_error UnableToDeliver)) refl refl refl refl tt)
           h
 
+      -- the loan of a closed publisher is lost
+      lost_tells : Tells (after_send (with_loan from n None) l.publisher n (entry_of l) (Send_error ConnectionBrokenSinceSenderNoLongerExists))
+      lost_tells = silent (after_send (with_loan from n None) l.publisher n (entry_of l) (Send_error ConnectionBrokenSinceSenderNoLongerExists)) refl refl refl tt
+          (follows_trans (scope_of past) s from (with_loan from n None) f (without_loan_follows (scope_of past) from n (traced_after (scope_of past) s from f)))
+
+      -- the loan is sent to one connection
+      connection_tells : (channel place : ℕ) (o : Outcome T U)
+          → ((s' : State T U) × (result : SendResult) × SendToConnection environment from n l channel place s' result × (o ≡ after_send s' l.publisher n (entry_of l) result)) → Tells o
+      connection_tells channel place o h =
+          let after : SendResult → Outcome T U = after_send h.0 l.publisher n (entry_of l) in
+          subst Tells (sym h.3) (by_option (Tells (after h.1)) (from.publishers l.publisher) _ _ h.2
+          (λ _ k. subst Tells (λ i. after_send (sym k.0 i) l.publisher n (entry_of l) (sym k.1 i)) lost_tells)
+          (λ x _ k.
+          let later : Scope = scope_of (past_after past message) in
+          let mid : State T U = with_loan from n None in
+          let u : IsTraced later mid = (
+            boxes_later from f,
+            publishers_later from f,
+            λ i z e. found_removed from.loans n i z (LoanTraced later i z) e (λ apart old. others_later from f i z apart old),
+          ) in
+          let g : Follows later mid h.0 = deliver_follows later environment mid l.publisher n channel 0 no_time place (take 1 (drop place x.ends)) 0 false h.0 h.1
+          (entry_of l, inr refl, header) u k in
+          let t : IsTraced later h.0 = traced_after later mid h.0 g in
+          let stays : (p q i : ℕ) → is_borrowed i (s.mailboxes p q) ≡ true → is_borrowed i ((h.0).mailboxes p q) ≡ true = λ p q i j. (g.0 p q).1 i ((f.0 p q).1 i j) in
+          delivery_answers environment mid l.publisher n channel 0 no_time place (take 1 (drop place x.ends)) 0 false h.0 h.1 (λ r. Tells (after r))
+          (λ count. sending h.0 t stays (after (Delivered_to count)) refl refl refl refl tt)
+          (sending h.0 t stays (after Blocked_send) refl refl refl refl own)
+          (sending h.0 t stays (after (Send_error UnableToDeliver)) refl refl refl refl tt)
+          k))
+
       send_tells : (o : Outcome T U)
           → ((s' : State T U) × (result : SendResult) × Send environment from n l s' result × (o ≡ after_send s' l.publisher n (entry_of l) result)) → Tells o
       send_tells o h =
           let after : SendResult → Outcome T U = after_send h.0 l.publisher n (entry_of l) in
           subst Tells (sym h.3) (by_option (Tells (after h.1)) (from.publishers l.publisher) _ _ h.2
-          (λ _ k. subst (λ r. Tells (after r)) (sym k.1) (silent (after (Send_error ConnectionBrokenSinceSenderNoLongerExists)) refl refl refl tt
-          (subst (Follows (scope_of past) s) (sym k.0)
-          (follows_trans (scope_of past) s from (with_loan from n None) f (without_loan_follows (scope_of past) from n
-          (traced_after (scope_of past) s from f))))))
+          (λ _ k. subst Tells (λ i. after_send (sym k.0 i) l.publisher n (entry_of l) (sym k.1 i)) lost_tells)
           (λ x _ k.
           let g : Follows (scope_of past) s k.0 = follows_trans (scope_of past) s from k.0 f
           (update_publisher_follows (scope_of past) environment from l.publisher k.0 k.1 own (traced_after (scope_of past) s from f) k.2) in
@@ -337,6 +393,12 @@ module _ {T U : Type 0} (environment : Environment) (default_value : T) (default
       let is : s.loans loan.0 ≡ Some loan.1 = (sendable_is s handles of loan e).0 in
       send_tells past s handles (SendLoan of) environment s (follows_itself (scope_of past) s t) loan.0 loan.1 is
       ((t.2 loan.0 loan.1 is).1 (sendable_own s handles past.first_port past.first_message own of loan e)) (w.loans loan.0 loan.1 is).origin o k)
+  step_told (SendLoanTo of channel place) o h =
+      live past s handles (SendLoanTo of channel place) o (if_channel s channel (sendable_at s handles of)) _ t h (λ loan e k.
+      let named : sendable_at s handles of ≡ Some loan = (has_channel s channel (sendable_at s handles of) loan e).1 in
+      let is : s.loans loan.0 ≡ Some loan.1 = (sendable_is s handles of loan named).0 in
+      connection_tells past s handles (SendLoanTo of channel place) environment s (follows_itself (scope_of past) s t) loan.0 loan.1 is
+      ((t.2 loan.0 loan.1 is).1 (sendable_own s handles past.first_port past.first_message own of loan named)) (w.loans loan.0 loan.1 is).origin channel place o k)
   step_told (SendCopy of value) o h =
       live past s handles (SendCopy of value) o (if_single_units s (if_fixed_size s (unblocked_at s handles of))) _ t h (λ publisher e k.
       let f : Follows (scope_of past) s k.0 = grant_written_loan_follows (scope_of past) environment value default_header false 1 s publisher.0 k.0 k.1
@@ -418,3 +480,9 @@ module _ {T U : Type 0} (environment : Environment) (default_value : T) (default
       subst (IsTold past s handles (Close of)) (sym k)
       (silent past s handles (Close of) (done (publisher_closed s publisher.0 publisher.1)) refl refl refl tt
       (publisher_closed_follows (scope_of past) s publisher.0 publisher.1 t)))
+  step_told (ConnectionPlace of receiver) o h =
+      channels_tell past s handles (ConnectionPlace of receiver) o t (on_channels environment default_value default_header m s handles (ConnectionPlace of receiver) o refl h)
+  step_told (PublisherChannel of channel place call) o h =
+      channels_tell past s handles (PublisherChannel of channel place call) o t (on_channels environment default_value default_header m s handles (PublisherChannel of channel place call) o refl h)
+  step_told (SubscriberChannel of channel call) o h =
+      channels_tell past s handles (SubscriberChannel of channel call) o t (on_channels environment default_value default_header m s handles (SubscriberChannel of channel call) o refl h)

@@ -18,12 +18,12 @@ use Rattle.iox2_laws.specs.Laws.{Advances}
 use Rattle.iox2_laws.proofs.Cases.{by_option}
 use Rattle.iox2_laws.proofs.Enough.{fresh_is_well_formed}
 use Rattle.iox2_commands.specs.Outcomes.{Handle, Event, Outcome, messages_after, done, replied, skipped}
-use Rattle.iox2_commands.specs.Step.{Step, after_publisher, after_subscriber, publisher_settings, unblocked_at, subscriber_at, loan_at, unwritten_at, written_at, with_cell_at, sendable_at, blocked_at, sample_at, if_single_units, if_fixed_size, if_dynamic}
+use Rattle.iox2_commands.specs.Step.{Step, after_publisher, after_subscriber, publisher_settings, unblocked_at, subscriber_at, loan_at, unwritten_at, written_at, with_cell_at, sendable_at, blocked_at, sample_at, if_single_units, if_fixed_size, if_dynamic, if_channel}
 use Rattle.iox2_commands.specs.Points.{PointOf}
 use Rattle.iox2_commands.specs.Runs.{Defaults, RunFrom, RunTo, only_defaults}
 use Rattle.iox2_commands.specs.Refusals.{TellNoRefusal, PublishersAreStatic, RefusesPort, RefuseNoPort, MetNoRefusal, RunsWithoutRefusalsAreAmple, SubscribersAreIsolatedWithoutRefusals, ViewsStayAlikeWithoutRefusals}
 use Rattle.iox2_commands.specs.declared.command.Command.{Command}
-use Rattle.iox2_commands.specs.declared.command.Command.TheVariants.{Nothing, CreatePublisher, CreateSubscriber, LoanUninit, Loan as LoanDefault, LoanSlice, WriteCell, WriteAll, AssumeInit, WriteHeader, SetPayload, Send, SendCopy, Discard, Retry, GiveUp, Update, Receive, HasSamples, Read, ReadHeader, ReadUserHeader, Release, Close}
+use Rattle.iox2_commands.specs.declared.command.Command.TheVariants.{Nothing, CreatePublisher, CreateSubscriber, LoanUninit, Loan as LoanDefault, LoanSlice, WriteCell, WriteAll, AssumeInit, WriteHeader, SetPayload, Send, SendCopy, Discard, Retry, GiveUp, Update, Receive, HasSamples, Read, ReadHeader, ReadUserHeader, Release, Close, SendToConnection as SendLoanTo, ConnectionPlace, PublisherChannel, SubscriberChannel}
 use Rattle.iox2_commands.specs.declared.new_publisher.NewPublisher.{NewPublisher}
 use Rattle.iox2_commands.specs.declared.reply.Reply.{Reply}
 use Rattle.iox2_commands.specs.declared.reply.Reply.TheVariants.{PublisherMade, Unwritten}
@@ -33,8 +33,9 @@ use Rattle.iox2_commands.proofs.Points.{found_dropped, found_taken, run_to, run_
 use Rattle.iox2_commands.proofs.StepLaws.{IsSound, step_sound}
 use Rattle.iox2_commands.proofs.AlikeOpen.{state_publisher, state_subscriber, state_loan, state_update, state_question, state_receive, state_send, state_retry}
 use Rattle.iox2_commands.proofs.RefusalUpdates.{option_maps, update_publisher_back, update_subscriber_back}
-use Rattle.iox2_commands.proofs.RefusalStates.{AllStatic, update_publisher_static, update_subscriber_static, receive_static, released_static, with_loan_static, grant_loan_static, grant_written_loan_static, loan_discarded_static, send_static, retry_static, give_up_static, create_publisher_static, create_subscriber_static, publisher_closed_static, subscriber_closed_static}
-use Rattle.iox2_commands.proofs.RefusalSteps.{released_same, subscriber_closed_same, grant_loan_ample, grant_written_loan_ample, send_ample, retry_ample, give_up_ample, receive_ample, create_publisher_ample, create_subscriber_ample}
+use Rattle.iox2_commands.proofs.RefusalStates.{AllStatic, update_publisher_static, update_subscriber_static, receive_static, released_static, with_loan_static, grant_loan_static, grant_written_loan_static, loan_discarded_static, send_static, retry_static, give_up_static, create_publisher_static, create_subscriber_static, publisher_closed_static, subscriber_closed_static, connection_static, channels_static}
+use Rattle.iox2_commands.proofs.RefusalSteps.{released_same, subscriber_closed_same, grant_loan_ample, grant_written_loan_ample, send_ample, retry_ample, give_up_ample, receive_ample, create_publisher_ample, create_subscriber_ample, connection_ample}
+use Rattle.iox2_commands.proofs.ChannelOutcomes.{OnChannels, on_channels}
 
 -- A publisher that the command made, as the reply says, has its memory from the start.
 abbrev MakesStatic : {T U : Type 0} → Command T U → Reply T U → Type 0
@@ -58,6 +59,10 @@ module _ {T U : Type 0} (default_value : T) (default_header : U) (m : Messages T
   live_told : {A : Type 0} (o : Outcome T U) (named : Option A) (Then : A → Type 0) → MatchOption named (o ≡ skipped s) Then → TellNoRefusal (o.state).warnings
       → ((x : A) → Then x → TellNoRefusal s.warnings) → TellNoRefusal s.warnings
   live_told o named Then h told go = by_option (TellNoRefusal s.warnings) named _ _ h (λ _ e. back Told o (skipped s) s e refl told) (λ x _ h. go x h)
+
+  -- the count is the same where channels alone change
+  channels_told : (o : Outcome T U) → OnChannels s o → TellNoRefusal (o.state).warnings → TellNoRefusal s.warnings
+  channels_told o c told = back Told o _ (record s { channels = c.channels }) c.is refl told
 
   -- Publishers stay static, whether or not memory is refused.
   pub step_static : (command : Command T U) (o : Outcome T U) → MakesStatic command o.reply → Step fixed_handlers default_value default_header m s handles command o → AllStatic o.state
@@ -89,6 +94,9 @@ module _ {T U : Type 0} (default_value : T) (default_header : U) (m : Messages T
   step_static (SetPayload of at value) o plain h = live_static o (with_cell_at at (written_at s handles of)) _ h (λ loan j. by AllStatic o _ _ j refl (with_loan_static s loan.0 _ k))
   step_static (Send of) o plain h =
       live_static o (sendable_at s handles of) _ h (λ loan j. by AllStatic o _ j.0 j.3 (state_send j.0 _ _ _ j.1) (send_static fixed_handlers s j.0 loan.0 loan.1 j.1 j.2 k))
+  step_static (SendLoanTo of channel place) o plain h =
+      live_static o (if_channel s channel (sendable_at s handles of)) _ h (λ loan j.
+      by AllStatic o _ j.0 j.3 (state_send j.0 _ _ _ j.1) (connection_static fixed_handlers s j.0 loan.0 loan.1 channel place j.1 j.2 k))
   step_static (SendCopy of value) o plain h =
       live_static o (if_single_units s (if_fixed_size s (unblocked_at s handles of))) _ h (λ publisher j.
       let mid : AllStatic j.0 = grant_written_loan_static fixed_handlers value default_header false 1 s j.0 publisher.0 j.1 j.2 k in
@@ -130,6 +138,9 @@ module _ {T U : Type 0} (default_value : T) (default_header : U) (m : Messages T
       by_option (AllStatic o.state) (unblocked_at s handles of) _ _ h
       (λ _ j. live_static o (subscriber_at s handles of) _ j (λ subscriber j. by AllStatic o _ _ j refl (subscriber_closed_static s subscriber.0 subscriber.1 k)))
       (λ publisher _ j. by AllStatic o _ _ j refl (publisher_closed_static s publisher.0 publisher.1 k))
+  step_static (ConnectionPlace of receiver) o plain h = channels_static s o (on_channels fixed_handlers default_value default_header m s handles (ConnectionPlace of receiver) o refl h) k
+  step_static (PublisherChannel of channel place call) o plain h = channels_static s o (on_channels fixed_handlers default_value default_header m s handles (PublisherChannel of channel place call) o refl h) k
+  step_static (SubscriberChannel of channel call) o plain h = channels_static s o (on_channels fixed_handlers default_value default_header m s handles (SubscriberChannel of channel call) o refl h) k
 
   -- Where the count is 0 after a step, and its reply tells of no refusal, it is a step with ample memory, and the count was 0
   -- before it.
@@ -186,6 +197,12 @@ module _ {T U : Type 0} (default_value : T) (default_header : U) (m : Messages T
     option_maps (sendable_at s handles of) _ _ _ _ h (λ e. e)
         (λ loan _ j. (j.0, j.1, (send_ample s j.0 loan.0 loan.1 j.1 (back Told o _ j.0 j.3 (state_send j.0 _ _ _ j.1) told) j.2).0, j.3)),
     live_told o (sendable_at s handles of) _ h told (λ loan j. (send_ample s j.0 loan.0 loan.1 j.1 (back Told o _ j.0 j.3 (state_send j.0 _ _ _ j.1) told) j.2).1),
+  )
+  step_ample (SendLoanTo of channel place) o port told h = (
+    option_maps (if_channel s channel (sendable_at s handles of)) _ _ _ _ h (λ e. e)
+        (λ loan _ j. (j.0, j.1, (connection_ample s j.0 loan.0 loan.1 channel place j.1 j.2).0, j.3)),
+    live_told o (if_channel s channel (sendable_at s handles of)) _ h told (λ loan j.
+        subst TellNoRefusal (connection_ample s j.0 loan.0 loan.1 channel place j.1 j.2).1 (back Told o _ j.0 j.3 (state_send j.0 _ _ _ j.1) told)),
   )
   step_ample (SendCopy of value) o port told h = (
     option_maps (if_single_units s (if_fixed_size s (unblocked_at s handles of))) _ _ _ _ h (λ e. e) (λ publisher _ j. (
@@ -270,6 +287,9 @@ module _ {T U : Type 0} (default_value : T) (default_header : U) (m : Messages T
         subst TellNoRefusal (subscriber_closed_same s subscriber.0 subscriber.1) (back Told o _ _ j refl told)))
         (λ publisher _ j. back Told o _ _ j refl told),
   )
+  step_ample (ConnectionPlace of receiver) o port told h = (h, channels_told o (on_channels fixed_handlers default_value default_header m s handles (ConnectionPlace of receiver) o refl h) told)
+  step_ample (PublisherChannel of channel place call) o port told h = (h, channels_told o (on_channels fixed_handlers default_value default_header m s handles (PublisherChannel of channel place call) o refl h) told)
+  step_ample (SubscriberChannel of channel call) o port told h = (h, channels_told o (on_channels fixed_handlers default_value default_header m s handles (SubscriberChannel of channel call) o refl h) told)
 
 module _ {T U : Type 0} where
   -- what publishers that were made say of the first command

@@ -1,5 +1,5 @@
 -- Publishers that have their memory from the start go on having it.
-use Rattle.std.proofs.Common.{◌≡◌, ℕ, ◌+◌, Bool, true, false, List, [], ◌∷◌, ◌++◌, drop, cond, sym, subst, Option, None, Some}
+use Rattle.std.proofs.Common.{◌≡◌, ℕ, ◌+◌, Bool, true, false, List, [], ◌∷◌, ◌++◌, take, drop, cond, sym, subst, Option, None, Some}
 use Rattle.std.specs.Option.{option_map}
 use Rattle.std.specs.declared.time.Duration.{Duration}
 use Rattle.iox2_machine.specs.machine.Numbers.{put_at, without, last_n}
@@ -10,7 +10,7 @@ use Rattle.iox2_machine.specs.machine.Delivery.{DeliveryEnd, Complete, Suspended
 use Rattle.iox2_machine.specs.machine.PublisherUpdate.{UpdatePublisher}
 use Rattle.iox2_machine.specs.machine.SubscriberUpdate.{UpdateSubscriber}
 use Rattle.iox2_machine.specs.machine.Loans.{GrantLoan, is_static, loan_discarded}
-use Rattle.iox2_machine.specs.machine.Sends.{Send, SendResult, Publish, DeliverAndConclude, ConcludeSend, Retry, GiveUp, more_retries, published, with_mailboxes}
+use Rattle.iox2_machine.specs.machine.Sends.{Send, SendToConnection, SendResult, Publish, DeliverAndConclude, ConcludeSend, Retry, GiveUp, more_retries, published, with_mailboxes}
 use Rattle.iox2_machine.specs.machine.Receives.{Receive, ReceiveResult}
 use Rattle.iox2_machine.specs.machine.Releases.{released, unborrowed, subscriber_pruned, is_unused, place_freed, freed_if_unused}
 use Rattle.iox2_machine.specs.machine.Ports.{FirstPublisherUpdate, FirstSubscriberUpdate, new_publisher, with_new_publisher, with_new_subscriber, with_failure_warning, CreatePublisher, CreateSubscriber, publisher_closed, subscriber_shut, subscriber_closed}
@@ -24,6 +24,8 @@ use Rattle.iox2_laws.proofs.OperationWalks.{publisher_update_by_steps, subscribe
 use Rattle.iox2_laws.proofs.CallCases.{grant_cases, publisher_cases, subscriber_cases}
 use Rattle.iox2_laws.proofs.Puts.{found_put, found_removed, found_mapped, at_each}
 use Rattle.iox2_commands.proofs.Keeping.{keeping}
+use Rattle.iox2_commands.proofs.ChannelOutcomes.{OnChannels}
+use Rattle.iox2_commands.specs.Outcomes.{Outcome}
 
 -- ---- what holds of each port
 
@@ -164,6 +166,17 @@ module _ {T U : Type 0} where
       by_option (AllStatic s') h.1 _ _ h.3
       (λ _ j. publish_static environment h.0 s' l.publisher n result j mid)
       (λ f _ j. subst AllStatic (sym j.0) (loan_discarded_static h.0 n l mid)))
+
+  -- a send to one connection
+  pub connection_static : (environment : Environment) (s s' : State T U) (n : ℕ) (l : Loan T U) (channel place : ℕ) (result : SendResult)
+      → SendToConnection environment s n l channel place s' result → AllStatic s → AllStatic s'
+  connection_static environment s s' n l channel place result h k =
+      by_option (AllStatic s') (s.publishers l.publisher) _ _ h (λ _ h. subst AllStatic (sym h.0) (with_loan_static s n None k)) (λ x _ h.
+      delivered_static environment (with_loan s n None) s' l.publisher n channel 0 no_time place (take 1 (drop place x.ends)) 0 false result h (with_loan_static s n None k))
+
+  -- channels alone change
+  pub channels_static : (s : State T U) (o : Outcome T U) → OnChannels s o → AllStatic s → AllStatic o.state
+  channels_static s o k all = subst (λ (v : Outcome T U). AllStatic v.state) (sym k.is) (record { publishers = all.publishers })
 
   -- ---- ports
 

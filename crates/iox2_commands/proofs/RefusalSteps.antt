@@ -1,5 +1,5 @@
 -- What a step does is done with ample memory too, where the count of refused connections is 0 afterwards.
-use Rattle.std.proofs.Common.{◌≡◌, ℕ, ◌+◌, Bool, true, false, ◌||◌, List, [], ◌∷◌, drop, cond, refl, sym, ap, subst, ◌∙◌, Option, None, Some, eqb, ⊎_elim}
+use Rattle.std.proofs.Common.{◌≡◌, ℕ, ◌+◌, Bool, true, false, ◌||◌, List, [], ◌∷◌, drop, cond, refl, sym, ap, subst, ◌∙◌, Option, None, Some, eqb, ⊎_elim, take}
 use Rattle.std.specs.Prelude.{nat_lt, MatchOption}
 use Rattle.std.specs.Bool.{MatchBool}
 use Rattle.std.specs.declared.time.Duration.{Duration}
@@ -8,10 +8,10 @@ use Rattle.iox2_machine.specs.machine.Mailbox.{Mailbox, has_room}
 use Rattle.iox2_machine.specs.machine.Places.{free_place}
 use Rattle.iox2_machine.specs.machine.SingleCalls.{GrantWrittenLoan}
 use Rattle.iox2_machine.specs.machine.Records.{Loan, Publisher, Subscriber, BlockedSend, Handler, Fixed, Custom, PublisherSettings, SubscriberSettings}
-use Rattle.iox2_machine.specs.machine.State.{State, warned, channel_buffer}
+use Rattle.iox2_machine.specs.machine.State.{State, warned, channel_buffer, with_loan}
 use Rattle.iox2_machine.specs.machine.Delivery.{PutResult, DeliveryEnd, Complete, Suspended, Decides, is_blocking, is_failed, accepted_count, no_time, Put, PutAtEnd, Deliver}
 use Rattle.iox2_machine.specs.machine.Loans.{GrantLoan, is_static, limit_error, loan_discarded}
-use Rattle.iox2_machine.specs.machine.Sends.{Send, SendResult, Send_error, Publish, DeliverAndConclude, ConcludeSend, Retry, GiveUp, more_retries, published, with_mailboxes}
+use Rattle.iox2_machine.specs.machine.Sends.{Send, SendResult, Send_error, Publish, DeliverAndConclude, ConcludeSend, Retry, GiveUp, more_retries, published, with_mailboxes, SendToConnection}
 use Rattle.iox2_machine.specs.machine.Receives.{Receive, TakeSample, ReceiveResult, Got_sample, No_sample, Receive_error}
 use Rattle.iox2_machine.specs.machine.Releases.{released, unborrowed, subscriber_pruned, is_unused, place_freed, freed_if_unused}
 use Rattle.iox2_machine.specs.machine.Ports.{with_new_publisher, with_new_subscriber, with_failure_warning, MakePublisher, CreatePublisher, MakeSubscriber, CreateSubscriber, first_segment_fits, buffer_for, subscriber_shut, subscriber_closed}
@@ -148,6 +148,16 @@ module _ {T U : Type 0} where
   give_up_ample s s' p b result h = (
     delivered_ample s s' p b.message b.channel 0 no_time (b.place + 1) (drop 1 b.ends) b.count b.has_failed result h,
     delivered_same s s' p b.message b.channel 0 no_time (b.place + 1) (drop 1 b.ends) b.count b.has_failed result h,
+  )
+
+  pub connection_ample : (s s' : State T U) (n : ℕ) (l : Loan T U) (channel place : ℕ) (result : SendResult)
+      → SendToConnection fixed_handlers s n l channel place s' result → SendToConnection ample_memory s n l channel place s' result × (s'.warnings ≡ s.warnings)
+  connection_ample s s' n l channel place result h = (
+    option_maps (s.publishers l.publisher) _ _ _ _ h (λ h. h)
+        (λ x _ h. delivered_ample (with_loan s n None) s' l.publisher n channel 0 no_time place (take 1 (drop place x.ends)) 0 false result h),
+    by_option (s'.warnings ≡ s.warnings) (s.publishers l.publisher) _ _ h
+        (λ _ h. ap (λ (z : State T U). z.warnings) h.0)
+        (λ x _ h. delivered_same (with_loan s n None) s' l.publisher n channel 0 no_time place (take 1 (drop place x.ends)) 0 false result h),
   )
 
   publish_ample : (s s' : State T U) (p n : ℕ) (result : SendResult) → Publish fixed_handlers s p n s' result → Publish ample_memory s p n s' result

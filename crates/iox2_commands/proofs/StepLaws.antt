@@ -30,11 +30,16 @@ use Rattle.iox2_laws.proofs.LoanKeeping.{update_publisher_follows, update_subscr
 use Rattle.iox2_laws.proofs.LoanKeeping.{create_publisher_follows, create_subscriber_follows, publisher_closed_follows, subscriber_closed_follows}
 use Rattle.iox2_laws.proofs.LoanKeeping.{send_unholds, send_follows, retry_follows, give_up_follows}
 use Rattle.iox2_commands.specs.Outcomes.{Handle, No_event, Message_sent, Outcome, replied, done, skipped}
-use Rattle.iox2_commands.specs.Step.{Step, after_publisher, after_subscriber, after_loan, after_send, after_retry, after_update, after_receive, after_question, unblocked_at, subscriber_at, loan_at, unwritten_at, written_at, with_cell_at, sendable_at, blocked_at, sample_at, if_single_units, if_fixed_size, if_dynamic}
+use Rattle.iox2_commands.specs.Step.{Step, after_publisher, after_subscriber, after_loan, after_send, after_retry, after_update, after_receive, after_question, unblocked_at, subscriber_at, loan_at, unwritten_at, written_at, with_cell_at, sendable_at, blocked_at, sample_at, if_single_units, if_fixed_size, if_dynamic, if_channel}
 use Rattle.iox2_commands.specs.declared.command.Command.{Command}
-use Rattle.iox2_commands.specs.declared.command.Command.TheVariants.{Nothing, CreatePublisher, CreateSubscriber, LoanUninit, Loan as LoanDefault, LoanSlice, WriteCell, WriteAll, AssumeInit, WriteHeader, SetPayload, Send as SendLoan, SendCopy, Discard, Retry as RetrySend, GiveUp as GiveUpSend, Update, Receive, HasSamples, Read, ReadHeader, ReadUserHeader, Release, Close}
+use Rattle.iox2_commands.specs.declared.command.Command.TheVariants.{Nothing, CreatePublisher, CreateSubscriber, LoanUninit, Loan as LoanDefault, LoanSlice, WriteCell, WriteAll, AssumeInit, WriteHeader, SetPayload, Send as SendLoan, SendCopy, Discard, Retry as RetrySend, GiveUp as GiveUpSend, Update, Receive, HasSamples, Read, ReadHeader, ReadUserHeader, Release, Close, SendToConnection as SendLoanTo, ConnectionPlace, PublisherChannel, SubscriberChannel}
 use Rattle.iox2_commands.specs.declared.reply.Reply.TheVariants.{Unwritten, SendRefused, Cell, Header, UserHeader}
-use Rattle.iox2_commands.proofs.Named.{unblocked_is, subscriber_is, loan_is, unwritten_is, written_is, sendable_is, blocked_is, passes, in_single_units, in_fixed_size, not_blocked}
+use Rattle.iox2_machine.specs.machine.Limits.{channel_count}
+use Rattle.iox2_laws.proofs.ConnectionSends.{send_to_connection_advances}
+use Rattle.iox2_laws.proofs.PortChanges.{with_all_channels_keeps}
+use Rattle.iox2_commands.proofs.ChannelOutcomes.{OnChannels, on_channels}
+use Rattle.iox2_commands.proofs.ConnectionSendLaws.{send_to_connection_keeps, send_to_connection_unholds, send_to_connection_follows}
+use Rattle.iox2_commands.proofs.Named.{unblocked_is, subscriber_is, loan_is, unwritten_is, written_is, sendable_is, blocked_is, passes, in_single_units, in_fixed_size, has_channel, not_blocked}
 
 -- The outcome's state is well-formed, no counter fell, and no loan appeared but under a number that wasn't given out. A
 -- message that was sent has a number that was given out, and no user holds a loan under it.
@@ -163,6 +168,13 @@ module _ {T U : Type 0} (environment : Environment) (default_value : T) (default
       (grant_loan_advances environment default_header checks_length len s publisher.0 k.0 k.1 k.2)
       (grant_loan_follows environment default_header checks_length len s publisher.0 k.0 k.1 k.2)))
 
+  -- channels are asked about or changed
+  channels_sound : (o : Outcome T U) → OnChannels s o → IsSound s o
+  channels_sound o k =
+      let after : State T U = record s { channels = k.channels } in
+      by_equal s o _ k.is (quiet s after (replied k.reply after) refl refl (with_all_channels_keeps s w k.channels)
+      (record { config = refl; next_port = omega arith; next_message = omega arith }) (same_loans_follow s after refl))
+
   pub step_sound : (command : Command T U) (o : Outcome T U) → Step environment default_value default_header m s handles command o → IsSound s o
   step_sound Nothing o h = by_equal s o (done s) h (nothing_done s (done s) w refl refl)
   step_sound (CreatePublisher asked) o h =
@@ -207,6 +219,16 @@ module _ {T U : Type 0} (environment : Environment) (default_value : T) (default
       live s o (sendable_at s handles of) _ w h (λ loan e k.
       let is : (s.loans loan.0 ≡ Some loan.1) × (is_blocked s loan.1.publisher ≡ false) = sendable_is s handles of loan e in
       send_sound environment s s loan.0 loan.1 o w (stays s) (same_loans_follow s s refl) is.0 is.1 k)
+  step_sound (SendLoanTo of channel place) o h =
+      live s o (if_channel s channel (sendable_at s handles of)) _ w h (λ loan e k.
+      let named : (channel < channel_count s.config) × (sendable_at s handles of ≡ Some loan) = has_channel s channel (sendable_at s handles of) loan e in
+      let is : (s.loans loan.0 ≡ Some loan.1) × (is_blocked s loan.1.publisher ≡ false) = sendable_is s handles of loan named.1 in
+      let rises : Advances s k.0 = send_to_connection_advances environment s loan.0 loan.1 channel place k.0 k.1 k.2 in
+      let below : loan.0 < s.next_message = (w.loans loan.0 loan.1 is.0).below in
+      by_equal s o _ k.3 (after_send_sound s k.0 _ loan.0 _ k.1 (omega (arith, below, rises.next_message))
+      (send_to_connection_unholds environment s loan.0 loan.1 channel place k.0 k.1 k.2)
+      (send_to_connection_keeps environment s loan.0 loan.1 channel place k.0 k.1 k.2 w is.0 is.1 named.0) rises
+      (send_to_connection_follows environment s loan.0 loan.1 channel place k.0 k.1 k.2)))
   step_sound (SendCopy of value) o h =
       live s o (if_single_units s (if_fixed_size s (unblocked_at s handles of))) _ w h (λ publisher e k.
       let is : (s.publishers publisher.0 ≡ Some publisher.1) × (is_none publisher.1.blocked ≡ true) =
@@ -294,3 +316,8 @@ module _ {T U : Type 0} (environment : Environment) (default_value : T) (default
       by_equal s o _ k (quiet s (publisher_closed s publisher.0 publisher.1) (done (publisher_closed s publisher.0 publisher.1)) refl refl
       (publisher_closed_keeps s w publisher.0 publisher.1 is.0) (publisher_closed_advances s publisher.0 publisher.1)
       (publisher_closed_follows s publisher.0 publisher.1)))
+  step_sound (ConnectionPlace of receiver) o h = channels_sound o (on_channels environment default_value default_header m s handles (ConnectionPlace of receiver) o refl h)
+  step_sound (PublisherChannel of channel place call) o h =
+      channels_sound o (on_channels environment default_value default_header m s handles (PublisherChannel of channel place call) o refl h)
+  step_sound (SubscriberChannel of channel call) o h =
+      channels_sound o (on_channels environment default_value default_header m s handles (SubscriberChannel of channel call) o refl h)

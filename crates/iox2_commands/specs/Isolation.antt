@@ -21,7 +21,7 @@ use Rattle.iox2_commands.specs.Points.{PointOf}
 use Rattle.iox2_commands.specs.Runs.{only_defaults, RunTo}
 use Rattle.iox2_commands.specs.Views.{SameView, OmitsOthersFrom}
 use Rattle.iox2_commands.specs.declared.command.Command.{Command}
-use Rattle.iox2_commands.specs.declared.command.Command.TheVariants.{CreatePublisher, Receive, HasSamples, Update, Release, Read, ReadHeader, ReadUserHeader, Close}
+use Rattle.iox2_commands.specs.declared.command.Command.TheVariants.{CreatePublisher, Receive, HasSamples, Update, Release, Read, ReadHeader, ReadUserHeader, Close, SubscriberChannel}
 use Rattle.iox2_commands.specs.declared.reply.Reply.{Reply}
 use Rattle.iox2_commands.specs.declared.reply.Reply.TheVariants.{PublisherMade, SubscriberMade, Sample}
 
@@ -90,7 +90,7 @@ is_of_others q (Some (Sample_handle p r n)) = not (r == q)
 is_of_others q (Some _) = false
 
 module _ {T U : Type 0} where
-  -- The position that a receive, `HasSamples`, update, release or read names.
+  -- The position that a receive, `HasSamples`, update, release, read or call on a subscriber's channels names.
   abbrev pub subscriber_call : Command T U → Option ℕ
   subscriber_call (Receive of) = Some of
   subscriber_call (HasSamples of) = Some of
@@ -99,6 +99,7 @@ module _ {T U : Type 0} where
   subscriber_call (Read of at) = Some of
   subscriber_call (ReadHeader of) = Some of
   subscriber_call (ReadUserHeader of) = Some of
+  subscriber_call (SubscriberChannel of channel call) = Some of
   subscriber_call _ = None
 
   -- The views after two outcomes are the same.

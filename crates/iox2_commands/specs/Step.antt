@@ -1,21 +1,24 @@
 -- One command of a run: its reply, and the state after it.
 use Rattle.std.specs.Prelude.{ℕ, Bool, true, false, cond, List, length, ◌≡◌, ◌==◌, nat_lt, MatchOption, slice_get, is_none}
+use Rattle.std.specs.List.{list_all}
 use Rattle.std.specs.Option.{option_and_then, option_map}
 use Rattle.std.specs.declared.option.Option.{Option}
 use Rattle.std.specs.declared.option.Option.TheVariants.{None, Some}
 use Rattle.std.specs.declared.time.Duration.{Duration}
-use Rattle.iox2_machine.specs.machine.Limits.{buffer_limit}
+use Rattle.iox2_machine.specs.machine.Limits.{buffer_limit, channel_count}
 use Rattle.iox2_machine.specs.machine.Mailbox.{is_borrowed}
 use Rattle.iox2_machine.specs.machine.Records.{Entry, Loan, Publisher, Subscriber, PublisherSettings, Environment, BlockedSend, Handler, Fixed}
 use Rattle.iox2_machine.specs.machine.State.{State, Messages, with_loan, is_blocked}
 use Rattle.iox2_machine.specs.machine.PublisherUpdate.{UpdatePublisher}
 use Rattle.iox2_machine.specs.machine.SubscriberUpdate.{UpdateSubscriber}
 use Rattle.iox2_machine.specs.machine.Loans.{GrantLoan, written, with_cell, is_initialized, initialized, loan_discarded, entry_of}
-use Rattle.iox2_machine.specs.machine.Sends.{Send, Retry, GiveUp, SendResult, Delivered_to, Blocked_send, Send_error}
+use Rattle.iox2_machine.specs.machine.Sends.{Send, SendToConnection, Retry, GiveUp, SendResult, Delivered_to, Blocked_send, Send_error}
 use Rattle.iox2_machine.specs.machine.Receives.{Receive, HasSamples, ReceiveResult, Got_sample, No_sample, Receive_error}
 use Rattle.iox2_machine.specs.machine.Releases.{released}
 use Rattle.iox2_machine.specs.machine.Ports.{CreatePublisher, CreateSubscriber, publisher_closed, subscriber_closed}
 use Rattle.iox2_machine.specs.machine.SingleCalls.{GrantWrittenLoan}
+use Rattle.iox2_machine.specs.machine.Channel.{closed_state, is_closed, with_state}
+use Rattle.iox2_machine.specs.machine.ChannelCalls.{senders_of, received_changed, received_closed, received_hinted, some_channel_has_state, connection_place, has_channel_state, has_disconnect_hint, sent_closed}
 use Rattle.iox2_machine.specs.declared.service_config.TypeVariant.{TypeVariant}
 use Rattle.iox2_machine.specs.declared.service_config.TypeVariant.TheVariants.{FixedSize, Dynamic}
 use Rattle.iox2_machine.specs.declared.backpressure.BackpressureAction.{BackpressureAction}
@@ -27,8 +30,12 @@ use Rattle.iox2_machine.specs.declared.errors.SubscriberCreateError.{SubscriberC
 use Rattle.iox2_commands.specs.Outcomes.{Handle, No_handle, Publisher_handle, Subscriber_handle, Loan_handle, Blocked_handle, Sample_handle, Message_sent, Message_received, Outcome, outcome, replied, done, skipped}
 use Rattle.iox2_commands.specs.declared.command.Command.{Command}
 use Rattle.iox2_commands.specs.declared.new_publisher.NewPublisher.{NewPublisher}
-use Rattle.iox2_commands.specs.declared.command.Command.TheVariants.{Nothing, CreatePublisher as PublisherCommand, CreateSubscriber as SubscriberCommand, LoanUninit, Loan as LoanDefault, LoanSlice, WriteCell, WriteAll, AssumeInit, WriteHeader, SetPayload, Send as SendLoan, SendCopy, Discard, Retry as RetrySend, GiveUp as GiveUpSend, Update, Receive as ReceiveSample, HasSamples as AskForSamples, Read, ReadHeader, ReadUserHeader, Release, Close}
-use Rattle.iox2_commands.specs.declared.reply.Reply.TheVariants.{PublisherMade, PublisherRefused, SubscriberMade, SubscriberRefused, Loaned, LoanRefused, Unwritten, Delivered, Blocked, SendRefused, UpdateRefused, Sample, NoSample, ReceiveRefused, Has, Cell, Header as HeaderRead, UserHeader}
+use Rattle.iox2_commands.specs.declared.command.Command.TheVariants.{Nothing, CreatePublisher as PublisherCommand, CreateSubscriber as SubscriberCommand, LoanUninit, Loan as LoanDefault, LoanSlice, WriteCell, WriteAll, AssumeInit, WriteHeader, SetPayload, Send as SendLoan, SendToConnection as SendLoanToConnection, SendCopy, Discard, Retry as RetrySend, GiveUp as GiveUpSend, Update, Receive as ReceiveSample, HasSamples as AskForSamples, Read, ReadHeader, ReadUserHeader, Release, Close, ConnectionPlace, PublisherChannel, SubscriberChannel}
+use Rattle.iox2_commands.specs.declared.channel_calls.PublisherChannelCall.{PublisherChannelCall}
+use Rattle.iox2_commands.specs.declared.channel_calls.PublisherChannelCall.TheVariants.{HasState, HasDisconnectHint, Close as CloseSent}
+use Rattle.iox2_commands.specs.declared.channel_calls.SubscriberChannelCall.{SubscriberChannelCall}
+use Rattle.iox2_commands.specs.declared.channel_calls.SubscriberChannelCall.TheVariants.{SetState, SomeHasState, Close as CloseReceived, SetDisconnectHint}
+use Rattle.iox2_commands.specs.declared.reply.Reply.TheVariants.{PublisherMade, PublisherRefused, SubscriberMade, SubscriberRefused, Loaned, LoanRefused, Unwritten, Delivered, Blocked, SendRefused, UpdateRefused, Sample, NoSample, ReceiveRefused, Has, WereClosed, Place, Cell, Header as HeaderRead, UserHeader}
 
 module _ {T U : Type 0} where
   -- ---- what a position names, if it is live
@@ -104,6 +111,10 @@ module _ {T U : Type 0} where
   abbrev pub if_dynamic : {A : Type 0} → State T U → Option A → Option A
   if_dynamic s named = elim (s.config).variant [ FixedSize ↦ None | Dynamic ↦ named ]
 
+  -- What is named counts if connections have that channel.
+  abbrev pub if_channel : {A : Type 0} → State T U → (channel : ℕ) → Option A → Option A
+  if_channel s channel named = cond (nat_lt channel (channel_count s.config)) named None
+
   -- ---- what is replied
 
   -- A publisher was made, or refused.
@@ -150,6 +161,21 @@ module _ {T U : Type 0} where
   after_question s None has_samples = replied (Has has_samples) s
   after_question s (Some e) has_samples = replied (UpdateRefused e) s
 
+module _ {T U : Type 0} where
+  -- What a publisher is told of a channel of its connection at a place, or does to it.
+  abbrev pub of_publisher_channel : State T U → (p channel place : ℕ) → PublisherChannelCall → Outcome T U
+  of_publisher_channel s p channel place (HasState state) = replied (Has (has_channel_state s p channel place state)) s
+  of_publisher_channel s p channel place (HasDisconnectHint state) = replied (Has (has_disconnect_hint s p channel place state)) s
+  of_publisher_channel s p channel place (CloseSent expected) = done (sent_closed s p channel place expected)
+
+  -- What a subscriber is told of a channel of all its connections, or does to it.
+  abbrev pub of_subscriber_channel : State T U → (q channel : ℕ) → SubscriberChannelCall → Outcome T U
+  of_subscriber_channel s q channel (SetState state) =
+      replied (WereClosed (list_all (λ p. is_closed (s.channels p q channel)) (senders_of s q))) (received_changed s q channel closed_state (with_state state))
+  of_subscriber_channel s q channel (SomeHasState state) = replied (Has (some_channel_has_state s q channel state)) s
+  of_subscriber_channel s q channel (CloseReceived expected) = done (received_closed s q channel expected)
+  of_subscriber_channel s q channel (SetDisconnectHint expected) = done (received_hinted s q channel expected)
+
 -- What a command says of a publisher. In a service for single values there is nothing to say of its length.
 abbrev pub publisher_settings : TypeVariant → NewPublisher → PublisherSettings
 publisher_settings variant asked = record {
@@ -186,6 +212,12 @@ module _ {T U : Type 0} (environment : Environment) (default_value : T) (default
   abbrev SendsLoan : State T U → (n : ℕ) → Loan T U → Outcome T U → Type 0
   SendsLoan from n l o =
       (s' : State T U) × (result : SendResult) × Send environment from n l s' result
+      × (o ≡ after_send s' l.publisher n (entry_of l) result)
+
+  -- A written loan is sent into a channel of its publisher's connection at a place.
+  abbrev SendsLoanTo : (channel place : ℕ) → (n : ℕ) → Loan T U → Outcome T U → Type 0
+  SendsLoanTo channel place n l o =
+      (s' : State T U) × (result : SendResult) × SendToConnection environment s n l channel place s' result
       × (o ≡ after_send s' l.publisher n (entry_of l) result)
 
   -- The loan that was granted just now is sent.
@@ -262,6 +294,8 @@ module _ {T U : Type 0} (environment : Environment) (default_value : T) (default
   Step (SetPayload of at value) o =
       IfLive o (with_cell_at at (written_at s handles of)) (λ loan. o ≡ done (with_loan s loan.0 (Some (with_cell loan.1 at value))))
   Step (SendLoan of) o = IfLive o (sendable_at s handles of) (λ loan. SendsLoan s loan.0 loan.1 o)
+  Step (SendLoanToConnection of channel place) o =
+      IfLive o (if_channel s channel (sendable_at s handles of)) (λ loan. SendsLoanTo channel place loan.0 loan.1 o)
   Step (SendCopy of value) o = IfLive o (if_single_units s (if_fixed_size s (unblocked_at s handles of))) (λ publisher. SendsCopy value publisher.0 o)
   Step (Discard of) o = IfLive o (loan_at s handles of) (λ loan. o ≡ done (loan_discarded s loan.0 loan.1))
   Step (RetrySend of elapsed) o = IfLive o (blocked_at s handles of) (λ blocked. Retries blocked.0 blocked.1 elapsed o)
@@ -289,3 +323,9 @@ module _ {T U : Type 0} (environment : Environment) (default_value : T) (default
       MatchOption (unblocked_at s handles of)
       (IfLive o (subscriber_at s handles of) (λ subscriber. o ≡ done (subscriber_closed s subscriber.0 subscriber.1)))
       (λ publisher. o ≡ done (publisher_closed s publisher.0 publisher.1))
+  Step (ConnectionPlace of receiver) o =
+      IfLive o (publisher_at s handles of) (λ publisher. o ≡ replied (Place (connection_place s publisher.0 receiver)) s)
+  Step (PublisherChannel of channel place call) o =
+      IfLive o (if_channel s channel (publisher_at s handles of)) (λ publisher. o ≡ of_publisher_channel s publisher.0 channel place call)
+  Step (SubscriberChannel of channel call) o =
+      IfLive o (if_channel s channel (subscriber_at s handles of)) (λ subscriber. o ≡ of_subscriber_channel s subscriber.0 channel call)

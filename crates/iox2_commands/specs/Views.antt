@@ -7,7 +7,7 @@ use Rattle.iox2_machine.specs.machine.Records.{Subscriber}
 use Rattle.iox2_machine.specs.machine.State.{State, Messages}
 use Rattle.iox2_commands.specs.Outcomes.{Handle, No_handle, Sample_handle}
 use Rattle.iox2_commands.specs.declared.command.Command.{Command}
-use Rattle.iox2_commands.specs.declared.command.Command.TheVariants.{Nothing, CreateSubscriber, Receive, HasSamples, Update, Release, Read, ReadHeader, ReadUserHeader}
+use Rattle.iox2_commands.specs.declared.command.Command.TheVariants.{Nothing, CreateSubscriber, Receive, HasSamples, Update, Release, Read, ReadHeader, ReadUserHeader, SubscriberChannel}
 
 -- Of another subscriber: whether it is open, its place and its buffer.
 pub record PublicPart : Type 0 where
@@ -58,12 +58,13 @@ module _ {T U : Type 0} where
     | _ ↦ false
   ]
 
-  -- The command is a receive, `HasSamples` or update of a subscriber that isn't made at `position`, or it releases or reads
-  -- what a receive of such a subscriber made.
+  -- The command is a receive, `HasSamples`, update or call on channels of a subscriber that isn't made at `position`, or it
+  -- releases or reads what a receive of such a subscriber made.
   abbrev pub may_be_omitted : (position : ℕ) → List (Command T U) → Command T U → Bool
   may_be_omitted position commands (Receive of) = makes_other_subscriber position commands of
   may_be_omitted position commands (HasSamples of) = makes_other_subscriber position commands of
   may_be_omitted position commands (Update of) = makes_other_subscriber position commands of
+  may_be_omitted position commands (SubscriberChannel of channel call) = makes_other_subscriber position commands of
   may_be_omitted position commands (Release of) = receives_for_other position commands of
   may_be_omitted position commands (Read of at) = receives_for_other position commands of
   may_be_omitted position commands (ReadHeader of) = receives_for_other position commands of

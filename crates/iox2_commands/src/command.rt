@@ -1,5 +1,6 @@
 ghost use Rattle.std.specs.Prelude.{◌≡◌, ⊤};
 
+use crate::channel_calls::{PublisherChannelCall, SubscriberChannelCall};
 use crate::new_publisher::NewPublisher;
 use iox2_machine::DegradationAction;
 use std::alloc::AllocError;
@@ -12,8 +13,11 @@ use std::time::Duration;
 /// `AssumeInit`, a blocked send that of the `Send` or `SendCopy` that blocked. If `of` names nothing live
 /// of the wanted kind, the command is skipped and changes nothing. So is one whose `at` is past the end, a
 /// loan or `SendCopy` in a service of the other kind, and a loan, send, update or close of a publisher that
-/// waits for a receiver. In a service whose `units_per_element` isn't 1 each loan, `SendCopy` and `Receive`
-/// is skipped.
+/// waits for a receiver, and one on a channel that the service's connections don't have. In a service whose
+/// `units_per_element` isn't 1 each loan, `SendCopy` and `Receive` is skipped.
+///
+/// A connection of a publisher is named by its place, which `ConnectionPlace` replies: that is the place of
+/// its subscriber, the lowest that was free when that was made.
 #[derive(Debug, Copy, PartialEq, Eq)]
 pub enum Command<T, U> {
     /// Does nothing.
@@ -86,6 +90,16 @@ pub enum Command<T, U> {
         /// The loan.
         of: usize,
     },
+    /// Sends a written loan whose publisher doesn't wait for a receiver into a channel of one connection, and
+    /// to nobody else.
+    SendToConnection {
+        /// The loan.
+        of: usize,
+        /// The channel.
+        channel: usize,
+        /// The place of the connection. Without one there nobody gets the message.
+        connection: usize,
+    },
     /// Loans a value of a publisher in a service for single values, writes it and sends it.
     SendCopy {
         /// The publisher.
@@ -152,6 +166,33 @@ pub enum Command<T, U> {
         /// The port.
         of: usize,
     },
+    /// Asks for the place of a publisher's connection to a subscriber.
+    ConnectionPlace {
+        /// The publisher.
+        of: usize,
+        /// The number of the subscriber's id.
+        receiver: u128,
+    },
+    /// Asks about a channel of one of a publisher's connections, or closes it.
+    PublisherChannel {
+        /// The publisher.
+        of: usize,
+        /// The channel.
+        channel: usize,
+        /// The place of the connection.
+        connection: usize,
+        /// The question, or the change.
+        call: PublisherChannelCall,
+    },
+    /// Asks about a channel of all of a subscriber's connections, or changes it.
+    SubscriberChannel {
+        /// The subscriber.
+        of: usize,
+        /// The channel.
+        channel: usize,
+        /// The question, or the change.
+        call: SubscriberChannelCall,
+    },
 }
 
 impl<T, U> Command<T, U> {
@@ -170,6 +211,7 @@ impl<T, U> Command<T, U> {
             | Command::WriteHeader { of, .. }
             | Command::SetPayload { of, .. }
             | Command::Send { of }
+            | Command::SendToConnection { of, .. }
             | Command::SendCopy { of, .. }
             | Command::Discard { of }
             | Command::Retry { of, .. }
@@ -181,7 +223,10 @@ impl<T, U> Command<T, U> {
             | Command::ReadHeader { of }
             | Command::ReadUserHeader { of }
             | Command::Release { of }
-            | Command::Close { of } => Some(of),
+            | Command::Close { of }
+            | Command::ConnectionPlace { of, .. }
+            | Command::PublisherChannel { of, .. }
+            | Command::SubscriberChannel { of, .. } => Some(of),
         }
     }
 }

@@ -50,7 +50,8 @@ pub fn samples_name_their_publisher<T, U>()
 {}
 
 /// In a run from any well-formed state, a publisher sends each number once. What a subscriber receives from
-/// it is a part of what it sent, in the same order, each message at most once.
+/// it is a part of what it sent, in the same order, each message at most once. What is sent to one
+/// connection counts as sent.
 pub fn receives_in_order<T, U>()
     ensures { ReceivesInOrder T U }
 {}
@@ -62,7 +63,7 @@ pub fn reads_give_what_was_sent<T, U>()
 {}
 
 /// With ample memory and no closed subscriber left except the one that looks, a subscriber's receive,
-/// `HasSamples`, update, read or release leaves the view of that one as it was.
+/// `HasSamples`, update, read, release or call on its channels leaves the view of that one as it was.
 pub fn calls_leave_others_views<T, U>()
     ensures { CallsLeaveOthersViews T U }
 {}

@@ -1,11 +1,13 @@
 //! Commands on a domain and their replies, and what holds of every run of them on the machine.
 #![tactic(auto)]
 
+mod channel_calls;
 mod command;
 mod laws;
 mod new_publisher;
 mod reply;
 
+pub use channel_calls::{PublisherChannelCall, SubscriberChannelCall};
 pub use command::Command;
 pub use laws::{
     alike_states_stay_alike, calls_leave_others_views, every_list_runs, loans_are_granted,

@@ -41,8 +41,12 @@ pub enum Reply<T, U> {
     NoSample,
     /// The receive failed.
     ReceiveRefused(ReceiveError),
-    /// Whether any sample waits.
+    /// Whether any sample waits, a channel is in a state, or it has a disconnect hint.
     Has(bool),
+    /// Whether the channel was closed at each connection before it was set.
+    WereClosed(bool),
+    /// The place of the connection, if there is one.
+    Place(Option<usize>),
     /// The value that was read; nothing only for an unwritten cell of an unwritten loan.
     Cell(Option<T>),
     /// The header that was read.

@@ -37,6 +37,11 @@ impl Model {
             Command::Loan { of } => self.loan_value(of, Some(0)),
             Command::LoanSlice { of, len } => self.loan_slice(of, len),
             Command::Send { of } => self.send_loan(of),
+            Command::SendToConnection {
+                of,
+                channel,
+                connection,
+            } => self.send_to_connection(of, channel, connection),
             Command::SendCopy { of, value } => self.send_copy(of, value),
             Command::Receive { of } => self.receive(of, given),
             _ => Ok((self.reply_of(command)?, Thing::Nothing)),
@@ -62,6 +67,16 @@ impl Model {
             Command::ReadUserHeader { of } => self.read_user_header(of),
             Command::Release { of } => self.release(of)?,
             Command::Close { of } => self.close(of)?,
+            Command::ConnectionPlace { of, receiver } => self.connection_place(of, receiver),
+            Command::PublisherChannel {
+                of,
+                channel,
+                connection,
+                call,
+            } => self.publisher_channel(of, channel, connection, call)?,
+            Command::SubscriberChannel { of, channel, call } => {
+                self.subscriber_channel(of, channel, call)?
+            }
             _ => return Err(ModelError::NoRule),
         })
     }

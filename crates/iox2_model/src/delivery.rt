@@ -1,4 +1,5 @@
 //! A loan is sent; a send that is blocked is tried again or given up.
+use crate::channel::CLOSED;
 use crate::error::ModelError;
 use crate::model::{Model, Outcome};
 use crate::records::{Delivery, Entry, Loan, Put};
@@ -7,6 +8,7 @@ use crate::views::Thing;
 use iox2_commands::Reply;
 use iox2_machine::SendError;
 use std::alloc::Global;
+use std::ops::Range;
 
 impl Model {
     // The written loan at the position, whose publisher waits for no receiver.
@@ -43,10 +45,48 @@ impl Model {
             let error = SendError::ConnectionError(failure);
             return Ok((Reply::SendRefused(error), Thing::Nothing));
         }
-        self.publish(message, loan)?;
+        self.write_down(message, loan)?;
+        self.enter_history(publisher, message)?;
+        self.begin_delivery(publisher, message, 0, 0..usize::MAX)
+    }
+
+    // The written loan is sent into a channel of its publisher's connection at one place. Of a closed
+    // publisher it is lost. Connections aren't updated, and it enters no history.
+    pub(crate) fn send_to_connection(
+        &mut self,
+        of: usize,
+        channel: usize,
+        connection: usize,
+    ) -> Result<Outcome, ModelError> {
+        let Some(message) = self.sendable_at(of).filter(|_| self.has_channel(channel)) else {
+            return Ok((Reply::Skipped, Thing::Nothing));
+        };
+        let Some(loan) = self.loans.take(message) else {
+            return Err(ModelError::NoRule);
+        };
+        let publisher = loan.publisher;
+        if !self.is_present(publisher) {
+            let error = SendError::ConnectionBrokenSinceSenderNoLongerExists;
+            return Ok((Reply::SendRefused(error), Thing::Nothing));
+        }
+        self.write_down(message, loan)?;
+        let places = connection..connection.saturating_add(1);
+        self.begin_delivery(publisher, message, channel, places)
+    }
+
+    // The message goes to the receivers at these places.
+    fn begin_delivery(
+        &mut self,
+        publisher: usize,
+        message: usize,
+        channel: usize,
+        places: Range<usize>,
+    ) -> Result<Outcome, ModelError> {
         let delivery = Delivery {
             message,
-            place: 0,
+            channel,
+            place: places.start,
+            end: places.end,
             count: 0,
             has_failed: false,
         };
@@ -75,8 +115,8 @@ impl Model {
         self.deliver(p, Delivery { place, ..delivery })
     }
 
-    // What was a loan is a message from now on, and enters the history.
-    fn publish(&mut self, message: usize, loan: Loan) -> Result<(), ModelError> {
+    // What was a loan is a message from now on.
+    fn write_down(&mut self, message: usize, loan: Loan) -> Result<(), ModelError> {
         let values = values_of(self.alloc, loan.cells.as_slice())?;
         let entry = Entry {
             publisher: loan.publisher,
@@ -84,7 +124,7 @@ impl Model {
             values,
         };
         self.entries.set(message, entry);
-        self.enter_history(loan.publisher, message)
+        Ok(())
     }
 
     // The message is last in the history, whose oldest leaves if it is full.
@@ -103,7 +143,7 @@ impl Model {
     // blocks it. Where none does the send ends, with an error where it failed at one.
     fn deliver(&mut self, p: usize, from: Delivery) -> Result<Reply<u64, u64>, ModelError> {
         let mut delivery = from;
-        for place in from.place..self.end_count(p) {
+        for place in from.place..self.end_count(p).min(from.end) {
             delivery.place = place;
             match self.put_at_end(p, delivery)? {
                 Put::Taken => delivery.count = delivery.count.saturating_add(1),
@@ -130,6 +170,11 @@ impl Model {
         }
     }
 
+    // The channel of the connection takes no message.
+    pub(crate) fn is_closed_channel(&self, p: usize, q: usize, channel: usize) -> bool {
+        self.mailboxes.channel(p, q, channel).state == CLOSED
+    }
+
     fn end_count(&self, p: usize) -> usize {
         match self.publishers.get(p) {
             None => 0,
@@ -146,29 +191,37 @@ impl Model {
         let when_full = publisher.when_full;
         match publisher.port.end(delivery.place) {
             None => Ok(Put::Skipped),
-            Some(q) => self.put(p, q, delivery.message, when_full),
+            Some(q) => self.put(p, q, delivery, when_full),
         }
     }
 
-    // A closed receiver is skipped. An open one takes the message where it has room, or where safe
+    // A closed receiver is skipped, and so is a closed channel. An open one takes the message where it has room, or where safe
     // overflow is on. What becomes of it where the receiver is full is the publisher's.
     fn put(
         &mut self,
         p: usize,
         q: usize,
-        message: usize,
+        delivery: Delivery,
         when_full: Put,
     ) -> Result<Put, ModelError> {
+        let Delivery {
+            message,
+            channel,
+            ..
+        } = delivery;
         let Some(buffer) = self.receiving_buffer(q) else {
             return Ok(Put::Skipped);
         };
+        if self.is_closed_channel(p, q, channel) {
+            return Ok(Put::Skipped);
+        }
         let overflows = self.config.enable_safe_overflow;
         let mailbox = self.mailboxes.made(p, q)?;
-        let takes = overflows || mailbox.has_room(buffer);
+        let takes = overflows || mailbox.has_room(channel, buffer);
         if !takes {
             return Ok(when_full);
         }
-        mailbox.append(buffer, message)?;
+        mailbox.append(channel, buffer, message)?;
         Ok(Put::Taken)
     }
 }

@@ -3,6 +3,8 @@
 //! library but the plain types of settings, commands and replies.
 #![tactic(auto)]
 
+mod channel;
+mod channel_calls;
 mod closes;
 mod commands;
 mod delivery;
@@ -27,4 +29,4 @@ mod views;
 pub use error::ModelError;
 pub use memory::Memory;
 pub use model::{Kind, Model};
-pub use views::Thing;
+pub use views::{Elsewhere, Thing};

@@ -1,3 +1,4 @@
+use crate::channel::Channel;
 use crate::error::ModelError;
 use crate::mailbox::Mailbox;
 use std::alloc::Global;
@@ -55,6 +56,20 @@ impl Mailboxes {
         match self.get(publisher, subscriber) {
             None => false,
             Some(mailbox) => mailbox.has_data(),
+        }
+    }
+
+    pub(crate) fn has_messages(&self, publisher: usize, subscriber: usize) -> bool {
+        match self.get(publisher, subscriber) {
+            None => false,
+            Some(mailbox) => mailbox.has_messages(),
+        }
+    }
+
+    pub(crate) fn channel(&self, publisher: usize, subscriber: usize, number: usize) -> Channel {
+        match self.get(publisher, subscriber) {
+            None => Channel::new(number),
+            Some(mailbox) => mailbox.channel(number),
         }
     }
 

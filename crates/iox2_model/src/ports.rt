@@ -15,7 +15,7 @@ impl Model {
         self.config.subscriber_max_buffer_size.max(1)
     }
 
-    // For each subscriber its buffer and what it may borrow; then the history; then the loans.
+    // For each channel of each subscriber its buffer and what it may borrow; then the history; then the loans.
     // Nothing where that doesn't fit.
     fn worst_case(&self, loans: usize) -> Option<usize> {
         self.for_subscribers()?
@@ -29,7 +29,11 @@ impl Model {
         }
         let borrowed = self.config.subscriber_max_borrowed_samples;
         let each = self.buffer_limit().checked_add(borrowed)?;
-        self.config.max_subscribers.checked_mul(each)
+        let channels = self.config.number_of_channels.max(1);
+        self.config
+            .max_subscribers
+            .checked_mul(channels)?
+            .checked_mul(each)
     }
 
     // A publisher has a slot for each message of the worst case, or as many as are asked for, if

@@ -70,8 +70,12 @@ pub(crate) enum Put {
 #[derive(Clone, Copy)]
 pub(crate) struct Delivery {
     pub(crate) message: usize,
+    // Into which it goes.
+    pub(crate) channel: usize,
     // Of the next receiver, in the publisher's ends. These stay as they are while the send is blocked.
     pub(crate) place: usize,
+    // Behind the last receiver's.
+    pub(crate) end: usize,
     // How many receivers have taken the message so far.
     pub(crate) count: usize,
     // Whether the handler has failed the send at an earlier receiver.

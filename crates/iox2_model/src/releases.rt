@@ -21,7 +21,7 @@ impl Model {
 
     // The publisher wasn't closed, or some message of it waits or is borrowed.
     fn is_connected(&self, q: usize, p: usize) -> bool {
-        self.is_present(p) || self.mailboxes.has_data(p, q) || self.mailboxes.has_borrows(p, q)
+        self.is_present(p) || self.mailboxes.has_messages(p, q)
     }
 
     // The subscriber forgets the departed publishers that it has no more messages of.

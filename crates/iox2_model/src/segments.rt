@@ -26,7 +26,7 @@ impl Model {
         }
     }
 
-    fn live_publisher_at(&self, of: usize) -> Option<&Publisher> {
+    pub(crate) fn live_publisher_at(&self, of: usize) -> Option<&Publisher> {
         let Some(p) = self.publisher_at(of) else {
             return None;
         };
@@ -117,6 +117,9 @@ impl Model {
             if let Some(mailbox) = end.and_then(|q| self.mailboxes.get(p, q)) {
                 mark(&mut is_held, mailbox.waiting());
                 mark(&mut is_held, mailbox.borrowed());
+                for elsewhere in mailbox.elsewhere() {
+                    mark(&mut is_held, &[elsewhere.message]);
+                }
             }
         }
         let mut count = 0usize;

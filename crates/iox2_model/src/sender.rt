@@ -62,14 +62,15 @@ impl Model {
     }
 
     // An end to q is made at the place, and the last messages of the history that the buffer holds
-    // wait there. Where q has no end either, memory may be refused in place of that: the publisher
+    // wait there, unless channel 0 is closed. Where q has no end either, memory may be refused in place of that: the publisher
     // answers.
     fn connect_sender(&mut self, p: usize, place: usize, q: usize, buffer: usize) -> Updated {
         if !self.has_receiver_end(p, q) && self.refuses_connection() {
             return Ok(self.sender_mut(p)?.failure());
         }
         self.sender_mut(p)?.set_end(place, Some(q))?;
-        let messages = self.last_messages(p, buffer)?;
+        let is_closed = self.is_closed_channel(p, q, 0);
+        let messages = self.last_messages(p, if is_closed { 0 } else { buffer })?;
         self.mailboxes.made(p, q)?.set_waiting(messages.as_slice())?;
         Ok(None)
     }

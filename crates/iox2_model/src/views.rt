@@ -25,6 +25,13 @@ pub enum Thing {
     },
 }
 
+/// A message that waits in a channel other than 0: no subscriber receives it there.
+#[derive(Debug, Clone, Copy, PartialEq, Eq)]
+pub struct Elsewhere {
+    pub channel: usize,
+    pub message: usize,
+}
+
 impl Model {
     /// What the command at the position made, also where it isn't live any more.
     pub fn thing_at(&self, of: usize) -> Thing {
@@ -56,12 +63,36 @@ impl Model {
         self.has_sender_end(publisher, subscriber)
     }
 
-    /// The messages of the publisher that wait for the subscriber, oldest first.
+    /// The messages of the publisher that wait for the subscriber in channel 0, oldest first.
     pub fn waiting(&self, publisher: usize, subscriber: usize) -> &[usize] {
         match self.mailboxes.get(publisher, subscriber) {
             Some(mailbox) => mailbox.waiting(),
             None => &[],
         }
+    }
+
+    /// The messages of the publisher that wait in other channels than 0 of its connection with the
+    /// subscriber, oldest first.
+    pub fn elsewhere(&self, publisher: usize, subscriber: usize) -> &[Elsewhere] {
+        match self.mailboxes.get(publisher, subscriber) {
+            Some(mailbox) => mailbox.elsewhere(),
+            None => &[],
+        }
+    }
+
+    /// Whether the channel of the connection of the two is closed.
+    pub fn is_closed(&self, publisher: usize, subscriber: usize, channel: usize) -> bool {
+        self.is_closed_channel(publisher, subscriber, channel)
+    }
+
+    /// The subscriber of the publisher's connection at the place.
+    pub fn receiver_at(&self, publisher: usize, place: usize) -> Option<usize> {
+        self.sender_end(publisher, place)
+    }
+
+    /// How many places subscribers have had.
+    pub fn subscriber_place_count(&self) -> usize {
+        self.subscriber_places.len()
     }
 
     /// The messages of the publisher that the subscriber has received and not released.

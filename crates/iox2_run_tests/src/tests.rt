@@ -1,4 +1,5 @@
 mod blocked_sends;
+mod channels;
 mod closing_orders;
 mod commands;
 mod comparisons;

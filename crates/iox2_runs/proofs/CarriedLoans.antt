@@ -12,13 +12,13 @@ use Rattle.iox2_machine.specs.machine.Sends.{Send, SendResult, Delivered_to, Blo
 use Rattle.iox2_machine.specs.declared.errors.LoanError.{LoanError}
 use Rattle.iox2_machine.specs.declared.errors.SendError.{SendError}
 use Rattle.iox2_machine.specs.declared.errors.SendError.TheVariants.{ConnectionBrokenSinceSenderNoLongerExists, ConnectionError, UnableToDeliver}
-use Rattle.iox2_laws.proofs.Waits.{send_waits}
+use Rattle.iox2_laws.proofs.Waits.{send_waits, Waits}
 use Rattle.iox2_domain.specs.Kept.{Kept as Domain}
 use Rattle.iox2_machine.specs.declared.key.Key.{Key}
 use Rattle.iox2_domain.specs.Lending.{loan_memory}
 use Rattle.iox2_domain.specs.Shows.{Shows}
 use Rattle.iox2_pubsub.specs.Live.{IsBlockedSend, blocked_key, written_key}
-use Rattle.iox2_pubsub.specs.SendCalls.{FailsSend, IfBlocked, IsOfHandler, Sends, messages_after, result_of_send}
+use Rattle.iox2_pubsub.specs.SendCalls.{FailsSend, IfBlocked, IsOfHandler, Sends, messages_after, result_of_send, FailsDelivery}
 use Rattle.iox2_pubsub.specs.declared.publisher.Publisher.{Publisher as PublisherHandle}
 use Rattle.iox2_pubsub.specs.declared.send_outcome.SendOutcome.{SendOutcome}
 use Rattle.iox2_pubsub.specs.declared.send_outcome.SendOutcome.TheVariants.{Delivered as WasDelivered, Blocked as IsBlocked}
@@ -37,9 +37,10 @@ use Rattle.iox2_runs.specs.declared.runs.made.Made.TheVariants.{Nothing, Publish
 use Rattle.iox2_runs.proofs.CarriedBlocked.{blocked_entry}
 use Rattle.iox2_runs.proofs.FixedSends.{unboxed_still, sends_fixed}
 use Rattle.iox2_runs.proofs.TableLooks.{is_publisher_entry, is_unwritten_entry, is_written_entry, has_written, handle_of}
-use Rattle.iox2_runs.proofs.TableCalls.{write_comes, write_skipped, send_comes, send_waiting, send_skipped}
+use Rattle.iox2_runs.proofs.TableCalls.{write_comes, write_skipped, send_comes, send_waiting, send_skipped, WhatComes}
 use Rattle.iox2_runs.proofs.TableMakes.{loan_skipped, loan_waiting, loan_elsewhere, loan_comes, loan_refused_comes, loan_any}
 use Rattle.iox2_runs.proofs.TableEntries.{entries-set, entry-stands, lacks}
+use Rattle.iox2_commands.specs.declared.command.Command.{Command}
 
 module _ {T U F G : Type 0} (environment : Environment) (defaults : Defaults T U) (old new : Domain T U F G) (table table' : List Made) (of : ℕ) where
   -- a written loan
@@ -130,49 +131,48 @@ module _ {T U F G : Type 0} (environment : Environment) (defaults : Defaults T U
 
 -- ---- what comes of a send
 
-module _ {T U F G : Type 0} (defaults : Defaults T U) (new : Domain T U F G) (table : List Made) (of : ℕ) (h : SampleMut) (m : Messages T U) (s : State T U) (handles : List Handle) (events : List (Event T U)) (w : IsTable s handles events (map entry_for table)) (default_value : T) (default_header : U)
-    (is_value : defaults.IsDefaultValue default_value) (is_header : defaults.IsDefaultHeader default_header)
-    (stand : slice_get (map entry_for table) of ≡ Some (Written_entry h.service_id h.loan.publisher h.loan.number)) (unblocked : IsUnblocked s h.loan.publisher)
-    (l : Loan T U) (out : s.loans h.loan.number ≡ Some l) (lender : l.publisher ≡ h.loan.publisher) where
-  -- its publisher still has no box
-  lender-unboxed : (result : SendResult) (s' : State T U) → Send fixed_handlers s h.loan.number l s' result → HasNoBox s' h.loan.publisher
-  lender-unboxed result s' sends =
+module _ {T U : Type 0} (table : List Made) (of : ℕ) (h : SampleMut) (s : State T U) (handles : List Handle) (events : List (Event T U)) (w : IsTable s handles events (map entry_for table))
+    (stand : slice_get (map entry_for table) of ≡ Some (Written_entry h.service_id h.loan.publisher h.loan.number)) where
+  -- its publisher still has no box, where none gets one
+  pub lender-unboxed : (p : ℕ) → p ≡ h.loan.publisher → (s' : State T U) → Waits (λ i. i ≡ p) s s' → HasNoBox s' h.loan.publisher
+  lender-unboxed p lender s' waits =
       let named = handle_of s handles events (map entry_for table) w of (Written_entry h.service_id h.loan.publisher h.loan.number) stand in
-      unboxed_still (λ i. i ≡ l.publisher) s s' (send_waits (λ i. i ≡ l.publisher) fixed_handlers s h.loan.number l refl s' result sends) h.loan.publisher ((named.2).2).1 (named.2).3
+      unboxed_still (λ i. i ≡ p) s s' waits h.loan.publisher ((named.2).2).1 (named.2).3
 
-  sent-by : (came : Result SendOutcome SendError) → IfOk came (λ it. IfBlocked it (λ blocked. IsBlockedSend new blocked × (blocked_key blocked ≡ written_key h)))
-      → IfErr came (λ error. (error ≡ ConnectionBrokenSinceSenderNoLongerExists) ⊎ IsOfHandler error) → (s' : State T U) → Shows new (messages_after m h.loan.number l came) s' → Sends fixed_handlers s h.loan.number l came s'
-      → Comes fixed_handlers defaults (Shows new) m s handles events (SendLoan of) (reply_to_send came) (slice_set (map entry_for table) of No_entry ++ entry_for (made_by_send came) ∷ [])
+-- `Sent` says how the loan was sent, and `comes` what comes of it.
+module _ {T U F G : Type 0} (defaults : Defaults T U) (new : Domain T U F G) (table : List Made) (of : ℕ) (h : SampleMut) (m : Messages T U) (s : State T U) (handles : List Handle) (events : List (Event T U))
+    (l : Loan T U) (lender : l.publisher ≡ h.loan.publisher) (command : Command T U) (Sent : State T U → SendResult → Type 0)
+    (comes : (s' : State T U) (result : SendResult) → Sent s' result
+    → WhatComes fixed_handlers defaults (Shows new) m s handles events (map entry_for table) command of h.loan.publisher h.loan.number l s' result)
+    (unboxed : (s' : State T U) (result : SendResult) → Sent s' result → HasNoBox s' h.loan.publisher) where
+  pub sent-by : (came : Result SendOutcome SendError) → IfOk came (λ it. IfBlocked it (λ blocked. IsBlockedSend new blocked × (blocked_key blocked ≡ written_key h)))
+      → IfErr came (λ error. (error ≡ ConnectionBrokenSinceSenderNoLongerExists) ⊎ IsOfHandler error) → (s' : State T U) → Shows new (messages_after m h.loan.number l came) s' → Sent s' (result_of_send came)
+      → Comes fixed_handlers defaults (Shows new) m s handles events command (reply_to_send came) (slice_set (map entry_for table) of No_entry ++ entry_for (made_by_send came) ∷ [])
   sent-by (Ok (WasDelivered count)) waits broken s' shown sends =
-      send_comes fixed_handlers defaults (Shows new) m s handles events (map entry_for table) w default_value default_header is_value is_header of h.service_id h.loan.publisher h.loan.number stand unblocked l out
-      s' (Delivered_to count) sends (Delivered count) No_handle (Message_sent l.publisher h.loan.number (entry_of l)) No_entry refl refl
+      comes s' (Delivered_to count) sends (Delivered count) No_handle (Message_sent l.publisher h.loan.number (entry_of l)) No_entry refl refl
       (λ k e. let clash : No_handle ≡ Loan_handle k = e in absurd cc) (λ p q k e. let clash : No_handle ≡ Sample_handle p q k = e in absurd cc) (λ p k e. let clash : No_handle ≡ Blocked_handle p k = e in absurd cc) shown tt
   sent-by (Ok (IsBlocked blocked)) waits broken s' shown sends =
-      send_comes fixed_handlers defaults (Shows new) m s handles events (map entry_for table) w default_value default_header is_value is_header of h.service_id h.loan.publisher h.loan.number stand unblocked l out
-      s' Blocked_send sends Blocked (Blocked_handle h.loan.publisher h.loan.number) (Message_sent l.publisher h.loan.number (entry_of l)) (entry_for (MadeBlocked blocked))
+      comes s' Blocked_send sends Blocked (Blocked_handle h.loan.publisher h.loan.number) (Message_sent l.publisher h.loan.number (entry_of l)) (entry_for (MadeBlocked blocked))
       (ap (λ (p : ℕ). record { reply = Blocked; handle = Blocked_handle p h.loan.number; event = Message_sent l.publisher h.loan.number (entry_of l); state = s' }) (sym lender)) refl
       (λ k e. let clash : Blocked_handle h.loan.publisher h.loan.number ≡ Loan_handle k = e in absurd cc) (λ p q k e. let clash : Blocked_handle h.loan.publisher h.loan.number ≡ Sample_handle p q k = e in absurd cc)
-      (λ p k e. let same : Blocked_handle h.loan.publisher h.loan.number ≡ Blocked_handle p k = e in (cc, cc)) shown (blocked_entry new _ s' shown blocked waits.0 (written_key h) waits.1 (lender-unboxed Blocked_send s' sends))
+      (λ p k e. let same : Blocked_handle h.loan.publisher h.loan.number ≡ Blocked_handle p k = e in (cc, cc)) shown (blocked_entry new _ s' shown blocked waits.0 (written_key h) waits.1 (unboxed s' Blocked_send sends))
   sent-by (Err error) waits (inr (inl failed)) s' shown sends =
-      let so : Sends fixed_handlers s h.loan.number l (Err UnableToDeliver) s' = subst (λ (e : SendError). Sends fixed_handlers s h.loan.number l (Err e) s') failed sends in
+      let so : Sent s' (Send_error UnableToDeliver) = subst (λ (e : SendError). Sent s' (Send_error e)) failed sends in
       let there : Shows new (messages_after m h.loan.number l (Err UnableToDeliver)) s' = subst (λ (e : SendError). Shows new (messages_after m h.loan.number l (Err e)) s') failed shown in
-      subst (λ (e : SendError). Comes fixed_handlers defaults (Shows new) m s handles events (SendLoan of) (SendRefused e) (slice_set (map entry_for table) of No_entry ++ No_entry ∷ [])) (sym failed)
-      (send_comes fixed_handlers defaults (Shows new) m s handles events (map entry_for table) w default_value default_header is_value is_header of h.service_id h.loan.publisher h.loan.number stand unblocked l out
-      s' (Send_error UnableToDeliver) so (SendRefused UnableToDeliver) No_handle (Message_sent l.publisher h.loan.number (entry_of l)) No_entry refl refl
+      subst (λ (e : SendError). Comes fixed_handlers defaults (Shows new) m s handles events command (SendRefused e) (slice_set (map entry_for table) of No_entry ++ No_entry ∷ [])) (sym failed)
+      (comes s' (Send_error UnableToDeliver) so (SendRefused UnableToDeliver) No_handle (Message_sent l.publisher h.loan.number (entry_of l)) No_entry refl refl
       (λ k e. let clash : No_handle ≡ Loan_handle k = e in absurd cc) (λ p q k e. let clash : No_handle ≡ Sample_handle p q k = e in absurd cc) (λ p k e. let clash : No_handle ≡ Blocked_handle p k = e in absurd cc) there tt)
   sent-by (Err error) waits (inr (inr unconnected)) s' shown sends =
-      let so : Sends fixed_handlers s h.loan.number l (Err (ConnectionError unconnected.0)) s' = subst (λ (e : SendError). Sends fixed_handlers s h.loan.number l (Err e) s') unconnected.1 sends in
+      let so : Sent s' (Send_error (ConnectionError unconnected.0)) = subst (λ (e : SendError). Sent s' (Send_error e)) unconnected.1 sends in
       let there : Shows new m s' = subst (λ (e : SendError). Shows new (messages_after m h.loan.number l (Err e)) s') unconnected.1 shown in
-      subst (λ (e : SendError). Comes fixed_handlers defaults (Shows new) m s handles events (SendLoan of) (SendRefused e) (slice_set (map entry_for table) of No_entry ++ No_entry ∷ [])) (sym unconnected.1)
-      (send_comes fixed_handlers defaults (Shows new) m s handles events (map entry_for table) w default_value default_header is_value is_header of h.service_id h.loan.publisher h.loan.number stand unblocked l out
-      s' (Send_error (ConnectionError unconnected.0)) so (SendRefused (ConnectionError unconnected.0)) No_handle No_event No_entry refl refl
+      subst (λ (e : SendError). Comes fixed_handlers defaults (Shows new) m s handles events command (SendRefused e) (slice_set (map entry_for table) of No_entry ++ No_entry ∷ [])) (sym unconnected.1)
+      (comes s' (Send_error (ConnectionError unconnected.0)) so (SendRefused (ConnectionError unconnected.0)) No_handle No_event No_entry refl refl
       (λ k e. let clash : No_handle ≡ Loan_handle k = e in absurd cc) (λ p q k e. let clash : No_handle ≡ Sample_handle p q k = e in absurd cc) (λ p k e. let clash : No_handle ≡ Blocked_handle p k = e in absurd cc) there tt)
   sent-by (Err error) waits (inl broken) s' shown sends =
-      let so : Sends fixed_handlers s h.loan.number l (Err ConnectionBrokenSinceSenderNoLongerExists) s' = subst (λ (e : SendError). Sends fixed_handlers s h.loan.number l (Err e) s') broken sends in
+      let so : Sent s' (Send_error ConnectionBrokenSinceSenderNoLongerExists) = subst (λ (e : SendError). Sent s' (Send_error e)) broken sends in
       let there : Shows new m s' = subst (λ (e : SendError). Shows new (messages_after m h.loan.number l (Err e)) s') broken shown in
-      subst (λ (e : SendError). Comes fixed_handlers defaults (Shows new) m s handles events (SendLoan of) (SendRefused e) (slice_set (map entry_for table) of No_entry ++ No_entry ∷ [])) (sym broken)
-      (send_comes fixed_handlers defaults (Shows new) m s handles events (map entry_for table) w default_value default_header is_value is_header of h.service_id h.loan.publisher h.loan.number stand unblocked l out
-      s' (Send_error ConnectionBrokenSinceSenderNoLongerExists) so (SendRefused ConnectionBrokenSinceSenderNoLongerExists) No_handle No_event No_entry refl refl
+      subst (λ (e : SendError). Comes fixed_handlers defaults (Shows new) m s handles events command (SendRefused e) (slice_set (map entry_for table) of No_entry ++ No_entry ∷ [])) (sym broken)
+      (comes s' (Send_error ConnectionBrokenSinceSenderNoLongerExists) so (SendRefused ConnectionBrokenSinceSenderNoLongerExists) No_handle No_event No_entry refl refl
       (λ k e. let clash : No_handle ≡ Loan_handle k = e in absurd cc) (λ p q k e. let clash : No_handle ≡ Sample_handle p q k = e in absurd cc) (λ p k e. let clash : No_handle ≡ Blocked_handle p k = e in absurd cc) there tt)
 
 module _ {T U F G : Type 0} (environment : Environment) (defaults : Defaults T U) (old new : Domain T U F G) (table table' : List Made) (of : ℕ) where
@@ -195,7 +195,19 @@ module _ {T U F G : Type 0} (environment : Environment) (defaults : Defaults T U
       let fixed : Sends fixed_handlers s h.loan.number named.0 outcome sent.0 = sends_fixed environment s h.loan.number named.0 sent.0 (result_of_send outcome) low unboxed sent.2 in
       let after : map entry_for table' ≡ slice_set (map entry_for table) of No_entry = ap (λ (t : List Made). map entry_for t) is ∙ entries-set table of Nothing in
       subst (λ (ks : List TableEntry). Comes fixed_handlers defaults (Shows new) m s handles events (SendLoan of) (reply_to_send outcome) (ks ++ entry_for (made_by_send outcome) ∷ [])) (sym after)
-      (sent-by defaults new table of h m s handles events w default_value default_header is_value is_header stand (free m s shown) named.0 named.3 named.4 outcome blocked gone sent.0 sent.1 fixed)
+      (sent-by defaults new table of h m s handles events named.0 named.4 (SendLoan of) (λ s' result. Send fixed_handlers s h.loan.number named.0 s' result)
+      (λ s' result. send_comes fixed_handlers defaults (Shows new) m s handles events (map entry_for table) w default_value default_header is_value is_header of h.service_id h.loan.publisher h.loan.number stand (free m s shown)
+      named.0 named.3 s' result)
+      (λ s' result sends. lender-unboxed table of h s handles events w stand (named.0).publisher named.4 s'
+      (send_waits (λ i. i ≡ (named.0).publisher) fixed_handlers s h.loan.number named.0 refl s' result sends))
+      outcome blocked gone sent.0 sent.1 fixed)
+
+-- why a delivery to one connection fails, without what is so then
+pub either-delivery-failure : {T U F G : Type 0} (domain : Domain T U F G) (key : Key) (outcome : Result SendOutcome SendError) → IfErr outcome (FailsDelivery domain key)
+    → IfErr outcome (λ error. (error ≡ ConnectionBrokenSinceSenderNoLongerExists) ⊎ IsOfHandler error)
+unfolding FailsDelivery
+either-delivery-failure domain key (Ok came) fails = tt
+either-delivery-failure domain key (Err error) fails = elim fails [ inl lost ↦ inl lost.0 | inr failed ↦ inr (inl failed.0) ]
 
 -- why a send fails, without what is so then
 pub either-failure : {T U F G : Type 0} (domain : Domain T U F G) (key : Key) (outcome : Result SendOutcome SendError) → IfErr outcome (FailsSend domain key)

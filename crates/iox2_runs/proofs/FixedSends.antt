@@ -1,20 +1,23 @@
 -- Publishers without boxes: none of them gets one, and what they send is sent where no port has a box.
-use Rattle.std.proofs.Common.{◌≡◌, ℕ, ◌<◌, refl, sym, ap, ◌∙◌, Option, None, Some}
+use Rattle.std.proofs.Common.{◌≡◌, ℕ, ◌<◌, refl, sym, ap, ◌∙◌, Option, None, Some, false, take, drop, List}
 use Rattle.std.proofs.lemmas.Option.{none-some, same_Some}
 use Rattle.std.specs.Option.{option_map}
 use Rattle.std.specs.declared.time.Duration.{Duration}
 use Rattle.iox2_machine.specs.machine.Environments.{fixed_handlers}
 use Rattle.iox2_machine.specs.machine.Records.{BlockedSend, Custom, Environment, Fixed, Handler, Loan, Publisher}
-use Rattle.iox2_machine.specs.machine.Sends.{Send, Retry, GiveUp, SendResult}
-use Rattle.iox2_machine.specs.machine.State.{State}
+use Rattle.iox2_machine.specs.machine.Sends.{Send, Retry, GiveUp, SendResult, SendToConnection, DeliverAndConclude, Send_error}
+use Rattle.iox2_machine.specs.machine.State.{State, with_loan}
 use Rattle.iox2_machine.specs.declared.backpressure.BackpressureAction.{BackpressureAction}
 use Rattle.iox2_machine.specs.declared.degradation.DegradationAction.{DegradationAction}
 use Rattle.iox2_laws.proofs.Waits.{Waits, update_publisher_waits}
 use Rattle.iox2_connections.proofs.AnyEnvironment.{AllowsAsMuch}
-use Rattle.iox2_steps.proofs.sends.AnySends.{MayAnswerAsMuch, sends-alike, retries-alike, gives_up-alike}
+use Rattle.iox2_steps.proofs.sends.AnySends.{MayAnswerAsMuch, sends-alike, retries-alike, gives_up-alike, concludes-alike}
 use Rattle.iox2_steps.proofs.updates.AnyBoxes.{AllowsUpdates}
 use Rattle.iox2_runs.specs.Tables.{HasNoBox}
 use Rattle.iox2_runs.proofs.TableSteps.{Nobody}
+use Rattle.std.specs.Prelude.{MatchOption}
+use Rattle.iox2_machine.specs.machine.Delivery.{no_time}
+use Rattle.iox2_machine.specs.declared.errors.SendError.TheVariants.{ConnectionBrokenSinceSenderNoLongerExists}
 
 -- a handler that always gives the same answer is no box
 pub fixed_unboxed : (answer : Option BackpressureAction) → option_map {U = Handler BackpressureAction} (λ action. Fixed action) answer ≡ Some Custom → ⊥
@@ -61,6 +64,21 @@ module _ {T U : Type 0} (environment : Environment) where
       sends-alike environment fixed_handlers s n l s' result
       (λ x there. calm environment l.publisher x.degradation_handler (none x there).1)
       (λ mid updated. may_answer mid l.publisher (unboxed_still Nobody s mid (update_publisher_waits Nobody environment s l.publisher mid None updated) l.publisher low none))
+
+  -- so is what it sends to one connection
+  pub connection_sends_fixed : (s : State T U) (n : ℕ) (l : Loan T U) (channel place : ℕ) (s' : State T U) (result : SendResult)
+      → HasNoBox s l.publisher → SendToConnection environment s n l channel place s' result → SendToConnection fixed_handlers s n l channel place s' result
+  connection_sends_fixed s n l channel place s' result none h = by (s.publishers l.publisher) h
+    where
+      by : (o : Option Publisher)
+          → MatchOption o ((s' ≡ with_loan s n None) × (result ≡ Send_error ConnectionBrokenSinceSenderNoLongerExists))
+          (λ x. DeliverAndConclude environment (with_loan s n None) l.publisher n channel 0 no_time place (take 1 (drop place x.ends)) 0 false s' result)
+          → MatchOption o ((s' ≡ with_loan s n None) × (result ≡ Send_error ConnectionBrokenSinceSenderNoLongerExists))
+          (λ x. DeliverAndConclude fixed_handlers (with_loan s n None) l.publisher n channel 0 no_time place (take 1 (drop place x.ends)) 0 false s' result)
+      by None h = h
+      by (Some x) h =
+          concludes-alike environment fixed_handlers l.publisher n channel 0 no_time place (take 1 (drop place x.ends)) 0 false (with_loan s n None) s' result
+          (may_answer (with_loan s n None) l.publisher none) h
 
   -- so is what it tries again
   pub retries_fixed : (s : State T U) (p : ℕ) (b : BlockedSend) (elapsed : Duration) (s' : State T U) (result : SendResult)

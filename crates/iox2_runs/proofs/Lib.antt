@@ -10,7 +10,9 @@ pub mod TableEntries
 pub mod LiveEntries
 pub mod RunLoop
 pub mod Turned
+pub mod ChannelStates
 pub mod CarriedLoans
+pub mod CarriedChannels
 pub mod CarriedDiscards
 pub mod CarriedPorts
 pub mod CarriedQuestions

@@ -9,7 +9,7 @@ use Rattle.iox2_machine.specs.declared.key.Key.{Key}
 use Rattle.iox2_domain.specs.Kept.{Kept as Domain, state_of}
 use Rattle.iox2_domain.specs.Shows.{Shows}
 use Rattle.iox2_machine.specs.machine.Mailbox.{is_borrowed}
-use Rattle.iox2_pubsub.specs.Live.{IsPublisherKey, IsReadyPublisher, IsLiveSubscriber, IsUnblocked, IsUnwritten, IsWritten, IsBlockedSend, IsLiveSample, publisher_key, blocked_key}
+use Rattle.iox2_pubsub.specs.Live.{IsPublisherKey, IsReadyPublisher, IsLiveSubscriber, IsUnblocked, IsUnwritten, IsWritten, IsBlockedSend, IsLiveSample, publisher_key, blocked_key, IsPlacedPublisher}
 use Rattle.iox2_pubsub.proofs.LiveParts.{publisher-live, unblocked-free, unblocked-parts, blocked-live, subscriber-live, unwritten-live, written-live, sample-live}
 use Rattle.iox2_pubsub.specs.declared.blocked_send.BlockedSend.{BlockedSend as BlockedHandle}
 use Rattle.iox2_pubsub.specs.declared.publisher.Publisher.{Publisher as PublisherHandle}
@@ -62,9 +62,13 @@ module _ {T U F G : Type 0} (domain : Domain T U F G) (held : Made) (keeps : IsH
   pub unboxed_publisher : (h : PublisherHandle) → held ≡ MadePublisher h → HasNoBox (state_of domain) h.id
   unboxed_publisher h is = ((has_entry (MadePublisher h) is (λ e. let clash : MadePublisher h ≡ Nothing = e in cc)).1).4
 
+  -- it stands where its handle says
+  pub placed_publisher : (h : PublisherHandle) → held ≡ MadePublisher h → IsPlacedPublisher domain h
+  placed_publisher h is = subst (IsPlacedMade domain) (keeps.stands ∙ is) (((keeps.live).6).ports keeps.of)
+
   -- where no send of it is blocked it is ready
   pub ready_publisher : (h : PublisherHandle) → held ≡ MadePublisher h → IsUnblocked domain (publisher_key h) → IsReadyPublisher domain h
-  ready_publisher h is free = record { there = live_publisher h is; placed = subst (IsPlacedMade domain) (keeps.stands ∙ is) (((keeps.live).6).ports keeps.of); unblocked = free }
+  ready_publisher h is free = record { there = live_publisher h is; placed = placed_publisher h is; unblocked = free }
 
   pub live_subscriber : (h : SubscriberHandle) → held ≡ MadeSubscriber h → IsLiveSubscriber domain h
   live_subscriber h is =

@@ -9,7 +9,7 @@ use Rattle.iox2_machine.specs.machine.Records.{Loan, Environment}
 use Rattle.iox2_machine.specs.machine.State.{State, Messages, with_loan, is_blocked}
 use Rattle.iox2_machine.specs.machine.Loans.{written, entry_of}
 use Rattle.iox2_machine.specs.machine.Mailbox.{is_borrowed}
-use Rattle.iox2_machine.specs.machine.Sends.{Send, SendResult}
+use Rattle.iox2_machine.specs.machine.Sends.{Send, SendResult, SendToConnection}
 use Rattle.iox2_laws.proofs.LoanKeeping.{send_loans}
 use Rattle.iox2_laws.proofs.SendLaws.{send_advances}
 use Rattle.iox2_laws.proofs.Puts.{put_at-same, put_at-other}
@@ -19,16 +19,21 @@ use Rattle.iox2_commands.specs.Step.{Step, after_send}
 use Rattle.iox2_runs.specs.Tables.{port_of, TableEntry, No_entry, Unwritten_entry, Written_entry, IsSpent, IsUnblocked, IsEntryOf, IsTable}
 use Rattle.iox2_runs.specs.RunSteps.{Comes}
 use Rattle.iox2_commands.specs.declared.command.Command.{Command}
-use Rattle.iox2_commands.specs.declared.command.Command.TheVariants.{Nothing, WriteAll, Send as SendLoan}
+use Rattle.iox2_commands.specs.declared.command.Command.TheVariants.{Nothing, WriteAll, Send as SendLoan, SendToConnection as SendLoanTo}
 use Rattle.iox2_commands.specs.declared.reply.Reply.{Reply}
 use Rattle.iox2_commands.specs.declared.reply.Reply.TheVariants.{Done, Skipped}
 use Rattle.iox2_laws.proofs.SamplesStay.{same_borrowed}
 use Rattle.iox2_laws.proofs.PortsCome.{PortsCome, ports_come_themselves, loan_set_comes}
 use Rattle.iox2_laws.proofs.PortsStay.{PortsStay, ports_stay_themselves, loan_set_stays}
 use Rattle.iox2_laws.proofs.Waits.{Waits, waits_itself, loan_set_waits}
-use Rattle.iox2_runs.proofs.TablePassed.{Passed, passed_keeps, send_passes}
+use Rattle.iox2_runs.proofs.TablePassed.{Passed, passed_keeps, send_passes, connection_passes}
 use Rattle.iox2_runs.proofs.TableSteps.{Nobody, ports-keep, later_same, later_but, no_next, table_next, all_still, others_still, others_kept}
 use Rattle.iox2_runs.proofs.TableLooks.{Lacks, is_unwritten_entry, is_written_entry, lacks_unwritten, lacks_written, handle_of, has_unwritten, sendable, unsendable}
+use Rattle.iox2_machine.specs.machine.Limits.{channel_count}
+use Rattle.iox2_laws.specs.Laws.{Advances}
+use Rattle.iox2_laws.proofs.ConnectionSends.{send_to_connection_advances}
+use Rattle.iox2_laws.proofs.ConnectionSendsLeave.{send_to_connection_loans}
+use Rattle.iox2_runs.proofs.ChannelStates.{with_channel, without_channel, none_with_channel}
 
 -- a fact by cases, in one of the two
 pub at_none : {A : Type 0} (o : Option A) (P : Type 0) (Q : A → Type 0) → o ≡ None → P → MatchOption o P Q
@@ -41,6 +46,16 @@ pub set_length : {A : Type 0} (xs : List A) (i : ℕ) (x : A) → length (slice_
 set_length [] i x = refl
 set_length (y ∷ xs) zero x = refl
 set_length (y ∷ xs) (suc i) x = ap suc (set_length xs i x)
+
+-- What comes of a loan that was sent so.
+abbrev pub WhatComes : {T U : Type 0} → Environment → Defaults T U → (Shown : Messages T U → State T U → Type 0) → Messages T U → State T U → List Handle → List (Event T U) → List TableEntry
+    → Command T U → (of p n : ℕ) → Loan T U → State T U → SendResult → Type 0
+WhatComes {T} {U} environment defaults Shown m s handles events table command of p n l s' result =
+    (reply : Reply T U) (handle : Handle) (event : Event T U) (entry : TableEntry)
+    → record { reply = reply; handle = handle; event = event; state = s' } ≡ after_send s' l.publisher n (entry_of l) result → port_of handle ≡ None
+    → ((k : ℕ) → handle ≡ Loan_handle k → ⊥) → ((p' q k : ℕ) → handle ≡ Sample_handle p' q k → ⊥) → ((p' k : ℕ) → handle ≡ Blocked_handle p' k → (p' ≡ p) × (k ≡ n))
+    → Shown (messages_after event m) s' → IsEntryOf s' handle entry
+    → Comes environment defaults Shown m s handles events command reply (slice_set table of No_entry ++ entry ∷ [])
 
 module _ {T U : Type 0} (environment : Environment) (defaults : Defaults T U) (Shown : Messages T U → State T U → Type 0) (m : Messages T U) (s : State T U) (handles : List Handle)
     (events : List (Event T U)) (table : List TableEntry) (w : IsTable s handles events table) (default_value : T) (default_header : U)
@@ -116,24 +131,17 @@ module _ {T U : Type 0} (environment : Environment) (defaults : Defaults T U) (S
       → Comes environment defaults Shown m s handles events (SendLoan of) Skipped (table ++ No_entry ∷ [])
   send_waiting of service p n at waits shown = skip_comes (SendLoan of) (at_none _ _ _ (unsendable s handles events table w of service p n at waits) refl) shown
 
-  -- it is sent, and this comes of it
-  pub send_comes : (of service p n : ℕ) → slice_get table of ≡ Some (Written_entry service p n) → IsUnblocked s p
-      → (l : Loan T U) → s.loans n ≡ Some l → (s' : State T U) (result : SendResult) → Send environment s n l s' result
+  -- a written loan leaves its user's hands, and this comes of it
+  pub spent_comes : (command : Command T U) (of service p n : ℕ) → slice_get table of ≡ Some (Written_entry service p n)
+      → (l : Loan T U) → s.loans n ≡ Some l → (s' : State T U) → Passed p n s s' → s'.loans ≡ put_at s.loans n None → Advances s s'
       → (reply : Reply T U) (handle : Handle) (event : Event T U) (entry : TableEntry)
-      → record { reply = reply; handle = handle; event = event; state = s' } ≡ after_send s' l.publisher n (entry_of l) result → port_of handle ≡ None
+      → Step environment default_value default_header m s handles command (record { reply = reply; handle = handle; event = event; state = s' }) → port_of handle ≡ None
       → ((k : ℕ) → handle ≡ Loan_handle k → ⊥) → ((p' q k : ℕ) → handle ≡ Sample_handle p' q k → ⊥) → ((p' k : ℕ) → handle ≡ Blocked_handle p' k → (p' ≡ p) × (k ≡ n))
       → Shown (messages_after event m) s' → IsEntryOf s' handle entry
-      → Comes environment defaults Shown m s handles events (SendLoan of) reply (slice_set table of No_entry ++ entry ∷ [])
-  send_comes of service p n at free l here s' result sends reply handle event entry is no_port no_loan no_sample its shown new =
-      let found = sendable s handles events table w of service p n at free in
+      → Comes environment defaults Shown m s handles events command reply (slice_set table of No_entry ++ entry ∷ [])
+  spent_comes command of service p n at l here s' passed loans rises reply handle event entry step no_port no_loan no_sample its shown new =
       let named = handle_of s handles events table w of (Written_entry service p n) at in
-      let same : found.0 ≡ l = same_Some found.0 l (sym found.2 ∙ here) in
-      let lender : l.publisher ≡ p = ap (λ (k : Loan T U). k.publisher) (sym same) ∙ found.3 in
       let known : p < s.next_port = ((named.2).2).1 in
-      let passed : Passed p n s s' = subst (λ (i : ℕ). Passed i n s s') lender
-      (send_passes environment s n l s' result (subst (λ (i : ℕ). i < s.next_port) (sym lender) known) (subst (IsUnblocked s) (sym lender) free) sends) in
-      let loans : s'.loans ≡ put_at s.loans n None = send_loans environment s n l s' result sends in
-      let rises = send_advances environment s n l s' result sends in
       let low : n < s.next_message = w.loans_below of n (named.1 ∙ ap Some (named.2).1) in
       let lost : s'.loans n ≡ None = ap (λ (f : ℕ → Option (Loan T U)). f n) loans ∙ put_at-same s.loans n None in
       let others : (k : ℕ) → k < s.next_message → (k ≡ n → ⊥) → s'.loans k ≡ s.loans k = λ k _ other. ap (λ (f : ℕ → Option (Loan T U)). f k) loans ∙ put_at-other s.loans n None k (ne_eqb k n other) in
@@ -143,7 +151,7 @@ module _ {T U : Type 0} (environment : Environment) (defaults : Defaults T U) (S
         is_default_value = is_default_value;
         is_default_header = is_default_header;
         outcome = record { reply = reply; handle = handle; event = event; state = s' };
-        step = at_some _ _ _ (n, l) (found.1 ∙ ap (λ (l : Loan T U). Some (n, l)) same) (s', result, sends, is);
+        step = step;
         replied = refl;
         shown = shown;
         follows = λ once. table_next s s' handles events table w handle event entry (slice_set table of No_entry)
@@ -167,3 +175,55 @@ module _ {T U : Type 0} (environment : Environment) (defaults : Defaults T U) (S
                   );
             }) once;
       }
+
+  -- it is sent, and this comes of it
+  pub send_comes : (of service p n : ℕ) → slice_get table of ≡ Some (Written_entry service p n) → IsUnblocked s p
+      → (l : Loan T U) → s.loans n ≡ Some l → (s' : State T U) (result : SendResult) → Send environment s n l s' result → WhatComes environment defaults Shown m s handles events table (SendLoan of) of p n l s' result
+  send_comes of service p n at free l here s' result sends reply handle event entry is no_port no_loan no_sample its shown new =
+      let found = sendable s handles events table w of service p n at free in
+      let named = handle_of s handles events table w of (Written_entry service p n) at in
+      let same : found.0 ≡ l = same_Some found.0 l (sym found.2 ∙ here) in
+      let lender : l.publisher ≡ p = ap (λ (k : Loan T U). k.publisher) (sym same) ∙ found.3 in
+      let known : p < s.next_port = ((named.2).2).1 in
+      spent_comes (SendLoan of) of service p n at l here s'
+      (subst (λ (i : ℕ). Passed i n s s') lender
+      (send_passes environment s n l s' result (subst (λ (i : ℕ). i < s.next_port) (sym lender) known) (subst (IsUnblocked s) (sym lender) free) sends))
+      (send_loans environment s n l s' result sends) (send_advances environment s n l s' result sends) reply handle event entry
+      (at_some _ _ _ (n, l) (found.1 ∙ ap (λ (l : Loan T U). Some (n, l)) same) (s', result, sends, is)) no_port no_loan no_sample its shown new
+
+  -- ---- a loan is sent to one connection
+
+  -- it isn't, where connections lack that channel
+  pub connection_without : (of channel place : ℕ) → (channel < channel_count s.config → ⊥) → Shown m s
+      → Comes environment defaults Shown m s handles events (SendLoanTo of channel place) Skipped (table ++ No_entry ∷ [])
+  connection_without of channel place missing shown = skip_comes (SendLoanTo of channel place) (at_none _ _ _ (without_channel s channel _ missing) refl) shown
+
+  pub connection_skipped : (of channel place : ℕ) → Lacks is_written_entry table of → Shown m s
+      → Comes environment defaults Shown m s handles events (SendLoanTo of channel place) Skipped (table ++ No_entry ∷ [])
+  connection_skipped of channel place absent shown =
+      skip_comes (SendLoanTo of channel place)
+      (at_none _ _ _ (none_with_channel s channel _ (ap (λ (o : Option (ℕ × Loan T U)). option_and_then (λ named. cond (is_blocked s named.1.publisher) None (Some named)) o) (lacks_written s handles events table w of absent))) refl)
+      shown
+
+  -- its publisher waits for a receiver
+  pub connection_waiting : (of channel place service p n : ℕ) → slice_get table of ≡ Some (Written_entry service p n) → (IsUnblocked s p → ⊥) → Shown m s
+      → Comes environment defaults Shown m s handles events (SendLoanTo of channel place) Skipped (table ++ No_entry ∷ [])
+  connection_waiting of channel place service p n at waits shown =
+      skip_comes (SendLoanTo of channel place) (at_none _ _ _ (none_with_channel s channel _ (unsendable s handles events table w of service p n at waits)) refl) shown
+
+  -- it is sent, and this comes of it
+  pub connection_comes : (of channel place service p n : ℕ) → channel < channel_count s.config → slice_get table of ≡ Some (Written_entry service p n) → IsUnblocked s p
+      → (l : Loan T U) → s.loans n ≡ Some l → (s' : State T U) (result : SendResult) → SendToConnection environment s n l channel place s' result
+      → WhatComes environment defaults Shown m s handles events table (SendLoanTo of channel place) of p n l s' result
+  connection_comes of channel place service p n there at free l here s' result sends reply handle event entry is no_port no_loan no_sample its shown new =
+      let found = sendable s handles events table w of service p n at free in
+      let named = handle_of s handles events table w of (Written_entry service p n) at in
+      let same : found.0 ≡ l = same_Some found.0 l (sym found.2 ∙ here) in
+      let lender : l.publisher ≡ p = ap (λ (k : Loan T U). k.publisher) (sym same) ∙ found.3 in
+      let known : p < s.next_port = ((named.2).2).1 in
+      spent_comes (SendLoanTo of channel place) of service p n at l here s'
+      (subst (λ (i : ℕ). Passed i n s s') lender
+      (connection_passes environment s n l channel place s' result (subst (λ (i : ℕ). i < s.next_port) (sym lender) known) (subst (IsUnblocked s) (sym lender) free) sends))
+      (send_to_connection_loans environment s n l channel place s' result sends) (send_to_connection_advances environment s n l channel place s' result sends)
+      reply handle event entry
+      (at_some _ _ _ (n, l) (with_channel s channel _ there ∙ found.1 ∙ ap (λ (l : Loan T U). Some (n, l)) same) (s', result, sends, is)) no_port no_loan no_sample its shown new

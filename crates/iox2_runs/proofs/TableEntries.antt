@@ -6,11 +6,12 @@ use Rattle.iox2_runs.specs.Carries.{entry_for}
 use Rattle.iox2_runs.specs.declared.runs.made.Made.{Made}
 use Rattle.iox2_runs.specs.declared.runs.made.Made.TheVariants.{Nothing, Publisher as MadePublisher, Subscriber as MadeSubscriber, Unwritten, Written, Blocked, Sample as MadeSample}
 use Rattle.iox2_pubsub.specs.declared.blocked_send.BlockedSend.{BlockedSend}
+use Rattle.iox2_pubsub.specs.declared.publisher.Publisher.{Publisher}
 use Rattle.iox2_pubsub.specs.declared.subscriber.Subscriber.{Subscriber}
 use Rattle.iox2_pubsub.specs.declared.sample_mut_uninit.SampleMutUninit.{SampleMutUninit}
 use Rattle.iox2_pubsub.specs.declared.sample_mut.SampleMut.{SampleMut}
 use Rattle.iox2_pubsub.specs.Sample.{Sample}
-use Rattle.iox2_runs.proofs.TableLooks.{Lacks, is_subscriber_entry, is_unwritten_entry, is_written_entry, is_blocked_entry, is_sample_entry, is_loan_entry}
+use Rattle.iox2_runs.proofs.TableLooks.{Lacks, is_publisher_entry, is_subscriber_entry, is_unwritten_entry, is_written_entry, is_blocked_entry, is_sample_entry, is_loan_entry}
 
 -- the entries after one of the table was set
 pub entries-set : (table : List Made) (of : ℕ) (made : Made) → map entry_for (slice_set table of made) ≡ slice_set (map entry_for table) of (entry_for made)
@@ -78,6 +79,15 @@ not_sample (Unwritten h) other = refl
 not_sample (Written h) other = refl
 not_sample (Blocked h) other = refl
 not_sample (MadeSample h) other = absurd (other h refl)
+
+pub not_publisher : (made : Made) → ((h : Publisher) → made ≡ MadePublisher h → ⊥) → is_publisher_entry (entry_for made) ≡ false
+not_publisher Nothing other = refl
+not_publisher (MadePublisher h) other = absurd (other h refl)
+not_publisher (MadeSubscriber h) other = refl
+not_publisher (Unwritten h) other = refl
+not_publisher (Written h) other = refl
+not_publisher (Blocked h) other = refl
+not_publisher (MadeSample h) other = refl
 
 pub not_subscriber : (made : Made) → ((h : Subscriber) → made ≡ MadeSubscriber h → ⊥) → is_subscriber_entry (entry_for made) ≡ false
 not_subscriber Nothing other = refl

@@ -244,10 +244,13 @@ module _ {T U : Type 0} (s : State T U) where
       by (Some e) at = let v = handle_of e at in
           ap look v.1 ∙ each v.0 e v.2 (sym (ap (λ o. option_map_or kind o false) at) ∙ absent)
 
+    pub lacks_any_publisher : Lacks is_publisher_entry table of → publisher_at s handles of ≡ None
+    lacks_any_publisher absent =
+        lacks (λ (o : Option Handle). elim o [ Some (Publisher_handle p) ↦ option_map {U = ℕ × Publisher} (λ x. (p, x)) (s.publishers p) | _ ↦ None ]) refl is_publisher_entry no_publisher absent
+
     pub lacks_publisher : Lacks is_publisher_entry table of → unblocked_at s handles of ≡ None
     lacks_publisher absent =
-        ap (λ (o : Option (ℕ × Publisher)). option_and_then (λ named. cond (is_none named.1.blocked) (Some named) None) o)
-        (lacks (λ (o : Option Handle). elim o [ Some (Publisher_handle p) ↦ option_map {U = ℕ × Publisher} (λ x. (p, x)) (s.publishers p) | _ ↦ None ]) refl is_publisher_entry no_publisher absent)
+        ap (λ (o : Option (ℕ × Publisher)). option_and_then (λ named. cond (is_none named.1.blocked) (Some named) None) o) (lacks_any_publisher absent)
 
     pub lacks_subscriber : Lacks is_subscriber_entry table of → subscriber_at s handles of ≡ None
     lacks_subscriber absent =

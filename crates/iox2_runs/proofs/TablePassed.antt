@@ -4,7 +4,7 @@ use Rattle.std.proofs.lemmas.Bool.{cases_eq}
 use Rattle.std.proofs.lemmas.Option.{none-some, same_Some}
 use Rattle.std.specs.declared.time.Duration.{Duration}
 use Rattle.iox2_machine.specs.machine.Records.{Loan, Publisher, Subscriber, BlockedSend, Environment}
-use Rattle.iox2_machine.specs.machine.Sends.{Send, Retry, GiveUp, SendResult, Delivered_to, Blocked_send, Send_error}
+use Rattle.iox2_machine.specs.machine.Sends.{Send, Retry, GiveUp, SendResult, Delivered_to, Blocked_send, Send_error, SendToConnection}
 use Rattle.iox2_machine.specs.machine.SingleCalls.{HoldsBlocked}
 use Rattle.iox2_machine.specs.machine.State.{State}
 use Rattle.iox2_laws.proofs.PortsCome.{send_comes}
@@ -14,6 +14,7 @@ use Rattle.iox2_laws.proofs.Waits.{Waits, send_waits, retry_waits, give_up_waits
 use Rattle.iox2_commands.specs.Outcomes.{Handle, Blocked_handle}
 use Rattle.iox2_runs.specs.Tables.{IsUnblocked}
 use Rattle.iox2_runs.proofs.TableSteps.{PortsKeep, waits_still}
+use Rattle.iox2_laws.proofs.ConnectionSendsLeave.{send_to_connection_remains, send_to_connection_stays, send_to_connection_subscribers, send_to_connection_waits, send_to_connection_waits_with}
 
 -- two sends that the publisher waits with are one
 pub one_blocked : {T U : Type 0} (s : State T U) (p n k : ℕ) → HoldsBlocked s p n → HoldsBlocked s p k → k ≡ n
@@ -72,6 +73,31 @@ module _ {T U : Type 0} (environment : Environment) (s : State T U) where
     by : (r : SendResult) → Send environment s n l s' r → (k : ℕ) → HoldsBlocked s' l.publisher k → k ≡ n
     by (Delivered_to count) h k has = ended (Delivered_to count) h (λ e. let clash : Delivered_to count ≡ Blocked_send = e in absurd cc) k has
     by Blocked_send h k has = one_blocked s' l.publisher n k (send_waits_with environment s n l s' Blocked_send h refl) has
+    by (Send_error e) h k has = ended (Send_error e) h (λ is. let clash : Send_error e ≡ Blocked_send = is in absurd cc) k has
+
+  -- a send to one connection
+  pub connection_passes : (n : ℕ) (l : Loan T U) (channel place : ℕ) (s' : State T U) (result : SendResult) → l.publisher < s.next_port → IsUnblocked s l.publisher
+      → SendToConnection environment s n l channel place s' result → Passed l.publisher n s s'
+  connection_passes n l channel place s' result low free h = record {
+    remain = send_to_connection_remains environment s n l channel place s' result h;
+    subscribers = send_to_connection_subscribers environment s n l channel place s' result h;
+    waits = was result h;
+    before = λ k has. absurd (free_waits s l.publisher k free has);
+    after = λ k has. by result h k has;
+  } where
+    was : (r : SendResult) → SendToConnection environment s n l channel place s' r → Waits (λ i. i ≡ l.publisher) s s'
+    was r h = send_to_connection_waits environment s n l channel place s' r h (λ i. i ≡ l.publisher) refl
+
+    ended : (r : SendResult) → SendToConnection environment s n l channel place s' r → (r ≡ Blocked_send → ⊥) → (k : ℕ) → HoldsBlocked s' l.publisher k → k ≡ n
+    ended r h other k has =
+        let came = (was r h).publishers l.publisher has.0 low has.2 in
+        let stays = ((send_to_connection_stays environment s n l channel place s' r h other).remain).publishers l.publisher came.0 came.1 in
+        let same : stays.0 ≡ has.0 = same_Some stays.0 has.0 (sym stays.1 ∙ has.2) in
+        absurd (none-some has.1 (sym (ap (λ (x : Publisher). x.blocked) (sym same) ∙ stays.2 (free came.0 came.1)) ∙ has.3))
+
+    by : (r : SendResult) → SendToConnection environment s n l channel place s' r → (k : ℕ) → HoldsBlocked s' l.publisher k → k ≡ n
+    by (Delivered_to count) h k has = ended (Delivered_to count) h (λ e. let clash : Delivered_to count ≡ Blocked_send = e in absurd cc) k has
+    by Blocked_send h k has = one_blocked s' l.publisher n k (send_to_connection_waits_with environment s n l channel place s' Blocked_send h refl) has
     by (Send_error e) h k has = ended (Send_error e) h (λ is. let clash : Send_error e ≡ Blocked_send = is in absurd cc) k has
 
   module _ (p : ℕ) (x : Publisher) (b : BlockedSend) (stands : s.publishers p ≡ Some x) (waiting : x.blocked ≡ Some b) (s' : State T U) where

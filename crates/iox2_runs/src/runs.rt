@@ -17,6 +17,7 @@ ghost use Rattle.iox2_runs.specs.declared.runs.made.Made.TheVariants.{Nothing};
 
 mod cells;
 mod changes;
+mod channels;
 mod lends;
 mod made;
 mod ports;
@@ -30,6 +31,7 @@ mod spends;
 mod updates;
 
 use changes::{assume_init, set_payload, write_all, write_cell, write_header};
+use channels::{connection_place, publisher_channel, send_to_connection, subscriber_channel};
 use iox2_commands::{Command, Reply};
 use iox2_machine::{BackpressureFn, DegradationFn};
 use iox2_pubsub::Domain;
@@ -114,6 +116,15 @@ pub fn carry_out<
             of,
         ),
         Command::Send { of } => put_back(send(domain, take(table, of)), table, of),
+        Command::SendToConnection {
+            of,
+            channel,
+            connection,
+        } => put_back(
+            send_to_connection(domain, take(table, of), channel, connection),
+            table,
+            of,
+        ),
         Command::SendCopy { of, value } => put_back(
             send_copy(domain, take(table, of), value),
             table,
@@ -138,6 +149,26 @@ pub fn carry_out<
         ),
         Command::Release { of } => put_back(release(domain, take(table, of)), table, of),
         Command::Close { of } => put_back(close(domain, take(table, of)), table, of),
+        Command::ConnectionPlace { of, receiver } => put_back(
+            connection_place(domain, take(table, of), receiver),
+            table,
+            of,
+        ),
+        Command::PublisherChannel {
+            of,
+            channel,
+            connection,
+            call,
+        } => put_back(
+            publisher_channel(domain, take(table, of), channel, connection, call),
+            table,
+            of,
+        ),
+        Command::SubscriberChannel { of, channel, call } => put_back(
+            subscriber_channel(domain, take(table, of), channel, call),
+            table,
+            of,
+        ),
         Command::Nothing => (Reply::Done, Made::Nothing),
     }
 }

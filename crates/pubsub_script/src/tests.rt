@@ -90,14 +90,16 @@ skipped
 const RAISED: &[u8] = b"warning ExpiredBufferRaised\n";
 
 /// Scripts of one line.
-const DOMAINS_ALONE: [&[u8]; 3] = [
+const DOMAINS_ALONE: [&[u8]; 5] = [
     b"domain 1 1 1 1 0 0 keep\n",
     b"domain 1 1 1 1 0 0 keep",
     b"  domain   01 001 0 0 00 18446744073709551615 keep \r\n",
+    b"domain 1 1 1 1 0 0 keep channels 0\n",
+    b"slices 1 1 1 1 0 0 overflow  channels 18446744073709551615\n",
 ];
 
 /// Scripts whose first line makes no domain.
-const WITHOUT_A_DOMAIN: [&[u8]; 22] = [
+const WITHOUT_A_DOMAIN: [&[u8]; 27] = [
     b"",
     b"\n",
     b"  \n",
@@ -107,6 +109,11 @@ const WITHOUT_A_DOMAIN: [&[u8]; 22] = [
     b"domain 1 1 1 1 0 0\n",
     b"domain 1 1 1 1 0 keep\n",
     b"domain 1 1 1 1 0 0 keep 0\n",
+    b"domain 1 1 1 1 0 0 keep channels\n",
+    b"domain 1 1 1 1 0 0 keep channel 2\n",
+    b"domain 1 1 1 1 0 0 keep channels x\n",
+    b"domain 1 1 1 1 0 0 keep channels 2 2\n",
+    b"domain 1 1 1 1 0 0 channels 2 keep\n",
     b"domain 1 1 1 1 0 0 Keep\n",
     b"domain 1 1 1 1 0 0 keep overflow\n",
     b"domain 1 1 1 1 0 0 overflows\n",
@@ -123,7 +130,7 @@ const WITHOUT_A_DOMAIN: [&[u8]; 22] = [
 ];
 
 /// Lines that are no commands.
-const MALFORMED_LINES: [&[u8]; 69] = [
+const MALFORMED_LINES: [&[u8]; 86] = [
     b"",
     b"  ",
     b"nothing 1",
@@ -190,6 +197,23 @@ const MALFORMED_LINES: [&[u8]; 69] = [
     b"read 1 0 0",
     b"release",
     b"release 1 1",
+    b"deliver 1 0",
+    b"deliver 1 0 0 0",
+    b"deliver 1 0 x",
+    b"connection 1",
+    b"connection 1 -1",
+    b"connection 1 +1",
+    b"connection 1 1 1",
+    b"connection 1 340282366920938463463374607431768211456",
+    b"open 1 0",
+    b"open 1 0 0 0",
+    b"state 1 0",
+    b"state 1 0 0 0 0",
+    b"shut 1 0",
+    b"shut 1 0 0 18446744073709551616",
+    b"hint 1 0 0 0",
+    b"hinted 1 0 0",
+    b"hinted 1 0 x 0",
     // What later scripts may ask for.
     b"pub 1 wait",
     b"wait 1",
@@ -212,7 +236,7 @@ const MALFORMED: [&[u8]; 10] = [
 ];
 
 /// Scripts of one command, whose number names nothing.
-const NAMING_NOTHING: [&[u8]; 14] = [
+const NAMING_NOTHING: [&[u8]; 23] = [
     b"domain 1 1 1 1 0 0 keep\nloan 0",
     b"domain 1 1 1 1 0 0 keep\nloan 1\n",
     b"domain 1 1 1 1 0 0 keep\n  send   02 \n",
@@ -227,6 +251,15 @@ const NAMING_NOTHING: [&[u8]; 14] = [
     b"domain 1 1 1 1 0 0 keep\nhas 1",
     b"domain 1 1 1 1 0 0 keep\nupdate 1",
     b"domain 1 1 1 1 0 0 keep\nclose 1",
+    b"domain 1 1 1 1 0 0 keep\ndeliver 1 0 18446744073709551615",
+    b"domain 1 1 1 1 0 0 keep\nconnection 1 340282366920938463463374607431768211455",
+    b"domain 1 1 1 1 0 0 keep\nopen 0 0 18446744073709551615",
+    b"domain 1 1 1 1 0 0 keep\nstate 1 0 0",
+    b"domain 1 1 1 1 0 0 keep\nstate 1 0 0 0",
+    b"domain 1 1 1 1 0 0 keep\nshut 1 0 0",
+    b"domain 1 1 1 1 0 0 keep\nshut 1 0 0 0",
+    b"domain 1 1 1 1 0 0 keep\nhint 1 0 0",
+    b"domain 1 1 1 1 0 0 keep\nhinted 1 0 0 0",
 ];
 
 /// Asserts the status of each script, and what is printed of it.

@@ -1,5 +1,6 @@
 //! Commands that do what is wished.
 use crate::chance::Chance;
+use crate::channels::{channel_step, channel_step_on, send};
 use crate::moods::Wish;
 use crate::positions::{any, live, live_or_any};
 use iox2_commands::{Command, NewPublisher};
@@ -45,9 +46,10 @@ pub(crate) fn draw_command(
         Wish::CloseSubscriber => Command::Close {
             of: live_or_any(chance, model, Kind::Subscriber),
         },
+        Wish::Channel => channel_step(chance, model, config),
         Wish::Anything => {
             let of = any(chance, model);
-            anything(chance, model, of)
+            anything(chance, model, config, of)
         }
     }
 }
@@ -129,16 +131,16 @@ fn make_subscriber(chance: &mut Chance, config: &ServiceConfig) -> Command<u64, 
     }
 }
 
-// Where a send waits it goes on, each second time. Else a written loan is sent, an unwritten one is
-// written, and where there is none a loan is taken.
+// Where a send waits it goes on, each second time. Else a written loan is sent, to all or to one connection, an
+// unwritten one is written, and where there is none a loan is taken.
 fn message_step(chance: &mut Chance, model: &Model, config: &ServiceConfig) -> Command<u64, u64> {
     if chance.one_in(2) {
         if let Some(of) = live(chance, model, Kind::BlockedSend) {
             return go_on(chance, model, of);
         }
     }
-    if let Some(of) = live(chance, model, Kind::WrittenLoan) {
-        return Command::Send { of };
+    if let Some(command) = send(chance, model, config) {
+        return command;
     }
     if let Some(of) = live(chance, model, Kind::UnwrittenLoan) {
         return Command::WriteAll {
@@ -268,10 +270,15 @@ fn read(chance: &mut Chance, model: &Model) -> Command<u64, u64> {
 }
 
 // Any command on this position, except those that make ports.
-fn anything(chance: &mut Chance, model: &Model, of: usize) -> Command<u64, u64> {
+fn anything(
+    chance: &mut Chance,
+    model: &Model,
+    config: &ServiceConfig,
+    of: usize,
+) -> Command<u64, u64> {
     let value = chance.value();
     let at = cell(chance, model, of);
-    match chance.below(21) {
+    match chance.below(25) {
         0 => Command::Nothing,
         1 => Command::LoanUninit { of },
         2 => Command::Loan { of },
@@ -295,6 +302,7 @@ fn anything(chance: &mut Chance, model: &Model, of: usize) -> Command<u64, u64> 
         17 => Command::Read { of, at },
         18 => Command::ReadHeader { of },
         19 => Command::ReadUserHeader { of },
-        _ => Command::Release { of },
+        20 => Command::Release { of },
+        _ => channel_step_on(chance, model, config, of),
     }
 }

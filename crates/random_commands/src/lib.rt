@@ -4,6 +4,7 @@
 
 mod budget;
 mod chance;
+mod channels;
 mod commands;
 mod fewer;
 mod moods;

@@ -33,6 +33,8 @@ pub(crate) enum Wish {
     Update,
     ClosePublisher,
     CloseSubscriber,
+    // A channel is asked about or changed, or a loan is sent to one connection.
+    Channel,
     // Any command on any position.
     Anything,
 }
@@ -50,6 +52,9 @@ pub(crate) fn draw_mood(chance: &mut Chance) -> Mood {
 }
 
 pub(crate) fn draw_wish(chance: &mut Chance, mood: Mood) -> Wish {
+    if mood != Mood::Crowd && chance.below(14) < 3 {
+        return Wish::Channel;
+    }
     if chance.one_in(8) {
         return any_wish(chance);
     }

@@ -103,6 +103,7 @@ pub(crate) fn draw_config(chance: &mut Chance) -> ServiceConfig {
         subscriber_max_buffer_size: size(chance, sizes.buffer),
         subscriber_max_borrowed_samples: size(chance, sizes.borrowed),
         history_size: size(chance, sizes.history),
+        number_of_channels: chance.below(5).saturating_add(1),
         enable_safe_overflow: chance.one_in(2),
         subscriber_expired_connection_buffer: chance.up_to(sizes.expired),
         publisher_max_loaned_samples: 1,

@@ -14,6 +14,8 @@ pub(crate) enum Limit {
     Borrowed,
     History,
     Expired,
+    /// How many channels a connection has beside the first one.
+    FurtherChannels,
     /// The loans of the publisher, or the buffer of the subscriber, that the command at this position
     /// makes.
     Port(usize),
@@ -22,13 +24,14 @@ pub(crate) enum Limit {
 }
 
 /// The limits of settings.
-pub(crate) const LIMITS: [Limit; 6] = [
+pub(crate) const LIMITS: [Limit; 7] = [
     Limit::Publishers,
     Limit::Subscribers,
     Limit::Buffer,
     Limit::Borrowed,
     Limit::History,
     Limit::Expired,
+    Limit::FurtherChannels,
 ];
 
 impl Limit {
@@ -43,6 +46,7 @@ impl Limit {
             Limit::Borrowed => config.subscriber_max_borrowed_samples,
             Limit::History => config.history_size,
             Limit::Expired => config.subscriber_expired_connection_buffer,
+            Limit::FurtherChannels => config.number_of_channels.saturating_sub(1),
             Limit::Port(position) => script.commands.get(position).map_or(0, own_limit),
             Limit::Slots(position) => script.commands.get(position).map_or(0, own_slots),
         }
@@ -85,6 +89,7 @@ impl Limit {
             Limit::Borrowed => config.subscriber_max_borrowed_samples = value,
             Limit::History => config.history_size = value,
             Limit::Expired => config.subscriber_expired_connection_buffer = value,
+            Limit::FurtherChannels => config.number_of_channels = value.saturating_add(1),
             Limit::Port(_) | Limit::Slots(_) => {}
         }
         config

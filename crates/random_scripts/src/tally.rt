@@ -7,7 +7,7 @@ use iox2_pubsub::{
 use iox2_runs::{Command, Reply};
 
 // The kinds of replies that the words can give with ample memory.
-const KINDS: [&str; 34] = [
+const KINDS: [&str; 38] = [
     "Done",
     "Skipped",
     "PublisherMade",
@@ -42,22 +42,26 @@ const KINDS: [&str; 34] = [
     "Unwritten",
     "Header",
     "UserHeader",
+    "WereClosed(false)",
+    "WereClosed(true)",
+    "Place(None)",
+    "Place(Some)",
 ];
 
 // The position of the count of all other replies, which no command should have.
-const OTHER: usize = 34;
+const OTHER: usize = 38;
 
 /// How often each kind of reply was met.
 #[derive(Drop)]
 pub(crate) struct Tally {
-    counts: [u64; 35],
+    counts: [u64; 39],
     words: WordTally,
 }
 
 impl Tally {
     pub(crate) fn new() -> Tally {
         Tally {
-            counts: [0; 35],
+            counts: [0; 39],
             words: WordTally::new(),
         }
     }
@@ -143,6 +147,10 @@ fn kind_of_use(reply: &Reply<u64, u64>) -> usize {
         Reply::Unwritten => 31,
         Reply::Header(_) => 32,
         Reply::UserHeader(_) => 33,
+        Reply::WereClosed(false) => 34,
+        Reply::WereClosed(true) => 35,
+        Reply::Place(None) => 36,
+        Reply::Place(Some(_)) => 37,
         _ => OTHER,
     }
 }

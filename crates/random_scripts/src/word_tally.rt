@@ -1,9 +1,9 @@
 //! How often each word was carried out, and how often it was skipped.
 use crate::failure::Failure;
-use iox2_runs::{Command, Reply};
+use iox2_runs::{Command, PublisherChannelCall, Reply, SubscriberChannelCall};
 
 // The words that exist. Those of the first three are never skipped.
-const WORDS: [&str; 24] = [
+const WORDS: [&str; 33] = [
     "Nothing",
     "CreatePublisher",
     "CreateSubscriber",
@@ -28,6 +28,15 @@ const WORDS: [&str; 24] = [
     "ReadUserHeader",
     "Release",
     "Close",
+    "SendToConnection",
+    "ConnectionPlace",
+    "PublisherChannel HasState",
+    "PublisherChannel HasDisconnectHint",
+    "PublisherChannel Close",
+    "SubscriberChannel SetState",
+    "SubscriberChannel SomeHasState",
+    "SubscriberChannel Close",
+    "SubscriberChannel SetDisconnectHint",
 ];
 
 // How many words are never skipped.
@@ -36,15 +45,15 @@ const NEVER_SKIPPED: usize = 3;
 /// How often each word was carried out, and how often it was skipped.
 #[derive(Drop)]
 pub(crate) struct WordTally {
-    done: [u64; 24],
-    skipped: [u64; 24],
+    done: [u64; 33],
+    skipped: [u64; 33],
 }
 
 impl WordTally {
     pub(crate) fn new() -> WordTally {
         WordTally {
-            done: [0; 24],
-            skipped: [0; 24],
+            done: [0; 33],
+            skipped: [0; 33],
         }
     }
 
@@ -80,7 +89,7 @@ impl WordTally {
     }
 }
 
-fn count_up(counts: &mut [u64; 24], word: usize) {
+fn count_up(counts: &mut [u64; 33], word: usize) {
     if let Some(count) = counts.get_mut(word) {
         *count = count.saturating_add(1);
     }
@@ -129,5 +138,18 @@ fn position_of(command: &Command<u64, u64>) -> usize {
         Command::ReadUserHeader { .. } => 21,
         Command::Release { .. } => 22,
         Command::Close { .. } => 23,
+        Command::SendToConnection { .. } => 24,
+        Command::ConnectionPlace { .. } => 25,
+        Command::PublisherChannel { call, .. } => match call {
+            PublisherChannelCall::HasState { .. } => 26,
+            PublisherChannelCall::HasDisconnectHint { .. } => 27,
+            PublisherChannelCall::Close { .. } => 28,
+        },
+        Command::SubscriberChannel { call, .. } => match call {
+            SubscriberChannelCall::SetState { .. } => 29,
+            SubscriberChannelCall::SomeHasState { .. } => 30,
+            SubscriberChannelCall::Close { .. } => 31,
+            SubscriberChannelCall::SetDisconnectHint { .. } => 32,
+        },
     }
 }

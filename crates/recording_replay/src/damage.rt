@@ -19,7 +19,8 @@ pub(crate) fn try_damages(rt: &HostRuntime, count: u64, seed: u64) -> Result<(),
         tried = tried.saturating_add(try_cuts(rt, text.as_bytes())?);
     }
     println!(rt; "{count} recordings of seed {seed}, {tried} damaged texts: each is refused")?;
-    try_other_texts(rt)
+    try_other_texts(rt)?;
+    try_older_text(rt)
 }
 
 // Flips each bit of each byte, and returns how often.
@@ -63,6 +64,26 @@ fn missed(rt: &HostRuntime, place: usize, what: &str) -> Result<usize, Failure> 
 }
 
 const SETTINGS: &str = "service 1 1 1 1 discard static\ndomain 1 1 1 1 0 0 keep\n";
+
+// An older recording, whose second line has the number of channels.
+const OLDER: &str = "recording 1\n\
+    service 1 1 1 1 discard static 3\n\
+    domain 1 1 1 1 0 0 keep\n\
+    sub 1 = subscriber 1\n\
+    shut 1 2 0 = done\n\
+    shut 1 3 0 = skipped\n\
+    end 3 937f257acbf4a29e\n";
+
+// It is read, and replies the same.
+fn try_older_text(rt: &HostRuntime) -> Result<(), Failure> {
+    let older = load(rt.alloc(), OLDER.as_bytes())?;
+    let again = recorded(rt.alloc(), older.config, older.commands.as_slice())?;
+    if older.config.number_of_channels == 3 && older.replies == again.replies {
+        return Ok(());
+    }
+    println!(rt; "an older recording is read as another one")?;
+    Err(Failure::Refuted)
+}
 
 // Texts with faults of their own.
 fn try_other_texts(rt: &HostRuntime) -> Result<(), Failure> {

@@ -20,16 +20,20 @@ pub(crate) fn print_list(rt: &HostRuntime, number: u64, seed: u64) -> Result<(),
     Ok(())
 }
 
-/// Draws that many lists of a seed, of services with up to three channels a connection. Each is recorded,
-/// saved and loaded, and is the same then; its replay has the recorded replies; if one recorded reply is made
-/// another one, the replay differs there alone, and so does the shortest list; and if it promises reads, each
-/// is missed that is left out.
+/// Draws that many lists of a seed, each fourth of which says 0 channels. Each is recorded, saved and loaded,
+/// and is the same then; its replay has the recorded replies; if one recorded reply is made another one, the
+/// replay differs there alone, and so does the shortest list; and if it promises reads, each is missed that is
+/// left out.
 pub(crate) fn try_random_lists(rt: &HostRuntime, count: u64, seed: u64) -> Result<(), Failure> {
     let mut commands = 0usize;
     for number in 0..count {
         let script = draw_script(rt.alloc(), seed, number, MOST_COMMANDS)?;
+        let channels = match number % 4 {
+            0 => 0,
+            _ => script.config.number_of_channels,
+        };
         let config = ServiceConfig {
-            number_of_channels: (number % 4) as usize,
+            number_of_channels: channels,
             ..script.config
         };
         let recording = recorded(rt.alloc(), config, script.commands.as_slice())?;

@@ -1,5 +1,5 @@
 //! Settings and commands as lines.
-use iox2_commands::{Command, NewPublisher};
+use iox2_commands::{Command, NewPublisher, PublisherChannelCall, SubscriberChannelCall};
 use iox2_machine::{
     AllocationStrategy, BackpressureAction, BackpressureStrategy, DegradationAction, ServiceConfig,
     TypeVariant,
@@ -43,7 +43,11 @@ pub(crate) fn push_domain(text: &mut String, config: &ServiceConfig) -> Result<(
     write!(
         text,
         "{kind} {publishers} {subscribers} {buffer} {borrowed} {history} {expired} {mode}"
-    )
+    )?;
+    match config.number_of_channels {
+        1 => Ok(()),
+        channels => write!(text, " channels {channels}"),
+    }
 }
 
 // The line of a recording with the settings for which a script has no words.
@@ -57,11 +61,7 @@ pub(crate) fn push_service(text: &mut String, config: &ServiceConfig) -> Result<
     write!(
         text,
         "service {service} {node} {units} {loans} {strategy} {allocation}"
-    )?;
-    match config.number_of_channels {
-        1 => Ok(()),
-        channels => write!(text, " {channels}"),
-    }
+    )
 }
 
 /// Adds the line of a script that asks for the command, without its end: the shortest one.
@@ -139,7 +139,53 @@ fn push_call(text: &mut String, command: &Command<u64, u64>) -> Result<(), Alloc
         Command::ReadUserHeader { of } => push_use(text, "user", of),
         Command::Release { of } => push_use(text, "release", of),
         Command::Close { of } => push_use(text, "close", of),
+        _ => push_channel_call(text, command),
+    }
+}
+
+// The same for a command on a channel or a connection.
+fn push_channel_call(text: &mut String, command: &Command<u64, u64>) -> Result<(), AllocError> {
+    match *command {
+        Command::SendToConnection {
+            of,
+            channel,
+            connection,
+        } => write!(text, "deliver {} {channel} {connection}", number(of)),
+        Command::ConnectionPlace { of, receiver } => {
+            write!(text, "connection {} {receiver}", number(of))
+        }
+        Command::PublisherChannel {
+            of,
+            channel,
+            connection,
+            call,
+        } => {
+            let (word, state) = publisher_call(call);
+            write!(text, "{word} {} {channel} {connection} {state}", number(of))
+        }
+        Command::SubscriberChannel { of, channel, call } => {
+            let (word, state) = subscriber_call(call);
+            write!(text, "{word} {} {channel} {state}", number(of))
+        }
         _ => Ok(()),
+    }
+}
+
+// The word of a call, and the state that it names.
+fn publisher_call(call: PublisherChannelCall) -> (&'static str, u64) {
+    match call {
+        PublisherChannelCall::HasState { state } => ("state", state),
+        PublisherChannelCall::HasDisconnectHint { state } => ("hinted", state),
+        PublisherChannelCall::Close { expected } => ("shut", expected),
+    }
+}
+
+fn subscriber_call(call: SubscriberChannelCall) -> (&'static str, u64) {
+    match call {
+        SubscriberChannelCall::SetState { state } => ("open", state),
+        SubscriberChannelCall::SomeHasState { state } => ("state", state),
+        SubscriberChannelCall::Close { expected } => ("shut", expected),
+        SubscriberChannelCall::SetDisconnectHint { expected } => ("hint", expected),
     }
 }
 

@@ -144,8 +144,8 @@ fn reads_of(line: &str) -> Option<(&str, usize)> {
     }
 }
 
-// Settings for which a script has no words: `service ID NODE UNITS LOANS STRATEGY MEMORY`, and how many
-// channels a connection has, where that isn't 1.
+// Settings for which a script has no words: `service ID NODE UNITS LOANS STRATEGY MEMORY`, and in older
+// recordings how many channels a connection has, where that isn't 1.
 fn service_of(line: &str) -> Option<ServiceConfig> {
     let mut words = line.split(' ');
     if words.next()? != "service" {
@@ -186,6 +186,10 @@ fn service_of(line: &str) -> Option<ServiceConfig> {
 
 // The settings of the service with those of the domain's line.
 fn with_domain(service: ServiceConfig, domain: ServiceConfig) -> ServiceConfig {
+    let number_of_channels = match domain.number_of_channels {
+        1 => service.number_of_channels,
+        channels => channels,
+    };
     ServiceConfig {
         service_id: service.service_id,
         node_id: service.node_id,
@@ -193,7 +197,7 @@ fn with_domain(service: ServiceConfig, domain: ServiceConfig) -> ServiceConfig {
         publisher_max_loaned_samples: service.publisher_max_loaned_samples,
         backpressure_strategy: service.backpressure_strategy,
         publisher_allocation_strategy: service.publisher_allocation_strategy,
-        number_of_channels: service.number_of_channels,
+        number_of_channels,
         ..domain
     }
 }

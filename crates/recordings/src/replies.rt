@@ -16,6 +16,7 @@ pub fn push_reply(text: &mut String, reply: &Reply<u64, u64>) -> Result<(), Allo
         Reply::SubscriberMade(id) => write!(text, "subscriber {}", id.value()),
         Reply::Delivered(count) => write!(text, "delivered {count}"),
         Reply::Sample(origin) => write!(text, "sample {}", origin.value()),
+        Reply::Place(Some(place)) => write!(text, "place {place}"),
         Reply::Cell(Some(value)) => write!(text, "value {value}"),
         Reply::Header(header) => {
             let node = header.node_id.value();
@@ -39,6 +40,9 @@ fn word_of(reply: &Reply<u64, u64>) -> &'static str {
         Reply::NoSample => "none",
         Reply::Has(true) => "true",
         Reply::Has(false) => "false",
+        Reply::WereClosed(true) => "all were closed",
+        Reply::WereClosed(false) => "not all were closed",
+        Reply::Place(None) => "no place",
         Reply::Cell(None) => "empty",
         _ => "other",
     }

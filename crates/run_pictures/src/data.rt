@@ -67,6 +67,9 @@ fn push_stay(page: &mut Drawing, index: usize, stay: Stay, port: Option<usize>) 
     push_time(page, stay.turn);
     page.text(",");
     push_time(page, stay.to);
+    if port.is_some() {
+        page.counted(",", stay.channel, "");
+    }
     page.text("]");
 }
 

@@ -190,7 +190,9 @@ impl Folded {
         for mark in story.marks.iter() {
             match mark.kind {
                 MarkKind::Refused => self.add(What::Refused, mark.port, mark.at, mark.at),
-                MarkKind::Discarded => self.add(What::Lost, mark.port, mark.at, mark.at),
+                MarkKind::Discarded | MarkKind::PassedOver => {
+                    self.add(What::Lost, mark.port, mark.at, mark.at)
+                }
                 _ => {}
             }
         }

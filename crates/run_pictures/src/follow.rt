@@ -3,7 +3,7 @@ use crate::failure::Failure;
 use crate::holders::Holders;
 use crate::mailboxes::Mailboxes;
 use crate::story::{End, Mark, MarkKind, Point, Port, Stay, Story};
-use iox2_commands::{Command, Reply};
+use iox2_commands::{Command, PublisherChannelCall, Reply, SubscriberChannelCall};
 use iox2_machine::UniquePublisherId;
 use iox2_model::{Memory, Model, Thing};
 use recordings::{Recording, push_command, push_reply};
@@ -26,8 +26,18 @@ struct Follower {
     story: Story,
     mailboxes: Mailboxes,
     holders: Holders,
+    // Of the messages that were sent to one connection.
+    aims: Vec<Aim>,
     // By id, the history that a publisher had after its last command.
     histories: Vec<Vec<usize>>,
+}
+
+// The one subscriber to which a message was sent, if there is one, and the channel.
+#[derive(Clone, Copy)]
+struct Aim {
+    message: usize,
+    subscriber: Option<usize>,
+    channel: usize,
 }
 
 // Whom a command is on: the publisher and the subscriber are 0 where there are none.
@@ -60,6 +70,7 @@ impl Follower {
             },
             mailboxes: Mailboxes::new(alloc),
             holders: Holders::new(alloc),
+            aims: Vec::new(alloc),
             histories: Vec::new(alloc),
         })
     }
@@ -78,6 +89,7 @@ impl Follower {
         self.note_texts(alloc, &command, &reply, recorded, object)?;
         self.note_made(at)?;
         self.note_loan(at, command, &reply, object, messages)?;
+        self.note_aim(command, &reply, object)?;
         self.note_marks(at, command, &reply, object)?;
         self.follow_mailboxes(at, command, object)?;
         self.note_discards(at, &reply, object, messages)?;
@@ -215,6 +227,30 @@ impl Follower {
         Ok(())
     }
 
+    // Where a loan was sent to one connection.
+    fn note_aim(
+        &mut self,
+        command: Command<u64, u64>,
+        reply: &Reply<u64, u64>,
+        object: Object,
+    ) -> Result<(), Failure> {
+        if let Command::SendToConnection {
+            channel,
+            connection,
+            ..
+        } = command
+        {
+            if *reply != Reply::Skipped {
+                self.aims.push(Aim {
+                    message: object.message,
+                    subscriber: self.model.receiver_at(object.publisher, connection),
+                    channel,
+                })?;
+            }
+        }
+        Ok(())
+    }
+
     fn take_loan(&mut self, at: usize, publisher: usize, message: usize) -> Result<(), Failure> {
         self.holders.hold(message)?;
         let loan = Stay::new(message, publisher, publisher, at);
@@ -263,8 +299,10 @@ impl Follower {
             | Reply::ReceiveRefused(_) => self.mark(at, port, MarkKind::Refused),
             Reply::Done => match command {
                 Command::Close { .. } => self.close_port(at, object),
+                _ if changes_channel(command) => self.mark(at, port, MarkKind::Channel),
                 _ => Ok(()),
             },
+            Reply::WereClosed(_) => self.mark(at, port, MarkKind::Channel),
             _ => Ok(()),
         }
     }
@@ -301,6 +339,7 @@ impl Follower {
     ) -> Result<(), Failure> {
         let sends = match command {
             Command::Send { .. }
+            | Command::SendToConnection { .. }
             | Command::SendCopy { .. }
             | Command::Retry { .. }
             | Command::GiveUp { .. } => true,
@@ -353,12 +392,24 @@ impl Follower {
             return Ok(());
         }
         let since = self.first_sent(at, message);
+        let aim = self.aims.iter().find(|aim| aim.message == message).copied();
         for subscriber in 1..self.model.port_count() {
-            if self.misses(object.publisher, subscriber, message, since) {
-                self.mark(at, subscriber, MarkKind::Discarded)?;
+            let is_aimed_at = aim.is_none_or(|aim| aim.subscriber == Some(subscriber));
+            if is_aimed_at && self.misses(object.publisher, subscriber, message, since) {
+                let channel = aim.map_or(0, |aim| aim.channel);
+                let kind = self.why_missed(object.publisher, subscriber, channel);
+                self.mark(at, subscriber, kind)?;
             }
         }
         Ok(())
+    }
+
+    fn why_missed(&self, publisher: usize, subscriber: usize, channel: usize) -> MarkKind {
+        if self.model.is_closed(publisher, subscriber, channel) {
+            MarkKind::PassedOver
+        } else {
+            MarkKind::Discarded
+        }
     }
 
     // Whether a connected subscriber hasn't got the message since then.
@@ -421,6 +472,21 @@ fn given(recorded: &str) -> Option<Reply<u64, u64>> {
     match origin.parse::<u128>() {
         Ok(origin) => Some(Reply::Sample(UniquePublisherId::new(origin))),
         Err(_) => None,
+    }
+}
+
+// Whether a command that was done changes channels.
+fn changes_channel(command: Command<u64, u64>) -> bool {
+    match command {
+        Command::PublisherChannel { call, .. } => match call {
+            PublisherChannelCall::Close { .. } => true,
+            _ => false,
+        },
+        Command::SubscriberChannel { call, .. } => match call {
+            SubscriberChannelCall::SomeHasState { .. } => false,
+            _ => true,
+        },
+        _ => false,
     }
 }
 

@@ -2,15 +2,34 @@
 use crate::canvas::{Place, label, line, rect};
 use crate::drawing::Drawing;
 use crate::marks::{push_lost, push_mark};
-use crate::story::MarkKind;
+use crate::story::{MarkKind, Story};
 
 /// How high the legend is.
 pub(crate) const HEIGHT: usize = 74;
 
 const COLOR: &str = "#0072B2";
 
-/// Draws the legend of bars and marks below a height.
-pub(crate) fn push_legend(svg: &mut Drawing, y: usize) {
+/// Draws the legend of bars and marks below a height; of channels where the run has something to do with them.
+pub(crate) fn push_legend(svg: &mut Drawing, story: &Story, y: usize) {
+    let below = y.saturating_add(54);
+    if has_mark(story, MarkKind::Channel) {
+        push_sign(
+            svg,
+            16,
+            below,
+            MarkKind::Channel,
+            "channel closed, opened or hinted",
+        );
+    }
+    if has_mark(story, MarkKind::PassedOver) {
+        push_sign(
+            svg,
+            242,
+            below,
+            MarkKind::PassedOver,
+            "not delivered: channel closed",
+        );
+    }
     push_bar(svg, 8, y, "lent", "lent");
     push_bar(svg, 84, y, "blocked", "send blocked");
     push_bar(svg, 206, y, "waits", "waits for the subscriber");
@@ -40,6 +59,10 @@ pub(crate) fn push_legend(svg: &mut Drawing, y: usize) {
         "note",
         "Each publisher's messages have one color; #3 = 7 is message 3 with the value 7.",
     )
+}
+
+fn has_mark(story: &Story, kind: MarkKind) -> bool {
+    story.marks.iter().any(|mark| mark.kind == kind)
 }
 
 fn push_bar(svg: &mut Drawing, x: usize, y: usize, class: &str, text: &str) {

@@ -75,7 +75,9 @@ impl Mailboxes {
         visits: &mut Vec<Stay>,
         holders: &mut Holders,
     ) -> Result<(), Failure> {
-        if !self.is_used(publisher, subscriber) && model.waiting(publisher, subscriber).is_empty() {
+        let is_empty = model.waiting(publisher, subscriber).is_empty()
+            && model.elsewhere(publisher, subscriber).is_empty();
+        if !self.is_used(publisher, subscriber) && is_empty {
             return Ok(());
         }
         let before = self.take(publisher, subscriber)?;
@@ -90,22 +92,40 @@ impl Mailboxes {
             }
         }
         for message in model.waiting(publisher, subscriber) {
-            if !has_message(now.as_slice(), visits.as_slice(), *message) {
-                now.push(visits.len())?;
-                holders.hold(*message)?;
-                self.waiting = self.waiting.saturating_add(1);
-                visits.push(Stay::new(*message, publisher, subscriber, at))?;
-            }
+            let visit = Stay::new(*message, publisher, subscriber, at);
+            self.note(&mut now, visit, visits, holders)?;
+        }
+        for it in model.elsewhere(publisher, subscriber) {
+            let visit = Stay {
+                channel: it.channel,
+                ..Stay::new(it.message, publisher, subscriber, at)
+            };
+            self.note(&mut now, visit, visits, holders)?;
         }
         self.put(publisher, subscriber, now);
         Ok(())
     }
 
+    // Notes the visit of a message that waits, if it is new.
+    fn note(
+        &mut self,
+        now: &mut Vec<usize>,
+        visit: Stay,
+        visits: &mut Vec<Stay>,
+        holders: &mut Holders,
+    ) -> Result<(), Failure> {
+        if !has_message(now.as_slice(), visits.as_slice(), visit.message) {
+            now.push(visits.len())?;
+            holders.hold(visit.message)?;
+            self.waiting = self.waiting.saturating_add(1);
+            visits.push(visit)?;
+        }
+        Ok(())
+    }
+
     // Follows one message, and returns whether it is in the mailbox still.
     fn goes_on(&mut self, model: &Model, at: usize, sends: bool, visit: &mut Stay) -> bool {
-        let waits = model
-            .waiting(visit.publisher, visit.port)
-            .contains(&visit.message);
+        let waits = waits_there(model, visit);
         let is_borrowed = model
             .borrowed(visit.publisher, visit.port)
             .contains(&visit.message);
@@ -132,6 +152,13 @@ impl Mailboxes {
         };
         false
     }
+}
+
+// Whether the message of the visit waits in its channel.
+fn waits_there(model: &Model, visit: &Stay) -> bool {
+    let waiting = model.waiting(visit.publisher, visit.port);
+    let elsewhere = model.elsewhere(visit.publisher, visit.port);
+    waiting.contains(&visit.message) || elsewhere.iter().any(|it| it.message == visit.message)
 }
 
 // Whether one of these visits is that of the message.

@@ -33,6 +33,14 @@ fn shape_of(kind: MarkKind) -> (&'static str, &'static str) {
             "M-5 -4h10l-5 9z",
             "stroke=\"#000\" stroke-width=\"1.2\" fill=\"#fff\"",
         ),
+        MarkKind::PassedOver => (
+            "M-5 -4h10l-5 9z",
+            "stroke=\"#000\" stroke-width=\"1.2\" stroke-dasharray=\"2 1.5\" fill=\"#fff\"",
+        ),
+        MarkKind::Channel => (
+            "M-5 -4v8M5 -4v8M-5 0h10",
+            "stroke=\"#0072B2\" stroke-width=\"1.6\" fill=\"none\"",
+        ),
         MarkKind::Closed => ("M-1.5 -7h3v14h-3z", "stroke=\"none\" fill=\"#000\""),
         MarkKind::Expired => (
             "M-4 -4h8v8h-8z",
@@ -60,6 +68,8 @@ pub(crate) fn mark_text(kind: MarkKind) -> &'static str {
         MarkKind::Skipped => "call skipped: it names nothing fitting",
         MarkKind::Blocked => "send waits for a full subscriber",
         MarkKind::Discarded => "not delivered to this full subscriber",
+        MarkKind::PassedOver => "not delivered into this subscriber's closed channel",
+        MarkKind::Channel => "channel closed, opened or hinted",
         MarkKind::Closed => "port closed",
         MarkKind::Expired => "keeps the connection of a closed publisher",
         MarkKind::OtherReply => "the recording has another reply",

@@ -78,7 +78,7 @@ function showPublisher(div, id, t) {\n\
 function showSubscriber(div, id, t) {\n\
   const there = run.visits.filter(v => v[2] === id && at(v[3], v[5], t));\n\
   const waits = there.filter(v => v[4] === null || t < v[4]), held = there.filter(v => v[4] !== null && v[4] <= t);\n\
-  const name = v => message(v[0]) + ' of publisher ' + v[1];\n\
+  const name = v => message(v[0]) + ' of publisher ' + v[1] + (v[6] ? ' in channel ' + v[6] : '');\n\
   if (waits.length) add(div, 'p', 'wait: ' + list(waits.map(name)));\n\
   if (held.length) add(div, 'p', 'received: ' + list(held.map(name)));\n\
 }\n\

@@ -29,7 +29,7 @@ pub(crate) fn picture(alloc: Global, story: &Story) -> Result<String, Failure> {
     let width = scale.right().saturating_add(30).max(880);
     let mut svg = Drawing::new(alloc);
     push_head(&mut svg, width, height);
-    push_legend(&mut svg, 14);
+    push_legend(&mut svg, story, 14);
     let ground = Ground {
         alloc,
         scale,
@@ -185,6 +185,9 @@ fn visit_text(alloc: Global, story: &Story, visit: &Stay) -> Drawing {
     let mut text = message_text(alloc, story, visit.message);
     text.counted(" of publisher ", visit.publisher, "");
     text.counted(" at subscriber ", visit.port, "");
+    if visit.channel > 0 {
+        text.counted(", channel ", visit.channel, "");
+    }
     text.command(": there since command ", visit.from);
     say_rest(&mut text, visit, ", received by ");
     text

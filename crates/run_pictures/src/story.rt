@@ -35,6 +35,8 @@ pub(crate) struct Stay {
     pub(crate) publisher: usize,
     /// The publisher that lent it, or the subscriber of the mailbox.
     pub(crate) port: usize,
+    /// Of the mailbox, in which it waits.
+    pub(crate) channel: usize,
     pub(crate) from: usize,
     /// When its send was blocked first, or when it was received, if it was.
     pub(crate) turn: Option<usize>,
@@ -48,6 +50,7 @@ impl Stay {
             message,
             publisher,
             port,
+            channel: 0,
             from,
             turn: None,
             to: None,
@@ -67,6 +70,10 @@ pub(crate) enum MarkKind {
     Blocked,
     /// A message wasn't delivered to a full subscriber.
     Discarded,
+    /// A message wasn't delivered into a closed channel.
+    PassedOver,
+    /// A channel was closed, brought into another state or hinted.
+    Channel,
     /// The port was closed.
     Closed,
     /// A publisher was closed, and the subscriber keeps its connection.

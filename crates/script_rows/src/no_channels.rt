@@ -5,13 +5,16 @@ use iox2_runs::run;
 use script_text::{Script, reply_lines};
 use std::alloc::Global;
 
-/// The lines of the replies to a script where the settings say 0 channels, which counts as 1: no word of
-/// a script says so. `None` where the script isn't run.
+/// The lines of the replies to a script where the settings say 0 channels in place of 1, which is the same.
+/// `None` where the script isn't run.
 pub(crate) fn replies_without_channels(alloc: Global, text: &str) -> Option<String> {
     let script = Script::parse(alloc, text.as_bytes()).ok()?;
-    let config = ServiceConfig {
-        number_of_channels: 0,
-        ..script.config
+    let config = match script.config.number_of_channels {
+        1 => ServiceConfig {
+            number_of_channels: 0,
+            ..script.config
+        },
+        _ => script.config,
     };
     let mut domain = Domain::new(alloc, config).ok()?;
     let replies = run(alloc, &mut domain, script.commands).ok()?;

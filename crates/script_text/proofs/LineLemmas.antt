@@ -34,9 +34,9 @@ pub domain-refused : (line : List ℕ) (words : List (Bor (List ℕ))) (result :
 domain-refused line words None same refused = λ config named. refused config (subst (λ z. IsDomainLine z config) (sym (words_in-line line words same)) named.1)
 domain-refused line words (Some found) same refused = tt
 
--- A text with more than 8 words names no settings, nor does what isn't text.
-pub domain-long : (line : List ℕ) → (IsUtf8 line → 8 < length (line_words line)) → (config : ServiceConfig) → ¬ NamesDomain line config
-domain-long line long config named = omega (arith, long named.0, (named.1).count)
+-- A text with more than 10 words names no settings, nor does what isn't text.
+pub domain-long : (line : List ℕ) → (IsUtf8 line → 10 < length (line_words line)) → (config : ServiceConfig) → ¬ NamesDomain line config
+domain-long line long config named = elim (named.1).says [ inl short ↦ omega (arith, long named.0, short.0) | inr full ↦ omega (arith, long named.0, full.0) ]
 
 -- What the words name, the line names.
 pub command-named : (line : List ℕ) (words : List (Bor (List ℕ))) (result : Option (Command ℕ ℕ)) → IsUtf8 line → texts words ≡ line_words line
@@ -50,15 +50,17 @@ pub command-refused : (line : List ℕ) (words : List (Bor (List ℕ))) (result 
 command-refused line words None same refused = λ c named. refused c (subst (λ z. IsCommandLine z c) (sym (words_in-line line words same)) named.1)
 command-refused line words (Some found) same refused = tt
 
--- More than 8 words name no command.
-pub words-long : (words : Words) → 8 < words.count → (c : Command ℕ ℕ) → ¬ IsCommandLine words c
+-- More than 10 words name no command.
+pub words-long : (words : Words) → 10 < words.count → (c : Command ℕ ℕ) → ¬ IsCommandLine words c
 words-long words long command.Nothing names = omega (arith, long, names.0)
 words-long words long (command.CreatePublisher a) names = elim names.3 [ inl short ↦ omega (arith, long, short.0) | inr full ↦ omega (arith, long, full.0) ]
 words-long words long (command.CreateSubscriber a b) names = elim names.2 [ inl short ↦ omega (arith, long, short.0) | inr full ↦ omega (arith, long, full.0) ]
 words-long words long (command.Retry a b) names = elim names.2 [ inl short ↦ omega (arith, long, short.0) | inr full ↦ omega (arith, long, full.0) ]
 words-long words long (command.Read a b) names = elim names.2 [ inl short ↦ omega (arith, long, short.0) | inr full ↦ omega (arith, long, full.0) ]
+words-long words long (command.SubscriberChannel a b d) names = omega (arith, long, names.0)
+words-long words long (command.PublisherChannel a b d e) names = omega (arith, long, names.0)
 words-long words long c names = omega (arith, long, names.0.0)
 
--- A text with more than 8 words names no command, nor does what isn't text.
-pub command-long : (line : List ℕ) → (IsUtf8 line → 8 < length (line_words line)) → (c : Command ℕ ℕ) → ¬ NamesCommand line c
+-- A text with more than 10 words names no command, nor does what isn't text.
+pub command-long : (line : List ℕ) → (IsUtf8 line → 10 < length (line_words line)) → (c : Command ℕ ℕ) → ¬ NamesCommand line c
 command-long line long c named = words-long (words_of (line_words line)) (long named.0) c named.1

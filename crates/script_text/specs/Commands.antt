@@ -3,7 +3,8 @@ use Rattle.std.specs.Prelude.{ℕ, List, Bool, Option, codes, Some, None, ◌≡
 use Rattle.std.specs.Duration.{as_nanos}
 use Rattle.std.specs.declared.time.Duration.{Duration}
 use Rattle.std.specs.Str.{IsUtf8}
-use Rattle.script_text.specs.Numbers.{IsNumber, value_of, position_of}
+use Rattle.script_text.specs.Calls.{IsPublisherCall, IsSubscriberCall}
+use Rattle.script_text.specs.Numbers.{IsId, IsNumber, value_of, position_of}
 use Rattle.script_text.specs.Words.{Words, line_words, words_of}
 use Rattle.iox2_machine.specs.declared.service_config.ServiceConfig.{ServiceConfig}
 use Rattle.iox2_machine.specs.declared.service_config.TypeVariant.{TypeVariant}
@@ -23,8 +24,8 @@ use Rattle.iox2_commands.specs.declared.command.Command.{Command}
 use Rattle.iox2_commands.specs.declared.command.Command.TheVariants as command
 
 -- The settings that a domain line names.
-abbrev pub script_config : (variant : TypeVariant) (publishers subscribers buffer borrowed history expired : ℕ) (overflow : Bool) → ServiceConfig
-script_config variant publishers subscribers buffer borrowed history expired overflow = record {
+abbrev pub script_config : (variant : TypeVariant) (publishers subscribers buffer borrowed history expired channels : ℕ) (overflow : Bool) → ServiceConfig
+script_config variant publishers subscribers buffer borrowed history expired channels overflow = record {
   service_id = 1;
   node_id = 1;
   variant = variant;
@@ -35,7 +36,7 @@ script_config variant publishers subscribers buffer borrowed history expired ove
   subscriber_max_buffer_size = buffer;
   subscriber_max_borrowed_samples = borrowed;
   history_size = history;
-  number_of_channels = 1;
+  number_of_channels = channels;
   enable_safe_overflow = overflow;
   subscriber_expired_connection_buffer = expired;
   publisher_max_loaned_samples = 1;
@@ -50,6 +51,10 @@ HasForm words name count = (words.count ≡ count) × (words.word 0 ≡ name)
 -- The word at this position is the number.
 abbrev pub IsNumberAt : Words → ℕ → ℕ → Type 0
 IsNumberAt words i number = IsNumber (words.word i) × (number ≡ value_of (words.word i))
+
+-- The word at this position is the id of a port.
+abbrev pub IsIdAt : Words → ℕ → ℕ → Type 0
+IsIdAt words i id = IsId (words.word i) × (id ≡ value_of (words.word i))
 
 -- The word at this position is the number of a command, counted from 1, whose position is counted from 0.
 abbrev pub IsNameAt : Words → ℕ → ℕ → Type 0
@@ -95,9 +100,16 @@ abbrev pub IsSizeOrMost : List ℕ → Option ℕ → Type 0
 IsSizeOrMost word None = word ≡ codes "most"
 IsSizeOrMost word (Some size) = IsNumber word × (size ≡ value_of word)
 
--- `domain P S B R H E overflow` or `.. keep` names the settings with P, S, B, R, H and E, and so does `slices ..`.
+-- A connection has one channel where a domain line has eight words. `.. channels C` behind these: it has C channels.
+abbrev pub SaysChannels : Words → (channels : ℕ) → Type 0
+SaysChannels words channels =
+    (words.count ≡ 8) × (channels ≡ 1) ⊎ (words.count ≡ 10) × (words.word 8 ≡ codes "channels") × IsNumberAt words 9 channels
+
+-- `domain P S B R H E overflow` or `.. keep` names the settings with P, S, B, R, H and E, and so does `slices ..`; the number of channels
+-- may follow.
 pub record IsDomainLine (words : Words) (config : ServiceConfig) : Type 0 where
-  pub count : words.count ≡ 8
+  pub channels : ℕ
+  pub says : SaysChannels words channels
   pub variant : TypeVariant
   pub kind : IsKind (words.word 0) variant
   pub publishers : IsNumber (words.word 1)
@@ -108,7 +120,7 @@ pub record IsDomainLine (words : Words) (config : ServiceConfig) : Type 0 where
   pub expired : IsNumber (words.word 6)
   pub overflow : Bool
   pub mode : IsMode (words.word 7) overflow
-  pub settings : config ≡ script_config variant (value_of (words.word 1)) (value_of (words.word 2)) (value_of (words.word 3)) (value_of (words.word 4)) (value_of (words.word 5)) (value_of (words.word 6)) overflow
+  pub settings : config ≡ script_config variant (value_of (words.word 1)) (value_of (words.word 2)) (value_of (words.word 3)) (value_of (words.word 4)) (value_of (words.word 5)) (value_of (words.word 6)) channels overflow
 
 -- `pub L retry` or `.. discard`: a publisher with L loans and this strategy, whose memory is static. With five words
 -- more: how its memory grows, the length of a slice that its first slots hold, the number of its slots, and its
@@ -167,6 +179,17 @@ IsCommandLine words (command.Update of) = HasForm words (codes "update") 2 × Is
 IsCommandLine words (command.Receive of) = HasForm words (codes "recv") 2 × IsNameAt words 1 of
 IsCommandLine words (command.HasSamples of) = HasForm words (codes "has") 2 × IsNameAt words 1 of
 IsCommandLine words (command.Close of) = HasForm words (codes "close") 2 × IsNameAt words 1 of
+-- `deliver N C K`: loan N is sent into channel C of its publisher's connection K alone. `connection N Q`: the place of publisher N's
+-- connection to the subscriber with the id Q.
+IsCommandLine words (command.SendToConnection of channel connection) =
+    HasForm words (codes "deliver") 4 × IsNameAt words 1 of × IsNumberAt words 2 channel × IsNumberAt words 3 connection
+IsCommandLine words (command.ConnectionPlace of receiver) = HasForm words (codes "connection") 3 × IsNameAt words 1 of × IsIdAt words 2 receiver
+-- Calls on a channel: `.. N C V` of all connections of subscriber N, and `.. N C K V` of publisher N's connection K.
+IsCommandLine words (command.SubscriberChannel of channel call) =
+    (words.count ≡ 4) × IsNameAt words 1 of × IsNumberAt words 2 channel × IsNumber (words.word 3) × IsSubscriberCall (words.word 0) (value_of (words.word 3)) call
+IsCommandLine words (command.PublisherChannel of channel connection call) =
+    (words.count ≡ 5) × IsNameAt words 1 of × IsNumberAt words 2 channel × IsNumberAt words 3 connection × IsNumber (words.word 4)
+    × IsPublisherCall (words.word 0) (value_of (words.word 4)) call
 -- `read ..`, `header N`, `user N`, `release N`: calls of a sample; all except the last of a loan too.
 IsCommandLine words (command.Read of at) = IsReadLine words of at
 IsCommandLine words (command.ReadHeader of) = HasForm words (codes "header") 2 × IsNameAt words 1 of

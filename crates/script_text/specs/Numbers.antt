@@ -6,7 +6,11 @@ use Rattle.std.specs.Str.Parse.{IsNumeral, digits_value}
 abbrev pub IsNumber : List ℕ → Type 0
 IsNumber word = IsNumeral 10 word × (digits_value 10 word < 2 ^ 64)
 
--- The value of a number.
+-- A word is the id of a port where it is a number of 128 bits.
+abbrev pub IsId : List ℕ → Type 0
+IsId word = IsNumeral 10 word × (digits_value 10 word < 2 ^ 128)
+
+-- The value of a number, or of an id.
 abbrev pub value_of : List ℕ → ℕ
 value_of word = digits_value 10 word
 

@@ -1,6 +1,7 @@
 //! What the lines of a script ask for, and what is printed for its replies, its warnings or its failure.
 #![tactic(auto)]
 
+mod channels;
 mod failure;
 mod lines;
 mod parse;

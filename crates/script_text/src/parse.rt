@@ -10,12 +10,13 @@ ghost use Rattle.iox2_machine.specs.declared.backpressure.BackpressureStrategy.{
 ghost use Rattle.iox2_machine.specs.declared.service_config.ServiceConfig.{ServiceConfig};
 ghost use Rattle.iox2_commands.specs.declared.command.Command.{Command};
 ghost use Rattle.iox2_commands.specs.declared.new_publisher.NewPublisher.{NewPublisher};
-ghost use Rattle.script_text.specs.Commands.{IsAllocation, IsCommandLine, IsDegradation, IsDomainLine, IsHandler, IsKind, IsMode, IsPublisherLine, IsSizeOrMost, IsStrategy, NamesCommand, NamesDomain};
-ghost use Rattle.script_text.specs.Calls.{IsCall, IsCallWith, IsWrite};
-ghost use Rattle.script_text.specs.Numbers.{IsNumber, position_of, value_of};
+ghost use Rattle.script_text.specs.Commands.{IsAllocation, IsCommandLine, IsDegradation, IsDomainLine, IsHandler, IsKind, IsMode, IsPublisherLine, IsSizeOrMost, IsStrategy, NamesCommand, NamesDomain, SaysChannels};
+ghost use Rattle.script_text.specs.Calls.{IsCall, IsCallWith, IsCallWithThree, IsCallWithTwo};
+ghost use Rattle.script_text.specs.Numbers.{IsId, IsNumber, position_of, value_of};
 ghost use Rattle.script_text.specs.ScriptText.{IsRefused, IsScript};
 ghost use Rattle.script_text.specs.Words.{line_words, texts, words_in};
 
+use crate::channels::{publisher_call, subscriber_call};
 use crate::failure::ScriptError;
 use crate::lines::Lines;
 use arrayvec::ArrayVec;
@@ -82,7 +83,7 @@ pub fn command_of(line: &[u8]) -> Option<Command<u64, u64>>
 }
 
 /// The settings that a domain line names: `domain P S B R H E overflow` or `.. keep`, or `slices ..`
-/// where messages are slices.
+/// where messages are slices; and `channels C` behind that where a connection hasn't one channel.
 ///
 /// `P` and `S` are the greatest numbers of publishers and subscribers, `B` is the greatest buffer,
 /// `R` the greatest number of borrowed samples, `H` the history size, and `E` the room for departed
@@ -100,6 +101,7 @@ fn parse_domain(words: &[&str]) -> Option<ServiceConfig>
         history,
         expired,
         mode,
+        ..
     ] = *words
     else {
         return None;
@@ -112,12 +114,25 @@ fn parse_domain(words: &[&str]) -> Option<ServiceConfig>
         subscriber_max_buffer_size: parse_size(buffer)?,
         subscriber_max_borrowed_samples: parse_size(borrowed)?,
         history_size: parse_size(history)?,
+        number_of_channels: parse_channels(words)?,
         enable_safe_overflow: parse_mode(mode)?,
         subscriber_expired_connection_buffer: parse_size(expired)?,
         publisher_max_loaned_samples: 1,
         backpressure_strategy: BackpressureStrategy::DiscardData,
         ..ServiceConfig::new(1)
     })
+}
+
+/// How many channels a connection has, as the end of a domain line says: 1 where it says nothing.
+fn parse_channels(words: &[&str]) -> Option<usize>
+    ensures reads { IfSome result (SaysChannels (words_in words.now)) }
+    ensures refuses { IfNone result ((channels : ℕ) → ¬ SaysChannels (words_in words.now) channels) }
+{
+    match *words {
+        [_, _, _, _, _, _, _, _] => Some(1),
+        [_, _, _, _, _, _, _, _, "channels", channels] => parse_size(channels),
+        _ => None,
+    }
 }
 
 /// Whether a full buffer overwrites what it has, as `overflow` says, or keeps it, as `keep` says.
@@ -165,12 +180,19 @@ fn parse_command(words: &[&str]) -> Option<Command<u64, u64>>
             of: parse_name(of)?,
             elapsed: parse_elapsed(seconds, nanoseconds)?,
         }),
+        ["connection", of, receiver] => Some(Command::ConnectionPlace {
+            of: parse_name(of)?,
+            receiver: parse_id(receiver)?,
+        }),
         [call, of] => parse_call(call, parse_name(of)?),
         [call, of, number] => {
             let of = parse_name(of)?;
             parse_call_with(call, of, parse_number(number)?)
         }
-        [call, of, at, value] => parse_write(call, of, at, value),
+        [call, of, first, second] => parse_call_with_two(call, of, first, second),
+        [call, of, channel, connection, state] => {
+            parse_call_with_three(call, of, channel, connection, state)
+        }
         _ => None,
     }
 }
@@ -256,19 +278,51 @@ fn parse_call_with(call: &str, of: usize, number: u64) -> Option<Command<u64, u6
     })
 }
 
-/// The write of one cell or value of a loan.
-fn parse_write(call: &str, of: &str, at: &str, value: &str) -> Option<Command<u64, u64>>
-    ensures reads { IfSome result (IsWrite call.now of.now at.now value.now) }
-    ensures refuses { IfNone result ((command : Command ℕ ℕ) → ¬ IsWrite call.now of.now at.now value.now command) }
+/// The call of this name with two numbers, on what the command with the number made.
+fn parse_call_with_two(call: &str, of: &str, first: &str, second: &str) -> Option<Command<u64, u64>>
+    ensures reads { IfSome result (IsCallWithTwo call.now of.now first.now second.now) }
+    ensures refuses { IfNone result ((command : Command ℕ ℕ) → ¬ IsCallWithTwo call.now of.now first.now second.now command) }
 {
     let of = parse_name(of)?;
-    let at = parse_size(at)?;
-    let value = parse_number(value)?;
+    let at = parse_size(first)?;
+    let value = parse_number(second)?;
     match call {
         "cell" => Some(Command::WriteCell { of, at, value }),
         "set" => Some(Command::SetPayload { of, at, value }),
-        _ => None,
+        "deliver" => Some(Command::SendToConnection {
+            of,
+            channel: at,
+            connection: value as usize,
+        }),
+        _ => Some(Command::SubscriberChannel {
+            of,
+            channel: at,
+            call: subscriber_call(call, value)?,
+        }),
     }
+}
+
+/// The call of this name with three numbers: a channel of one connection of a publisher, and a state.
+fn parse_call_with_three(
+    call: &str,
+    of: &str,
+    channel: &str,
+    connection: &str,
+    state: &str,
+) -> Option<Command<u64, u64>>
+    ensures reads { IfSome result (IsCallWithThree call.now of.now channel.now connection.now state.now) }
+    ensures refuses { IfNone result ((command : Command ℕ ℕ) → ¬ IsCallWithThree call.now of.now channel.now connection.now state.now command) }
+{
+    let of = parse_name(of)?;
+    let channel = parse_size(channel)?;
+    let connection = parse_size(connection)?;
+    let state = parse_number(state)?;
+    Some(Command::PublisherChannel {
+        of,
+        channel,
+        connection,
+        call: publisher_call(call, state)?,
+    })
 }
 
 /// How a publisher's memory grows.
@@ -350,7 +404,7 @@ fn parse_strategy(word: &str) -> Option<BackpressureStrategy>
 }
 
 /// The most words that a line has: those of the domain line.
-const MOST_WORDS: usize = 8;
+const MOST_WORDS: usize = 10;
 
 /// The words of a line, which spaces part. None where it isn't text, or they are more than any line
 /// has.
@@ -393,6 +447,17 @@ fn parse_size(word: &str) -> Option<usize>
 fn parse_number(word: &str) -> Option<u64>
     ensures known { IsSome result ↔ IsNumber word.now }
     ensures value { IfSome result (λ number. number ≡ value_of word.now) }
+{
+    if word.starts_with('+') {
+        return None;
+    }
+    word.parse().ok()
+}
+
+/// The id of a port that a word is: as a number, and of twice as many bits.
+fn parse_id(word: &str) -> Option<u128>
+    ensures known { IsSome result ↔ IsId word.now }
+    ensures value { IfSome result (λ id. id ≡ value_of word.now) }
 {
     if word.starts_with('+') {
         return None;

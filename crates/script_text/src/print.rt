@@ -35,6 +35,7 @@ fn push_reply(text: &mut String, reply: &Reply<u64, u64>) -> Result<(), AllocErr
         Reply::UpdateRefused(failure) => write!(text, "err {failure}"),
         Reply::ReceiveRefused(error) => write!(text, "err {error}"),
         Reply::Delivered(count) => write!(text, "ok {count}"),
+        Reply::Place(Some(place)) => write!(text, "ok {place}"),
         Reply::Cell(Some(value)) => write!(text, "ok {value}"),
         Reply::UserHeader(value) => write!(text, "ok {value}"),
         Reply::Header(header) => {
@@ -47,9 +48,9 @@ fn push_reply(text: &mut String, reply: &Reply<u64, u64>) -> Result<(), AllocErr
         Reply::Skipped => text.push_str("skipped"),
         Reply::Blocked => text.push_str("blocked"),
         Reply::Sample(_) => text.push_str("sample"),
-        Reply::NoSample | Reply::Cell(None) => text.push_str("none"),
-        Reply::Has(true) => text.push_str("true"),
-        Reply::Has(false) => text.push_str("false"),
+        Reply::NoSample | Reply::Cell(None) | Reply::Place(None) => text.push_str("none"),
+        Reply::Has(true) | Reply::WereClosed(true) => text.push_str("true"),
+        Reply::Has(false) | Reply::WereClosed(false) => text.push_str("false"),
         Reply::Done | Reply::PublisherMade(_) | Reply::SubscriberMade(_) | Reply::Loaned => {
             text.push_str("ok")
         }

@@ -1,6 +1,6 @@
 //! Calls of messages, which are several commands.
 ghost use Rattle.std.specs.Prelude.{[], ◌∷◌, ◌≡◌, ◌≢◌, ◌≤◌, ◌<◌, ◌-◌, length, take};
-ghost use Rattle.iox2_commands.specs.declared.command.Command.TheVariants.{Send};
+ghost use Rattle.iox2_commands.specs.declared.command.Command.TheVariants.{Send, SendToConnection};
 ghost use Rattle.call_recorder.specs.Bytes.{all_done, cells, reads_from, writes};
 ghost use Rattle.call_recorder.specs.Messages.{KeepsBytes, KeepsCopy, KeepsReceived, KeepsTaken};
 ghost use Rattle.call_recorder.specs.Recorder.{Begins, Keeps, with_missed};
@@ -52,6 +52,25 @@ impl Recorder {
         ensures { Keeps 0 self.old self.new (Send loan ∷ []) (reply ∷ []) }
     {
         self.put(waits, Command::Send { of: loan }, reply);
+    }
+
+    /// The same of a loan that was sent into a channel of the connection at a place.
+    pub fn keep_send_to(
+        &mut self,
+        loan: usize,
+        channel: usize,
+        connection: usize,
+        waits: Option<Name>,
+        reply: Reply<u64, u64>,
+    )
+        ensures { Keeps 0 self.old self.new (SendToConnection loan channel connection ∷ []) (reply ∷ []) }
+    {
+        let command = Command::SendToConnection {
+            of: loan,
+            channel,
+            connection,
+        };
+        self.put(waits, command, reply);
     }
 
     /// Keeps that a subscriber received a message of this publisher, which has this name, and a read of each

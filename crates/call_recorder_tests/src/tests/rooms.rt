@@ -46,11 +46,11 @@ fn as_many_commands_are_kept_as_there_is_room_for(rt: HostRuntime) {
 
 #[test]
 fn nothing_is_kept_behind_a_call_that_was_missed(rt: HostRuntime) {
-    let mut recorder = recorder_for(&rt, rt.alloc(), 37, 16);
+    let mut recorder = recorder_for(&rt, rt.alloc(), 3, 16);
     recorder.keep(Command::Nothing, Reply::Done);
-    recorder.miss();
-    make_calls(&mut recorder);
+    recorder.keep_taken(0, UniquePublisherId::new(9), &[4, 5, 6]);
+    recorder.keep(Command::Nothing, Reply::Done);
     let recording = recording_of(&rt, rt.alloc(), &recorder);
     assert_eq!(rt; recording.commands.len(), 1);
-    assert_eq!(rt; recorder.missed(), 18);
+    assert_eq!(rt; recorder.missed(), 6);
 }

@@ -1,5 +1,4 @@
-//! What ports change at the channels of their connections. A recording has no command for that, so
-//! that it ends before it.
+//! What ports change at the channels of their connections.
 ghost use Rattle.std.specs.Prelude.{◌≡◌, ◌<◌};
 ghost use Rattle.iox2_pubsub.specs.Live.{No_item};
 ghost use Rattle.iox2_c.specs.Channels.{AnswersPublisherChannel, AnswersSubscriberChannel, ChangesReceived, ClosesSent, SetsState};
@@ -11,6 +10,7 @@ use crate::calls::questions::number_of;
 use crate::numbers::{PublisherNumbers, SubscriberNumbers};
 use crate::service::Service;
 use crate::status::OK;
+use iox2_commands::SubscriberChannelCall;
 
 /// Brings a channel into a state at each connection of a subscriber where it is closed, and says whether it
 /// was at all of them.
@@ -27,14 +27,22 @@ pub fn set_state(
     ensures same { 0 < result → were_closed.new ≡ were_closed.old }
     ensures stays { ServesBut No_item service.old service.new }
 {
+    let call = SubscriberChannelCall::SetState { state };
     let subscriber = match subscriber_with_channel(&service.domain, numbers, channel) {
         Ok(subscriber) => subscriber,
-        Err(code) => return code,
+        Err(code) => {
+            service
+                .recording
+                .changed_channel(numbers, channel, call, code, false);
+            return code;
+        }
     };
     let answer = subscriber.set_channel_state(&mut service.domain, channel, state);
     subscriber.disown();
-    service.recording.end();
     *were_closed = number_of(answer);
+    service
+        .recording
+        .changed_channel(numbers, channel, call, OK, answer);
     OK
 }
 
@@ -45,6 +53,16 @@ pub enum ReceivedChange {
     Close,
     /// It hints that it disconnects.
     Hint,
+}
+
+impl ReceivedChange {
+    // The call of a run where the channel is in the expected state.
+    fn call(self, expected: u64) -> SubscriberChannelCall {
+        match self {
+            ReceivedChange::Close => SubscriberChannelCall::Close { expected },
+            ReceivedChange::Hint => SubscriberChannelCall::SetDisconnectHint { expected },
+        }
+    }
 }
 
 /// Changes a channel so at each connection of a subscriber where it is in a state.
@@ -60,9 +78,15 @@ pub fn change_received(
     ensures refused { 0 < result → service.new ≡ service.old }
     ensures stays { ServesBut No_item service.old service.new }
 {
+    let call = change.call(expected);
     let subscriber = match subscriber_with_channel(&service.domain, numbers, channel) {
         Ok(subscriber) => subscriber,
-        Err(code) => return code,
+        Err(code) => {
+            service
+                .recording
+                .changed_channel(numbers, channel, call, code, false);
+            return code;
+        }
     };
     let domain = &mut service.domain;
     match change {
@@ -70,7 +94,9 @@ pub fn change_received(
         ReceivedChange::Hint => subscriber.set_disconnect_hint(domain, channel, expected),
     }
     subscriber.disown();
-    service.recording.end();
+    service
+        .recording
+        .changed_channel(numbers, channel, call, OK, false);
     OK
 }
 
@@ -89,10 +115,17 @@ pub fn close_sent(
 {
     let publisher = match publisher_with_channel(&service.domain, numbers, channel) {
         Ok(publisher) => publisher,
-        Err(code) => return code,
+        Err(code) => {
+            service
+                .recording
+                .closed_channel(numbers, channel, connection, expected, code);
+            return code;
+        }
     };
     publisher.close_channel(&mut service.domain, channel, connection, expected);
     publisher.disown();
-    service.recording.end();
+    service
+        .recording
+        .closed_channel(numbers, channel, connection, expected, OK);
     OK
 }

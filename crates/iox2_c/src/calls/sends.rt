@@ -135,7 +135,7 @@ fn send_elsewhere(
 }
 
 // Records the bytes of a loan that is out, unless a send of its publisher waits: the loan isn't sent then.
-fn record_bytes(service: &mut Service, numbers: &LoanNumbers)
+pub(crate) fn record_bytes(service: &mut Service, numbers: &LoanNumbers)
     ensures { service.new ≡ service.old }
 {
     if let Some(loan) = written_loan(&service.domain, numbers, numbers.book) {

@@ -3,7 +3,7 @@
 use super::answers::{loan_reply, receive_reply, send_reply};
 use super::{Recording, target};
 use crate::numbers::{LoanNumbers, PublisherNumbers, SubscriberNumbers};
-use crate::status::{BLOCKED, NOT_LIVE, OK, PUBLISHER_IS_BLOCKED};
+use crate::status::{BLOCKED, NO_SUCH_CHANNEL, NOT_LIVE, OK, PUBLISHER_IS_BLOCKED};
 use call_recorder::Name;
 use iox2_commands::Command;
 use iox2_pubsub::slice::Sample;
@@ -52,11 +52,32 @@ impl Recording {
             return;
         };
         let of = target(recorder, loan_name(loan), code);
-        if code != NOT_LIVE && code != PUBLISHER_IS_BLOCKED {
+        if !is_left_out(code) {
             recorder.forget(loan_name(loan));
         }
         let reply = send_reply(code, receivers, failed);
         recorder.keep_send(of, waiting_name(loan, code), reply);
+    }
+
+    /// The same of a loan that was sent into a channel of one connection.
+    pub fn sent_to(
+        &mut self,
+        loan: &LoanNumbers,
+        channel: usize,
+        connection: usize,
+        code: u32,
+        receivers: usize,
+        failed: Option<SendError>,
+    ) {
+        let Some(recorder) = &mut self.recorder else {
+            return;
+        };
+        let of = target(recorder, loan_name(loan), code);
+        if !is_left_out(code) {
+            recorder.forget(loan_name(loan));
+        }
+        let reply = send_reply(code, receivers, failed);
+        recorder.keep_send_to(of, channel, connection, waiting_name(loan, code), reply);
     }
 
     /// A copy of these bytes was sent, by a send with these numbers where it waits.
@@ -158,6 +179,14 @@ impl Recording {
     /// The message with this key was given back, or not, as the code says.
     pub fn released(&mut self, key: Key, code: u32) {
         self.keep_last(key_name(key), code, |of| Command::Release { of });
+    }
+}
+
+// Whether a loan is out still after a send that came to this code.
+fn is_left_out(code: u32) -> bool {
+    match code {
+        NOT_LIVE | PUBLISHER_IS_BLOCKED | NO_SUCH_CHANNEL => true,
+        _ => false,
     }
 }
 

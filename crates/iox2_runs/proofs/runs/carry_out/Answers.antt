@@ -67,6 +67,12 @@ send-requires g c = taken-held c.take-in-Send.ensures c.args.domain.now c.requir
 pub returns-in-Send : goal.returns-in-Send
 returns-in-Send g c = rw c.in-Send.is (carried c.take-in-Send.ensures c.send.ensures c.put_back-in-Send.ensures)
 
+pub send_to_connection-requires : goal.send_to_connection-requires
+send_to_connection-requires g c = taken-held c.take-in-SendToConnection.ensures c.args.domain.now c.requires
+
+pub returns-in-SendToConnection : goal.returns-in-SendToConnection
+returns-in-SendToConnection g c = rw c.in-SendToConnection.is (carried c.take-in-SendToConnection.ensures c.send_to_connection.ensures c.put_back-in-SendToConnection.ensures)
+
 pub send_copy-requires : goal.send_copy-requires
 send_copy-requires g c = taken-held c.take-in-SendCopy.ensures c.args.domain.now c.requires
 
@@ -138,6 +144,24 @@ close-requires g c = taken-held c.take-in-Close.ensures c.args.domain.now c.requ
 
 pub returns-in-Close : goal.returns-in-Close
 returns-in-Close g c = rw c.in-Close.is (carried c.take-in-Close.ensures c.close.ensures c.put_back-in-Close.ensures)
+
+pub connection_place-requires : goal.connection_place-requires
+connection_place-requires g c = taken-held c.take-in-ConnectionPlace.ensures c.args.domain.now c.requires
+
+pub returns-in-ConnectionPlace : goal.returns-in-ConnectionPlace
+returns-in-ConnectionPlace g c = rw c.in-ConnectionPlace.is (carried c.take-in-ConnectionPlace.ensures c.connection_place.ensures c.put_back-in-ConnectionPlace.ensures)
+
+pub publisher_channel-requires : goal.publisher_channel-requires
+publisher_channel-requires g c = taken-held c.take-in-PublisherChannel.ensures c.args.domain.now c.requires
+
+pub returns-in-PublisherChannel : goal.returns-in-PublisherChannel
+returns-in-PublisherChannel g c = rw c.in-PublisherChannel.is (carried c.take-in-PublisherChannel.ensures c.publisher_channel.ensures c.put_back-in-PublisherChannel.ensures)
+
+pub subscriber_channel-requires : goal.subscriber_channel-requires
+subscriber_channel-requires g c = taken-held c.take-in-SubscriberChannel.ensures c.args.domain.now c.requires
+
+pub returns-in-SubscriberChannel : goal.returns-in-SubscriberChannel
+returns-in-SubscriberChannel g c = rw c.in-SubscriberChannel.is (carried c.take-in-SubscriberChannel.ensures c.subscriber_channel.ensures c.put_back-in-SubscriberChannel.ensures)
 
 pub returns-in-Nothing : goal.returns-in-Nothing
 returns-in-Nothing g c = record {

@@ -5,7 +5,7 @@ use Rattle.iox2_pubsub.specs.declared.send_outcome.SendOutcome.{SendOutcome}
 use Rattle.iox2_c.specs.ConnectionSends.{SendsLoanTo}
 use Rattle.iox2_c.specs.Numbers.{wide}
 use Rattle.iox2_c.specs.Serving.{KeptBytes, Serving}
-use Rattle.iox2_c.proofs.calls.connection_sends.send_to.Goals as goal
+use Rattle.iox2_c.proofs.calls.connection_sends.send_into.Goals as goal
 
 pub returns : goal.returns
 returns c =
