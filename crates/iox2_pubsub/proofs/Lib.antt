@@ -106,3 +106,5 @@ pub mod BoxesAlike
 pub mod ReceiversAhead
 pub mod KeptAnswers
 mod WaitedFor
+pub mod FullEnds
+pub mod FullReceivers

@@ -129,7 +129,7 @@ module _ (environment : Environment) (c : ServiceConfig) (p : ℕ) (strategy : B
 
 -- ---- where the send ends, or is blocked
 
-never-blocked : (failed : Bool) (e : SendError) (count : ℕ) → Blocked_send ≡ cond failed (Send_error e) (Delivered_to count) → ⊥
+pub never-blocked : (failed : Bool) (e : SendError) (count : ℕ) → Blocked_send ≡ cond failed (Send_error e) (Delivered_to count) → ⊥
 never-blocked true e count h = let clash : Blocked_send ≡ Send_error e = h in cc
 never-blocked false e count h = let clash : Blocked_send ≡ Delivered_to count = h in cc
 

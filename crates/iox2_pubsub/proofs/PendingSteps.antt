@@ -73,7 +73,7 @@ module _ {T U : Type 0} (environment : Environment) where
   -- ---- a send that goes on
 
   -- each receiver that remains stands once
-  remain-once : (s : State T U) (w : IsWellFormed s) (p : ℕ) (x : Publisher) (b : BlockedSend) → s.publishers p ≡ Some x → x.blocked ≡ Some b → IsOnce (occupants b.ends)
+  pub remain-once : (s : State T U) (w : IsWellFormed s) (p : ℕ) (x : Publisher) (b : BlockedSend) → s.publishers p ≡ Some x → x.blocked ≡ Some b → IsOnce (occupants b.ends)
   remain-once s w p x b stands waits =
       let port = w.publishers p x stands in
       let from = (port.blocked b waits).ends in
@@ -82,7 +82,7 @@ module _ {T U : Type 0} (environment : Environment) where
 
   module _ (s : State T U) (p n q : ℕ) (elapsed : Duration) (s' : State T U) (result : SendResult) where
     -- in channel 0, by the message's number
-    retried : (b : BlockedSend) → b.message ≡ n → b.channel ≡ 0 → Retry environment s p b elapsed s' result
+    pub retried : (b : BlockedSend) → b.message ≡ n → b.channel ≡ 0 → Retry environment s p b elapsed s' result
         → DeliverAndConclude environment s p n 0 (more_retries b.retries) elapsed b.place b.ends b.count b.has_failed s' result
     retried b message channel h =
         subst (λ (i : ℕ). DeliverAndConclude environment s p n i (more_retries b.retries) elapsed b.place b.ends b.count b.has_failed s' result) channel
@@ -108,7 +108,7 @@ behind-first (None ∷ rest) q at away = at
 behind-first (Some r ∷ rest) q at away = ⊎_elim (λ same. absurd (away (ap (λ (i : ℕ). Some i) same))) (λ later. later) (contains_in_cons r q (occupants rest) at)
 
 -- the first doesn't
-first-alone : (ends : List (Option ℕ)) (q : ℕ) → IsOnce (occupants ends) → occupant ends 0 ≡ Some q → contains (occupants (drop 1 ends)) q ≡ false
+pub first-alone : (ends : List (Option ℕ)) (q : ℕ) → IsOnce (occupants ends) → occupant ends 0 ≡ Some q → contains (occupants (drop 1 ends)) q ≡ false
 first-alone [] q once at = absurd (none-some q at)
 first-alone (None ∷ rest) q once at = absurd (none-some q at)
 first-alone (Some r ∷ rest) q once at = subst (λ (i : ℕ). contains (occupants rest) i ≡ false) (same_Some r q at) once.0
@@ -137,7 +137,7 @@ module _ {T U : Type 0} (s : State T U) (w : IsWellFormed s) (p n q : ℕ) (goes
       ∙ occupant-take from.0 (drop (goes.blocked).place (goes.publisher).ends) i q (ap (λ (ends : List (Option ℕ)). occupant ends i) (sym from.1) ∙ at)
 
   -- the send waits for the first
-  first-waits : occupant (goes.blocked).ends 0 ≡ Some q → waits_for s p ≡ Some q
+  pub first-waits : occupant (goes.blocked).ends 0 ≡ Some q → waits_for s p ≡ Some q
   first-waits at =
       let place = (goes.blocked).place in
       let here : place + 0 ≡ place = omega arith in
@@ -152,7 +152,7 @@ module _ {T U : Type 0} (s : State T U) (w : IsWellFormed s) (p n q : ℕ) (goes
       subst (λ (i : ℕ). occupant (goes.blocked).ends i ≡ Some q) first there.1
 
 -- the first of what is taken is the first
-first-taken : (count : ℕ) (ends : List (Option ℕ)) → 0 < length (take count ends) → occupant (take count ends) 0 ≡ occupant ends 0
+pub first-taken : (count : ℕ) (ends : List (Option ℕ)) → 0 < length (take count ends) → occupant (take count ends) 0 ≡ occupant ends 0
 first-taken zero ends some = absurd (omega (arith, some))
 first-taken (suc count) [] some = refl
 first-taken (suc count) (e ∷ rest) some = refl
@@ -173,7 +173,7 @@ next-not-passed {T} {U} s w p n q next passes =
     true≢false (sym (contains-occupants b.ends q (0, first)) ∙ passes.past)
 
 module _ {T U : Type 0} (environment : Environment) (s : State T U) (p n q : ℕ) (s' : State T U) (result : SendResult) where
-  given-up : (b : BlockedSend) → b.message ≡ n → b.channel ≡ 0 → GiveUp environment s p b s' result
+  pub given-up : (b : BlockedSend) → b.message ≡ n → b.channel ≡ 0 → GiveUp environment s p b s' result
       → DeliverAndConclude environment s p n 0 0 no_time (b.place + 1) (drop 1 b.ends) b.count b.has_failed s' result
   given-up b message channel h =
       subst (λ (i : ℕ). DeliverAndConclude environment s p n i 0 no_time (b.place + 1) (drop 1 b.ends) b.count b.has_failed s' result) channel

@@ -41,6 +41,7 @@ use Rattle.iox2_pubsub.specs.SendCalls.{IsDelivered, result_of_send}
 use Rattle.iox2_pubsub.specs.declared.send_outcome.SendOutcome.{SendOutcome}
 use Rattle.iox2_pubsub.specs.declared.send_outcome.SendOutcome.TheVariants.{Delivered, Blocked}
 use Rattle.iox2_pubsub.specs.declared.subscriber.Subscriber.{Subscriber as Handle}
+use Rattle.iox2_pubsub.proofs.ConnectedSends.{update-publisher-connected}
 use Rattle.iox2_pubsub.proofs.FullDomains.{ids_of, no-other}
 use Rattle.iox2_pubsub.proofs.LiveParts.{buffer-parts}
 use Rattle.iox2_pubsub.proofs.SendsServe.{connected-waits}
@@ -132,9 +133,14 @@ opened-is s p q buffer opened = channel (is_closed (s.channels p q 0)) opened wh
   channel true is = absurd (none-some buffer is)
   channel false is = receiver (s.subscribers q) refl is
 
+-- Each subscriber has room once the publisher p has updated.
+abbrev RoomyUpdates : {T U : Type 0} → Environment → State T U → (p : ℕ) → Type 0
+RoomyUpdates {T} {U} environment s p = (mid : State T U) (failure : Option ConnectionFailure) → UpdatePublisher environment s p mid failure → (q : ℕ) (y : Subscriber) → s.subscribers q ≡ Some y → y.is_open ≡ true
+    → length (mid.mailboxes p q).waiting < y.buffer
+
 -- a send where each subscriber has room
-roomy-send : {T U : Type 0} (environment : Environment) (s : State T U) → IsWellFormed s → (n : ℕ) (l : Loan T U) (s' : State T U) (result : SendResult) → is_blocked s l.publisher ≡ false → HasRoomForAll s l.publisher
-    → Send environment s n l s' result → IsUnhindered result
+roomy-send : {T U : Type 0} (environment : Environment) (s : State T U) → IsWellFormed s → (n : ℕ) (l : Loan T U) (s' : State T U) (result : SendResult) → is_blocked s l.publisher ≡ false
+    → RoomyUpdates environment s l.publisher → Send environment s n l s' result → IsUnhindered result
 roomy-send {T} {U} environment s w n l s' result free roomy h =
     by_option (IsUnhindered result) (s.publishers l.publisher) _ _ h
     (λ _ k. (
@@ -152,7 +158,7 @@ roomy-send {T} {U} environment s w n l s' result free roomy h =
     (λ q buffer _ opened.
     let it = opened-is k.0 l.publisher q buffer opened in
     let here : s.subscribers q ≡ Some it.0 = ap (λ (f : ℕ → Option Subscriber). f q) (sym (update_publisher_subscribers environment s l.publisher k.0 k.1 k.2)) ∙ it.1 in
-    let room : length ((k.0).mailboxes l.publisher q).waiting < (it.0).buffer = updated-roomy environment s w l.publisher roomy k.0 k.1 k.2 q it.0 here it.2 in
+    let room : length ((k.0).mailboxes l.publisher q).waiting < (it.0).buffer = roomy k.0 k.1 k.2 q it.0 here it.2 in
     lt-ltb _ _ (subst (λ (b : ℕ). length ((k.0).mailboxes l.publisher q).waiting < b) it.3 room)) d.2 in
     concludes-unhindered environment (with_mailboxes mid l.publisher d.1) l.publisher n d.0 s' result ended.0 ended.1 d.3)))
     (λ e _ j. (
@@ -169,7 +175,8 @@ module _ {T U F G : Type 0} (kept : Kept T U F G) (m : Messages T U) (s : State 
       → IsUnhindered result
   roomy-free environment n l publisher its free is s' result h =
       let unblocked : is_blocked s l.publisher ≡ false = ap (λ (t : State T U). is_blocked t l.publisher) shown.state ∙ ap (is_blocked (state_of kept)) its ∙ free in
-      roomy-send environment s shown.well_formed n l s' result unblocked (subst (HasRoomForAll s) (sym its) (roomy-in publisher is)) h
+      let everywhere : HasRoomForAll s l.publisher = subst (HasRoomForAll s) (sym its) (roomy-in publisher is) in
+      roomy-send environment s shown.well_formed n l s' result unblocked (updated-roomy environment s shown.well_formed l.publisher everywhere) h
 
 -- ---- a domain that has all subscribers that it allows
 
@@ -183,41 +190,49 @@ module _ {T U F G : Type 0} (kept : Kept T U F G) (m : Messages T U) (s : State 
       (λ later. connected-there others each.1 q later)
       (contains_in_cons subscriber.id q (ids_of others) at)
 
-  room-at : (subscriber : Handle) → HasRoomAt kept publisher subscriber → (q : ℕ) → subscriber.id ≡ q → (y : Subscriber) → s.subscribers q ≡ Some y
-      → ((s.config).history_size < y.buffer) × (length (s.mailboxes publisher q).waiting < y.buffer)
-  room-at subscriber has q its y here =
+  room-at : (subscriber : Handle) → HasRoomAt kept publisher subscriber → (y : Subscriber) → s.subscribers subscriber.id ≡ Some y → length (s.mailboxes publisher subscriber.id).waiting < y.buffer
+  room-at subscriber has y here =
       let c : Connects s publisher subscriber.id = connected-in kept m s shown publisher subscriber has.connected in
-      let there : (state_of kept).subscribers subscriber.id ≡ Some y = ap (λ (t : State T U). t.subscribers subscriber.id) (sym shown.state) ∙ ap s.subscribers its ∙ here in
+      let there : (state_of kept).subscribers subscriber.id ≡ Some y = ap (λ (t : State T U). t.subscribers subscriber.id) (sym shown.state) ∙ here in
       let size : y.buffer ≡ subscriber.buffer_size = (buffer-parts kept subscriber has.buffer).1 y there in
-      let history : (s.config).history_size ≡ (kept.config).history_size = ap (λ (t : State T U). (t.config).history_size) shown.state in
-      let small : (kept.config).history_size < subscriber.buffer_size = has.history in
       let some : length (payloads_from kept publisher subscriber) < subscriber.buffer_size = has.room in
-      let wait : length (payloads_from kept publisher subscriber) ≡ length (s.mailboxes publisher q).waiting =
+      let wait : length (payloads_from kept publisher subscriber) ≡ length (s.mailboxes publisher subscriber.id).waiting =
       ap length (payloads-from-are kept publisher subscriber) ∙ length-map (waiting_from (state_of kept) publisher subscriber.id) (payload_of (entries_of kept))
-      ∙ ap (λ (t : State T U). length (waiting_from t publisher subscriber.id)) (sym shown.state)
-      ∙ ap length (connected-waits s publisher subscriber.id c) ∙ ap (λ (i : ℕ). length (s.mailboxes publisher i).waiting) its in
-      (omega (arith, history, small, size), omega (arith, wait, some, size))
+      ∙ ap (λ (t : State T U). length (waiting_from t publisher subscriber.id)) (sym shown.state) ∙ ap length (connected-waits s publisher subscriber.id c) in
+      omega (arith, wait, some, size)
 
-  room-at-each : (subscribers : List Handle) → HasRoomAtEach kept publisher subscribers → (q : ℕ) → contains (ids_of subscribers) q ≡ true → (y : Subscriber) → s.subscribers q ≡ Some y
-      → ((s.config).history_size < y.buffer) × (length (s.mailboxes publisher q).waiting < y.buffer)
-  room-at-each [] each q at y here = absurd (true≢false (sym at))
-  room-at-each (subscriber ∷ others) each q at y here =
-      ⊎_elim (λ same. room-at subscriber each.0 q same y here) (λ later. room-at-each others each.1 q later y here) (contains_in_cons subscriber.id q (ids_of others) at)
+  module _ (environment : Environment) (mid : State T U) (failure : Option ConnectionFailure) (updates : UpdatePublisher environment s publisher mid failure) where
+    -- an update hands nothing to one that is connected
+    updated-at : (subscriber : Handle) → HasRoomAt kept publisher subscriber → (q : ℕ) → subscriber.id ≡ q → (y : Subscriber) → s.subscribers q ≡ Some y → length (mid.mailboxes publisher q).waiting < y.buffer
+    updated-at subscriber has q its y here =
+        let c : Connects s publisher subscriber.id = connected-in kept m s shown publisher subscriber has.connected in
+        let same : mid.mailboxes publisher subscriber.id ≡ s.mailboxes publisher subscriber.id = (update-publisher-connected environment s shown.well_formed publisher subscriber.id c publisher mid failure updates).1 in
+        subst (λ (i : ℕ). length (mid.mailboxes publisher i).waiting < y.buffer) its
+        (subst (λ (box : Mailbox). length box.waiting < y.buffer) (sym same) (room-at subscriber has y (ap s.subscribers its ∙ here)))
 
-  -- where there is room at all, there is at each that is open
-  pub all-roomy : (subscribers : List Handle) → HasRoomAtAll kept publisher subscribers → IsRoomy kept publisher
-  unfolding IsRoomy
-  all-roomy subscribers has =
+    updated-at-each : (subscribers : List Handle) → HasRoomAtEach kept publisher subscribers → (q : ℕ) → contains (ids_of subscribers) q ≡ true → (y : Subscriber) → s.subscribers q ≡ Some y
+        → length (mid.mailboxes publisher q).waiting < y.buffer
+    updated-at-each [] each q at y here = absurd (true≢false (sym at))
+    updated-at-each (subscriber ∷ others) each q at y here =
+        ⊎_elim (λ same. updated-at subscriber each.0 q same y here) (λ later. updated-at-each others each.1 q later y here) (contains_in_cons subscriber.id q (ids_of others) at)
+
+  -- where there is room at all, no send is hindered
+  pub all-free : (environment : Environment) (n : ℕ) (l : Loan T U) → l.publisher ≡ publisher → is_blocked (state_of kept) publisher ≡ false → (subscribers : List Handle) → HasRoomAtAll kept publisher subscribers
+      → (s' : State T U) (result : SendResult) → Send environment s n l s' result → IsUnhindered result
+  all-free environment n l its free subscribers has s' result h =
+      let unblocked : is_blocked s l.publisher ≡ false = ap (λ (t : State T U). is_blocked t l.publisher) shown.state ∙ ap (is_blocked (state_of kept)) its ∙ free in
       let full : (s.config).max_subscribers ≤ length subscribers = subst (λ (t : State T U). (t.config).max_subscribers ≤ length subscribers) (sym shown.state) has.full in
-      subst (λ (t : State T U). HasRoomForAll t publisher) shown.state (λ q y here is.
-      room-at-each subscribers has.each q (no-other s shown.well_formed subscribers has.different full (connected-there subscribers has.each) q y here) y here)
+      let roomy : RoomyUpdates environment s publisher = λ mid failure updates q y here is.
+          updated-at-each environment mid failure updates subscribers has.each q (no-other s shown.well_formed subscribers has.different full (connected-there subscribers has.each) q y here) y here in
+      roomy-send environment s shown.well_formed n l s' result unblocked (subst (RoomyUpdates environment s) (sym its) roomy) h
 
-  -- so where the one that there may be has
-  pub alone-roomy : (subscriber : Handle) → HasRoomAlone kept publisher subscriber → IsRoomy kept publisher
-  alone-roomy subscriber has = all-roomy (subscriber ∷ []) (record {
+  -- nor where the one that there may be has
+  pub alone-free : (environment : Environment) (n : ℕ) (l : Loan T U) → l.publisher ≡ publisher → is_blocked (state_of kept) publisher ≡ false → (subscriber : Handle) → HasRoomAlone kept publisher subscriber
+      → (s' : State T U) (result : SendResult) → Send environment s n l s' result → IsUnhindered result
+  alone-free environment n l its free subscriber has = all-free environment n l its free (subscriber ∷ []) (record {
     different = (tt, tt);
     full = let one : (kept.config).max_subscribers ≡ 1 = has.alone in omega (arith, one);
-    each = (record { connected = has.connected; buffer = has.buffer; history = has.history; room = has.room }, tt);
+    each = (record { connected = has.connected; buffer = has.buffer; room = has.room }, tt);
   })
 
 -- it is so after a call that leaves this
@@ -227,7 +242,6 @@ alone-since {T} {U} {F} {G} {old} {mid} waits settings buffers p lender its subs
   alone = ap (λ (c : ServiceConfig). c.max_subscribers) settings ∙ has.alone;
   connected = connected;
   buffer = buffers subscriber has.buffer;
-  history = subst (λ (c : ServiceConfig). c.history_size < subscriber.buffer_size) (sym settings) has.history;
   room = subst (λ (ps : List (List T)). length ps < subscriber.buffer_size)
       (sym (ap (λ i. payloads_from mid i subscriber) its ∙ ap (λ (f : ℕ → Handle → List (List T)). f p subscriber) waits.from)) has.room;
 }
@@ -241,7 +255,6 @@ module _ {T U F G : Type 0} {old mid : Kept T U F G} (waits : WaitingStays old m
     record {
       connected = connections subscriber (each.0).connected;
       buffer = buffers subscriber (each.0).buffer;
-      history = subst (λ (c : ServiceConfig). c.history_size < subscriber.buffer_size) (sym settings) (each.0).history;
       room = subst (λ (ps : List (List T)). length ps < subscriber.buffer_size)
           (sym (ap (λ i. payloads_from mid i subscriber) its ∙ ap (λ (f : ℕ → Handle → List (List T)). f p subscriber) waits.from)) (each.0).room;
     },

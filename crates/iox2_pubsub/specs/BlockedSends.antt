@@ -1,5 +1,5 @@
 -- How far a blocked send still has to go, and what there is when it has ended.
-use Rattle.std.specs.Prelude.{ℕ, List, [], ◌∷◌, ◌++◌, length, ◌≡◌, ◌<◌, IfErr, IfOk, IsOk}
+use Rattle.std.specs.Prelude.{ℕ, List, [], ◌∷◌, ◌++◌, length, ◌≡◌, ◌<◌, ◌⊎◌, IfErr, IfOk, IsOk}
 use Rattle.std.specs.Option.{option_and_then, option_map_or}
 use Rattle.std.specs.declared.option.Option.{Option}
 use Rattle.std.specs.declared.option.Option.TheVariants.{Some}
@@ -14,6 +14,7 @@ use Rattle.iox2_pubsub.specs.Handles.{blocked_sender, buffer_size_of, written_le
 use Rattle.iox2_pubsub.specs.Live.{AddAtMost, AllFrom, HasItsBuffer, HasPassed, IsBlockedSend, IsConnected, IsPending, IsServed, IsServedOrPending, IsUnblocked, NeverFails, OthersSend, Stays, StaysBut, UpToDateStay, WaitsAsBefore, blocked_key, blocked_send, lender_key, written_key}
 use Rattle.iox2_pubsub.specs.BorrowsLeft.{BorrowsLeftStay}
 use Rattle.iox2_pubsub.specs.LoansLeft.{HasOneMoreLeft, LoansLeftStay}
+use Rattle.iox2_pubsub.specs.RoomyPublishers.{HasRoomAt}
 use Rattle.iox2_pubsub.specs.SendCalls.{IfBlocked, IsDelivered}
 use Rattle.iox2_pubsub.specs.declared.blocked_send.BlockedSend.{BlockedSend}
 use Rattle.iox2_pubsub.specs.declared.sample_mut.SampleMut.{SampleMut}
@@ -29,6 +30,11 @@ module _ {T U : Type 0} where
   -- The subscriber that the blocked send of the publisher p waits for; none if no send of it is blocked.
   abbrev pub waits_for : State T U → (p : ℕ) → Option ℕ
   waits_for s p = option_and_then (λ (x : MachinePublisher). option_and_then (λ (b : MachineBlocked). occupant x.ends b.place) x.blocked) (s.publishers p)
+
+-- This is so of each of these.
+abbrev pub AreEach : (Subscriber → Type 0) → List Subscriber → Type 0
+AreEach Is [] = Unit {0}
+AreEach Is (subscriber ∷ others) = Is subscriber × AreEach Is others
 
 module _ {T U F G : Type 0} where
   -- At how many places the blocked send may meet a receiver yet, the one that it waits for among them; at none if it
@@ -66,6 +72,10 @@ module _ {T U F G : Type 0} where
   -- The send waits for another than this subscriber.
   abbrev pub IsNotNext : Kept T U F G → BlockedSend → Subscriber → Type 0
   IsNotNext domain blocked subscriber = IsNext domain blocked subscriber → ⊥
+
+  -- The send comes to the subscriber no more, or finds room there.
+  abbrev pub IsPastOrRoomy : Kept T U F G → BlockedSend → Subscriber → Type 0
+  IsPastOrRoomy domain blocked subscriber = HasPassed domain blocked subscriber ⊎ HasRoomAt domain (blocked_sender blocked) subscriber
 
   -- The subscriber is left as it was, and the send comes to it no more.
   abbrev pub IsLeftBehind : Subscriber → Result SendOutcome SendError → (old new : Kept T U F G) → Type 0

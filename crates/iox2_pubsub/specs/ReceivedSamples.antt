@@ -11,7 +11,7 @@ use Rattle.iox2_machine.specs.declared.errors.ReceiveError.TheVariants.{ExceedsM
 use Rattle.iox2_domain.specs.Kept.{Kept}
 use Rattle.iox2_pubsub.specs.BorrowsLeft.{BorrowsLeftStay, HasBorrowsLeft, TakesOneBorrow}
 use Rattle.iox2_pubsub.specs.Leaves.{LeavesButWaiting}
-use Rattle.iox2_pubsub.specs.Live.{AreAllSlices, IsFromOrigin, IsLiveSample, IsNewIn, IsUpToDate, KeepsAll, LeavesLater, LeavesOthers, TakesFirst, TakesOldest, WaitingStays, payloads, received_sample, sample_key, waiting}
+use Rattle.iox2_pubsub.specs.Live.{AreAllSlices, IsConsistent, IsFromOrigin, IsLiveSample, IsNewIn, IsUpToDate, KeepsAll, LeavesLater, LeavesOthers, TakesFirst, TakesOldest, WaitingStays, payloads, received_sample, sample_key, waiting}
 use Rattle.iox2_pubsub.specs.MachineSteps.{TakesStep}
 use Rattle.iox2_pubsub.specs.Slices.{SampleHasValues}
 use Rattle.iox2_pubsub.specs.Sample.{Sample}
@@ -49,6 +49,7 @@ pub record IsReceived {T U F G : Type 0} (receiver : Subscriber) (sample : Sampl
 -- it, or there is an error; and without an error it is up to date.
 -- If it is given none, what waits is as it was. While it has borrows left, no limit refuses it one, and if it was up to date nothing does.
 pub record Receives {T U F G : Type 0} (environment : Environment) (receiver : Subscriber) (result : Result (Option Sample) ReceiveError) (old new : Kept T U F G) : Type 0 where
+  pub consistent : IsConsistent old
   pub receives : TakesStep old new (λ before after. Receive environment before receiver.id after (received_result result))
   pub received : IfOk result (λ sample. IfSome sample (λ it. IsReceived receiver it old new))
   pub none : IfOk result (λ sample. IfNone sample (waiting new receiver ≡ 0))

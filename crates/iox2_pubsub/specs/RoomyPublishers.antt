@@ -24,7 +24,6 @@ pub record HasRoomAlone {T U F G : Type 0} (domain : Kept T U F G) (publisher : 
   pub alone : (domain.config).max_subscribers ≡ 1
   pub connected : IsConnected domain publisher subscriber
   pub buffer : HasItsBuffer domain subscriber
-  pub history : (domain.config).history_size < subscriber.buffer_size
   pub room : length (payloads_from domain publisher subscriber) < subscriber.buffer_size
 
 module _ {T U F G : Type 0} (domain : Kept T U F G) (publisher : ℕ) where
@@ -32,7 +31,6 @@ module _ {T U F G : Type 0} (domain : Kept T U F G) (publisher : ℕ) where
   pub record HasRoomAt (subscriber : Subscriber) : Type 0 where
     pub connected : IsConnected domain publisher subscriber
     pub buffer : HasItsBuffer domain subscriber
-    pub history : (domain.config).history_size < subscriber.buffer_size
     pub room : length (payloads_from domain publisher subscriber) < subscriber.buffer_size
 
   -- So it is with each of these.

@@ -6,6 +6,7 @@ mod custom_markers;
 mod domain;
 mod keys;
 mod kinds;
+mod no_handler;
 mod parts;
 mod port_factory;
 mod publisher;
@@ -30,6 +31,7 @@ pub use iox2_machine::{
     UniquePublisherId, UniqueSubscriberId, Warning, ZeroCopyCreationError, worst_case_slots,
 };
 pub use kinds::{Slice, Value};
+pub use no_handler::NoHandler;
 pub use parts::{LoanParts, PublisherParts, SampleParts, SubscriberParts};
 pub use port_factory::handles::PortHandle;
 pub use port_factory::preallocation::{NoOverride, PreallocatedSamplesOverride};

@@ -1,7 +1,7 @@
 //! A blocked send is tried again, or given up.
-ghost use Rattle.std.specs.Prelude.{◌≡◌, ◌≤◌, ◌<◌, IfOk, List, ⊤};
-ghost use Rattle.iox2_pubsub.specs.BlockedSends.{GoesOn, IsLeftBehind, IsNext, IsNotNext, Resumes, receivers_ahead};
-ghost use Rattle.iox2_pubsub.specs.SendCalls.{IfBlocked, result_of_send};
+ghost use Rattle.std.specs.Prelude.{◌≡◌, ◌≤◌, ◌<◌, ◌⊎◌, IfOk, List, ⊤};
+ghost use Rattle.iox2_pubsub.specs.BlockedSends.{AreEach, GoesOn, IsLeftBehind, IsNext, IsNotNext, IsPastOrRoomy, Resumes, receivers_ahead};
+ghost use Rattle.iox2_pubsub.specs.SendCalls.{IfBlocked, IsDelivered, result_of_send};
 
 use crate::blocked_send::BlockedSend;
 use crate::domain::Domain;
@@ -16,7 +16,8 @@ impl BlockedSend {
     ghost use Rattle.iox2_machine.specs.machine.Records.{Publisher as Record, BlockedSend as Waiting};
     ghost use Rattle.iox2_machine.specs.machine.Sends.{Retry, GiveUp};
     ghost use Rattle.iox2_machine.specs.machine.State.{State, Messages};
-    ghost use Rattle.iox2_pubsub.specs.Live.{IsBlockedSend, IsPending};
+    ghost use Rattle.iox2_pubsub.specs.Live.{IsBlockedSend, IsConnected, IsConsistent, IsFull, IsPending};
+    ghost use Rattle.iox2_pubsub.specs.AllSubscribers.{AreAllSubscribers};
     ghost use Rattle.iox2_pubsub.specs.declared.subscriber.Subscriber.{Subscriber};
     ghost use Rattle.iox2_domain.specs.Boxes.{answers_of};
     ghost use Rattle.iox2_domain.specs.Shows.{Shows};
@@ -41,7 +42,12 @@ impl BlockedSend {
         ensures retries { (m : Messages T U) (s : State T U) (x : Record) (b : Waiting) → Shows domain.old m s → s.publishers (blocked_sender self) ≡ Some x → x.blocked ≡ Some b
             → (s' : State T U) × Shows domain.new m s' × Retry (answers_of F.allows G.allows (domain.old.boxes).publishers) s (blocked_sender self) b elapsed s' (result_of_send result) }
         ensures no_more { IfOk result (λ outcome. IfBlocked outcome (λ blocked. receivers_ahead domain.new blocked ≤ receivers_ahead domain.old self)) }
+        ensures consistent { IsConsistent domain.old }
         ensures goes_on { GoesOn self result domain.old domain.new }
+        ensures full { (target subscriber : Subscriber) (values : List T) → IsPending domain.old self target values → IsConnected domain.old (blocked_sender self) subscriber
+            → IfOk result (λ outcome. IfBlocked outcome (λ again. IsNext domain.new again subscriber → IsFull domain.old (blocked_sender self) subscriber)) }
+        ensures roomy { (target : Subscriber) (values : List T) (subscribers : List Subscriber) → IsPending domain.old self target values → AreAllSubscribers domain.old subscribers
+            → AreEach (IsPastOrRoomy domain.old self) subscribers → IfOk result IsDelivered }
         ensures resumes { Resumes (λ subscriber. ⊤) self result domain.old domain.new }
     {
         let BlockedSend { service_id, loan } = self;
@@ -64,7 +70,12 @@ impl BlockedSend {
         ensures gives_up { (m : Messages T U) (s : State T U) (x : Record) (b : Waiting) → Shows domain.old m s → s.publishers (blocked_sender self) ≡ Some x → x.blocked ≡ Some b
             → (s' : State T U) × Shows domain.new m s' × GiveUp (answers_of F.allows G.allows (domain.old.boxes).publishers) s (blocked_sender self) b s' (result_of_send result) }
         ensures fewer { IfOk result (λ outcome. IfBlocked outcome (λ blocked. receivers_ahead domain.new blocked < receivers_ahead domain.old self)) }
+        ensures consistent { IsConsistent domain.old }
         ensures goes_on { GoesOn self result domain.old domain.new }
+        ensures full { (target subscriber : Subscriber) (values : List T) → IsPending domain.old self target values → IsConnected domain.old (blocked_sender self) subscriber
+            → IfOk result (λ outcome. IfBlocked outcome (λ again. IsNext domain.new again subscriber → IsFull domain.old (blocked_sender self) subscriber)) }
+        ensures roomy { (target : Subscriber) (values : List T) (subscribers : List Subscriber) → IsPending domain.old self target values → AreAllSubscribers domain.old subscribers
+            → AreEach (λ it. IsNext domain.old self it ⊎ IsPastOrRoomy domain.old self it) subscribers → IfOk result IsDelivered }
         ensures resumes { Resumes (IsNotNext domain.old self) self result domain.old domain.new }
         ensures skips { (subscriber : Subscriber) (values : List T) → IsNext domain.old self subscriber → IsPending domain.old self subscriber values → IsLeftBehind subscriber result domain.old domain.new }
     {

@@ -13,7 +13,7 @@ impl Publisher {
     ghost use Rattle.iox2_pubsub.specs.GrantedLoans.{IsLentUnwritten, IsUnfilled};
     ghost use Rattle.iox2_pubsub.specs.Handles.{max_slice_len_of, publisher_id};
     ghost use Rattle.iox2_pubsub.specs.Leaves.{LeavesLending};
-    ghost use Rattle.iox2_pubsub.specs.Live.{IsReadyPublisher, IsSingleValued};
+    ghost use Rattle.iox2_pubsub.specs.Live.{IsConsistent, IsReadyPublisher, IsSingleValued};
     ghost use Rattle.iox2_pubsub.specs.LoansLeft.{HasLoansLeft, HasNumbersLeft, LoansLeftStay};
     ghost use Rattle.iox2_pubsub.specs.MachineSteps.{TakesStep};
 
@@ -43,6 +43,7 @@ impl Publisher {
     ) -> Result<SampleMutUninit, LoanError>
         requires ready { IsReadyPublisher domain.old self.now }
         requires single_valued { IsSingleValued domain.old }
+        ensures consistent { IsConsistent domain.old }
         ensures lends { TakesStep domain.old domain.new (λ before after. LoanCall U.is_default false 1 before (publisher_id self.now) result after) }
         ensures granted { (loans numbers : ℕ) → HasLoansLeft domain.old self.now (loans + 1) → HasNumbersLeft domain.old (numbers + 1) → IsOk result }
         ensures loan { IfOk result (λ loan. IsLentUnwritten self.now loan domain.old domain.new) }
@@ -64,6 +65,7 @@ impl Publisher {
         requires ready { IsReadyPublisher domain.old self.now }
         requires unchecked { checks_length ≡ false → (domain.old.config).variant ≡ FixedSize }
         requires single { (domain.old.config).variant ≡ FixedSize → len ≡ 1 }
+        ensures consistent { IsConsistent domain.old }
         ensures lends { TakesStep domain.old domain.new (λ before after. LoanCall U.is_default checks_length len before (publisher_id self.now) result after) }
         ensures granted { (loans numbers : ℕ) → HasLoansLeft domain.old self.now (loans + 1) → HasNumbersLeft domain.old (numbers + 1)
             → (checks_length ≡ true → len ≤ max_slice_len_of self.now) → IsOk result }

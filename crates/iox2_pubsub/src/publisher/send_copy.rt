@@ -1,5 +1,5 @@
 //! A publisher sends a value.
-ghost use Rattle.std.specs.Prelude.{◌≡◌, ◌<◌, ◌+◌, ◌++◌, ℕ, List, length, IfErr, IfOk, IsOk, [], ◌∷◌};
+ghost use Rattle.std.specs.Prelude.{◌≡◌, ◌<◌, ◌+◌, ◌++◌, ◌≢◌, ℕ, List, length, IfErr, IfOk, IsOk, [], ◌∷◌};
 
 use crate::domain::Domain;
 use crate::publisher::Publisher;
@@ -8,14 +8,16 @@ use iox2_machine::{BackpressureFn, DegradationFn, SendError};
 
 impl Publisher {
     ghost use Rattle.iox2_machine.specs.declared.errors.LoanError.{LoanError};
+    ghost use Rattle.iox2_machine.specs.declared.errors.SendError.TheVariants.{UnableToDeliver};
     ghost use Rattle.iox2_machine.specs.machine.State.{State, Messages};
     ghost use Rattle.iox2_domain.specs.Boxes.{answers_of};
     ghost use Rattle.iox2_domain.specs.Shows.{Shows};
-    ghost use Rattle.iox2_pubsub.specs.Live.{A_blocked_send, AddAtMost, AllFrom, AreAllSlices, HasItsBuffer, IsBlockedSend, IsConnected, IsReadyPublisher, IsServed, IsServedOrPending, IsSingleValued, NeverFails, NeverWaits, OthersSend, StaysBut, UpToDateStay, blocked_key, blocked_send, lender_key, payloads, publisher_key, waiting};
+    ghost use Rattle.iox2_pubsub.specs.Live.{A_blocked_send, AddAtMost, AllFrom, AreAllSlices, HasItsBuffer, IsBlockedSend, IsConnected, IsConsistent, IsFull, IsReadyPublisher, IsServed, IsServedOrPending, IsSingleValued, NeverFails, NeverWaits, OthersSend, StaysBut, UpToDateStay, blocked_key, blocked_send, lender_key, payloads, publisher_key, waiting};
     ghost use Rattle.iox2_pubsub.specs.BorrowsLeft.{BorrowsLeftStay};
     ghost use Rattle.iox2_pubsub.specs.Leaves.{Leaves};
     ghost use Rattle.iox2_pubsub.specs.LoansLeft.{HasLoansLeft, HasNumbersLeft, TakesOneLeft};
     ghost use Rattle.iox2_pubsub.specs.AllSubscribers.{AreConnected, AreDifferent};
+    ghost use Rattle.iox2_pubsub.specs.BlockedSends.{IsNext};
     ghost use Rattle.iox2_pubsub.specs.Counts.{Counts};
     ghost use Rattle.iox2_pubsub.specs.RoomyPublishers.{HasRoomAlone, HasRoomAtAll};
     ghost use Rattle.iox2_pubsub.specs.SendCalls.{FailsCopy, IfBlocked, IsDelivered, spent_by_copy};
@@ -38,6 +40,7 @@ impl Publisher {
         ensures sends { (m : Messages T U) (s : State T U) → Shows domain.old m s
             → (m' : Messages T U) × (s' : State T U) × Shows domain.new m' s' × SendsCopy (answers_of F.allows G.allows (domain.old.boxes).publishers) U.is_default m s (publisher_id self.now) value result m' s' }
         ensures delivered { NeverWaits domain.old (publisher_key self.now) → IfOk result IsDelivered }
+        ensures consistent { IsConsistent domain.old }
         ensures blocked { IfOk result (λ outcome. IfBlocked outcome (λ blocked. IsBlockedSend domain.new blocked × (lender_key (blocked_key blocked) ≡ publisher_key self.now))) }
         ensures whose { IfOk result (λ outcome. IfBlocked outcome (λ blocked. blocked_send blocked ≡ A_blocked_send (publisher_id self.now))) }
         ensures errors { IfErr result (FailsCopy domain.old self.now) }
@@ -53,8 +56,10 @@ impl Publisher {
             → IfOk result (λ outcome. IsDelivered outcome → AllFrom domain.new (publisher_id self.now) subscriber (earlier ++ (value ∷ []) ∷ [])) }
         ensures pending { (subscriber : Subscriber) → IsConnected domain.old (publisher_id self.now) subscriber
             → IfOk result (λ outcome. IfBlocked outcome (λ blocked. IsServedOrPending domain.old domain.new blocked subscriber (value ∷ []))) }
-        ensures roomy_alone { (subscriber : Subscriber) → HasRoomAlone domain.old (publisher_id self.now) subscriber → IfOk result IsDelivered }
-        ensures roomy_at_all { (subscribers : List Subscriber) → HasRoomAtAll domain.old (publisher_id self.now) subscribers → IfOk result IsDelivered }
+        ensures full { (subscriber : Subscriber) → IsConnected domain.old (publisher_id self.now) subscriber
+            → IfOk result (λ outcome. IfBlocked outcome (λ blocked. IsNext domain.new blocked subscriber → IsFull domain.old (publisher_id self.now) subscriber)) }
+        ensures roomy_alone { (subscriber : Subscriber) → HasRoomAlone domain.old (publisher_id self.now) subscriber → IfOk result IsDelivered × IfErr result (λ error. error ≢ UnableToDeliver) }
+        ensures roomy_at_all { (subscribers : List Subscriber) → HasRoomAtAll domain.old (publisher_id self.now) subscribers → IfOk result IsDelivered × IfErr result (λ error. error ≢ UnableToDeliver) }
         ensures counts { (subscribers : List Subscriber) → AreDifferent subscribers → AreConnected domain.old (publisher_id self.now) subscribers
             → IfOk result (λ outcome. (count : ℕ) → outcome ≡ SendOutcome.Delivered count → Counts domain.old domain.new (publisher_id self.now) (value ∷ []) subscribers count) }
         ensures others { OthersSend (publisher_id self.now) domain.old domain.new }

@@ -36,8 +36,9 @@ impl SampleMut {
     ghost use Rattle.iox2_domain.specs.Boxes.{answers_of};
     ghost use Rattle.iox2_domain.specs.Shows.{Shows};
     ghost use Rattle.iox2_pubsub.specs.AllSubscribers.{AreConnected, AreDifferent};
+    ghost use Rattle.iox2_pubsub.specs.BlockedSends.{IsNext};
     ghost use Rattle.iox2_pubsub.specs.Counts.{Counts, HaveTaken};
-    ghost use Rattle.iox2_pubsub.specs.Live.{AddAtMost, AllFrom, AreAllSlices, HasItsBuffer, IsAtConnection, IsConnected, IsLoanKey, IsServed, IsServedOrPending, IsUnblocked, IsWritten, WaitsAsBefore, payloads, payloads_from, waiting, written_key};
+    ghost use Rattle.iox2_pubsub.specs.Live.{AddAtMost, AllFrom, AreAllSlices, HasItsBuffer, IsAtConnection, IsConnected, IsConsistent, IsFull, IsLoanKey, IsServed, IsServedOrPending, IsUnblocked, IsWritten, WaitsAsBefore, payloads, payloads_from, waiting, written_key};
     ghost use Rattle.iox2_pubsub.specs.declared.subscriber.Subscriber.{Subscriber};
     ghost use Rattle.iox2_pubsub.specs.LoanCalls.{IsDiscarded};
     ghost use Rattle.iox2_pubsub.specs.RoomyPublishers.{HasRoomAlone, HasRoomAtAll, IsRoomy};
@@ -74,6 +75,7 @@ impl SampleMut {
         ensures errors { IfErr result (FailsSend domain.old (written_key (as_written self))) }
         ensures sent { (m : Messages T U) (s : State T U) (l : Loan T U) → Shows domain.old m s → s.loans (written_number (as_written self)) ≡ Some l
             → (s' : State T U) × Shows domain.new (messages_after m (written_number (as_written self)) l result) s' × Sends (answers_of F.allows G.allows (domain.old.boxes).publishers) s (written_number (as_written self)) l result s' }
+        ensures consistent { IsConsistent domain.old }
         ensures roomy { IsRoomy domain.old (written_lender (as_written self)) → IfOk result IsDelivered × IfErr result (λ error. error ≢ UnableToDeliver) }
         ensures roomy_alone { (subscriber : Subscriber) → HasRoomAlone domain.old (written_lender (as_written self)) subscriber → IfOk result IsDelivered × IfErr result (λ error. error ≢ UnableToDeliver) }
         ensures roomy_at_all { (subscribers : List Subscriber) → HasRoomAtAll domain.old (written_lender (as_written self)) subscribers → IfOk result IsDelivered × IfErr result (λ error. error ≢ UnableToDeliver) }
@@ -89,6 +91,8 @@ impl SampleMut {
             → IfOk result (λ outcome. IsDelivered outcome → AllFrom domain.new (written_lender (as_written self)) subscriber (earlier ++ values ∷ [])) }
         ensures pending { (subscriber : Subscriber) (values : List T) → IsConnected domain.old (written_lender (as_written self)) subscriber → HasValues domain.old (written_number (as_written self)) values
             → IfOk result (λ outcome. IfBlocked outcome (λ blocked. IsServedOrPending domain.old domain.new blocked subscriber values)) }
+        ensures full { (subscriber : Subscriber) → IsConnected domain.old (written_lender (as_written self)) subscriber
+            → IfOk result (λ outcome. IfBlocked outcome (λ blocked. IsNext domain.new blocked subscriber → IsFull domain.old (written_lender (as_written self)) subscriber)) }
         ensures counts { (subscribers : List Subscriber) (values : List T) → AreDifferent subscribers → AreConnected domain.old (written_lender (as_written self)) subscribers → HasValues domain.old (written_number (as_written self)) values
             → IfOk result (λ outcome. (count : ℕ) → outcome ≡ SendOutcome.Delivered count → Counts domain.old domain.new (written_lender (as_written self)) values subscribers count) }
         ensures spends { SpendsLoan (as_written self) result domain.old domain.new }

@@ -10,7 +10,7 @@ impl Subscriber {
     ghost use Rattle.iox2_machine.specs.machine.State.{State, Messages};
     ghost use Rattle.iox2_pubsub.specs.BorrowsLeft.{BorrowsLeftStay};
     ghost use Rattle.iox2_pubsub.specs.Leaves.{LeavesButWaiting};
-    ghost use Rattle.iox2_pubsub.specs.Live.{IsLiveSubscriber, IsUpToDate, KeepsAll, waiting, WaitingStays};
+    ghost use Rattle.iox2_pubsub.specs.Live.{IsConsistent, IsLiveSubscriber, IsUpToDate, KeepsAll, waiting, WaitingStays};
     ghost use Rattle.iox2_pubsub.specs.QuestionCalls.{Answers};
     ghost use Rattle.iox2_domain.specs.Boxes.{answers_of};
     ghost use Rattle.iox2_domain.specs.Shows.{Shows};
@@ -27,6 +27,7 @@ impl Subscriber {
         domain: &mut Domain<T, U, F, G>,
     ) -> Result<bool, ConnectionFailure>
         requires live { IsLiveSubscriber domain.old self.now }
+        ensures consistent { IsConsistent domain.old }
         ensures answers { (m : Messages T U) (s : State T U) → Shows domain.old m s
             → (s' : State T U) × Shows domain.new m s' × Answers (answers_of F.allows G.allows (domain.old.boxes).subscribers) s (subscriber_id self.now) result s' }
         ensures waits { IfOk result (λ waits. IsTrue waits ↔ (0 < waiting domain.new self.now)) }

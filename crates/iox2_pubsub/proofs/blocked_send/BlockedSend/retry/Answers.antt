@@ -21,6 +21,9 @@ use Rattle.iox2_pubsub.proofs.SendShown.{only-ok}
 use Rattle.iox2_pubsub.proofs.WaitingSends.{blocked-again, blocked-stands, does-there, from-blocked, goes-there, waits-there}
 use Rattle.iox2_pubsub.proofs.UpToDateShown.{retry-leaves}
 use Rattle.iox2_pubsub.proofs.WaitingShown.{retry-adds}
+use Rattle.iox2_pubsub.proofs.CallsStay.{always-shown}
+use Rattle.iox2_pubsub.proofs.FullReceivers.{retry-full, retry-roomy}
+use Rattle.iox2_pubsub.proofs.StaysBut.{consistent-shown}
 use Rattle.iox2_pubsub.proofs.blocked_send.BlockedSend.retry.Goals as goal
 
 pub retry_send-end-requires-clause-waits : goal.retry_send-end-requires-clause-waits
@@ -72,3 +75,18 @@ invariant_of-domain g c = (goes-there {T = g.row.T.Denot} {U = g.row.U.Denot} c.
 
 pub find_live_publisher-place-requires : goal.find_live_publisher-place-requires
 find_live_publisher-place-requires g c = blocked-stands {T = g.row.T.Denot} {U = g.row.U.Denot} c.domain.inside.state c.domain.invariant c.args.domain.now c.domain.view_is c.args.self c.requires.live
+
+pub returns-clause-consistent : goal.returns-clause-consistent
+returns-clause-consistent g c =
+    let it = always-shown {T = g.row.T.Denot} {U = g.row.U.Denot} c.domain.inside.state c.args.domain.now c.domain.invariant c.domain.view_is in
+    consistent-shown c.args.domain.now it.0 it.1 it.2
+
+pub returns-clause-full : goal.returns-clause-full
+returns-clause-full g c = λ target subscriber values pending connected.
+    let it = from-blocked {T = g.row.T.Denot} {U = g.row.U.Denot} c.domain.inside.state c.domain.invariant c.args.domain.now c.domain.view_is c.args.self c.requires.live (returns-clause-retries g c) in
+    retry-full {T = g.row.T.Denot} {U = g.row.U.Denot} c.args.domain.now (keeping _ c.retry_send-end.new.state) it.m it.s it.step.0 it.shown it.step.1 c.args.self c.outcome_of.result c.outcome_of.ensures.blocked (answers_of g.F.BackpressureFn.allows g.G.DegradationFn.allows c.args.domain.now.boxes.publishers) it.held.0 it.held.1 it.at it.held.3 target values pending c.args.elapsed it.step.2 subscriber connected
+
+pub returns-clause-roomy : goal.returns-clause-roomy
+returns-clause-roomy g c = λ target values subscribers pending all each.
+    let it = from-blocked {T = g.row.T.Denot} {U = g.row.U.Denot} c.domain.inside.state c.domain.invariant c.args.domain.now c.domain.view_is c.args.self c.requires.live (returns-clause-retries g c) in
+    retry-roomy {T = g.row.T.Denot} {U = g.row.U.Denot} c.args.domain.now (keeping (record { publishers = (c.domain.inside.boxes).boxes; subscribers = (c.domain.inside.subscriber_boxes).boxes }) c.retry_send-end.new.state) it.m it.s it.step.0 it.shown it.step.1 c.args.self c.outcome_of.result c.outcome_of.ensures.blocked (answers_of g.F.BackpressureFn.allows g.G.DegradationFn.allows c.args.domain.now.boxes.publishers) it.held.0 it.held.1 it.at it.held.3 target values pending c.args.elapsed it.step.2 subscribers all each

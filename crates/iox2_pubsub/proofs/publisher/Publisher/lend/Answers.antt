@@ -1,5 +1,7 @@
 use Rattle.std.proofs.Common.{ap, sym, ◌∙◌, refl}
 use Rattle.iox2_domain.specs.Kept.{Kept}
+use Rattle.iox2_pubsub.proofs.CallsStay.{always-shown}
+use Rattle.iox2_pubsub.proofs.StaysBut.{consistent-shown}
 use Rattle.iox2_pubsub.proofs.GrantedLoans.{call-leaves, call-refused, granted-leaves, lent-unfilled, lent-unwritten}
 use Rattle.iox2_pubsub.proofs.PlacedHandles.{publisher-at-place}
 use Rattle.iox2_pubsub.proofs.SureLoans.{sure-granted, sure-of-loan}
@@ -54,3 +56,13 @@ returns-clause-unfilled g c = lent-unfilled {T = g.row.T.Denot} {U = g.row.U.Den
 
 pub returns-clause-leaves : goal.returns-clause-leaves
 returns-clause-leaves g c = granted-leaves {T = g.row.T.Denot} {U = g.row.U.Denot} g.U.Default.is_default c.args.checks_length c.args.len c.domain.inside.state c.loan.new.state c.domain.invariant c.args.domain.now c.domain.view_is c.args.self.now c.requires.ready c.loan.result c.loan.ensures.reaches c.in_ok-loan.loan c.in_ok-loan.was c.in_ok-loan.ensures.named
+
+pub returns-in_err-loan-clause-consistent : goal.returns-in_err-loan-clause-consistent
+returns-in_err-loan-clause-consistent g c =
+    let it = always-shown {T = g.row.T.Denot} {U = g.row.U.Denot} c.domain.inside.state c.args.domain.now c.domain.invariant c.domain.view_is in
+    consistent-shown c.args.domain.now it.0 it.1 it.2
+
+pub returns-clause-consistent : goal.returns-clause-consistent
+returns-clause-consistent g c =
+    let it = always-shown {T = g.row.T.Denot} {U = g.row.U.Denot} c.domain.inside.state c.args.domain.now c.domain.invariant c.domain.view_is in
+    consistent-shown c.args.domain.now it.0 it.1 it.2

@@ -1,5 +1,7 @@
 use Rattle.std.proofs.Common.{ap, inl, inr, refl, sym, ◌∙◌, List, [], ◌∷◌, ◌++◌, ℕ, subst}
 use Rattle.std.proofs.lemmas.Result.{err_from_is_err_and}
+use Rattle.iox2_machine.specs.declared.errors.LoanError.{LoanError}
+use Rattle.iox2_machine.specs.declared.errors.SendError.TheVariants.{LoanError as Not_lent, UnableToDeliver}
 use Rattle.iox2_machine.specs.declared.key.Key.{Key}
 use Rattle.iox2_machine.specs.machine.Loans.{written}
 use Rattle.iox2_machine.specs.machine.State.{State}
@@ -14,6 +16,7 @@ use Rattle.iox2_pubsub.proofs.CopiesCount.{copy-counts, each-connected}
 use Rattle.iox2_pubsub.proofs.CopiesServe.{all-since, connected-as, copy-arrives, copy-others, copy-serves, none-are-all, none-still, waits-both}
 use Rattle.iox2_pubsub.specs.declared.subscriber.Subscriber.{Subscriber}
 use Rattle.iox2_pubsub.specs.Leaves.{Leaves}
+use Rattle.iox2_pubsub.proofs.FullReceivers.{copy-full}
 use Rattle.iox2_pubsub.proofs.RefusedCopies.{lent-not-refused}
 use Rattle.iox2_pubsub.proofs.RoomySends.{all-room-since, alone-since}
 use Rattle.iox2_pubsub.proofs.SendsPend.{copy-pends}
@@ -153,9 +156,9 @@ returns-clause-roomy_alone g c = λ subscriber has.
     let settings = c.write_payload.ensures.becomes.leaves.stays.settings ∙ c.in_ok-loan.ensures.leaves.stays.settings in
     let lender = ap (λ (k : Key). k.port) c.write_payload.ensures.becomes.key ∙ c.in_ok-loan.ensures.loan.lent.publisher in
     let still = c.in_ok-loan.ensures.leaves.up_to_date.connections c.args.self.now.id subscriber has.connected in
-    (c.send.ensures.roomy_alone subscriber
+    c.send.ensures.roomy_alone subscriber
     (alone-since waits settings (λ it its. c.write_payload.ensures.becomes.leaves.stays.buffers it (c.in_ok-loan.ensures.leaves.stays.buffers it its)) c.args.self.now.id c.write_payload.result.loan.publisher lender subscriber
-    (connected-as c.write_payload.ensures.becomes.leaves.up_to_date c.args.self.now.id c.write_payload.result.loan.publisher lender subscriber still) has)).0
+    (connected-as c.write_payload.ensures.becomes.leaves.up_to_date c.args.self.now.id c.write_payload.result.loan.publisher lender subscriber still) has)
 
 pub returns-clause-pending : goal.returns-clause-pending
 returns-clause-pending g c = λ subscriber connected.
@@ -171,9 +174,9 @@ returns-clause-roomy_at_all g c = λ subscribers has.
     let waits = waits-both c.in_ok-loan.ensures.leaves.waits c.write_payload.ensures.becomes.leaves.waits in
     let settings = c.write_payload.ensures.becomes.leaves.stays.settings ∙ c.in_ok-loan.ensures.leaves.stays.settings in
     let lender = ap (λ (k : Key). k.port) c.write_payload.ensures.becomes.key ∙ c.in_ok-loan.ensures.loan.lent.publisher in
-    (c.send.ensures.roomy_at_all subscribers
+    c.send.ensures.roomy_at_all subscribers
     (all-room-since waits settings (λ it its. c.write_payload.ensures.becomes.leaves.stays.buffers it (c.in_ok-loan.ensures.leaves.stays.buffers it its)) c.args.self.now.id c.write_payload.result.loan.publisher lender
-    (λ it is. connected-as c.write_payload.ensures.becomes.leaves.up_to_date c.args.self.now.id c.write_payload.result.loan.publisher lender it (c.in_ok-loan.ensures.leaves.up_to_date.connections c.args.self.now.id it is)) subscribers has)).0
+    (λ it is. connected-as c.write_payload.ensures.becomes.leaves.up_to_date c.args.self.now.id c.write_payload.result.loan.publisher lender it (c.in_ok-loan.ensures.leaves.up_to_date.connections c.args.self.now.id it is)) subscribers has)
 
 pub returns-clause-counts : goal.returns-clause-counts
 returns-clause-counts g c = λ subscribers different connected.
@@ -199,3 +202,31 @@ returns-clause-stays g c =
     (subst (λ (p : ℕ). StaysBut (A_sent_loan c.write_payload.result.loan.number p (is_blocked_send c.send.result)) c.write_payload.new.domain c.send.new.domain) lender c.send.ensures.spends.stays) in
     copy-stays c.args.domain.now c.loan_uninit.new.domain c.write_payload.new.domain c.send.new.domain n c.args.self.now.id (is_blocked_send c.send.result) c.in_ok-loan.ensures.leaves.stays c.in_ok-loan.ensures.loan.lent.is_new
     c.write_payload.ensures.becomes.leaves.stays sent
+
+pub returns-in_err-loan-clause-consistent : goal.returns-in_err-loan-clause-consistent
+returns-in_err-loan-clause-consistent g c = c.in_err-loan.ensures.consistent
+
+pub returns-clause-consistent : goal.returns-clause-consistent
+returns-clause-consistent g c = c.in_ok-loan.ensures.consistent
+
+-- a loan that is refused is no failed delivery
+not-undelivered : (reason : LoanError) → Not_lent reason ≡ UnableToDeliver → ⊥
+not-undelivered reason is = cc
+
+pub returns-in_err-loan-clause-roomy_alone : goal.returns-in_err-loan-clause-roomy_alone
+returns-in_err-loan-clause-roomy_alone g c =
+    let refused = err_from_is_err_and c.from_residual.result c.from_residual.ensures.1 in
+    λ subscriber has. rw refused.1 (tt, λ is. not-undelivered c.in_err-loan.field-0.0 (sym refused.2 ∙ is))
+
+pub returns-in_err-loan-clause-roomy_at_all : goal.returns-in_err-loan-clause-roomy_at_all
+returns-in_err-loan-clause-roomy_at_all g c =
+    let refused = err_from_is_err_and c.from_residual.result c.from_residual.ensures.1 in
+    λ subscribers has. rw refused.1 (tt, λ is. not-undelivered c.in_err-loan.field-0.0 (sym refused.2 ∙ is))
+
+pub returns-clause-full : goal.returns-clause-full
+returns-clause-full g c = λ subscriber connected.
+    let waits = waits-both c.in_ok-loan.ensures.leaves.waits c.write_payload.ensures.becomes.leaves.waits in
+    let lender = ap (λ (k : Key). k.port) c.write_payload.ensures.becomes.key ∙ c.in_ok-loan.ensures.loan.lent.publisher in
+    let still = c.in_ok-loan.ensures.leaves.up_to_date.connections c.args.self.now.id subscriber connected in
+    copy-full _ waits (λ it its. c.write_payload.ensures.becomes.leaves.stays.buffers it (c.in_ok-loan.ensures.leaves.stays.buffers it its)) c.args.self.now.id c.write_payload.result.loan.publisher lender subscriber c.send.result
+    (c.send.ensures.full subscriber (connected-as c.write_payload.ensures.becomes.leaves.up_to_date c.args.self.now.id c.write_payload.result.loan.publisher lender subscriber still))

@@ -18,7 +18,7 @@ use Rattle.iox2_domain.specs.Shows.{Shows}
 use Rattle.iox2_pubsub.proofs.SendShown.{machine-sends, steady-ok, never-unconnected-here, only-error, handler-error, either-error, fails-send, never-waits-send, never-fails-here, is-delivered, is-blocked, sent-entry, leaves-sent, leaves-shown}
 use Rattle.iox2_pubsub.specs.Live.{IsBlockedKey, blocked_key, lender_key, written_key}
 use Rattle.iox2_pubsub.specs.SendCalls.{result_of_send}
-use Rattle.iox2_pubsub.proofs.CallsStay.{sent-stays, send-spends}
+use Rattle.iox2_pubsub.proofs.CallsStay.{always-shown, sent-stays, send-spends}
 use Rattle.iox2_pubsub.proofs.SendsPend.{send-pends}
 use Rattle.iox2_pubsub.proofs.SentLoans.{from-shown}
 use Rattle.iox2_pubsub.proofs.CountsShown.{sends-count}
@@ -30,8 +30,9 @@ use Rattle.iox2_pubsub.proofs.BorrowsLeftShown.{send-borrows}
 use Rattle.iox2_pubsub.proofs.LoansLeftShown.{send-left, send-gives, sent-free}
 use Rattle.iox2_pubsub.proofs.PublisherWaits.{send-arrives, send-joins}
 use Rattle.iox2_pubsub.proofs.KeptReceives.{others-send}
-use Rattle.iox2_pubsub.proofs.RoomySends.{all-roomy, alone-roomy, roomy-free, unhindered-is}
-use Rattle.iox2_pubsub.proofs.StaysBut.{same-boxes}
+use Rattle.iox2_pubsub.proofs.FullReceivers.{sends-full}
+use Rattle.iox2_pubsub.proofs.RoomySends.{all-free, alone-free, roomy-free, unhindered-is}
+use Rattle.iox2_pubsub.proofs.StaysBut.{consistent-shown, same-boxes}
 use Rattle.iox2_pubsub.proofs.PlacedLoans.{written-lies}
 use Rattle.iox2_pubsub.proofs.sample_mut.SampleMut.send.Goals as goal
 
@@ -98,12 +99,14 @@ returns-clause-roomy g c = λ roomy.
 pub returns-clause-roomy_alone : goal.returns-clause-roomy_alone
 returns-clause-roomy_alone g c = λ subscriber has.
     let it = from-shown {T = g.row.T.Denot} {U = g.row.U.Denot} c.domain.inside.state c.domain.invariant c.args.domain.now c.domain.view_is c.args.self c.requires.live (returns-clause-sent g c) in
-    returns-clause-roomy g c (alone-roomy {T = g.row.T.Denot} {U = g.row.U.Denot} c.args.domain.now it.m it.s it.shown c.args.self.loan.publisher subscriber has)
+    unhindered-is c.send_loan.result
+    (alone-free {T = g.row.T.Denot} {U = g.row.U.Denot} c.args.domain.now it.m it.s it.shown c.args.self.loan.publisher (answers_of g.F.BackpressureFn.allows g.G.DegradationFn.allows c.args.domain.now.boxes.publishers) c.args.self.loan.number it.l it.its (unblocked-test c.args.domain.now (written_key c.args.self) c.requires.unblocked) subscriber has it.step.0 (result_of_send c.send_loan.result) it.step.2)
 
 pub returns-clause-roomy_at_all : goal.returns-clause-roomy_at_all
 returns-clause-roomy_at_all g c = λ subscribers has.
     let it = from-shown {T = g.row.T.Denot} {U = g.row.U.Denot} c.domain.inside.state c.domain.invariant c.args.domain.now c.domain.view_is c.args.self c.requires.live (returns-clause-sent g c) in
-    returns-clause-roomy g c (all-roomy {T = g.row.T.Denot} {U = g.row.U.Denot} c.args.domain.now it.m it.s it.shown c.args.self.loan.publisher subscribers has)
+    unhindered-is c.send_loan.result
+    (all-free {T = g.row.T.Denot} {U = g.row.U.Denot} c.args.domain.now it.m it.s it.shown c.args.self.loan.publisher (answers_of g.F.BackpressureFn.allows g.G.DegradationFn.allows c.args.domain.now.boxes.publishers) c.args.self.loan.number it.l it.its (unblocked-test c.args.domain.now (written_key c.args.self) c.requires.unblocked) subscribers has it.step.0 (result_of_send c.send_loan.result) it.step.2)
 
 pub returns-clause-brings : goal.returns-clause-brings
 returns-clause-brings g c = λ subscriber values no_history none reads.
@@ -185,3 +188,14 @@ returns-clause-counts g c = λ subscribers values different connected reads.
     sends-count {T = g.row.T.Denot} {U = g.row.U.Denot} c.args.domain.now _ it.m it.s (answers_of g.F.BackpressureFn.allows g.G.DegradationFn.allows c.args.domain.now.boxes.publishers) it.shown c.args.self.loan.number it.l c.args.self.loan.publisher it.its
     (unblocked-test c.args.domain.now (written_key c.args.self) c.requires.unblocked) subscribers values different connected c.send_loan.result it.step.0 it.step.1 it.step.2
     (λ subscriber at. returns-clause-serves g c subscriber values at reads)
+
+pub returns-clause-consistent : goal.returns-clause-consistent
+returns-clause-consistent g c =
+    let it = always-shown {T = g.row.T.Denot} {U = g.row.U.Denot} c.domain.inside.state c.args.domain.now c.domain.invariant c.domain.view_is in
+    consistent-shown c.args.domain.now it.0 it.1 it.2
+
+pub returns-clause-full : goal.returns-clause-full
+returns-clause-full g c = λ subscriber connected.
+    let it = from-shown {T = g.row.T.Denot} {U = g.row.U.Denot} c.domain.inside.state c.domain.invariant c.args.domain.now c.domain.view_is c.args.self c.requires.live (returns-clause-sent g c) in
+    sends-full {T = g.row.T.Denot} {U = g.row.U.Denot} c.args.domain.now _ it.m it.s (answers_of g.F.BackpressureFn.allows g.G.DegradationFn.allows c.args.domain.now.boxes.publishers) it.shown c.args.self.loan.number it.l c.args.self.loan.publisher c.send_loan.result it.step.0 it.step.1 it.step.2 it.its
+    (unblocked-test c.args.domain.now (written_key c.args.self) c.requires.unblocked) (written_key c.args.self) refl (returns-clause-spends g c).blocked subscriber connected

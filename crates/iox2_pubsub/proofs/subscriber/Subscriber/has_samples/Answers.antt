@@ -4,7 +4,7 @@ use Rattle.iox2_domain.specs.Fields.{keeping}
 use Rattle.iox2_pubsub.proofs.PlacedHandles.{subscriber-at-place, subscriber-there}
 use Rattle.iox2_pubsub.proofs.CallsStay.{always-shown}
 use Rattle.iox2_pubsub.proofs.QuestionShown.{answer-at, answer-shows, answered}
-use Rattle.iox2_pubsub.proofs.StaysBut.{same-boxes}
+use Rattle.iox2_pubsub.proofs.StaysBut.{consistent-shown, same-boxes}
 use Rattle.iox2_pubsub.proofs.UpdatesLeave.{question-borrows, question-left, question-updated}
 use Rattle.iox2_pubsub.proofs.WaitingShown.{answers-say}
 use Rattle.iox2_pubsub.proofs.KeptReceives.{question-waits}
@@ -52,3 +52,8 @@ pub invariant_of-domain : goal.invariant_of-domain
 invariant_of-domain g c =
     let at = subscriber-there {T = g.row.T.Denot} {U = g.row.U.Denot} c.domain.inside.state c.domain.invariant c.args.domain.now c.domain.view_is c.args.self.now c.requires.live in
     (c.has_samples_at.ensures at.0 at.1).1.agrees
+
+pub returns-clause-consistent : goal.returns-clause-consistent
+returns-clause-consistent g c =
+    let it = always-shown {T = g.row.T.Denot} {U = g.row.U.Denot} c.domain.inside.state c.args.domain.now c.domain.invariant c.domain.view_is in
+    consistent-shown c.args.domain.now it.0 it.1 it.2

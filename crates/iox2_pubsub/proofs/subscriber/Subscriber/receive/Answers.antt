@@ -18,7 +18,7 @@ use Rattle.iox2_pubsub.proofs.UpdatesLeave.{reception-left}
 use Rattle.iox2_pubsub.proofs.PublisherWaits.{one-is-all, receive-takes-first}
 use Rattle.iox2_pubsub.proofs.BorrowsLeftShown.{receive-borrows-none, receive-granted, receive-takes, receive-unlimited}
 use Rattle.iox2_pubsub.proofs.KeptReceives.{nothing-moves, nothing-waited, one-fewer-waits, others-wait-still}
-use Rattle.iox2_pubsub.proofs.StaysBut.{same-boxes}
+use Rattle.iox2_pubsub.proofs.StaysBut.{consistent-shown, same-boxes}
 use Rattle.iox2_pubsub.proofs.subscriber.Subscriber.receive.Given.{Over}
 use Rattle.iox2_pubsub.proofs.subscriber.Subscriber.receive.Goals as goal
 
@@ -39,6 +39,7 @@ returns-in_err-receipt g c =
     let it = always-shown {T = g.row.T.Denot} {U = g.row.U.Denot} c.domain.inside.state c.args.domain.now c.domain.invariant c.domain.view_is in
     let step = shows it.0 it.1 it.2 in
     record {
+      consistent = consistent-shown c.args.domain.now it.0 it.1 it.2;
       receives = shows;
       received = rw refused.1 tt;
       none = rw refused.1 tt;
@@ -62,6 +63,7 @@ returns-in_default g c =
     let it = always-shown {T = g.row.T.Denot} {U = g.row.U.Denot} c.domain.inside.state c.args.domain.now c.domain.invariant c.domain.view_is in
     let step = shows it.0 it.1 it.2 in
     record {
+      consistent = consistent-shown c.args.domain.now it.0 it.1 it.2;
       receives = shows;
       received = tt;
       none = received-none {T = g.row.T.Denot} {U = g.row.U.Denot} c.args.domain.now (keeping (record { publishers = (c.domain.inside.boxes).boxes; subscribers = (c.domain.inside.subscriber_boxes).boxes }) c.receive_at.new.state) it.0 it.0 it.1 step.0 it.2 step.1 (answers_of g.F.BackpressureFn.allows g.G.DegradationFn.allows c.args.domain.now.boxes.subscribers) c.args.self.now step.2;
@@ -90,6 +92,7 @@ returns g c =
     let oldest = received-oldest {T = g.row.T.Denot} {U = g.row.U.Denot} c.args.domain.now (keeping (record { publishers = (c.domain.inside.boxes).boxes; subscribers = (c.domain.inside.subscriber_boxes).boxes }) c.receive_at.new.state) it.0 it.0 it.1 step.0 it.2 step.1 (answers_of g.F.BackpressureFn.allows g.G.DegradationFn.allows c.args.domain.now.boxes.subscribers) c.args.self.now (λ n entry at. at) c.requires.live sample step.2 in
     let ordered = receive-takes-first {T = g.row.T.Denot} {U = g.row.U.Denot} c.args.domain.now (keeping (record { publishers = (c.domain.inside.boxes).boxes; subscribers = (c.domain.inside.subscriber_boxes).boxes }) c.receive_at.new.state) it.0 it.0 it.1 step.0 it.2 step.1 c.args.self.now sample oldest fewer in
     record {
+      consistent = consistent-shown c.args.domain.now it.0 it.1 it.2;
       receives = shows;
       received = record {
         live = reception-live {T = g.row.T.Denot} {U = g.row.U.Denot} (answers_of g.F.BackpressureFn.allows g.G.DegradationFn.allows c.args.domain.now.boxes.subscribers) c.args.domain.now c.domain.inside.state c.receive_at.new.state c.domain.view_is c.args.self.now sample c.in-Some.receipt got refl refl refl c.requires.live;
