@@ -54,7 +54,7 @@ place-in end rest q k place behind false here is =
     let later = behind is in
     (suc later.0, (let same : place ≡ suc k + later.0 = later.1 in omega (arith, same)), later.2)
 
-place-is : (ends : List (Option ℕ)) (q k place : ℕ) → place_from k ends q ≡ Some place → (i : ℕ) × (place ≡ k + i) × (occupant ends i ≡ Some q)
+pub place-is : (ends : List (Option ℕ)) (q k place : ℕ) → place_from k ends q ≡ Some place → (i : ℕ) × (place ≡ k + i) × (occupant ends i ≡ Some q)
 place-is [] q k place is = absurd (none-some place is)
 place-is (end ∷ rest) q k place is = place-in end rest q k place (place-is rest q (suc k) place) (is_port end q) refl is
 
@@ -70,9 +70,13 @@ unfolding IsAtConnection
 at-connection kept m s shown p q None is = tt
 at-connection {T} {U} kept m s shown p q (Some place) is = λ subscriber same. ap (λ (t : State T U). connection_place t p subscriber.id) (sym shown.state) ∙ ap (connection_place s p) same ∙ sym is
 
-connection-parts : {T U F G : Type 0} (kept : Kept T U F G) (p connection : ℕ) (subscriber : Subscriber) → IsAtConnection kept p connection subscriber → connection_place (state_of kept) p subscriber.id ≡ Some connection
+pub connection-parts : {T U F G : Type 0} (kept : Kept T U F G) (p connection : ℕ) (subscriber : Subscriber) → IsAtConnection kept p connection subscriber → connection_place (state_of kept) p subscriber.id ≡ Some connection
 unfolding IsAtConnection
 connection-parts kept p connection subscriber at = at
+
+pub connection-is : {T U F G : Type 0} (kept : Kept T U F G) (p connection : ℕ) (subscriber : Subscriber) → connection_place (state_of kept) p subscriber.id ≡ Some connection → IsAtConnection kept p connection subscriber
+unfolding IsAtConnection
+connection-is kept p connection subscriber at = at
 
 module _ {T U F G : Type 0} (old new : Kept T U F G) (m : Messages T U) (s : State T U) (shown : Shows old m s) (environment : Environment) (n : ℕ) (l : Loan T U) (out : s.loans n ≡ Some l) (p : ℕ) (its : l.publisher ≡ p)
     (place : ℕ) (result : Result SendOutcome SendError) (s' : State T U) (shown' : Shows new (messages_after m n l result) s') (h : SendsToConnection environment s n l 0 place result s')
@@ -149,13 +153,6 @@ module _ {T U F G : Type 0} (old new : Kept T U F G) (m : Messages T U) (s : Sta
           same_Some (c.subscriber).buffer buffer (sym (takes-buffer environment s shown.well_formed l.publisher subscriber.id c) ∙ ap (channel_buffer s l.publisher 0) here ∙ opened) in
           ap (λ (b : ℕ). has_room 0 b (s.mailboxes l.publisher q)) (sym same) ∙ ap (λ (i : ℕ). has_room 0 (c.subscriber).buffer (s.mailboxes l.publisher i)) (sym here) ∙ room-here
 
-  -- and nobody else gets it
-  pub connection-alone : (other : Subscriber) → other.id ≢ subscriber.id → WaitsAsBefore old new other
-  connection-alone other away =
-      as-before old new m (messages_after m n l result) s s' shown shown' (sent-before-stays m n l result sent) l.publisher touches other
-      (goes-on-leaves environment (with_loan s n None) l.publisher n 0 no_time place (take 1 (drop place ends)) 0 false s' (result_of_send result) delivers other.id
-      (subst (λ (es : List (Option ℕ)). contains (occupants es) other.id ≡ false) (sym (one-end ends place subscriber.id stands)) (absent_one subscriber.id other.id (λ same. away (sym same))))).0
-
   -- it took the message and was counted, or this went past it
   connection-counts : (values : List T) (reached : ℕ) → result_of_send result ≡ Delivered_to reached → IsServed old new p subscriber values → HaveTaken old new p values (subscriber ∷ []) reached
   connection-counts values reached is served =
@@ -221,7 +218,3 @@ module _ {T U F G : Type 0} (old new : Kept T U F G) (m : Messages T U) (s : Sta
       → (subscriber : Subscriber) → IsAtConnection old p place subscriber → IsConnected old p subscriber → HasItsBuffer old subscriber
       → length (payloads_from old p subscriber) < subscriber.buffer_size → IsUnhindered (result_of_send result)
   sends-to-roomy result s' shown' h subscriber at is = connection-roomy old new m s shown environment n l out p its place result s' shown' (in-first result s' h) subscriber at is
-
-  pub sends-to-alone : (result : Result SendOutcome SendError) (s' : State T U) → Shows new (messages_after m n l result) s' → SendsToConnection environment s n l channel place result s'
-      → (subscriber : Subscriber) → IsAtConnection old p place subscriber → IsConnected old p subscriber → (other : Subscriber) → other.id ≢ subscriber.id → WaitsAsBefore old new other
-  sends-to-alone result s' shown' h subscriber at is = connection-alone old new m s shown environment n l out p its place result s' shown' (in-first result s' h) subscriber at is

@@ -18,8 +18,9 @@ use Rattle.iox2_machine.specs.machine.State.{State, Messages, fresh, no_messages
 use Rattle.iox2_domain.specs.Kept.{Kept, entries_of, state_of}
 use Rattle.iox2_domain.specs.Shows.{Shows}
 use Rattle.iox2_pubsub.specs.Live.{A_blocked_send, AllFrom, Both, HasItsBuffer, HasPassed, IsBlockedSend, IsConsistent, IsNewIn, IsPending, IsServed, Item, KeepsAll, No_item, Stays, StaysBut, OthersSend, UpToDateStay, WaitingStays, WaitsAsBefore, payloads, payloads_from, waiting}
-use Rattle.iox2_pubsub.specs.BorrowsLeft.{HasBorrowsLeft, borrowed_by}
-use Rattle.iox2_pubsub.specs.LoansLeft.{HasLoansLeft, HasNumbersLeft}
+use Rattle.iox2_pubsub.specs.BorrowsLeft.{BorrowsLeftStay, HasBorrowsLeft, borrowed_by}
+use Rattle.iox2_pubsub.specs.Leaves.{Leaves}
+use Rattle.iox2_pubsub.specs.LoansLeft.{HasLoansLeft, HasNumbersLeft, LoansLeftStay}
 use Rattle.iox2_pubsub.specs.NewDomains.{IsNewDomain}
 use Rattle.iox2_pubsub.specs.Payloads.{payload_of, singles}
 use Rattle.iox2_pubsub.specs.SendCalls.{is_blocked_send, spent_by_copy}
@@ -367,6 +368,32 @@ module _ {T U F G : Type 0} (start old new : Kept T U F G) where
   -- where a new item is spent, all that was there before stays
   pub stays_on : Stays start old → (item : Item) → IsNewIn start item → StaysBut item old new → Stays start new
   stays_on before item = stays-on start old before item new
+
+  -- so do connections, what waits, and what is left
+  pub up_to_date_twice : UpToDateStay start old → UpToDateStay old new → UpToDateStay start new
+  up_to_date_twice before next = record {
+    subscribers = λ subscriber is. next.subscribers subscriber (before.subscribers subscriber is);
+    connections = λ publisher subscriber is. next.connections publisher subscriber (before.connections publisher subscriber is);
+    room = λ subscriber closes has. next.room subscriber closes (before.room subscriber closes has);
+  }
+
+  pub waiting_twice : WaitingStays start old → WaitingStays old new → WaitingStays start new
+  waiting_twice before next = record { all = next.all ∙ before.all; from = next.from ∙ before.from }
+
+  pub loans_left_twice : LoansLeftStay start old → LoansLeftStay old new → LoansLeftStay start new
+  loans_left_twice before next = record { loans = λ publisher n left. next.loans publisher n (before.loans publisher n left); numbers = λ n left. next.numbers n (before.numbers n left) }
+
+  pub borrows_left_twice : BorrowsLeftStay start old → BorrowsLeftStay old new → BorrowsLeftStay start new
+  borrows_left_twice before next = λ subscriber n left. next subscriber n (before subscriber n left)
+
+  pub leaves_twice : Leaves start old → Leaves old new → Leaves start new
+  leaves_twice before next = record {
+    stays = stays_twice before.stays next.stays;
+    waits = waiting_twice before.waits next.waits;
+    up_to_date = up_to_date_twice before.up_to_date next.up_to_date;
+    loans_left = loans_left_twice before.loans_left next.loans_left;
+    borrows_left = borrows_left_twice before.borrows_left next.borrows_left;
+  }
 
 module _ {T U F G : Type 0} (start old : Kept T U F G) where
   -- what is new later was new before

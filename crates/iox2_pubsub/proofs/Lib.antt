@@ -108,3 +108,5 @@ pub mod KeptAnswers
 mod WaitedFor
 pub mod FullEnds
 pub mod FullReceivers
+pub mod ShareLaws
+pub mod OtherConnections

@@ -72,8 +72,8 @@ module _ {T U F G : Type 0} (old new : Kept T U F G) (m m' : Messages T U) (s s'
     (sent : (k : ℕ) (entry : Entry T U) → m k ≡ Some entry → m' k ≡ Some entry) (p : ℕ) (touches : TouchesOnly s s' p) where
   module _ (subscriber : Subscriber) where
     -- nothing moved for the subscriber
-    pub as-before : s'.mailboxes p subscriber.id ≡ s.mailboxes p subscriber.id → WaitsAsBefore old new subscriber
-    as-before same = record {
+    pub as-waits : (s'.mailboxes p subscriber.id).waiting ≡ (s.mailboxes p subscriber.id).waiting → WaitsAsBefore old new subscriber
+    as-waits same = record {
       all = payloads-stay-for old new m m' s s' shown shown' sent subscriber touches.others.ports each;
       from = λ i. payloads-stay-from old new m m' s s' shown shown' sent i subscriber (each i);
     }
@@ -82,9 +82,12 @@ module _ {T U F G : Type 0} (old new : Kept T U F G) (m m' : Messages T U) (s s'
         each i = elim (cases_eq i p) [
           | inl here ↦
               same_from s s' i subscriber.id (ap (λ (f : ℕ → Option MachineSubscriber). f subscriber.id) touches.subscribers)
-              (ap (λ (k : ℕ). (s'.mailboxes k subscriber.id).waiting) here ∙ ap (λ (box : Mailbox). box.waiting) same ∙ ap (λ (k : ℕ). (s.mailboxes k subscriber.id).waiting) (sym here))
+              (ap (λ (k : ℕ). (s'.mailboxes k subscriber.id).waiting) here ∙ same ∙ ap (λ (k : ℕ). (s.mailboxes k subscriber.id).waiting) (sym here))
           | inr away ↦ others-wait s s' p touches subscriber.id i away
         ]
+
+    pub as-before : s'.mailboxes p subscriber.id ≡ s.mailboxes p subscriber.id → WaitsAsBefore old new subscriber
+    as-before same = as-waits (ap (λ (box : Mailbox). box.waiting) same)
 
   -- what waits of other publishers waits as before
   pub others-send : OthersSend p old new

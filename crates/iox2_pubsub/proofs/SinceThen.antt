@@ -1,11 +1,18 @@
--- Laws that callers' proofs may cite: who was served or left alone, seen from before or later.
-use Rattle.std.proofs.Common.{◌≡◌, ℕ, suc, ◌<◌, ◌≤◌, List, [], ◌∷◌, ◌++◌, length, drop, sym, ap, subst, ◌∙◌, inl, inr, ⊎_elim}
+-- Laws that callers' proofs may cite: who was served or left alone, seen from before or later, and blocked sends.
+use Rattle.std.proofs.Common.{◌≡◌, ℕ, suc, ◌<◌, ◌≤◌, ◌⊎◌, List, [], ◌∷◌, ◌++◌, length, drop, refl, sym, ap, subst, ◌∙◌, inl, inr, ⊎_elim, Option, None, Some}
 use Rattle.std.specs.Bool.{MatchBool}
+use Rattle.std.proofs.lemmas.Bool.{cases_eq}
+use Rattle.std.proofs.lemmas.Option.{none-some, same_Some}
+use Rattle.iox2_machine.specs.declared.key.Key.{Key}
 use Rattle.iox2_machine.specs.declared.service_config.ServiceConfig.{ServiceConfig}
-use Rattle.iox2_domain.specs.Kept.{Kept}
-use Rattle.iox2_pubsub.specs.Live.{HasItsBuffer, IsServed, IsServedOrPending, WaitsAsBefore, payloads_from, waiting}
+use Rattle.iox2_domain.specs.Kept.{Kept, state_of}
+use Rattle.iox2_pubsub.specs.BlockedSends.{IsNext, IsNotNext, StaysSince, waits_for}
+use Rattle.iox2_pubsub.specs.Live.{A_blocked_send, HasItsBuffer, IsAtConnection, IsServed, IsServedOrPending, IsUnblocked, Stays, StaysBut, WaitsAsBefore, blocked_key, blocked_send, lender_key, payloads_from, waiting}
 use Rattle.iox2_pubsub.specs.declared.blocked_send.BlockedSend.{BlockedSend}
 use Rattle.iox2_pubsub.specs.declared.subscriber.Subscriber.{Subscriber}
+use Rattle.iox2_pubsub.proofs.ForCallers.{stays_but_twice}
+use Rattle.iox2_pubsub.proofs.OtherConnections.{one-at-connection}
+use Rattle.iox2_pubsub.proofs.PendingShown.{next-is, next-parts}
 
 module _ {T U F G : Type 0} (start old new : Kept T U F G) (subscriber : Subscriber) where
   -- where nothing moved for a subscriber twice, nothing moved
@@ -60,3 +67,35 @@ module _ {T U F G : Type 0} (start old new : Kept T U F G) (subscriber : Subscri
       (λ served. inl (served_since settings its blocked.loan.publisher values same served.0, served.1, λ one. served.2 (ap (λ (c : ServiceConfig). c.max_subscribers) settings ∙ one)))
       (λ pending. inr (as_before_twice same pending.0, pending.1))
       came
+
+-- ---- blocked sends
+
+-- a send waits for a subscriber, or it doesn't
+pub next_or_not : {T U F G : Type 0} (domain : Kept T U F G) (blocked : BlockedSend) (subscriber : Subscriber) → IsNext domain blocked subscriber ⊎ IsNotNext domain blocked subscriber
+next_or_not domain blocked subscriber = by (waits_for (state_of domain) blocked.loan.publisher) refl where
+  by : (o : Option ℕ) → waits_for (state_of domain) blocked.loan.publisher ≡ o → IsNext domain blocked subscriber ⊎ IsNotNext domain blocked subscriber
+  by None e = inr (λ next. none-some subscriber.id (sym e ∙ next-parts domain blocked subscriber next))
+  by (Some q) e = elim (cases_eq q subscriber.id) [
+    | inl same ↦ inl (next-is domain blocked subscriber (e ∙ ap (λ (i : ℕ). Some i) same))
+    | inr away ↦ inr (λ next. away (same_Some q subscriber.id (sym e ∙ next-parts domain blocked subscriber next)))
+  ]
+
+module _ {T U F G : Type 0} (old mid new : Kept T U F G) (blocked : BlockedSend) where
+  -- where a send has ended since it was blocked, all stays that was there before it
+  pub stays_then : IsUnblocked old (lender_key (blocked_key blocked)) → StaysBut (blocked_send blocked) old mid → StaysSince blocked mid new → Stays old new
+  unfolding StaysSince
+  stays_then free stood since = since old free stood
+
+  -- and so it is with a send that was blocked again
+  pub stays_since : (waiting : BlockedSend) → blocked_key blocked ≡ blocked_key waiting → StaysBut (blocked_send waiting) old mid → StaysSince blocked mid new → StaysSince waiting old new
+  unfolding StaysSince
+  stays_since waiting same stood since = λ before free stays.
+      since before (subst (λ (k : Key). IsUnblocked before (lender_key k)) (sym same) free)
+      (subst (λ (k : Key). StaysBut (A_blocked_send k.port) before mid) (sym same) (stays_but_twice before old mid (blocked_send waiting) stays stood))
+
+-- ---- connections
+
+-- at one connection stands one subscriber
+pub one_at_connection : {T U F G : Type 0} (domain : Kept T U F G) (publisher connection : ℕ) (first second : Subscriber) → IsAtConnection domain publisher connection first → IsAtConnection domain publisher connection second
+    → first.id ≡ second.id
+one_at_connection = one-at-connection

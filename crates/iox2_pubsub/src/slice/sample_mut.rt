@@ -136,8 +136,7 @@ impl SampleMut {
         ensures joins { (subscriber : Subscriber) (values : List T) (earlier : List (List T)) → channel ≡ 0 → IsAtConnection domain.old (written_lender (as_written self)) connection subscriber → AllFrom domain.old (written_lender (as_written self)) subscriber earlier
             → HasItsBuffer domain.old subscriber → length earlier < buffer_size_of subscriber → IsConnected domain.old (written_lender (as_written self)) subscriber → HasValues domain.old (written_number (as_written self)) values
             → IfOk result (λ outcome. IsDelivered outcome → AllFrom domain.new (written_lender (as_written self)) subscriber (earlier ++ values ∷ [])) }
-        ensures alone { (subscriber other : Subscriber) → channel ≡ 0 → IsAtConnection domain.old (written_lender (as_written self)) connection subscriber → IsConnected domain.old (written_lender (as_written self)) subscriber
-            → subscriber_id other ≢ subscriber_id subscriber → WaitsAsBefore domain.old domain.new other }
+        ensures alone { (other : Subscriber) → (channel ≡ 0 → IsAtConnection domain.old (written_lender (as_written self)) connection other → ⊥) → WaitsAsBefore domain.old domain.new other }
         ensures pending { (subscriber : Subscriber) (values : List T) → channel ≡ 0 → IsAtConnection domain.old (written_lender (as_written self)) connection subscriber → IsConnected domain.old (written_lender (as_written self)) subscriber
             → HasValues domain.old (written_number (as_written self)) values → IfOk result (λ outcome. IfBlocked outcome (λ blocked. IsServedOrPending domain.old domain.new blocked subscriber values)) }
         ensures counts { (subscriber : Subscriber) (values : List T) → channel ≡ 0 → IsAtConnection domain.old (written_lender (as_written self)) connection subscriber → IsConnected domain.old (written_lender (as_written self)) subscriber

@@ -15,7 +15,8 @@ use Rattle.iox2_messages.specs.SendEnds.{end_result}
 use Rattle.iox2_pubsub.specs.Live.{IsBlockedKey, blocked_key, written_key}
 use Rattle.iox2_pubsub.specs.SendCalls.{result_of_send}
 use Rattle.iox2_pubsub.proofs.SentLoans.{from-shown}
-use Rattle.iox2_pubsub.proofs.ConnectionServes.{sends-to-alone, sends-to-counts, sends-to-pends, sends-to-roomy, sends-to-serves}
+use Rattle.iox2_pubsub.proofs.ConnectionServes.{sends-to-counts, sends-to-pends, sends-to-roomy, sends-to-serves}
+use Rattle.iox2_pubsub.proofs.OtherConnections.{sends-to-alone}
 use Rattle.iox2_pubsub.proofs.ConnectionSendShown.{leaves-sent-to, machine-sends-to, sent-to-stays, sent-to-others, sent-to-up_to_date, sent-to-ok, fails-delivery, to-never-waits, to-spends}
 use Rattle.iox2_pubsub.proofs.LiveParts.{written-parts, unblocked-parts, unblocked-test, blocked-live}
 use Rattle.iox2_pubsub.proofs.BorrowsLeftShown.{send-to-borrows}
@@ -131,6 +132,6 @@ returns-clause-joins g c = λ subscriber values earlier first at all its room co
     subscriber c.args.self.loan.publisher values earlier all its room c.outcome_of.result (returns-clause-serves g c subscriber values first at connected reads)
 
 pub returns-clause-alone : goal.returns-clause-alone
-returns-clause-alone g c = λ subscriber other first at connected away.
+returns-clause-alone g c = λ other away.
     let it = from-shown {T = g.row.T.Denot} {U = g.row.U.Denot} c.domain.inside.state c.domain.invariant c.args.domain.now c.domain.view_is c.args.self c.requires.live (returns-clause-sent g c) in
-    sends-to-alone {T = g.row.T.Denot} {U = g.row.U.Denot} c.args.domain.now _ it.m it.s it.shown (answers_of g.F.BackpressureFn.allows g.G.DegradationFn.allows c.args.domain.now.boxes.publishers) c.args.self.loan.number it.l it.out c.args.self.loan.publisher it.its c.args.channel c.args.connection first c.outcome_of.result it.step.0 it.step.1 it.step.2 subscriber at connected other away
+    sends-to-alone {T = g.row.T.Denot} {U = g.row.U.Denot} c.args.domain.now _ it.m it.s it.shown (answers_of g.F.BackpressureFn.allows g.G.DegradationFn.allows c.args.domain.now.boxes.publishers) c.args.self.loan.number it.l it.out c.args.self.loan.publisher it.its c.args.channel c.args.connection c.outcome_of.result it.step.0 it.step.1 it.step.2 other away
