@@ -1,6 +1,6 @@
 -- What a send into channel 0 of one connection leaves: its subscriber is served, or left as it was and pending, and nobody else is touched.
 use Rattle.std.proofs.Common.{◌≡◌, ℕ, zero, suc, ◌+◌, ⊎_elim, ◌<◌, Bool, true, false, cond, List, [], ◌∷◌, drop, take, length, refl, sym, ap, subst, ◌∙◌, arith, Option, None, Some, Result, Ok, Err}
-use Rattle.std.specs.Prelude.{◌≢◌, IfOk, IfSome}
+use Rattle.std.specs.Prelude.{IfOk, IfSome}
 use Rattle.std.specs.List.{filter}
 use Rattle.std.specs.Option.{option_and_then}
 use Rattle.std.proofs.lemmas.Bool.{lt-ltb}
@@ -18,14 +18,14 @@ use Rattle.iox2_machine.specs.declared.errors.SendError.{SendError}
 use Rattle.iox2_machine.specs.declared.key.Key.{Key}
 use Rattle.iox2_laws.proofs.Cases.{by_option}
 use Rattle.iox2_laws.proofs.ConnectionSendsLeave.{send_to_connection_remains}
-use Rattle.iox2_laws.proofs.NumberLemmas.{absent_one, contains_first, contains_one}
+use Rattle.iox2_laws.proofs.NumberLemmas.{contains_first, contains_one}
 use Rattle.iox2_laws.proofs.PlaceLemmas.{is_port-true}
 use Rattle.iox2_laws.proofs.Puts.{put_at-same}
 use Rattle.iox2_domain.specs.Kept.{Kept, state_of}
 use Rattle.iox2_domain.specs.Shows.{Shows}
 use Rattle.iox2_pubsub.specs.ConnectedPorts.{Connects}
 use Rattle.iox2_pubsub.specs.Counts.{HaveTaken}
-use Rattle.iox2_pubsub.specs.Live.{HasItsBuffer, IsAtConnection, IsBlockedSend, IsConnected, IsServed, IsServedOrPending, WaitsAsBefore, blocked_key, payloads_from}
+use Rattle.iox2_pubsub.specs.Live.{HasItsBuffer, IsAtConnection, IsBlockedSend, IsConnected, IsServed, IsServedOrPending, blocked_key, payloads_from}
 use Rattle.iox2_pubsub.specs.SendCalls.{IfBlocked, IsDelivered, SendsToConnection, messages_after, result_of_send}
 use Rattle.iox2_pubsub.specs.Slices.{HasValues}
 use Rattle.iox2_pubsub.specs.declared.send_outcome.SendOutcome.{SendOutcome}
@@ -36,8 +36,8 @@ use Rattle.iox2_pubsub.proofs.ConnectionSendShown.{to-connections}
 use Rattle.iox2_pubsub.proofs.ConnectionsShown.{loan-values}
 use Rattle.iox2_pubsub.proofs.CountsShown.{decided-shown, lies, one-taken}
 use Rattle.iox2_pubsub.proofs.DeliveryCounts.{takes_in}
-use Rattle.iox2_pubsub.proofs.PendingDeliveries.{Comes, goes-on-comes, goes-on-leaves, served_box}
-use Rattle.iox2_pubsub.proofs.PendingShown.{as-before, box-served, split-shown, when-delivered}
+use Rattle.iox2_pubsub.proofs.PendingDeliveries.{Comes, goes-on-comes, served_box}
+use Rattle.iox2_pubsub.proofs.PendingShown.{box-served, split-shown, when-delivered}
 use Rattle.iox2_pubsub.proofs.LiveParts.{buffer-parts}
 use Rattle.iox2_pubsub.proofs.OverflowSends.{IsUnhindered, concludes-unhindered}
 use Rattle.iox2_pubsub.proofs.PendingSteps.{takes-buffer}

@@ -1,16 +1,15 @@
 -- Who blocks a send is full, seen from outside; so a send that goes on isn't blocked where each that it comes to has room.
-use Rattle.std.proofs.Common.{◌≡◌, ℕ, ◌+◌, ◌<◌, ◌≤◌, ⊎_elim, Bool, true, false, cond, List, [], ◌∷◌, drop, take, length, refl, sym, ap, subst, ◌∙◌, arith, Option, None, Some, Result, Ok, Err}
+use Rattle.std.proofs.Common.{◌≡◌, ℕ, ◌+◌, ◌<◌, ◌≤◌, ⊎_elim, true, false, List, [], ◌∷◌, drop, take, length, refl, sym, ap, subst, ◌∙◌, arith, Option, None, Some, Result, Ok, Err}
 use Rattle.std.specs.Prelude.{IfOk, ◌⊎◌}
 use Rattle.std.specs.Option.{option_and_then}
 use Rattle.std.specs.declared.time.Duration.{Duration}
 use Rattle.std.proofs.lemmas.Bool.{ltb-false, true≢false}
 use Rattle.std.proofs.lemmas.Option.{same_Some}
 use Rattle.iox2_machine.specs.machine.Delivery.{no_time}
-use Rattle.iox2_machine.specs.machine.Mailbox.{Mailbox, has_room}
 use Rattle.iox2_machine.specs.machine.Numbers.{contains}
 use Rattle.iox2_machine.specs.machine.Places.{occupant, occupants}
 use Rattle.iox2_machine.specs.machine.Records.{BlockedSend as MachineBlocked, Environment, Loan, Publisher, Subscriber}
-use Rattle.iox2_machine.specs.machine.Sends.{Blocked_send, Delivered_to, GiveUp, Retry, SendResult, more_retries}
+use Rattle.iox2_machine.specs.machine.Sends.{Blocked_send, GiveUp, Retry, more_retries}
 use Rattle.iox2_machine.specs.machine.State.{State, Messages, channel_buffer, is_blocked}
 use Rattle.iox2_machine.specs.declared.errors.SendError.{SendError}
 use Rattle.iox2_machine.specs.declared.key.Key.{Key}
@@ -21,9 +20,8 @@ use Rattle.iox2_domain.specs.Shows.{Shows}
 use Rattle.iox2_pubsub.specs.AllSubscribers.{AreAllSubscribers, AreLiveKeys}
 use Rattle.iox2_pubsub.specs.BlockedSends.{AreEach, IsNext, IsPastOrRoomy, waits_for}
 use Rattle.iox2_pubsub.specs.ConnectedPorts.{Connects}
-use Rattle.iox2_pubsub.specs.Live.{HasItsBuffer, HasPassed, IsBlockedSend, IsConnected, IsFull, IsPending, Overflows, WaitingStays, blocked_key, payloads_from, subscriber_key}
+use Rattle.iox2_pubsub.specs.Live.{HasItsBuffer, IsBlockedSend, IsConnected, IsFull, IsPending, Overflows, WaitingStays, blocked_key, payloads_from, subscriber_key}
 use Rattle.iox2_pubsub.specs.PendingSends.{GoesTo, PassesBy}
-use Rattle.iox2_pubsub.specs.RoomyPublishers.{HasRoomAt}
 use Rattle.iox2_pubsub.specs.SendCalls.{IfBlocked, IsDelivered, Sends, messages_after, result_of_send}
 use Rattle.iox2_pubsub.specs.declared.blocked_send.BlockedSend.{BlockedSend}
 use Rattle.iox2_pubsub.specs.declared.send_outcome.SendOutcome.{SendOutcome}

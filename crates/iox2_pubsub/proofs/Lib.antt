@@ -110,3 +110,4 @@ pub mod FullEnds
 pub mod FullReceivers
 pub mod ShareLaws
 pub mod OtherConnections
+pub mod FailedSends

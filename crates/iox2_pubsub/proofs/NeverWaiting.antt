@@ -17,7 +17,7 @@ use Rattle.iox2_domain.specs.Invariant.{IsDomain}
 use Rattle.iox2_domain.specs.Kept.{Kept, state_of}
 use Rattle.iox2_domain.specs.declared.publisher_state.BlockedDelivery.{BlockedDelivery}
 use Rattle.iox2_domain.proofs.lemmas.fields.ConnectionEnds.{publisher-stands}
-use Rattle.iox2_pubsub.specs.Handlers.{is_undisturbed, may_wait}
+use Rattle.iox2_pubsub.specs.Handlers.{is_never_hindered, may_wait}
 use Rattle.iox2_pubsub.specs.Live.{NeverWaits, publisher_key}
 use Rattle.iox2_pubsub.specs.declared.publisher.Publisher.{Publisher as Handle}
 use Rattle.iox2_pubsub.proofs.LiveParts.{passes-from, passes-parts, unblocked-free, unblocked-parts, unfailed-from, unfailed-parts}
@@ -43,7 +43,7 @@ undisturbed-from false false false false false free goes passes mild = refl
 
 -- what is left to test where the service doesn't overflow
 pub undisturbed-else : (overflow is_blocked : Bool) (strategy : BackpressureStrategy) (handler : Option (Handler BackpressureAction)) (degradation : Handler DegradationAction) (stops : Bool) → is_blocked ≡ false
-    → may_fail_update degradation ≡ false → overflow ≡ false → stops ≡ (may_wait strategy handler || may_fail handler) → not stops ≡ is_undisturbed overflow is_blocked strategy handler degradation
+    → may_fail_update degradation ≡ false → overflow ≡ false → stops ≡ (may_wait strategy handler || may_fail handler) → not stops ≡ is_never_hindered overflow is_blocked strategy handler degradation
 undisturbed-else overflow is_blocked strategy handler degradation stops free goes fits is =
     ap not is
     ∙ sym (ap (λ (b : Bool). not (b || may_fail_update degradation) && (overflow || not (may_wait strategy handler || may_fail handler))) free
@@ -55,7 +55,7 @@ nothing-waits None none = refl
 nothing-waits (Some x) none = absurd (true≢false none)
 
 module _ {T U F G : Type 0} (kept : Kept T U F G) (key : Key) (x : Publisher) (here : (state_of kept).publishers key.port ≡ Some x) (low : key.port < (state_of kept).next_port) (answer : Bool)
-    (is : answer ≡ is_undisturbed (kept.config).enable_safe_overflow (is_some x.blocked) x.backpressure_strategy x.backpressure_handler x.degradation_handler) where
+    (is : answer ≡ is_never_hindered (kept.config).enable_safe_overflow (is_some x.blocked) x.backpressure_strategy x.backpressure_handler x.degradation_handler) where
   one : (y : Publisher) → (state_of kept).publishers key.port ≡ Some y → x ≡ y
   one y at = same_Some x y (sym here ∙ at)
 
@@ -97,11 +97,11 @@ waits-alike f (Some b) = refl
 
 module _ {T U F G : Type 0} {boxes : DomainBoxes F G} (f : Fields T U) (sound : IsDomain f) (kept : Kept T U F G) (view : keeping boxes f ≡ kept) (it : Handle) where
   pub never-waits-here : (answer : Bool) → (at : StandsAtPlace f it)
-      → answer ≡ is_undisturbed (f.config).enable_safe_overflow (is_some (at.0).blocked) (at.0).strategy (at.0).backpressure_handler (at.0).degradation_handler → IsTrue answer ↔ NeverWaits kept (publisher_key it)
+      → answer ≡ is_never_hindered (f.config).enable_safe_overflow (is_some (at.0).blocked) (at.0).strategy (at.0).backpressure_handler (at.0).degradation_handler → IsTrue answer ↔ NeverWaits kept (publisher_key it)
   never-waits-here answer at is =
       let port : Publisher = (publisher_of f.books f.connections at.0).port in
       let inside : (state_of (kept_of f)).publishers it.id ≡ Some port = ap (state_of (kept_of f)).publishers (sym at.2) ∙ publisher-stands f sound.parts it.place at.0 at.1 in
       subst (λ (k : Kept T U F G). IsTrue answer ↔ NeverWaits k (publisher_key it)) view
       (never-waits-tests (keeping boxes f) (publisher_key it) port inside ((sound.well_formed).publishers it.id port inside).is_known answer
-      (is ∙ ap (λ (b : Bool). is_undisturbed (f.config).enable_safe_overflow b (at.0).strategy (at.0).backpressure_handler (at.0).degradation_handler)
+      (is ∙ ap (λ (b : Bool). is_never_hindered (f.config).enable_safe_overflow b (at.0).strategy (at.0).backpressure_handler (at.0).degradation_handler)
       (waits-alike (blocked_send (numbers_of f.books (at.0).id) (sender_ends f.connections (at.0).keys)) (at.0).blocked)))

@@ -1,7 +1,7 @@
 -- What a blocked send leaves for each subscriber, and what one that goes on does, seen from outside.
 use Rattle.std.proofs.Common.{◌≡◌, ℕ, ◌+◌, inl, inr, ⊎_elim, List, drop, refl, sym, ap, subst, ◌∙◌, Option, Some, Result, Ok, Err}
 use mathlib.Core.Path.{fun_ext}
-use Rattle.std.specs.Prelude.{IfOk, ⊤}
+use Rattle.std.specs.Prelude.{IfErr, IfOk, ⊤}
 use Rattle.std.specs.declared.time.Duration.{Duration}
 use Rattle.std.proofs.lemmas.Bool.{cases_eq}
 use Rattle.std.proofs.lemmas.Option.{same_Some}
@@ -9,7 +9,7 @@ use Rattle.iox2_machine.specs.Stored.{In_blocked_send}
 use Rattle.iox2_machine.specs.machine.Delivery.{no_time}
 use Rattle.iox2_machine.specs.machine.Mailbox.{Mailbox}
 use Rattle.iox2_machine.specs.machine.Records.{Entry, Environment, BlockedSend as MachineBlocked, Publisher, Subscriber as MachineSubscriber}
-use Rattle.iox2_machine.specs.machine.Sends.{Blocked_send, Delivered_to, GiveUp, Retry, more_retries}
+use Rattle.iox2_machine.specs.machine.Sends.{Blocked_send, Delivered_to, GiveUp, Retry, Send_error, more_retries}
 use Rattle.iox2_machine.specs.machine.State.{State, Messages}
 use Rattle.iox2_machine.specs.machine.Waiting.{waiting_from}
 use Rattle.iox2_machine.specs.declared.errors.SendError.{SendError}
@@ -67,6 +67,11 @@ pub when-delivered : (outcome : Result SendOutcome SendError) (P : Type 0) → (
 when-delivered (Ok (Delivered count)) P holds = λ _. holds (λ is. let clash : Delivered_to count ≡ Blocked_send = is in cc)
 when-delivered (Ok (Blocked blocked)) P holds = λ no. absurd no
 when-delivered (Err error) P holds = tt
+
+-- nor is it where it fails
+when-failed : (outcome : Result SendOutcome SendError) (P : Type 0) → ((result_of_send outcome ≡ Blocked_send → ⊥) → P) → IfErr outcome (λ error. P)
+when-failed (Ok came) P holds = tt
+when-failed (Err error) P holds = holds (λ is. let clash : Send_error error ≡ Blocked_send = is in cc)
 
 module _ {T U F G : Type 0} (old new : Kept T U F G) (m m' : Messages T U) (s s' : State T U) (shown : Shows old m s) (shown' : Shows new m' s')
     (sent : (k : ℕ) (entry : Entry T U) → m k ≡ Some entry → m' k ≡ Some entry) (p : ℕ) (touches : TouchesOnly s s' p) where
@@ -166,17 +171,20 @@ module _ {T U F G : Type 0} (old new : Kept T U F G) (m : Messages T U) (s s' : 
   module _ (IsTried : Subscriber → Type 0)
       (comes : (subscriber : Subscriber) → IsTried subscriber → GoesTo s p n subscriber.id → (c : Connects s p subscriber.id) → Comes s s' p n subscriber.id (c.subscriber).buffer (result_of_send outcome))
       (past : (subscriber : Subscriber) → PassesBy s p n subscriber.id → Leaves s s' p n subscriber.id (result_of_send outcome)) where
-    serves : (subscriber : Subscriber) (values : List T) → IsTried subscriber → IsPending old waited subscriber values → IsConnected old p subscriber
-        → IfOk outcome (λ came. IsDelivered came → IsServed old new p subscriber values)
-    serves subscriber values tried pending is =
+    was-served : (subscriber : Subscriber) (values : List T) → IsTried subscriber → IsPending old waited subscriber values → IsConnected old p subscriber → (result_of_send outcome ≡ Blocked_send → ⊥)
+        → IsServed old new p subscriber values
+    was-served subscriber values tried pending is ended =
         let c = connected-in old m s shown p subscriber is in
         let reads = message-parts old (blocked_key waited) values (pending-parts old waited subscriber values pending).2 in
-        when-delivered outcome (IsServed old new p subscriber values) (λ ended.
         ⊎_elim
         (λ it. subst (IsServed old new p subscriber) reads.2
         (box-served old new m m s s' shown shown' (λ k entry at. at) p touches n reads.0 (shown.entries n reads.0 reads.1) connects settings subscriber is c it.1))
         (λ it. absurd (ended it.0))
-        (comes subscriber tried (goes-in subscriber (pending-parts old waited subscriber values pending).1) c))
+        (comes subscriber tried (goes-in subscriber (pending-parts old waited subscriber values pending).1) c)
+
+    serves : (subscriber : Subscriber) (values : List T) → IsTried subscriber → IsPending old waited subscriber values → IsConnected old p subscriber
+        → IfOk outcome (λ came. IsDelivered came → IsServed old new p subscriber values)
+    serves subscriber values tried pending is = when-delivered outcome (IsServed old new p subscriber values) (was-served subscriber values tried pending is)
 
     stays-pending : (subscriber : Subscriber) (values : List T) → IsTried subscriber → IsPending old waited subscriber values → IsConnected old p subscriber
         → IfOk outcome (λ came. IfBlocked came (λ again. IsServedOrPending old new again subscriber values))
@@ -192,6 +200,7 @@ module _ {T U F G : Type 0} (old new : Kept T U F G) (m : Messages T U) (s s' : 
     pub resumed : Resumes IsTried waited outcome old new
     resumed = record {
       serves = serves;
+      fails = λ subscriber values tried pending is. when-failed outcome (IsServed old new p subscriber values) (was-served subscriber values tried pending is);
       joins = λ subscriber values earlier tried pending is all its room. send-joins old new m m s s' shown shown' subscriber p values earlier all its room outcome (serves subscriber values tried pending is);
       pending = stays-pending;
       passed = λ subscriber has. left-behind subscriber (past subscriber (subst (λ (t : State T U). PassesBy t p n subscriber.id) (sym shown.state) (passed-parts old waited subscriber has).1));

@@ -223,7 +223,7 @@ module _ {T U F G : Type 0} (kept : Kept T U F G) (m : Messages T U) (s : State 
       let unblocked : is_blocked s l.publisher ≡ false = ap (λ (t : State T U). is_blocked t l.publisher) shown.state ∙ ap (is_blocked (state_of kept)) its ∙ free in
       let full : (s.config).max_subscribers ≤ length subscribers = subst (λ (t : State T U). (t.config).max_subscribers ≤ length subscribers) (sym shown.state) has.full in
       let roomy : RoomyUpdates environment s publisher = λ mid failure updates q y here is.
-          updated-at-each environment mid failure updates subscribers has.each q (no-other s shown.well_formed subscribers has.different full (connected-there subscribers has.each) q y here) y here in
+      updated-at-each environment mid failure updates subscribers has.each q (no-other s shown.well_formed subscribers has.different full (connected-there subscribers has.each) q y here) y here in
       roomy-send environment s shown.well_formed n l s' result unblocked (subst (RoomyUpdates environment s) (sym its) roomy) h
 
   -- nor where the one that there may be has

@@ -1,5 +1,5 @@
 -- Laws that callers' proofs may cite: who was served or left alone, seen from before or later, and blocked sends.
-use Rattle.std.proofs.Common.{◌≡◌, ℕ, suc, ◌<◌, ◌≤◌, ◌⊎◌, List, [], ◌∷◌, ◌++◌, length, drop, refl, sym, ap, subst, ◌∙◌, inl, inr, ⊎_elim, Option, None, Some}
+use Rattle.std.proofs.Common.{◌≡◌, ℕ, suc, ◌<◌, ◌≤◌, ◌⊎◌, List, [], ◌∷◌, ◌++◌, length, drop, refl, sym, ap, subst, ◌∙◌, arith, inl, inr, ⊎_elim, Option, None, Some}
 use Rattle.std.specs.Bool.{MatchBool}
 use Rattle.std.proofs.lemmas.Bool.{cases_eq}
 use Rattle.std.proofs.lemmas.Option.{none-some, same_Some}
@@ -7,12 +7,30 @@ use Rattle.iox2_machine.specs.declared.key.Key.{Key}
 use Rattle.iox2_machine.specs.declared.service_config.ServiceConfig.{ServiceConfig}
 use Rattle.iox2_domain.specs.Kept.{Kept, state_of}
 use Rattle.iox2_pubsub.specs.BlockedSends.{IsNext, IsNotNext, StaysSince, waits_for}
-use Rattle.iox2_pubsub.specs.Live.{A_blocked_send, HasItsBuffer, IsAtConnection, IsServed, IsServedOrPending, IsUnblocked, Stays, StaysBut, WaitsAsBefore, blocked_key, blocked_send, lender_key, payloads_from, waiting}
+use Rattle.iox2_pubsub.specs.Live.{A_blocked_send, HasItsBuffer, IsAtConnection, IsFull, IsServed, IsServedOrPending, IsUnblocked, Stays, StaysBut, WaitsAsBefore, blocked_key, blocked_send, lender_key, payloads_from, waiting}
+use Rattle.iox2_pubsub.specs.RoomyPublishers.{HasRoomAt}
 use Rattle.iox2_pubsub.specs.declared.blocked_send.BlockedSend.{BlockedSend}
 use Rattle.iox2_pubsub.specs.declared.subscriber.Subscriber.{Subscriber}
 use Rattle.iox2_pubsub.proofs.ForCallers.{stays_but_twice}
 use Rattle.iox2_pubsub.proofs.OtherConnections.{one-at-connection}
 use Rattle.iox2_pubsub.proofs.PendingShown.{next-is, next-parts}
+
+-- where nothing happened, nothing moved
+pub as_before : {T U F G : Type 0} (domain : Kept T U F G) (subscriber : Subscriber) → WaitsAsBefore domain domain subscriber
+as_before domain subscriber = record { all = refl; from = λ publisher. refl }
+
+-- a subscriber that has room isn't full
+pub room_not_full : {T U F G : Type 0} (domain : Kept T U F G) (publisher : ℕ) (subscriber : Subscriber) → HasRoomAt domain publisher subscriber → IsFull domain publisher subscriber → ⊥
+room_not_full domain publisher subscriber has full =
+    let few : length (payloads_from domain publisher subscriber) < subscriber.buffer_size = has.room in
+    let many : subscriber.buffer_size ≤ length (payloads_from domain publisher subscriber) = full.full has.buffer in
+    omega (arith, few, many)
+
+-- so if it was served, the message waits last
+pub served_with_room : {T U F G : Type 0} (old new : Kept T U F G) (publisher : ℕ) (subscriber : Subscriber) (values : List T) → HasRoomAt old publisher subscriber → IsServed old new publisher subscriber values
+    → (payloads_from new publisher subscriber ≡ payloads_from old publisher subscriber ++ values ∷ []) × (waiting new subscriber ≡ suc (waiting old subscriber))
+unfolding IsServed
+served_with_room old new publisher subscriber values has served = ⊎_elim (λ came. (came.0, came.1)) (λ full. absurd (room_not_full old publisher subscriber has full.0)) served
 
 module _ {T U F G : Type 0} (start old new : Kept T U F G) (subscriber : Subscriber) where
   -- where nothing moved for a subscriber twice, nothing moved

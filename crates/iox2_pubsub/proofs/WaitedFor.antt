@@ -6,7 +6,6 @@ use Rattle.iox2_machine.specs.machine.ChannelCalls.{receiver_at}
 use Rattle.iox2_machine.specs.machine.Places.{occupant}
 use Rattle.iox2_machine.specs.machine.Records.{BlockedSend, Publisher}
 use Rattle.iox2_machine.specs.machine.State.{State, Messages}
-use Rattle.iox2_domain.specs.BlockedSends.{waiting_send}
 use Rattle.iox2_domain.specs.Boxes.{DomainBoxes}
 use Rattle.iox2_domain.specs.Fields.{Fields, kept_of, keeping}
 use Rattle.iox2_domain.specs.Invariant.{IsDomain}

@@ -81,12 +81,14 @@ module _ {T U F G : Type 0} where
   abbrev pub IsLeftBehind : Subscriber → Result SendOutcome SendError → (old new : Kept T U F G) → Type 0
   IsLeftBehind subscriber result old new = WaitsAsBefore old new subscriber × IfOk result (λ outcome. IfBlocked outcome (λ again. HasPassed new again subscriber))
 
-  -- The blocked send went on, and was tried at each of these subscribers that it had before it. When it has ended it has
-  -- served them, and where it is blocked again it has served each or has it before it still. Those behind it and what
+  -- The blocked send went on, and was tried at each of these subscribers that it had before it. When it has ended, also with an
+  -- error, it has served them, and where it is blocked again it has served each or has it before it still. Those behind it and what
   -- waits of other publishers are left as they were.
   pub record Resumes (IsTried : Subscriber → Type 0) (waited : BlockedSend) (result : Result SendOutcome SendError) (old new : Kept T U F G) : Type 0 where
     pub serves : (subscriber : Subscriber) (values : List T) → IsTried subscriber → IsPending old waited subscriber values → IsConnected old (blocked_sender waited) subscriber
         → IfOk result (λ outcome. IsDelivered outcome → IsServed old new (blocked_sender waited) subscriber values)
+    pub fails : (subscriber : Subscriber) (values : List T) → IsTried subscriber → IsPending old waited subscriber values → IsConnected old (blocked_sender waited) subscriber
+        → IfErr result (λ error. IsServed old new (blocked_sender waited) subscriber values)
     pub joins : (subscriber : Subscriber) (values : List T) (earlier : List (List T)) → IsTried subscriber → IsPending old waited subscriber values → IsConnected old (blocked_sender waited) subscriber
         → AllFrom old (blocked_sender waited) subscriber earlier → HasItsBuffer old subscriber → length earlier < buffer_size_of subscriber
         → IfOk result (λ outcome. IsDelivered outcome → AllFrom new (blocked_sender waited) subscriber (earlier ++ values ∷ []))

@@ -18,5 +18,5 @@ may_wait strategy (Some machine.Custom) = true
 
 -- No send of a publisher is blocked or failed by a handler: none is blocked now, none fails without a connection, and the service
 -- overflows, or else none waits or fails at a full receiver.
-abbrev pub is_undisturbed : (overflow is_blocked : Bool) → BackpressureStrategy → Option (Handler BackpressureAction) → Handler DegradationAction → Bool
-is_undisturbed overflow is_blocked strategy handler degradation = not (is_blocked || may_fail_update degradation) && (overflow || not (may_wait strategy handler || may_fail handler))
+abbrev pub is_never_hindered : (overflow is_blocked : Bool) → BackpressureStrategy → Option (Handler BackpressureAction) → Handler DegradationAction → Bool
+is_never_hindered overflow is_blocked strategy handler degradation = not (is_blocked || may_fail_update degradation) && (overflow || not (may_wait strategy handler || may_fail handler))

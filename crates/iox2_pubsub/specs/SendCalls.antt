@@ -1,5 +1,5 @@
 -- A send, by its outcome.
-use Rattle.std.specs.Prelude.{ℕ, Bool, true, false, ◌≡◌, ◌⊎◌, IfOk, IsOk}
+use Rattle.std.specs.Prelude.{ℕ, Bool, true, false, List, ◌≡◌, ◌≢◌, ◌⊎◌, IfOk, IsOk}
 use Rattle.std.specs.declared.option.Option.TheVariants.{Some}
 use Rattle.std.specs.declared.result.Result.{Result}
 use Rattle.std.specs.declared.result.Result.TheVariants.{Ok, Err}
@@ -19,8 +19,9 @@ use Rattle.iox2_pubsub.specs.declared.send_outcome.SendOutcome.TheVariants.{Deli
 use Rattle.iox2_pubsub.specs.declared.blocked_send.BlockedSend.{BlockedSend}
 use Rattle.iox2_pubsub.specs.declared.sample_mut.SampleMut.{SampleMut}
 use Rattle.iox2_pubsub.specs.declared.publisher.Publisher.{Publisher}
+use Rattle.iox2_pubsub.specs.declared.subscriber.Subscriber.{Subscriber}
 use Rattle.iox2_pubsub.specs.Handles.{written_lender}
-use Rattle.iox2_pubsub.specs.Live.{Item, A_sent_loan, A_sent_copy, HasLender, IsBlockedSend, IsLoanKey, NeverFails, NeverWaits, OthersSend, StaysBut, UpToDateStay, blocked_key, written_key}
+use Rattle.iox2_pubsub.specs.Live.{Item, A_sent_loan, A_sent_copy, HasLender, IsBlockedSend, IsLoanKey, IsServed, NeverFails, NeverWaits, OthersSend, StaysBut, UpToDateStay, WaitsAsBefore, blocked_key, written_key}
 use Rattle.iox2_pubsub.specs.BorrowsLeft.{BorrowsLeftStay}
 use Rattle.iox2_pubsub.specs.LoansLeft.{HasOneMoreLeft, LoansLeftStay}
 
@@ -72,6 +73,12 @@ messages_after m n l (Err error) = m
 -- the publisher can't make a connection.
 abbrev pub IsOfHandler : SendError → Type 0
 IsOfHandler error = (error ≡ UnableToDeliver) ⊎ ((failure : ConnectionFailure) × (error ≡ ConnectionError failure))
+
+-- After such an error of a send the subscriber was served, if a handler failed it at a full buffer. Any other error came before the message
+-- was sent, and nothing moved for the subscriber.
+abbrev pub AfterError : {T U F G : Type 0} → (old new : Kept T U F G) → (publisher : ℕ) → Subscriber → List T → SendError → Type 0
+AfterError old new publisher subscriber values error =
+    (error ≡ UnableToDeliver → IsServed old new publisher subscriber values) × (error ≢ UnableToDeliver → WaitsAsBefore old new subscriber)
 
 -- The loan n was sent into the channel of the connection at that place where handlers answer so, with this outcome or error.
 abbrev pub SendsToConnection : {T U : Type 0} → Environment → State T U → (n : ℕ) → Loan T U → (channel connection : ℕ) → Result SendOutcome SendError → State T U → Type 0

@@ -15,10 +15,10 @@ use iox2_machine::{
 /// A domain of this type has no boxes. So a function may make it and return it, and the prover's goals
 /// show a short type.
 ///
-/// Example:
+/// Example (`crates/message_patterns/src/lib.rt`):
 ///
 /// ```rust
-/// let domain = Domain::<u32, (), NoHandler, NoHandler>::with_handlers(alloc, ServiceConfig::new(7))?;
+/// pub type Numbers = Domain<u32, (), NoHandler, NoHandler>;
 /// ```
 ///
 /// This library's own.

@@ -15,7 +15,7 @@ mod voter;
 
 pub use blocking::{push_again, push_or_wait, push_over};
 pub use failure::Failure;
-use iox2_pubsub::Domain;
+use iox2_pubsub::{Domain, NoHandler};
 pub use joining::{is_idle, relay_if_idle};
 pub use pairing::{send_beside, send_both};
 pub use passing::{read_all, read_one, send_all, send_one};
@@ -25,5 +25,5 @@ pub use relaying::{relay, relay_all};
 pub use spreading::{spread, spread_again};
 pub use voter::{median, vote};
 
-/// A service whose messages are numbers.
-pub type Numbers = Domain<u32, ()>;
+/// A service whose messages are numbers, and whose ports have no handlers of their own.
+pub type Numbers = Domain<u32, (), NoHandler, NoHandler>;

@@ -22,7 +22,7 @@ pub struct Queued {
 /// Puts one number more into a queue than it takes, and takes out what is in it. A function that is
 /// lent a queue fails `rt verdict`, since a queue has boxes: this one owns it.
 pub fn queue_numbers(alloc: Global) -> Result<Queued, Failure> {
-    let mut domain = Domain::<u32, ()>::new(alloc, settings(4))?;
+    let mut domain = Numbers::with_handlers(alloc, settings(4))?;
     let pair = join(&mut domain)?;
     match expect_idle(&mut domain, &pair.publisher, &pair.subscriber) {
         Ok(()) => {

@@ -12,8 +12,8 @@ use std::alloc::Global;
 pub fn relay_numbers(alloc: Global, numbers: &[u32]) -> Result<Vec<u32>, Failure>
     ensures same { IfOk result (λ read. read.items ≡ numbers.now) }
 {
-    let mut from = Domain::<u32, ()>::new(alloc, settings(1))?;
-    let mut to = Domain::<u32, ()>::new(alloc, settings(2))?;
+    let mut from = Numbers::with_handlers(alloc, settings(1))?;
+    let mut to = Numbers::with_handlers(alloc, settings(2))?;
     relay_between(alloc, &mut from, &mut to, numbers)
 }
 

@@ -15,7 +15,7 @@ use std::alloc::Global;
 pub fn vote_on(alloc: Global, readings: (u32, u32, u32)) -> Result<u32, Failure>
     ensures middle { IfOk result (λ it. IsMiddle it readings.0 readings.1 readings.2) }
 {
-    let mut domain = Domain::<u32, ()>::new(alloc, settings(3))?;
+    let mut domain = Numbers::with_handlers(alloc, settings(3))?;
     with_first(&mut domain, readings)
 }
 

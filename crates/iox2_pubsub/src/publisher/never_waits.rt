@@ -3,7 +3,7 @@ ghost use Rattle.std.specs.Prelude.{◌≡◌, ◌||◌, is_some, slice_index_or
 ghost use Rattle.iox2_machine.specs.machine.Delivery.{by_strategy, is_blocking};
 ghost use Rattle.iox2_domain.specs.Handlers.{handler_if_any, handler_of, may_fail, may_fail_update};
 ghost use Rattle.iox2_domain.specs.Ports.{PublisherFields};
-ghost use Rattle.iox2_pubsub.specs.Handlers.{is_undisturbed, may_wait};
+ghost use Rattle.iox2_pubsub.specs.Handlers.{is_never_hindered, may_wait};
 ghost use Rattle.iox2_pubsub.specs.Live.{publisher_key};
 
 use crate::domain::Domain;
@@ -31,15 +31,15 @@ impl Publisher {
         requires placed { IsPlacedPublisher domain.now self.now }
         ensures { IsTrue result ↔ NeverWaits domain.now (publisher_key self.now) }
     {
-        goes_on_at(&domain.state, self.place)
+        never_waits_at(&domain.state, self.place)
     }
 }
 
 // Whether no send of the publisher at the place is blocked, now or later, or failed by a handler.
-fn goes_on_at<T: Drop, U: Default + Drop>(state: &DomainState<T, U>, place: usize) -> bool
+fn never_waits_at<T: Drop, U: Default + Drop>(state: &DomainState<T, U>, place: usize) -> bool
     requires { (x : PublisherFields) × (slice_index_or state.now.publishers place None ≡ Some x) }
     ensures { (x : PublisherFields) → slice_index_or state.now.publishers place None ≡ Some x
-        → result ≡ is_undisturbed (state.now.config).enable_safe_overflow (is_some x.blocked) x.strategy x.backpressure_handler x.degradation_handler }
+        → result ≡ is_never_hindered (state.now.config).enable_safe_overflow (is_some x.blocked) x.strategy x.backpressure_handler x.degradation_handler }
 {
     let Some(publisher) = &state.publishers[place] else {
         unreachable!();

@@ -20,7 +20,7 @@ impl Publisher {
     ghost use Rattle.iox2_pubsub.specs.BlockedSends.{IsNext};
     ghost use Rattle.iox2_pubsub.specs.Counts.{Counts};
     ghost use Rattle.iox2_pubsub.specs.RoomyPublishers.{HasRoomAlone, HasRoomAtAll};
-    ghost use Rattle.iox2_pubsub.specs.SendCalls.{FailsCopy, IfBlocked, IsDelivered, spent_by_copy};
+    ghost use Rattle.iox2_pubsub.specs.SendCalls.{AfterError, FailsCopy, IfBlocked, IsDelivered, spent_by_copy};
     ghost use Rattle.iox2_pubsub.specs.WrittenLoans.{SendsCopy};
     ghost use Rattle.iox2_pubsub.specs.Handles.{buffer_size_of, publisher_id};
     ghost use Rattle.iox2_pubsub.specs.declared.subscriber.Subscriber.{Subscriber};
@@ -56,6 +56,7 @@ impl Publisher {
             → IfOk result (λ outcome. IsDelivered outcome → AllFrom domain.new (publisher_id self.now) subscriber (earlier ++ (value ∷ []) ∷ [])) }
         ensures pending { (subscriber : Subscriber) → IsConnected domain.old (publisher_id self.now) subscriber
             → IfOk result (λ outcome. IfBlocked outcome (λ blocked. IsServedOrPending domain.old domain.new blocked subscriber (value ∷ []))) }
+        ensures failed { (subscriber : Subscriber) → IsConnected domain.old (publisher_id self.now) subscriber → IfErr result (AfterError domain.old domain.new (publisher_id self.now) subscriber (value ∷ [])) }
         ensures full { (subscriber : Subscriber) → IsConnected domain.old (publisher_id self.now) subscriber
             → IfOk result (λ outcome. IfBlocked outcome (λ blocked. IsNext domain.new blocked subscriber → IsFull domain.old (publisher_id self.now) subscriber)) }
         ensures roomy_alone { (subscriber : Subscriber) → HasRoomAlone domain.old (publisher_id self.now) subscriber → IfOk result IsDelivered × IfErr result (λ error. error ≢ UnableToDeliver) }

@@ -32,7 +32,7 @@ impl SampleMut {
     ghost use Rattle.iox2_pubsub.specs.Counts.{Counts};
     ghost use Rattle.iox2_pubsub.specs.RoomyPublishers.{HasRoomAlone, HasRoomAtAll, IsRoomy};
     ghost use Rattle.iox2_pubsub.specs.Slices.{HasValues};
-    ghost use Rattle.iox2_pubsub.specs.SendCalls.{FailsSend, IsDelivered, Sends, SpendsLoan, messages_after};
+    ghost use Rattle.iox2_pubsub.specs.SendCalls.{AfterError, FailsSend, IsDelivered, Sends, SpendsLoan, messages_after};
     ghost use Rattle.iox2_pubsub.specs.declared.subscriber.Subscriber.{Subscriber};
     ghost use Rattle.iox2_domain.specs.Boxes.{answers_of};
     ghost use Rattle.iox2_domain.specs.Shows.{Shows};
@@ -82,6 +82,7 @@ impl SampleMut {
             → IfOk result (λ outcome. IsDelivered outcome → AllFrom domain.new (written_lender self) subscriber (earlier ++ values ∷ [])) }
         ensures pending { (subscriber : Subscriber) (values : List T) → IsConnected domain.old (written_lender self) subscriber → HasValues domain.old (written_number self) values
             → IfOk result (λ outcome. IfBlocked outcome (λ blocked. IsServedOrPending domain.old domain.new blocked subscriber values)) }
+        ensures failed { (subscriber : Subscriber) (values : List T) → IsConnected domain.old (written_lender self) subscriber → HasValues domain.old (written_number self) values → IfErr result (AfterError domain.old domain.new (written_lender self) subscriber values) }
         ensures full { (subscriber : Subscriber) → IsConnected domain.old (written_lender self) subscriber
             → IfOk result (λ outcome. IfBlocked outcome (λ blocked. IsNext domain.new blocked subscriber → IsFull domain.old (written_lender self) subscriber)) }
         ensures counts { (subscribers : List Subscriber) (values : List T) → AreDifferent subscribers → AreConnected domain.old (written_lender self) subscribers → HasValues domain.old (written_number self) values

@@ -42,7 +42,7 @@ impl SampleMut {
     ghost use Rattle.iox2_pubsub.specs.declared.subscriber.Subscriber.{Subscriber};
     ghost use Rattle.iox2_pubsub.specs.LoanCalls.{IsDiscarded};
     ghost use Rattle.iox2_pubsub.specs.RoomyPublishers.{HasRoomAlone, HasRoomAtAll, IsRoomy};
-    ghost use Rattle.iox2_pubsub.specs.SendCalls.{FailsDelivery, FailsSend, IfBlocked, IsDelivered, Sends, SendsToConnection, SpendsLoan, messages_after};
+    ghost use Rattle.iox2_pubsub.specs.SendCalls.{AfterError, FailsDelivery, FailsSend, IfBlocked, IsDelivered, Sends, SendsToConnection, SpendsLoan, messages_after};
     ghost use Rattle.iox2_pubsub.specs.Slices.{HasValues, HoldsSlices};
     ghost use Rattle.iox2_pubsub.specs.Handles.{as_written, buffer_size_of, subscriber_id, written_lender, written_number};
 
@@ -91,6 +91,7 @@ impl SampleMut {
             → IfOk result (λ outcome. IsDelivered outcome → AllFrom domain.new (written_lender (as_written self)) subscriber (earlier ++ values ∷ [])) }
         ensures pending { (subscriber : Subscriber) (values : List T) → IsConnected domain.old (written_lender (as_written self)) subscriber → HasValues domain.old (written_number (as_written self)) values
             → IfOk result (λ outcome. IfBlocked outcome (λ blocked. IsServedOrPending domain.old domain.new blocked subscriber values)) }
+        ensures failed { (subscriber : Subscriber) (values : List T) → IsConnected domain.old (written_lender (as_written self)) subscriber → HasValues domain.old (written_number (as_written self)) values → IfErr result (AfterError domain.old domain.new (written_lender (as_written self)) subscriber values) }
         ensures full { (subscriber : Subscriber) → IsConnected domain.old (written_lender (as_written self)) subscriber
             → IfOk result (λ outcome. IfBlocked outcome (λ blocked. IsNext domain.new blocked subscriber → IsFull domain.old (written_lender (as_written self)) subscriber)) }
         ensures counts { (subscribers : List Subscriber) (values : List T) → AreDifferent subscribers → AreConnected domain.old (written_lender (as_written self)) subscribers → HasValues domain.old (written_number (as_written self)) values

@@ -16,6 +16,8 @@ use Rattle.iox2_pubsub.proofs.CopiesCount.{copy-counts, each-connected}
 use Rattle.iox2_pubsub.proofs.CopiesServe.{all-since, connected-as, copy-arrives, copy-others, copy-serves, none-are-all, none-still, waits-both}
 use Rattle.iox2_pubsub.specs.declared.subscriber.Subscriber.{Subscriber}
 use Rattle.iox2_pubsub.specs.Leaves.{Leaves}
+use Rattle.iox2_pubsub.proofs.FailedSends.{copy-fails}
+use Rattle.iox2_pubsub.proofs.ForCallers.{waits_as_before}
 use Rattle.iox2_pubsub.proofs.FullReceivers.{copy-full}
 use Rattle.iox2_pubsub.proofs.RefusedCopies.{lent-not-refused}
 use Rattle.iox2_pubsub.proofs.RoomySends.{all-room-since, alone-since}
@@ -230,3 +232,17 @@ returns-clause-full g c = λ subscriber connected.
     let still = c.in_ok-loan.ensures.leaves.up_to_date.connections c.args.self.now.id subscriber connected in
     copy-full _ waits (λ it its. c.write_payload.ensures.becomes.leaves.stays.buffers it (c.in_ok-loan.ensures.leaves.stays.buffers it its)) c.args.self.now.id c.write_payload.result.loan.publisher lender subscriber c.send.result
     (c.send.ensures.full subscriber (connected-as c.write_payload.ensures.becomes.leaves.up_to_date c.args.self.now.id c.write_payload.result.loan.publisher lender subscriber still))
+
+pub returns-in_err-loan-clause-failed : goal.returns-in_err-loan-clause-failed
+returns-in_err-loan-clause-failed g c =
+    let refused = err_from_is_err_and c.from_residual.result c.from_residual.ensures.1 in
+    λ subscriber connected. rw refused.1 (λ is. absurd (not-undelivered c.in_err-loan.field-0.0 (sym refused.2 ∙ is)), λ other. waits_as_before _ _ subscriber c.in_err-loan.ensures.leaves.waits)
+
+pub returns-clause-failed : goal.returns-clause-failed
+returns-clause-failed g c = λ subscriber connected.
+    let waits = waits-both c.in_ok-loan.ensures.leaves.waits c.write_payload.ensures.becomes.leaves.waits in
+    let settings = c.write_payload.ensures.becomes.leaves.stays.settings ∙ c.in_ok-loan.ensures.leaves.stays.settings in
+    let lender = ap (λ (k : Key). k.port) c.write_payload.ensures.becomes.key ∙ c.in_ok-loan.ensures.loan.lent.publisher in
+    let still = c.in_ok-loan.ensures.leaves.up_to_date.connections c.args.self.now.id subscriber connected in
+    copy-fails c.args.domain.now _ _ waits settings (λ it its. c.write_payload.ensures.becomes.leaves.stays.buffers it (c.in_ok-loan.ensures.leaves.stays.buffers it its)) c.args.self.now.id c.write_payload.result.loan.publisher lender subscriber (c.args.value ∷ []) c.send.result
+    (c.send.ensures.failed subscriber (c.args.value ∷ []) (connected-as c.write_payload.ensures.becomes.leaves.up_to_date c.args.self.now.id c.write_payload.result.loan.publisher lender subscriber still) c.write_payload.ensures.reads)

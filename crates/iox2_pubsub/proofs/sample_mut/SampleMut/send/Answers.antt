@@ -30,6 +30,7 @@ use Rattle.iox2_pubsub.proofs.BorrowsLeftShown.{send-borrows}
 use Rattle.iox2_pubsub.proofs.LoansLeftShown.{send-left, send-gives, sent-free}
 use Rattle.iox2_pubsub.proofs.PublisherWaits.{send-arrives, send-joins}
 use Rattle.iox2_pubsub.proofs.KeptReceives.{others-send}
+use Rattle.iox2_pubsub.proofs.FailedSends.{sends-fail}
 use Rattle.iox2_pubsub.proofs.FullReceivers.{sends-full}
 use Rattle.iox2_pubsub.proofs.RoomySends.{all-free, alone-free, roomy-free, unhindered-is}
 use Rattle.iox2_pubsub.proofs.StaysBut.{consistent-shown, same-boxes}
@@ -199,3 +200,9 @@ returns-clause-full g c = λ subscriber connected.
     let it = from-shown {T = g.row.T.Denot} {U = g.row.U.Denot} c.domain.inside.state c.domain.invariant c.args.domain.now c.domain.view_is c.args.self c.requires.live (returns-clause-sent g c) in
     sends-full {T = g.row.T.Denot} {U = g.row.U.Denot} c.args.domain.now _ it.m it.s (answers_of g.F.BackpressureFn.allows g.G.DegradationFn.allows c.args.domain.now.boxes.publishers) it.shown c.args.self.loan.number it.l c.args.self.loan.publisher c.send_loan.result it.step.0 it.step.1 it.step.2 it.its
     (unblocked-test c.args.domain.now (written_key c.args.self) c.requires.unblocked) (written_key c.args.self) refl (returns-clause-spends g c).blocked subscriber connected
+
+pub returns-clause-failed : goal.returns-clause-failed
+returns-clause-failed g c = λ subscriber values connected reads.
+    let it = from-shown {T = g.row.T.Denot} {U = g.row.U.Denot} c.domain.inside.state c.domain.invariant c.args.domain.now c.domain.view_is c.args.self c.requires.live (returns-clause-sent g c) in
+    sends-fail {T = g.row.T.Denot} {U = g.row.U.Denot} c.args.domain.now _ it.m it.s (answers_of g.F.BackpressureFn.allows g.G.DegradationFn.allows c.args.domain.now.boxes.publishers) it.shown c.args.self.loan.number it.l c.args.self.loan.publisher c.send_loan.result it.step.0 it.step.1 it.step.2
+    (it.shown.unsent c.args.self.loan.number it.l it.out) it.out it.its (unblocked-test c.args.domain.now (written_key c.args.self) c.requires.unblocked) subscriber values connected reads

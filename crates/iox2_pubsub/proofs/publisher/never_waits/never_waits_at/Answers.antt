@@ -6,7 +6,7 @@ use Rattle.iox2_domain.specs.Ports.{PublisherFields}
 use Rattle.iox2_domain.proofs.lemmas.fields.OpenPorts.{read-at}
 use Rattle.iox2_pubsub.specs.Handlers.{may_wait}
 use Rattle.iox2_pubsub.proofs.NeverWaiting.{undisturbed-else}
-use Rattle.iox2_pubsub.proofs.publisher.never_waits.goes_on_at.Goals as goal
+use Rattle.iox2_pubsub.proofs.publisher.never_waits.never_waits_at.Goals as goal
 
 pub returns-else-config : goal.returns-else-config
 returns-else-config g c = λ x at.
