@@ -53,15 +53,7 @@ module _ {U F G : Type 0} (old new : Kept ℕ U F G) (publisher : ℕ) (recorder
       (served_joins old new recorder consistent (still consistent) publisher (number ∷ []) (singles earlier) served takes.wait takes.buffer (room-for-one old publisher recorder earlier more takes)) stay buffers
   recorded-takes consistent still stay buffers (Some blocked) is earlier more takes = tt
 
--- ---- one call after another
-
-module _ {U F G : Type 0} where
-  pub up-to-date-twice : (old mid new : Kept ℕ U F G) → UpToDateStay old mid → UpToDateStay mid new → UpToDateStay old new
-  up-to-date-twice old mid new first then = record {
-    subscribers = λ q is. then.subscribers q (first.subscribers q is);
-    connections = λ p q is. then.connections p q (first.connections p q is);
-    room = λ q closes is. then.room q closes (first.room q closes is);
-  }
+-- ---- what is left
 
 pub blocked-as : {U F G : Type 0} (domain : Kept ℕ U F G) (name : Key → Key) (k l : Key) → name k ≡ l → (waits : Option BlockedSend) → IfSome waits (λ it. IsBlockedSend domain it × (blocked_key it ≡ k))
     → IfSome waits (λ it. IsBlockedSend domain it × (name (blocked_key it) ≡ l))
@@ -72,14 +64,3 @@ pub ended-so : {E : Type 0} (r : Result (Option BlockedSend) E) (P Q : Type 0) �
 ended-so (Ok None) P Q so is = so is
 ended-so (Ok (Some it)) P Q so is = tt
 ended-so (Err e) P Q so is = so is
-
-module _ {U F G : Type 0} (old mid new : Kept ℕ U F G) (blocked : BlockedSend) where
-  pub stays-then : IsUnblocked old (lender_key (blocked_key blocked)) → StaysBut (blocked_send blocked) old mid → StaysSince blocked mid new → Stays old new
-  unfolding StaysSince
-  stays-then free stood since = since old free stood
-
-  pub stays-since : (waiting : BlockedSend) → blocked_key blocked ≡ blocked_key waiting → StaysBut (blocked_send waiting) old mid → StaysSince blocked mid new → StaysSince waiting old new
-  unfolding StaysSince
-  stays-since waiting same stood since = λ before free stays.
-      since before (subst (λ (k : Key). IsUnblocked before (lender_key k)) (sym same) free)
-      (subst (λ (k : Key). StaysBut (A_blocked_send k.port) before mid) (sym same) (stays_but_twice before old mid (blocked_send waiting) stays stood))

@@ -63,10 +63,7 @@ pub fn is_idle(domain: &mut Numbers, subscriber: &Subscriber) -> Result<bool, Fa
     ensures leaves { LeavesButWaiting subscriber.now domain.old domain.new }
 {
     match subscriber.has_samples(domain) {
-        Ok(waits) => {
-            domain.config();
-            Ok(!waits)
-        }
+        Ok(waits) => Ok(!waits),
         Err(error) => Err(Failure::Update(error)),
     }
 }

@@ -40,7 +40,6 @@ pub fn send_beside(domain: &mut Numbers, publisher: &Publisher, reading: u32) ->
     ensures up_to_date { UpToDateStay domain.old domain.new }
     ensures stays { Stays domain.old domain.new }
 {
-    domain.config();
     match publisher.send_copy(domain, reading) {
         Ok(outcome) => {
             outcome.delivered();

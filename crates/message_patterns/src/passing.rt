@@ -1,7 +1,7 @@
 //! Values are sent, and all that waits is read.
 ghost use Rattle.std.specs.Prelude.{ℕ, List, [], ◌∷◌, ◌++◌, ◌+◌, ◌<◌, ◌≡◌, length, suc, IfErr, IfOk, IfNone, IfSome, IsOk, OnOk, OnSome};
 ghost use Rattle.iox2_pubsub.specs.Handles.{publisher_id, unwritten_lender};
-ghost use Rattle.iox2_pubsub.specs.Live.{HasLender, IsLivePublisher, IsLiveSubscriber, IsSingleValued, IsUnblocked, IsUnwrittenLoan, IsUpToDate, KeepsAll, Stays, StaysBut, UpToDateStay, WaitingStays, payloads_from, unwritten_key, unwritten_loan, waiting};
+ghost use Rattle.iox2_pubsub.specs.Live.{HasLender, IsConsistent, IsLivePublisher, IsLiveSubscriber, IsSingleValued, IsUnblocked, IsUnwrittenLoan, IsUpToDate, KeepsAll, Stays, StaysBut, UpToDateStay, WaitingStays, payloads_from, unwritten_key, unwritten_loan, waiting};
 ghost use Rattle.iox2_pubsub.specs.LoansLeft.{HasOneMoreLeft, LoansLeftStay};
 ghost use Rattle.iox2_pubsub.specs.declared.subscriber.Subscriber.{Subscriber as Port};
 ghost use Rattle.iox2_pubsub.specs.BorrowsLeft.{BorrowsLeftStay, HasBorrowsLeft};
@@ -72,6 +72,7 @@ pub fn send_all(domain: &mut Numbers, publisher: &Publisher, values: &[u32]) -> 
 pub fn read_one(domain: &mut Numbers, subscriber: &Subscriber) -> Result<Option<u32>, Failure>
     requires single_valued { IsSingleValued domain.old }
     requires subscriber { IsLiveSubscriber domain.old subscriber.now }
+    ensures consistent { IsConsistent domain.old }
     ensures first { IfOk result (λ read. IfSome read (λ value. (publisher : ℕ) (values : List ℕ) → Wait domain.old publisher subscriber.now values
         → (others : List ℕ) × (values ≡ value ∷ others) × Wait domain.new publisher subscriber.now others)) }
     ensures oldest { KeepsAll domain.old subscriber.now → IfOk result (λ read. IfSome read (λ value. (origin : ℕ)

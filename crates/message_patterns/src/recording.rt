@@ -31,7 +31,6 @@ pub fn record<F: BackpressureFn, G: DegradationFn>(
     ensures up_to_date { UpToDateStay domain.old domain.new }
     ensures stays { StaysBut (A_blocked_send (publisher_id publisher.now)) domain.old domain.new }
 {
-    domain.config();
     match publisher.send_copy(domain, number) {
         Ok(SendOutcome::Delivered(_)) => Ok(None),
         Ok(SendOutcome::Blocked(waiting)) => pass_others(domain, waiting, recorder),

@@ -90,7 +90,6 @@ fn take(domain: &mut Numbers, subscriber: &Subscriber) -> Result<u32, Failure>
     ensures up_to_date { UpToDateStay domain.old domain.new }
     ensures stays { Stays domain.old domain.new }
 {
-    domain.config();
     let Some(reading) = read_one(domain, subscriber)? else {
         unreachable!()
     };

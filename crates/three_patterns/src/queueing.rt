@@ -19,8 +19,7 @@ pub struct Queued {
     pub popped: [Option<u32>; 3],
 }
 
-/// Puts one number more into a queue than it takes, and takes out what is in it. A function that is
-/// lent a queue fails `rt verdict`, since a queue has boxes: this one owns it.
+/// Puts one number more into a queue than it takes, and takes out what is in it.
 pub fn queue_numbers(alloc: Global) -> Result<Queued, Failure> {
     let mut domain = Numbers::with_handlers(alloc, settings(4))?;
     let pair = join(&mut domain)?;

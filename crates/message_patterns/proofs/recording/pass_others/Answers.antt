@@ -5,8 +5,9 @@ use Rattle.iox2_pubsub.specs.BlockedSends.{IsNotNext}
 use Rattle.iox2_pubsub.specs.Domains.{Key}
 use Rattle.iox2_pubsub.specs.Handles.{subscriber_id}
 use Rattle.iox2_pubsub.specs.Live.{A_blocked_send, IsServed, StaysBut, blocked_send}
-use Rattle.iox2_pubsub.proofs.ForCallers.{stays_but_twice}
-use Rattle.message_patterns.proofs.Recordings.{ends-served, stays-since, still-underway, up-to-date-twice, waits-for-it}
+use Rattle.iox2_pubsub.proofs.ForCallers.{stays_but_twice, up_to_date_twice}
+use Rattle.iox2_pubsub.proofs.SinceThen.{stays_since}
+use Rattle.message_patterns.proofs.Recordings.{ends-served, still-underway, waits-for-it}
 use Rattle.message_patterns.proofs.recording.pass_others.Goals as goal
 
 -- what a test of two ids says
@@ -30,7 +31,7 @@ loop-blocked-preserved g c =
           still-underway start c.loop-blocked.domain c.give_up.new.domain c.loop-blocked.blocked c.args.recorder.now number (before.underway start number under) (IsNotNext c.loop-blocked.domain c.loop-blocked.blocked)
           (c.subscriber.ensures.others c.args.recorder.now (another c.subscriber.result c.id.result (subscriber_id c.args.recorder.now) c.loop-blocked-test.ensures c.id.ensures))
           c.in-Ok-Blocked.again (ap (λ (k : Key). k.port) gone.goes_on.blocked.1) gone.resumes gone.goes_on.up_to_date gone.goes_on.stays.settings gone.goes_on.stays.buffers;
-      up_to_date = up-to-date-twice c.args.domain.now c.loop-blocked.domain c.give_up.new.domain before.up_to_date gone.goes_on.up_to_date;
+      up_to_date = up_to_date_twice c.args.domain.now c.loop-blocked.domain c.give_up.new.domain before.up_to_date gone.goes_on.up_to_date;
       stays = stays_but_twice c.args.domain.now c.loop-blocked.domain c.give_up.new.domain (blocked_send c.args.waiting) before.stays
           (subst (λ (k : Key). StaysBut (A_blocked_send k.port) c.loop-blocked.domain c.give_up.new.domain) before.same gone.goes_on.stays);
     }
@@ -54,12 +55,12 @@ pub returns-in-Ok-Delivered-clause-ends : goal.returns-in-Ok-Delivered-clause-en
 returns-in-Ok-Delivered-clause-ends g c =
     let gone = rw c.in-Ok-Delivered.field-0-is at c.in-Ok-Delivered.ensures in
     let before = c.loop-blocked.invariant in
-    stays-since c.args.domain.now c.loop-blocked.domain c.give_up.new.domain c.loop-blocked.blocked c.args.waiting before.same before.stays (gone.goes_on.stays_since tt)
+    stays_since c.args.domain.now c.loop-blocked.domain c.give_up.new.domain c.loop-blocked.blocked c.args.waiting before.same before.stays (gone.goes_on.stays_since tt)
 
 pub returns-in-Err-clause-ends : goal.returns-in-Err-clause-ends
 returns-in-Err-clause-ends g c =
     let before = c.loop-blocked.invariant in
-    stays-since c.args.domain.now c.loop-blocked.domain c.give_up.new.domain c.loop-blocked.blocked c.args.waiting before.same before.stays (c.in-Err.ensures.goes_on.stays_since tt)
+    stays_since c.args.domain.now c.loop-blocked.domain c.give_up.new.domain c.loop-blocked.blocked c.args.waiting before.same before.stays (c.in-Err.ensures.goes_on.stays_since tt)
 
 pub returns-in-Ok-Delivered-clause-stays : goal.returns-in-Ok-Delivered-clause-stays
 returns-in-Ok-Delivered-clause-stays g c =

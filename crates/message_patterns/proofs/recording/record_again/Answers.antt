@@ -4,8 +4,9 @@ use Rattle.iox2_pubsub.specs.Domains.{Key}
 use Rattle.iox2_pubsub.specs.Handles.{blocked_sender}
 use Rattle.iox2_pubsub.specs.Live.{A_blocked_send, IsConnected, StaysBut, blocked_key, blocked_send}
 use Rattle.iox2_pubsub.proofs.ForCallers.{stays_but_twice}
+use Rattle.iox2_pubsub.proofs.SinceThen.{stays_since}
 use Rattle.message_patterns.specs.Recordings.{IsRecorded, IsUnderway}
-use Rattle.message_patterns.proofs.Recordings.{blocked-as, ended-so, stays-since}
+use Rattle.message_patterns.proofs.Recordings.{blocked-as, ended-so}
 use Rattle.message_patterns.proofs.recording.record_again.Goals as goal
 
 pub returns-in-Ok-Delivered-clause-recorded : goal.returns-in-Ok-Delivered-clause-recorded
@@ -42,7 +43,7 @@ returns-in-Ok-Delivered-clause-ends g c =
 pub returns-in-Ok-Blocked-clause-ends : goal.returns-in-Ok-Blocked-clause-ends
 returns-in-Ok-Blocked-clause-ends g c =
     let gone = rw c.in-Ok-Blocked.field-0-is at c.in-Ok-Blocked.ensures in
-    ended-so c.pass_others.result _ _ (stays-since c.args.domain.now c.retry.new.domain c.pass_others.new.domain c.in-Ok-Blocked.again c.args.waiting gone.goes_on.blocked.1 gone.goes_on.stays) c.pass_others.ensures.ends
+    ended-so c.pass_others.result _ _ (stays_since c.args.domain.now c.retry.new.domain c.pass_others.new.domain c.in-Ok-Blocked.again c.args.waiting gone.goes_on.blocked.1 gone.goes_on.stays) c.pass_others.ensures.ends
 
 pub returns-in-Err-clause-ends : goal.returns-in-Err-clause-ends
 returns-in-Err-clause-ends g c = c.in-Err.ensures.goes_on.stays_since tt
