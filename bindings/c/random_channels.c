@@ -1,6 +1,6 @@
 // SPDX-License-Identifier: Apache-2.0 OR MIT
 /* Makes random calls, most of them on channels, and holds each to a small model: `random_channels SEED CALLS`. With the name of a file
- * behind that it writes the recording there, whose replay compares the calls that change something with `run`.
+ * behind that it writes the recording there, whose replay compares all of them with `run`.
  *
  * The model knows of each connection what waits and is borrowed there, and the state of its one to three
  * channels. A message may be sent to all connections, into channel 0, or into one channel of one connection.
@@ -730,7 +730,7 @@ int main(int count, char **arguments) {
   random_state = strtoull(arguments[1], NULL, 10);
   size_t calls = strtoull(arguments[2], NULL, 10), on_channels = 0, by_nothing = 0;
   choose_settings();
-  is_code(count == 4 ? iox2ps_domain_create_recorded(&domain, &config, 100 * calls, 8) : iox2ps_domain_create(&domain, &config), IOX2PS_OK);
+  is_code(count == 4 ? iox2ps_domain_create_recorded(&domain, &config, 300 * calls, 8) : iox2ps_domain_create(&domain, &config), IOX2PS_OK);
   for (size_t i = 0; i < calls; i++) {
     channel_calls = not_live = 0;
     call(&domain);

@@ -144,6 +144,27 @@ static void deliver(run_t *run) { deliver_as(run, 0, IOX2PS_OK); }
 
 static void deliver_again(run_t *run) { deliver_as(run, 0, IOX2PS_NOT_LIVE); }
 
+static void ask_subscribers(run_t *run) {
+  uint32_t answer;
+  IS(iox2ps_subscriber_at_least_one_channel_has_state(&run->domain, &run->second, 0, 0, &answer), IOX2PS_OK);
+}
+
+static void ask_of_nothing(run_t *run) {
+  uint32_t answer;
+  IS(iox2ps_publisher_has_channel_state(&run->domain, &run->publisher, 0, 9, 0, &answer), IOX2PS_OK);
+}
+
+static void ask_of_no_channel(run_t *run) {
+  uint32_t answer;
+  IS(iox2ps_publisher_has_disconnect_hint(&run->domain, &run->publisher, 1, 0, 0, &answer), IOX2PS_NO_SUCH_CHANNEL);
+}
+
+static void ask_for_nobody(run_t *run) {
+  const iox2ps_wide_t nobody = {.low = 99};
+  size_t place;
+  IS(iox2ps_publisher_get_connection_id_of(&run->domain, &run->publisher, &nobody, &place), IOX2PS_NO_CONNECTION);
+}
+
 static void update(run_t *run) { IS(iox2ps_publisher_update_connections(&run->domain, &run->publisher), IOX2PS_OK); }
 
 static void close_first(run_t *run) { IS(iox2ps_subscriber_close(&run->domain, &run->first), IOX2PS_OK); }
@@ -154,10 +175,13 @@ static void (*const calls[])(run_t *) = {
     make_publisher, make_first, make_second, make_third, copy_first, lend, send, send_again, copy_too_long, lend, lend_other, copy_blocked,
     copy_refused, send_refused, retry_blocked, receive, release, receive_copy, receive_nothing, receive_without_room, ask, retry, release,
     send_blocked, give_up, discard, shut_channel, open_channel, hint, shut_nothing, shut_no_channel, lend, deliver_elsewhere, deliver,
-    deliver_again, update, close_first, close_again,
+    deliver_again, update, close_first, close_again, ask_subscribers, ask_of_nothing, ask_of_no_channel, ask_for_nobody,
 };
 
-#define CALLS (sizeof calls / sizeof calls[0])
+/* Of which the last only ask, which isn't recorded where no bytes are. */
+enum { CALLS = sizeof calls / sizeof calls[0], QUESTIONS = 4 };
+
+static size_t recorded_calls(size_t bytes) { return bytes == 0 ? CALLS - QUESTIONS : CALLS; }
 
 static iox2ps_config_t config_of(size_t loans, size_t buffer) {
   iox2ps_config_t config;
@@ -183,7 +207,7 @@ static void run_calls(size_t room, size_t bytes, size_t *told, const size_t *end
   iox2ps_config_t config = config_of(3, 2);
   size_t kept = 0;
   IS(iox2ps_domain_create_recorded(&run.domain, &config, room, bytes), IOX2PS_OK);
-  for (size_t i = 0; i < CALLS; i++) {
+  for (size_t i = 0; i < recorded_calls(bytes); i++) {
     uint64_t missed;
     calls[i](&run);
     size_t count = read_recording(&run.domain, &missed);
@@ -203,7 +227,7 @@ static void a_call_is_kept_whole_or_not_at_all(size_t bytes) {
   size_t ends[CALLS];
   run_calls(1000, bytes, ends, NULL);
   memcpy(whole, text, sizeof text);
-  for (size_t room = 0; room <= ends[CALLS - 1]; room++) run_calls(room, bytes, NULL, ends);
+  for (size_t room = 0; room <= ends[recorded_calls(bytes) - 1]; room++) run_calls(room, bytes, NULL, ends);
 }
 
 /* ---- a send that was refused */
@@ -238,50 +262,92 @@ static void a_refused_send_writes_nothing(void) {
 
 /* ---- channels */
 
-/* A change is recorded as any other call, also where it is refused for the channel; a question isn't. */
-static void changes_of_channels_are_recorded(void) {
-  iox2ps_domain_t domain = IOX2PS_DOMAIN_INIT;
-  iox2ps_config_t config;
+typedef struct channels_t {
+  iox2ps_domain_t domain;
   iox2ps_publisher_t publisher;
   iox2ps_subscriber_t subscriber;
+} channels_t;
+
+static void change_channels(channels_t *of) {
+  uint32_t answer;
+  IS(iox2ps_subscriber_close_channel(&of->domain, &of->subscriber, 4, 0), IOX2PS_NO_SUCH_CHANNEL);
+  IS(iox2ps_subscriber_close_channel(&of->domain, &of->subscriber, 3, 0), IOX2PS_OK);
+  IS(iox2ps_subscriber_set_channel_state(&of->domain, &of->subscriber, 3, 7, &answer), IOX2PS_OK);
+  IS(iox2ps_subscriber_set_channel_state(&of->domain, &of->subscriber, 3, 8, &answer), IOX2PS_OK);
+  IS(iox2ps_subscriber_set_disconnect_hint(&of->domain, &of->subscriber, 3, 7), IOX2PS_OK);
+  IS(iox2ps_publisher_has_disconnect_hint(&of->domain, &of->publisher, 3, 0, 7, &answer), IOX2PS_OK);
+  IS(iox2ps_publisher_close_channel(&of->domain, &of->publisher, 3, 0, 7), IOX2PS_OK);
+}
+
+static const char changes[] = "\nupdate 1 = done\nshut 2 4 0 = skipped\nshut 2 3 0 = done\nopen 2 3 7 = all were closed\n"
+                              "open 2 3 8 = not all were closed\nhint 2 3 7 = done\nhinted 1 3 0 7 = true\nshut 1 3 0 7 = done\n";
+
+static void ask_about_channels(channels_t *of) {
+  const iox2ps_wide_t nobody = {.low = UINT64_MAX, .high = UINT64_MAX};
+  size_t place;
+  uint32_t answer;
+  IS(iox2ps_subscriber_at_least_one_channel_has_state(&of->domain, &of->subscriber, 2, 0, &answer), IOX2PS_OK);
+  IS(iox2ps_subscriber_at_least_one_channel_has_state(&of->domain, &of->subscriber, 4, 0, &answer), IOX2PS_NO_SUCH_CHANNEL);
+  IS(iox2ps_publisher_has_channel_state(&of->domain, &of->publisher, 3, 0, 7, &answer), IOX2PS_OK);
+  IS(iox2ps_publisher_has_disconnect_hint(&of->domain, &of->publisher, 4, 0, 7, &answer), IOX2PS_NO_SUCH_CHANNEL);
+  IS(iox2ps_publisher_get_connection_id_of(&of->domain, &of->publisher, &of->subscriber.id, &place), IOX2PS_OK);
+  IS(iox2ps_publisher_get_connection_id_of(&of->domain, &of->publisher, &nobody, &place), IOX2PS_NO_CONNECTION);
+}
+
+static const char questions[] = "\nshut 1 3 0 7 = done\nstate 2 2 0 = true\nstate 2 4 0 = skipped\nstate 1 3 0 7 = false\nhinted 1 4 0 7 = skipped\n"
+                                "connection 1 2 = place 0\nconnection 1 340282366920938463463374607431768211455 = no place\nslice 1 1 = loaned\n";
+
+static void send_into_channels(channels_t *of) {
   iox2ps_loan_t loan;
   iox2ps_blocked_t blocked;
   void *payload;
-  size_t place;
+  for (uint8_t i = 0; i < 2; i++) {
+    IS(iox2ps_publisher_loan(&of->domain, &of->publisher, 1, &loan, &payload), IOX2PS_OK);
+    *(uint8_t *)payload = (uint8_t)(9 + i);
+    IS(iox2ps_loan_deliver_offset_to_connection(&of->domain, &loan, 4, 0, NULL, &blocked), IOX2PS_NO_SUCH_CHANNEL);
+    IS(iox2ps_loan_deliver_offset_to_connection(&of->domain, &loan, 2, 0, NULL, &blocked), IOX2PS_OK);
+  }
+}
+
+static const char sends[] = "\nslice 1 1 = loaned\ndeliver 17 4 0 = skipped\nwrite 17 9 = done\ndeliver 17 2 0 = delivered 1\n"
+                            "slice 1 1 = loaned\ndeliver 21 4 0 = skipped\nwrite 21 10 = done\ndeliver 21 2 0 = delivered 1\n";
+
+/* Reads the recording of all these calls, of which the last two name a publisher that is closed. */
+static void record_channels(size_t bytes) {
+  channels_t of = {.domain = IOX2PS_DOMAIN_INIT};
+  iox2ps_config_t config;
   uint64_t missed;
   uint32_t answer;
   iox2ps_config_defaults(&config, 7, 1, 1);
   config.number_of_channels = 4;
-  config.enable_safe_overflow = 0;
-  IS(iox2ps_domain_create_recorded(&domain, &config, 50, 1), IOX2PS_OK);
-  IS(iox2ps_publisher_create(&domain, &publisher), IOX2PS_OK);
-  IS(iox2ps_subscriber_create(&domain, &subscriber), IOX2PS_OK);
-  IS(iox2ps_publisher_update_connections(&domain, &publisher), IOX2PS_OK);
-  IS(iox2ps_subscriber_at_least_one_channel_has_state(&domain, &subscriber, 0, 0, &answer), IOX2PS_OK);
-  IS(iox2ps_publisher_has_channel_state(&domain, &publisher, 0, 0, 0, &answer), IOX2PS_OK);
-  IS(iox2ps_publisher_has_disconnect_hint(&domain, &publisher, 0, 0, 0, &answer), IOX2PS_OK);
-  IS(iox2ps_publisher_get_connection_id_of(&domain, &publisher, &subscriber.id, &place), IOX2PS_OK);
-  IS(iox2ps_subscriber_close_channel(&domain, &subscriber, 4, 0), IOX2PS_NO_SUCH_CHANNEL);
-  IS(iox2ps_subscriber_close_channel(&domain, &subscriber, 3, 0), IOX2PS_OK);
-  IS(iox2ps_subscriber_set_channel_state(&domain, &subscriber, 3, 7, &answer), IOX2PS_OK);
-  IS(iox2ps_subscriber_set_channel_state(&domain, &subscriber, 3, 8, &answer), IOX2PS_OK);
-  IS(iox2ps_subscriber_set_disconnect_hint(&domain, &subscriber, 3, 7), IOX2PS_OK);
-  IS(iox2ps_publisher_close_channel(&domain, &publisher, 3, 0, 7), IOX2PS_OK);
-  for (uint8_t i = 0; i < 2; i++) {
-    IS(iox2ps_publisher_loan(&domain, &publisher, 1, &loan, &payload), IOX2PS_OK);
-    *(uint8_t *)payload = (uint8_t)(9 + i);
-    IS(iox2ps_loan_deliver_offset_to_connection(&domain, &loan, 4, 0, NULL, &blocked), IOX2PS_NO_SUCH_CHANNEL);
-    IS(iox2ps_loan_deliver_offset_to_connection(&domain, &loan, 2, 0, NULL, &blocked), IOX2PS_OK);
-  }
-  IS(iox2ps_publisher_close(&domain, &publisher), IOX2PS_OK);
-  IS(iox2ps_publisher_close_channel(&domain, &publisher, 3, 0, 7), IOX2PS_NOT_LIVE);
-  read_recording(&domain, &missed);
+  IS(iox2ps_domain_create_recorded(&of.domain, &config, 50, bytes), IOX2PS_OK);
+  IS(iox2ps_publisher_create(&of.domain, &of.publisher), IOX2PS_OK);
+  IS(iox2ps_subscriber_create(&of.domain, &of.subscriber), IOX2PS_OK);
+  IS(iox2ps_publisher_update_connections(&of.domain, &of.publisher), IOX2PS_OK);
+  change_channels(&of);
+  ask_about_channels(&of);
+  send_into_channels(&of);
+  IS(iox2ps_publisher_close(&of.domain, &of.publisher), IOX2PS_OK);
+  IS(iox2ps_publisher_close_channel(&of.domain, &of.publisher, 3, 0, 7), IOX2PS_NOT_LIVE);
+  IS(iox2ps_publisher_has_channel_state(&of.domain, &of.publisher, 3, 0, 7, &answer), IOX2PS_NOT_LIVE);
+  read_recording(&of.domain, &missed);
   CHECK(missed == 0);
-  CHECK(strstr(text, "\nupdate 1 = done\nshut 2 4 0 = skipped\nshut 2 3 0 = done\nopen 2 3 7 = all were closed\n"
-                     "open 2 3 8 = not all were closed\nhint 2 3 7 = done\nshut 1 3 0 7 = done\n") != NULL);
-  CHECK(strstr(text, "\nslice 1 1 = loaned\ndeliver 10 4 0 = skipped\nwrite 10 9 = done\ndeliver 10 2 0 = delivered 1\n") != NULL);
+  IS(iox2ps_domain_destroy(&of.domain), IOX2PS_OK);
+}
+
+/* As any other call, also where it is refused for the channel. */
+static void calls_on_channels_are_recorded(void) {
+  record_channels(1);
+  CHECK(strstr(text, changes) != NULL && strstr(text, questions) != NULL && strstr(text, sends) != NULL);
+  CHECK(strstr(text, "\nclose 1 = done\nshut 0 3 0 7 = skipped\nstate 0 3 0 7 = skipped\nend ") != NULL);
+}
+
+/* What asks isn't recorded where no bytes are. */
+static void a_recording_of_no_bytes_has_changes_alone(void) {
+  record_channels(0);
+  CHECK(strstr(text, "\nhint 2 3 7 = done\nshut 1 3 0 7 = done\nslice 1 1 = loaned\n") != NULL);
   CHECK(strstr(text, "\nclose 1 = done\nshut 0 3 0 7 = skipped\nend ") != NULL);
-  IS(iox2ps_domain_destroy(&domain), IOX2PS_OK);
+  CHECK(strstr(text, "\nstate ") == NULL && strstr(text, "\nhinted ") == NULL && strstr(text, "\nconnection ") == NULL);
 }
 
 /* ---- memory */
@@ -351,6 +417,10 @@ static void a_recorded_call_takes_no_more_memory(size_t count, size_t bytes) {
   BOTH(open_channel(run));
   BOTH(hint(run));
   BOTH(shut_nothing(run));
+  BOTH(ask_subscribers(run));
+  BOTH(ask_of_nothing(run));
+  BOTH(ask_of_no_channel(run));
+  BOTH(ask_for_nobody(run));
   BOTH(lend(run));
   BOTH(deliver(run));
   BOTH(close_first(run));
@@ -365,7 +435,8 @@ int main(void) {
   a_call_is_kept_whole_or_not_at_all(3);
   a_call_is_kept_whole_or_not_at_all(16);
   a_refused_send_writes_nothing();
-  changes_of_channels_are_recorded();
+  calls_on_channels_are_recorded();
+  a_recording_of_no_bytes_has_changes_alone();
   a_recorded_call_takes_no_more_memory(40, 0);
   a_recorded_call_takes_no_more_memory(67, 5);
   return checked();

@@ -17,6 +17,7 @@ enum fault {
   THE_LAST_CALL_LACKS_ITS_END,
   ROOM_IS_FOR_FOURTEEN_COMMANDS,
   CHANNELS_ARE_LEFT_OUT,
+  QUESTIONS_ARE_LEFT_OUT,
   NOTHING_IS_KEPT
 };
 
@@ -34,16 +35,26 @@ static void add(const char *line, size_t len) {
 
 static int begins(const char *line, const char *word) { return !strncmp(line, word, strlen(word)); }
 
+/* Whether its second number is a channel. */
+static int has_channel(const char *line) {
+  static const char *const words[] = {"deliver ", "shut ", "open ", "hint ", "state ", "hinted "};
+  for (size_t i = 0; i < sizeof words / sizeof words[0]; i++) {
+    if (begins(line, words[i])) return 1;
+  }
+  return 0;
+}
+
 /* Adds the line of a command, of which so many stand before it, and is told whether one follows and whether it is the first read. Returns
  * how many lines it added. */
 static size_t add_command(const char *line, size_t len, size_t before, int is_last, int is_first_read) {
   static const char set[] = "set 3 1 7 = done\n";
   int is_missing = (FAULT == A_READ_IS_MISSING && is_first_read) || (FAULT == NO_READS && begins(line, "read "))
                    || (FAULT == THE_LAST_CALL_LACKS_ITS_END && is_last) || (FAULT == ROOM_IS_FOR_FOURTEEN_COMMANDS && before >= 14)
+                   || (FAULT == QUESTIONS_ARE_LEFT_OUT && (begins(line, "state ") || begins(line, "hinted ") || begins(line, "connection ")))
                    || FAULT == NOTHING_IS_KEPT;
   if (is_missing) return 0;
   add(line, len);
-  if (FAULT == CHANNELS_ARE_LEFT_OUT && (begins(line, "shut ") || begins(line, "open ") || begins(line, "hint "))) strchr(strchr(made + made_len - len, ' ') + 1, ' ')[1] = '0';
+  if (FAULT == CHANNELS_ARE_LEFT_OUT && has_channel(line)) strchr(strchr(made + made_len - len, ' ') + 1, ' ')[1] = '0';
   if (FAULT == A_READ_HAS_ANOTHER_VALUE && is_first_read) made[made_len - 2] ^= 1;
   if (FAULT == A_READ_IS_THERE_TWICE && is_first_read) {
     add(line, len);

@@ -467,9 +467,10 @@ void iox2ps_memory_deallocate(void *block);
 IOX2PS_NODISCARD iox2ps_status_t iox2ps_domain_create(iox2ps_domain_t *domain, const iox2ps_config_t *config);
 
 /** The same, and keeps a recording of the first calls, as many as give this number of commands, with this number of
- * bytes of each message; the others are 0 in the recording. Memory for the commands is taken here, some 190 bytes for
+ * bytes of each message; the others are 0 in the recording. Memory for the commands is taken here, some 180 bytes for
  * each. A call that makes, sends, receives, closes, updates or changes a channel is one command, and so is each byte of a
- * message that has to be written or is read; questions that change nothing are none, also about a channel. */
+ * message that has to be written or is read, and, unless the number of bytes is 0, each question about a channel. Other
+ * questions that change nothing are none. */
 IOX2PS_NODISCARD iox2ps_status_t iox2ps_domain_create_recorded(iox2ps_domain_t *domain, const iox2ps_config_t *config,
                                                                size_t commands, size_t bytes);
 
@@ -707,8 +708,7 @@ iox2ps_status_t iox2ps_sample_release(iox2ps_domain_t *domain, const iox2ps_samp
  * goes past it when it is tried again. The calls return IOX2PS_NO_SUCH_CHANNEL for each channel from
  * number_of_channels on, except channel 0.
  *
- * A recording has each of these calls that changes a channel or sends. Those that only ask aren't recorded, and nothing
- * recorded depends on them.
+ * A recording has each of these calls; one with 0 bytes of each message lacks those that only ask.
  * @{ */
 
 #define IOX2PS_CHANNEL_STATE_OPEN UINT64_C(0)  /**< the state of a new channel */

@@ -22,20 +22,37 @@ pub struct Room {
     pub bytes: usize,
 }
 
+impl Room {
+    // Whether calls that only ask about a channel are kept: not where no bytes are. Processes that share a
+    // domain have the same recording, and each asks for itself (docs/DECISIONS.md, "A recording of no bytes has
+    // no questions").
+    fn keeps_questions(self) -> bool {
+        self.bytes != 0
+    }
+}
+
 /// The recorder of a domain, if it has one.
 #[derive(Drop)]
 pub struct Recording {
     recorder: Option<Recorder>,
+    // Whether calls that only ask about a channel are kept.
+    has_questions: bool,
 }
 
 impl Recording {
     /// A recording with this room, or one of nothing. `None` where memory is refused.
     pub fn new(alloc: Global, room: Option<Room>) -> Option<Recording> {
-        let recorder = match room {
-            Some(room) => Some(Recorder::new(alloc, room.commands, room.bytes).ok()?),
-            None => None,
+        let (recorder, has_questions) = match room {
+            Some(room) => {
+                let recorder = Recorder::new(alloc, room.commands, room.bytes).ok()?;
+                (Some(recorder), room.keeps_questions())
+            }
+            None => (None, false),
         };
-        Some(Recording { recorder })
+        Some(Recording {
+            recorder,
+            has_questions,
+        })
     }
 
     /// Whether anything is recorded.

@@ -5,20 +5,21 @@ use iox2_machine::{
     AllocationStrategy, BackpressureAction, BackpressureStrategy, DegradationAction,
 };
 
+// The small fields stand together, since each command has room for all of them.
 /// What a command asks of a new publisher, whose handlers always give the answers named here.
 #[derive(Debug, Clone, Copy, PartialEq, Eq)]
 pub struct NewPublisher {
     /// How many loans may be out at a time.
     pub loans: usize,
-    /// What it does with a full receiver if no handler says otherwise.
-    pub strategy: BackpressureStrategy,
-    /// How its segments grow. It is taken as given in services for single values too.
-    pub allocation: AllocationStrategy,
     /// The number of elements for which its first segment has room; in a service for single values it
     /// counts as 1.
     pub initial_max_slice_len: usize,
     /// What the override of the preallocation answers, if there is one.
     pub override_slots: Option<usize>,
+    /// What it does with a full receiver if no handler says otherwise.
+    pub strategy: BackpressureStrategy,
+    /// How its segments grow. It is taken as given in services for single values too.
+    pub allocation: AllocationStrategy,
     /// The answer of its degradation handler.
     pub degradation: DegradationAction,
     /// The answer of its backpressure handler, if there is one.

@@ -15,8 +15,8 @@ use std::alloc::Global;
 /// replies. This library's own.
 ///
 /// The second list may leave out some calls of other subscribers than one, which the first has: their
-/// receives, questions and updates, and what releases or reads their samples, with `Nothing` in
-/// place of each. Then that subscriber isn't felt to be slower or faster: if its own receives get
+/// receives, questions, updates and calls on channels, and what releases or reads their samples, with
+/// `Nothing` in place of each. Publishers may be told something else then, as how many took a message. Then that subscriber isn't felt to be slower or faster: if its own receives get
 /// the same replies in both runs, it sees the same after each number of commands in both, and reads
 /// of its samples get the same replies. This holds if no publisher that was made has memory that
 /// grows, each has as many slots as `worst_case_slots` says and never waits for a receiver, each other

@@ -68,11 +68,19 @@ const SETTINGS: &str = "service 1 1 1 1 discard static\ndomain 1 1 1 1 0 0 keep\
 // An older recording, whose second line has the number of channels.
 const OLDER: &str = "recording 1\n\
     service 1 1 1 1 discard static 3\n\
-    domain 1 1 1 1 0 0 keep\n\
-    sub 1 = subscriber 1\n\
-    shut 1 2 0 = done\n\
-    shut 1 3 0 = skipped\n\
-    end 3 937f257acbf4a29e\n";
+    domain 1 1 2 1 0 0 keep\n\
+    sub 2 = subscriber 1\n\
+    pub 1 discard = publisher 2\n\
+    copy 2 7 = delivered 1\n\
+    recv 1 = sample 2\n\
+    read 4 = value 7\n\
+    close 2 = done\n\
+    end 6 b1e28c7da6982490\n";
+
+// Both lines say how many channels there are.
+const TWICE: &str = "recording 1\n\
+    service 1 1 1 1 discard static 3\n\
+    domain 1 1 1 1 0 0 keep channels 3\n";
 
 // It is read, and replies the same.
 fn try_older_text(rt: &HostRuntime) -> Result<(), Failure> {
@@ -96,6 +104,7 @@ fn try_other_texts(rt: &HostRuntime) -> Result<(), Failure> {
         1,
     )?;
     expect(rt, "domain 1 1 1 1 0 0 keep\n", "", Fault::NoRecording, 1)?;
+    expect(rt, TWICE, "", Fault::BadDomain, 3)?;
     for channels in ["", "x", "-1", "2 2"] {
         let mut title = String::new(rt.alloc());
         title.push_str("recording 1\nservice 1 1 1 1 discard static ")?;

@@ -23,6 +23,9 @@ pub fn push_script(
     Ok(())
 }
 
+/// What is between the other settings of a domain and how many channels a connection has, where that isn't 1.
+pub(crate) const CHANNELS: &str = " channels ";
+
 // The line of a script that makes a domain with these settings, except those that `push_service` has.
 pub(crate) fn push_domain(text: &mut String, config: &ServiceConfig) -> Result<(), AllocError> {
     let kind = match config.variant {
@@ -46,7 +49,7 @@ pub(crate) fn push_domain(text: &mut String, config: &ServiceConfig) -> Result<(
     )?;
     match config.number_of_channels {
         1 => Ok(()),
-        channels => write!(text, " channels {channels}"),
+        channels => write!(text, "{CHANNELS}{channels}"),
     }
 }
 

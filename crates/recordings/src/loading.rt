@@ -1,4 +1,5 @@
 //! Recordings are read.
+use crate::commands::CHANNELS;
 use crate::load_error::{Fault, LoadError};
 use crate::recording::Recording;
 use crate::saving::{READS, REPLIES, TITLE, VERSION, push_end};
@@ -78,7 +79,11 @@ impl Reader {
             }
             Expects::Domain => {
                 let domain = domain_of(line.as_bytes()).ok_or(Fault::BadDomain)?;
-                self.recording.config = with_domain(self.recording.config, domain);
+                let service = self.recording.config;
+                if service.number_of_channels != 1 && line.contains(CHANNELS) {
+                    return Err(Fault::BadDomain);
+                }
+                self.recording.config = with_domain(service, domain);
                 self.expects = Expects::Command;
             }
             Expects::Command => {

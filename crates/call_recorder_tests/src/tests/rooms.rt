@@ -2,6 +2,7 @@ use super::{recorder_for, recording_of};
 use call_recorder::{Name, Recorder};
 use iox2_commands::{Command, Reply};
 use iox2_machine::UniquePublisherId;
+use std::mem;
 
 // How many commands the first calls of `make_calls` are, for each number of them.
 const ENDS: [usize; 6] = [0, 4, 9, 14, 15, 17];
@@ -53,4 +54,10 @@ fn nothing_is_kept_behind_a_call_that_was_missed(rt: HostRuntime) {
     let recording = recording_of(&rt, rt.alloc(), &recorder);
     assert_eq!(rt; recording.commands.len(), 1);
     assert_eq!(rt; recorder.missed(), 6);
+}
+
+#[test]
+fn a_command_and_its_reply_take_this_many_bytes(rt: HostRuntime) {
+    assert_eq!(rt; mem::size_of::<Command<u64, u64>>(), 48);
+    assert_eq!(rt; mem::size_of::<Reply<u64, u64>>(), 64);
 }

@@ -10,7 +10,7 @@ use crate::calls::questions::number_of;
 use crate::numbers::{PublisherNumbers, SubscriberNumbers};
 use crate::service::Service;
 use crate::status::OK;
-use iox2_commands::SubscriberChannelCall;
+use iox2_commands::{PublisherChannelCall, SubscriberChannelCall};
 
 /// Brings a channel into a state at each connection of a subscriber where it is closed, and says whether it
 /// was at all of them.
@@ -33,7 +33,7 @@ pub fn set_state(
         Err(code) => {
             service
                 .recording
-                .changed_channel(numbers, channel, call, code, false);
+                .subscriber_channel(numbers, channel, call, code, false);
             return code;
         }
     };
@@ -42,7 +42,7 @@ pub fn set_state(
     *were_closed = number_of(answer);
     service
         .recording
-        .changed_channel(numbers, channel, call, OK, answer);
+        .subscriber_channel(numbers, channel, call, OK, answer);
     OK
 }
 
@@ -84,7 +84,7 @@ pub fn change_received(
         Err(code) => {
             service
                 .recording
-                .changed_channel(numbers, channel, call, code, false);
+                .subscriber_channel(numbers, channel, call, code, false);
             return code;
         }
     };
@@ -96,7 +96,7 @@ pub fn change_received(
     subscriber.disown();
     service
         .recording
-        .changed_channel(numbers, channel, call, OK, false);
+        .subscriber_channel(numbers, channel, call, OK, false);
     OK
 }
 
@@ -113,12 +113,13 @@ pub fn close_sent(
     ensures refused { 0 < result → service.new ≡ service.old }
     ensures stays { ServesBut No_item service.old service.new }
 {
+    let call = PublisherChannelCall::Close { expected };
     let publisher = match publisher_with_channel(&service.domain, numbers, channel) {
         Ok(publisher) => publisher,
         Err(code) => {
             service
                 .recording
-                .closed_channel(numbers, channel, connection, expected, code);
+                .publisher_channel(numbers, channel, connection, call, code, false);
             return code;
         }
     };
@@ -126,6 +127,6 @@ pub fn close_sent(
     publisher.disown();
     service
         .recording
-        .closed_channel(numbers, channel, connection, expected, OK);
+        .publisher_channel(numbers, channel, connection, call, OK, false);
     OK
 }

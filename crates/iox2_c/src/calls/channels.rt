@@ -1,5 +1,4 @@
-//! What ports ask about the channels of their connections. No reply of a recorded domain's other calls
-//! depends on it, so that nothing of it is recorded.
+//! What ports ask about the channels of their connections.
 ghost use Rattle.std.specs.Prelude.{◌≡◌, ◌<◌, ◌↔◌, ◌⊎◌, IfErr, IfNone, IfOk, IfSome, IsTrue, None, Some};
 ghost use Rattle.iox2_machine.specs.machine.Limits.{channel_count};
 ghost use Rattle.iox2_pubsub.specs.Handles.{as_subscriber, publisher_id, subscriber_id};
@@ -12,6 +11,7 @@ use crate::calls::subscribers::live_subscriber;
 use crate::numbers::{PublisherNumbers, SubscriberNumbers, Wide};
 use crate::service::{BytesDomain, Service};
 use crate::status::{NO_CONNECTION, NO_SUCH_CHANNEL, NOT_LIVE, OK};
+use iox2_commands::{PublisherChannelCall, SubscriberChannelCall};
 use iox2_pubsub::{Publisher, slice};
 
 /// Whether connections of the domain have a channel with this number.
@@ -80,95 +80,132 @@ pub fn publisher_with_channel(
 
 /// Whether a channel is in a state at some connection of a subscriber.
 pub fn some_has_state(
-    service: &Service,
+    service: &mut Service,
     numbers: &SubscriberNumbers,
     channel: usize,
     state: u64,
     out: &mut u32,
 ) -> u32
-    ensures code { AnswersSubscriberChannel service.now.domain (named_subscriber numbers.now) channel result }
-    ensures tells { result ≡ 0 → TellsSomeState service.now.domain (wide (numbers.now).id) channel state out.new }
+    ensures code { AnswersSubscriberChannel service.old.domain (named_subscriber numbers.now) channel result }
+    ensures tells { result ≡ 0 → TellsSomeState service.old.domain (wide (numbers.now).id) channel state out.new }
     ensures same { 0 < result → out.new ≡ out.old }
+    ensures unchanged { service.new ≡ service.old }
 {
+    let call = SubscriberChannelCall::SomeHasState { state };
     let subscriber = match subscriber_with_channel(&service.domain, numbers, channel) {
         Ok(subscriber) => subscriber,
-        Err(code) => return code,
+        Err(code) => {
+            service
+                .recording
+                .subscriber_channel(numbers, channel, call, code, false);
+            return code;
+        }
     };
     let is_so = subscriber.at_least_one_channel_has_state(&service.domain, channel, state);
     subscriber.disown();
     *out = number_of(is_so);
+    service
+        .recording
+        .subscriber_channel(numbers, channel, call, OK, is_so);
     OK
 }
 
 /// Where a publisher has its connection to the subscriber with this id.
 pub fn connection_of(
-    service: &Service,
+    service: &mut Service,
     numbers: &PublisherNumbers,
     receiver: &Wide,
     out: &mut usize,
 ) -> u32
-    ensures code { (result ≡ 0) ⊎ ((result ≡ 2) × (IsPublisherKey service.now.domain (named_publisher numbers.now) → ⊥)) ⊎ (result ≡ 71) }
-    ensures live { (result ≡ 2 → ⊥) → IsPublisherKey service.now.domain (named_publisher numbers.now) }
-    ensures tells { result ≡ 0 → TellsConnection service.now.domain (wide (numbers.now).id) (wide receiver.now) (Some out.new) }
-    ensures none { result ≡ 71 → TellsConnection service.now.domain (wide (numbers.now).id) (wide receiver.now) None }
+    ensures code { (result ≡ 0) ⊎ ((result ≡ 2) × (IsPublisherKey service.old.domain (named_publisher numbers.now) → ⊥)) ⊎ (result ≡ 71) }
+    ensures live { (result ≡ 2 → ⊥) → IsPublisherKey service.old.domain (named_publisher numbers.now) }
+    ensures tells { result ≡ 0 → TellsConnection service.old.domain (wide (numbers.now).id) (wide receiver.now) (Some out.new) }
+    ensures none { result ≡ 71 → TellsConnection service.old.domain (wide (numbers.now).id) (wide receiver.now) None }
     ensures same { 0 < result → out.new ≡ out.old }
+    ensures unchanged { service.new ≡ service.old }
 {
+    let id = receiver.get();
     let Some(publisher) = live_publisher(&service.domain, numbers) else {
+        service.recording.connection(numbers, id, NOT_LIVE, 0);
         return NOT_LIVE;
     };
-    let place = publisher.get_connection_id_of(&service.domain, receiver.get());
+    let place = publisher.get_connection_id_of(&service.domain, id);
     publisher.disown();
     match place {
         Some(place) => {
             *out = place;
+            service.recording.connection(numbers, id, OK, place);
             OK
         }
-        None => NO_CONNECTION,
+        None => {
+            service.recording.connection(numbers, id, NO_CONNECTION, 0);
+            NO_CONNECTION
+        }
     }
 }
 
 /// Whether a channel is in a state at one connection of a publisher.
 pub fn has_state(
-    service: &Service,
+    service: &mut Service,
     numbers: &PublisherNumbers,
     channel: usize,
     connection: usize,
     state: u64,
     out: &mut u32,
 ) -> u32
-    ensures code { AnswersPublisherChannel service.now.domain (named_publisher numbers.now) channel result }
-    ensures tells { result ≡ 0 → TellsState service.now.domain (wide (numbers.now).id) channel connection state out.new }
+    ensures code { AnswersPublisherChannel service.old.domain (named_publisher numbers.now) channel result }
+    ensures tells { result ≡ 0 → TellsState service.old.domain (wide (numbers.now).id) channel connection state out.new }
     ensures same { 0 < result → out.new ≡ out.old }
+    ensures unchanged { service.new ≡ service.old }
 {
+    let call = PublisherChannelCall::HasState { state };
     let publisher = match publisher_with_channel(&service.domain, numbers, channel) {
         Ok(publisher) => publisher,
-        Err(code) => return code,
+        Err(code) => {
+            service
+                .recording
+                .publisher_channel(numbers, channel, connection, call, code, false);
+            return code;
+        }
     };
     let is_so = publisher.has_channel_state(&service.domain, channel, connection, state);
     publisher.disown();
     *out = number_of(is_so);
+    service
+        .recording
+        .publisher_channel(numbers, channel, connection, call, OK, is_so);
     OK
 }
 
 /// Whether a channel is in a state at one connection of a publisher, and has a hint.
 pub fn has_hint(
-    service: &Service,
+    service: &mut Service,
     numbers: &PublisherNumbers,
     channel: usize,
     connection: usize,
     state: u64,
     out: &mut u32,
 ) -> u32
-    ensures code { AnswersPublisherChannel service.now.domain (named_publisher numbers.now) channel result }
-    ensures tells { result ≡ 0 → TellsHint service.now.domain (wide (numbers.now).id) channel connection state out.new }
+    ensures code { AnswersPublisherChannel service.old.domain (named_publisher numbers.now) channel result }
+    ensures tells { result ≡ 0 → TellsHint service.old.domain (wide (numbers.now).id) channel connection state out.new }
     ensures same { 0 < result → out.new ≡ out.old }
+    ensures unchanged { service.new ≡ service.old }
 {
+    let call = PublisherChannelCall::HasDisconnectHint { state };
     let publisher = match publisher_with_channel(&service.domain, numbers, channel) {
         Ok(publisher) => publisher,
-        Err(code) => return code,
+        Err(code) => {
+            service
+                .recording
+                .publisher_channel(numbers, channel, connection, call, code, false);
+            return code;
+        }
     };
     let is_so = publisher.has_disconnect_hint(&service.domain, channel, connection, state);
     publisher.disown();
     *out = number_of(is_so);
+    service
+        .recording
+        .publisher_channel(numbers, channel, connection, call, OK, is_so);
     OK
 }

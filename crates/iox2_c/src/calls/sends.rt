@@ -135,6 +135,8 @@ fn send_elsewhere(
 }
 
 // Records the bytes of a loan that is out, unless a send of its publisher waits: the loan isn't sent then.
+#[cold]
+#[inline(never)]
 pub(crate) fn record_bytes(service: &mut Service, numbers: &LoanNumbers)
     ensures { service.new ≡ service.old }
 {

@@ -1,42 +1,119 @@
-//! Changes of channels are recorded.
+//! Calls on channels are recorded. Where nothing is recorded, such a call only asks whether that is so.
 
 use super::Recording;
 use super::answers::plain_reply;
 use crate::numbers::{PublisherNumbers, SubscriberNumbers};
-use crate::status::OK;
+use crate::status::{NO_CONNECTION, OK};
 use iox2_commands::{Command, PublisherChannelCall, Reply, SubscriberChannelCall};
 
 impl Recording {
-    /// A publisher closed a channel of one connection where it was in a state, or it didn't, as the code says.
-    pub fn closed_channel(
+    /// A publisher was asked for its connection to the subscriber with this id, and has it at this place, if it
+    /// has one, as the code says.
+    #[inline(always)]
+    pub fn connection(
+        &mut self,
+        publisher: &PublisherNumbers,
+        receiver: u128,
+        code: u32,
+        place: usize,
+    ) {
+        if self.is_on() {
+            self.keep_connection(publisher, receiver, code, place);
+        }
+    }
+
+    /// A publisher asked about a channel of one connection or closed it, or didn't, as the code says. The answer
+    /// is a question's.
+    #[inline(always)]
+    pub fn publisher_channel(
         &mut self,
         publisher: &PublisherNumbers,
         channel: usize,
         connection: usize,
-        expected: u64,
+        call: PublisherChannelCall,
         code: u32,
+        answer: bool,
     ) {
-        let command = move |of| Command::PublisherChannel {
-            of,
-            channel,
-            connection,
-            call: PublisherChannelCall::Close { expected },
-        };
-        self.keep(publisher.name(), code, command, plain_reply(code));
+        if self.is_on() {
+            self.keep_publisher_channel(publisher, channel, connection, call, code, answer);
+        }
     }
 
-    /// A subscriber changed a channel of its connections, or didn't, as the code says. The answer is whether all
-    /// were closed, where that is told.
-    pub fn changed_channel(
+    /// A subscriber asked about a channel of its connections or changed it, or didn't, as the code says. The
+    /// answer is a question's, or whether all were closed that were set.
+    #[inline(always)]
+    pub fn subscriber_channel(
         &mut self,
         subscriber: &SubscriberNumbers,
         channel: usize,
         call: SubscriberChannelCall,
         code: u32,
-        were_closed: bool,
+        answer: bool,
+    ) {
+        if self.is_on() {
+            self.keep_subscriber_channel(subscriber, channel, call, code, answer);
+        }
+    }
+
+    #[cold]
+    #[inline(never)]
+    fn keep_connection(
+        &mut self,
+        publisher: &PublisherNumbers,
+        receiver: u128,
+        code: u32,
+        place: usize,
+    ) {
+        let reply = match code {
+            _ if !self.has_questions => return,
+            OK => Reply::Place(Some(place)),
+            NO_CONNECTION => Reply::Place(None),
+            _ => Reply::Skipped,
+        };
+        let command = move |of| Command::ConnectionPlace { of, receiver };
+        self.keep(publisher.name(), code, command, reply);
+    }
+
+    #[cold]
+    #[inline(never)]
+    fn keep_publisher_channel(
+        &mut self,
+        publisher: &PublisherNumbers,
+        channel: usize,
+        connection: usize,
+        call: PublisherChannelCall,
+        code: u32,
+        answer: bool,
     ) {
         let reply = match (call, code) {
-            (SubscriberChannelCall::SetState { .. }, OK) => Reply::WereClosed(were_closed),
+            (PublisherChannelCall::Close { .. }, _) => plain_reply(code),
+            _ if !self.has_questions => return,
+            (_, OK) => Reply::Has(answer),
+            _ => Reply::Skipped,
+        };
+        let command = move |of| Command::PublisherChannel {
+            of,
+            channel,
+            connection,
+            call,
+        };
+        self.keep(publisher.name(), code, command, reply);
+    }
+
+    #[cold]
+    #[inline(never)]
+    fn keep_subscriber_channel(
+        &mut self,
+        subscriber: &SubscriberNumbers,
+        channel: usize,
+        call: SubscriberChannelCall,
+        code: u32,
+        answer: bool,
+    ) {
+        let reply = match (call, code) {
+            (SubscriberChannelCall::SomeHasState { .. }, _) if !self.has_questions => return,
+            (SubscriberChannelCall::SomeHasState { .. }, OK) => Reply::Has(answer),
+            (SubscriberChannelCall::SetState { .. }, OK) => Reply::WereClosed(answer),
             _ => plain_reply(code),
         };
         let command = move |of| Command::SubscriberChannel { of, channel, call };

@@ -60,7 +60,24 @@ impl Recording {
     }
 
     /// The same of a loan that was sent into a channel of one connection.
+    #[inline(always)]
     pub fn sent_to(
+        &mut self,
+        loan: &LoanNumbers,
+        channel: usize,
+        connection: usize,
+        code: u32,
+        receivers: usize,
+        failed: Option<SendError>,
+    ) {
+        if self.is_on() {
+            self.keep_sent_to(loan, channel, connection, code, receivers, failed);
+        }
+    }
+
+    #[cold]
+    #[inline(never)]
+    fn keep_sent_to(
         &mut self,
         loan: &LoanNumbers,
         channel: usize,

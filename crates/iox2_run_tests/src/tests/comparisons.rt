@@ -4,11 +4,11 @@ ghost use Rattle.iox2_commands.specs.Refusals.{TellNoRefusal};
 
 use iox2_fixtures::smallest;
 use iox2_machine::{
-    BackpressureAction, BackpressureStrategy, DegradationAction, SendError, ServiceConfig,
-    SubscriberCreateError, TypeVariant, UniquePublisherId, UniqueSubscriberId,
+    BackpressureAction, BackpressureStrategy, DegradationAction, ReceiveError, SendError,
+    ServiceConfig, SubscriberCreateError, TypeVariant, UniquePublisherId, UniqueSubscriberId,
 };
 use iox2_pubsub::Domain;
-use iox2_runs::{Command, NewPublisher, Reply, compare_runs};
+use iox2_runs::{Command, NewPublisher, Reply, SubscriberChannelCall, compare_runs};
 use std::alloc::{AllocError, Global};
 use std::process::Abort;
 
@@ -61,6 +61,27 @@ fn two_messages(
         Command::Receive { of: 1 },
         Command::Read { of: 6, at: 0 },
         Command::Receive { of: 1 },
+    ];
+    Ok(Vec::from_array(alloc, commands)?)
+}
+
+// The same, where the first subscriber closes its channel in between, or doesn't.
+fn two_messages_past_a_channel(alloc: Global, closes: bool) -> Result<Commands, AllocError> {
+    let closes_channel = Command::SubscriberChannel {
+        of: 1,
+        channel: 0,
+        call: SubscriberChannelCall::Close { expected: 0 },
+    };
+    let commands = [
+        publisher(),
+        SUBSCRIBER,
+        SUBSCRIBER,
+        Command::SendCopy { of: 0, value: 1 },
+        if_kept(closes, closes_channel),
+        Command::SendCopy { of: 0, value: 2 },
+        Command::Receive { of: 2 },
+        Command::Read { of: 6, at: 0 },
+        Command::Receive { of: 2 },
     ];
     Ok(Vec::from_array(alloc, commands)?)
 }
@@ -201,6 +222,32 @@ fn a_subscriber_sees_the_same_beside_a_slower_one(rt: HostRuntime) {
     slower[5] = Reply::Delivered(0);
     assert!(rt; replies.as_slice() == answers_with_a_receive().as_slice());
     assert!(rt; others.as_slice() == slower.as_slice());
+}
+
+// Only the publisher is told of that channel.
+#[test]
+fn a_subscriber_sees_the_same_beside_one_that_closes_its_channel(rt: HostRuntime) {
+    let commands = two_messages_past_a_channel(rt.alloc(), true).expect(&rt, "commands");
+    let reduced = two_messages_past_a_channel(rt.alloc(), false).expect(&rt, "fewer commands");
+    let config = ServiceConfig {
+        subscriber_max_buffer_size: 2,
+        ..two_subscribers()
+    };
+    let (replies, others) = compared_on(&rt, rt.alloc(), &config, commands, reduced);
+    let mut expected = [
+        Reply::PublisherMade(UniquePublisherId::new(1)),
+        Reply::SubscriberMade(UniqueSubscriberId::new(2)),
+        Reply::SubscriberMade(UniqueSubscriberId::new(3)),
+        Reply::Delivered(2),
+        Reply::Done,
+        Reply::Delivered(1),
+        Reply::Sample(UniquePublisherId::new(1)),
+        Reply::Cell(Some(1)),
+        Reply::ReceiveRefused(ReceiveError::ExceedsMaxBorrows),
+    ];
+    assert!(rt; replies.as_slice() == expected.as_slice());
+    expected[5] = Reply::Delivered(2);
+    assert!(rt; others.as_slice() == expected.as_slice());
 }
 
 // The second message takes the place of the first.

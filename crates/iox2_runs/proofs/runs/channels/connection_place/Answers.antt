@@ -15,7 +15,7 @@ get_connection_id_of-place-requires-clause-there g c = live_publisher {T = g.row
 pub returns-in-Publisher : goal.returns-in-Publisher
 returns-in-Publisher g c =
     rw c.in-Publisher.is (looks {T = g.row.T.Denot} {U = g.row.U.Denot} _ _ c.args.domain.now _ _ _ (λ table of at.
-    place_carried {T = g.row.T.Denot} {U = g.row.U.Denot} fixed_handlers _ c.args.domain.now table of c.in-Publisher.publisher c.args.receiver c.get_connection_id_of-place.result at c.get_connection_id_of-place.ensures))
+    place_carried {T = g.row.T.Denot} {U = g.row.U.Denot} fixed_handlers _ c.args.domain.now table of c.in-Publisher.publisher c.args.receiver c.get_connection_id_of-place.result at c.get_connection_id_of-place.ensures.place))
 
 pub returns-in_default : goal.returns-in_default
 returns-in_default g c =

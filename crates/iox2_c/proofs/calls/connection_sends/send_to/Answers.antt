@@ -5,7 +5,7 @@ use Rattle.iox2_pubsub.specs.declared.send_outcome.SendOutcome.{SendOutcome}
 use Rattle.iox2_c.specs.ConnectionSends.{SendsLoanTo}
 use Rattle.iox2_c.specs.Numbers.{wide}
 use Rattle.iox2_c.specs.Serving.{KeptBytes, Serving}
-use Rattle.iox2_c.proofs.calls.connection_sends.send_into.Goals as goal
+use Rattle.iox2_c.proofs.calls.connection_sends.send_to.Goals as goal
 
 pub returns : goal.returns
 returns c =
@@ -13,15 +13,15 @@ returns c =
       never = search rules;
       sent = λ unrefused. (
         sent,
-        c.tell_of.ensures.code_is,
-        c.tell_of.ensures.receivers,
+        c.tell_of-code.ensures.code_is,
+        c.tell_of-code.ensures.receivers,
         subst (λ (old : KeptBytes). SendsLoanTo old c.deliver_offset_to_connection-sent.new.domain (wide c.args.numbers.now.number) c.args.channel c.args.connection sent) (ap (λ (s : Serving). s.domain) c.service.view_is)
             (subst (λ n. SendsLoanTo c.service.inside.domain c.deliver_offset_to_connection-sent.new.domain n c.args.channel c.args.connection sent) c.in-Some.ensures.number c.deliver_offset_to_connection-sent.ensures.sent),
       );
       why = search rules;
       waits = search rules;
       spent = search rules;
-      same = c.tell_of.ensures.same;
+      same = c.tell_of-code.ensures.same;
       same_count = search rules;
       stays = search rules;
     }
