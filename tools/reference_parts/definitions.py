@@ -3,9 +3,8 @@
 import re
 from dataclasses import dataclass
 
-DEFINED = re.compile(
-    r"(?=abbrev|unfoldable|opaque|pub|record|data)(?:(?:abbrev|unfoldable|opaque)\s+)?(?:pub\s+)?(?:(?:record|data)\s+)?([^\s:({]+)"
-)
+# A word with its signature; what stands before it says how it is seen. Lists of a crate's files begin with `mod`.
+DEFINED = re.compile(r"(?:(?:abbrev|unfoldable|opaque|pub)\s+)*(?!mod |use |module )(?:(?:record|data)\s+)?([^\s:({]+)(?=\s[^=]*:)")
 
 
 @dataclass
@@ -42,10 +41,19 @@ def definitions(repository, crates):
     return found
 
 
+def without_modules(first, lines):
+    """A part of a file behind the heads of modules, and the number of its first line. A head ends in `where`; it may have several
+    lines, and a comment."""
+    at = next((at for at, line in enumerate(lines) if not line.lstrip().startswith("--")), len(lines))
+    if at == len(lines) or not lines[at].lstrip().startswith("module "):
+        return first, lines
+    end = next(end for end in range(at, len(lines)) if lines[end].endswith("where")) + 1
+    return without_modules(first + end, lines[end:])
+
+
 def note(found, name, first, lines):
     """Notes a part of a file that is a definition. One in a module stands further right."""
-    if lines[0].startswith("module "):
-        first, lines = first + 1, lines[1:]
+    first, lines = without_modules(first, lines)
     comments = [line.strip()[2:].strip() for line in lines if line.lstrip().startswith("--")]
     code = [line for line in lines if not line.lstrip().startswith("--")]
     match = DEFINED.match(code[0].strip()) if code else None

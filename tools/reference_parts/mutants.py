@@ -1,5 +1,5 @@
 # SPDX-License-Identifier: Apache-2.0 OR MIT
-"""Wrong bodies that the prover has to refuse, and faults that a test has to find, with the functions and clauses that they break."""
+"""Mutants, which the prover or a test has to kill, with the functions and clauses that they break."""
 import re
 from dataclasses import dataclass, field
 from pathlib import PurePosixPath

@@ -20,7 +20,7 @@ HEAD = """\
 
 - A clause is one of the functions' contracts, or a field of the record that such a clause names. A law has one clause, without a name. All are proved.
 - *Tests* counts the tests and programs that make one of these calls, and names the most direct ones.
-- *Mutants* counts wrong bodies of what the calls are made of. One kind the prover has to refuse: at a clause of the contract of the function that was changed, which stands behind it (where the function has several, and the goal isn't written down in `tools/refusing_goals.txt`, all of them). The other kind a test has to kill.
+- *Mutants* counts changed bodies of what the calls are made of. One kind the prover has to kill: at a clause of the contract of the function that was changed, which stands behind it (where the function has several, and the goal isn't written down in `tools/refusing_goals.txt`, all of them). The other kind a test has to kill.
 """
 
 
