@@ -51,11 +51,6 @@ inline pid_t started(const char *role, const std::string &name) {
   execl("/proc/self/exe", "test", role, name.c_str(), static_cast<char *>(nullptr));
   _exit(127);
 }
-inline int status_of(pid_t child) {
-  int status = 0;
-  CHECK(waitpid(child, &status, 0) == child);
-  return status;
-}
 inline void kill_it(pid_t child) {
   CHECK(kill(child, SIGKILL) == 0);
   CHECK(WIFSIGNALED(status_of(child)));
