@@ -152,7 +152,7 @@ public:
   /* How many handles a domain has. */
   class Count {
   public:
-    void add() { count_++; }
+    void count_one() { count_++; }
     bool is_last() { return --count_ == 0; }
 
   private:
@@ -294,7 +294,7 @@ public:
   Hold() = default;
   explicit Hold(Shared<M> *shared) : shared_(shared) {}
   Hold(const Hold &other) : shared_(other.shared_) {
-    if (shared_) shared_->holders.add();
+    if (shared_) shared_->holders.count_one();
   }
   Hold(Hold &&other) noexcept : shared_(std::exchange(other.shared_, nullptr)) {}
   Hold &operator=(Hold other) noexcept {
@@ -302,6 +302,12 @@ public:
     return *this;
   }
   ~Hold() { let_go(); }
+
+  /* One more, where there is a domain, as after a call of it. */
+  [[nodiscard]] Hold one_more() const {
+    shared_->holders.count_one();
+    return Hold(shared_);
+  }
 
   /* Is empty from now on. */
   void leave() {
@@ -324,8 +330,9 @@ public:
 
   /* Makes calls with no other between them, and returns the code of the last. No function of a user runs there. */
   template <typename Call> iox2ps_status_t call(Brings brings, Call &&make) const {
-    if (!shared_->process.is_here()) return after_fork;
-    return shared_->threads.call(brings, [&] { return make(&shared_->domain); });
+    Shared<M> *shared = shared_; /* which no call changes */
+    if (!shared->process.is_here()) return after_fork;
+    return shared->threads.call(brings, [&, shared] { return make(&shared->domain); });
   }
 
   /* The same of calls that bring nothing to anybody. */
@@ -1009,7 +1016,7 @@ private:
       return iox2ps_publisher_loan_uninit(domain, &port_, detail::bytes_of<Element>(len), &numbers, &bytes);
     });
     if (code != IOX2PS_OK) return detail::error_of(code);
-    Loan<P, M> loan(hold_, numbers); // gives the message back where a default constructor throws
+    Loan<P, M> loan(hold_.one_more(), numbers); // gives the message back where a default constructor throws
     loan.see(begin(static_cast<std::uint8_t *>(bytes)), len);
     return loan;
   }
@@ -1246,14 +1253,14 @@ private:
   }
 
   Result<std::optional<Sample<P, M>>> received(iox2ps_status_t code, const Got &got) const {
-    if (code == IOX2PS_OK) return std::optional<Sample<P, M>>(sample_of(got));
+    if (code == IOX2PS_OK) return Result<std::optional<Sample<P, M>>>(std::in_place, sample_of(got));
     if (code == IOX2PS_NO_SAMPLE) return std::optional<Sample<P, M>>();
     return detail::error_of(code);
   }
 
   Sample<P, M> sample_of(const Got &got) const {
     const Element *first = got.len == 0 ? nullptr : detail::at<Element>(got.bytes);
-    return Sample<P, M>(hold_, got.sample, first, got.len / sizeof(Element));
+    return Sample<P, M>(hold_.one_more(), got.sample, first, got.len / sizeof(Element));
   }
 
   /* A message's copy, as bytes of its type. */

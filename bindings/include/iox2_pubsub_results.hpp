@@ -195,6 +195,8 @@ public:
   /** a value, copied */
   template <typename U, std::enable_if_t<std::is_same_v<U, V> && !std::is_trivially_copyable_v<U>, int> = 0>
   Result(const U &value) : held_(std::in_place_index<0>, value) {}
+  /** a value, made where it is kept */
+  template <typename... Args> explicit Result(std::in_place_t, Args &&...args) : held_(std::in_place_index<0>, std::forward<Args>(args)...) {}
   Result(Error error) : held_(std::in_place_index<1>, error) {} /**< none */
 
   [[nodiscard]] bool has_value() const noexcept { return held_.index() == 0; }       /**< whether there is a value */

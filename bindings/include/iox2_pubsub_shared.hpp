@@ -368,7 +368,7 @@ public:
   /* How many handles a domain has. */
   class Count {
   public:
-    void add() { count_.fetch_add(1, std::memory_order_relaxed); }
+    void count_one() { count_.fetch_add(1, std::memory_order_relaxed); }
     bool is_last() { return count_.fetch_sub(1, std::memory_order_acq_rel) == 1; }
 
   private:

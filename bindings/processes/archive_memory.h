@@ -14,8 +14,11 @@ typedef struct archive_memory_t {
   bool may_make_slots;        /* the call makes a publisher or lends, as no other does that takes memory of the extents */
 } archive_memory_t;
 
+/* A variable of each thread whose offset is known as soon as it is loaded, so that no call of a message asks the loader. These 8 bytes
+ * find room in what glibc keeps for libraries that are opened later. */
+#define OF_THREAD _Thread_local __attribute__((tls_model("initial-exec")))
 /* What this thread takes memory of, and gives back what it took there; null is malloc's. */
-extern _Thread_local archive_memory_t *archive_memory_now;
+extern OF_THREAD archive_memory_t *archive_memory_now;
 static inline void archive_memory_use(archive_memory_t *it, bool may_make_slots) {
   it->may_make_slots = may_make_slots, it->last = (slot_blocks_t){0};
   archive_memory_now = it;

@@ -9,16 +9,16 @@ size_t call_list_size(uint32_t places, uint32_t length) {
 
 call_list_t call_list_at(void *memory, uint32_t places, uint32_t length) {
   char *order = (char *)memory + places * sizeof(call_announcement_t);
-  return (call_list_t){places, length, memory, (_Atomic uint64_t *)order, (call_entry_t *)(order + order_size(length))};
+  return (call_list_t){places, length, length - 1, 2 * length - 1, memory, (_Atomic uint64_t *)order, (call_entry_t *)(order + order_size(length))};
 }
 
 /* An end as an argument: the number twice and 1 for a death, and the place. */
 static uint64_t argument_of(call_end_t end) { return (end.number << 1 | end.is_death) << CALL_PLACE_BITS | end.place; }
 
-void call_list_announce_end(const call_list_t *list, const call_progress_t *progress, uint32_t place, call_end_t end) {
+void call_list_announce_end(const call_list_t *list, call_progress_t *progress, uint32_t place, call_end_t end) {
   uint64_t arguments[CALL_ARGUMENTS] = {argument_of(end)};
-  call_seat_t seat = call_seat_at(list, place);
-  call_list_write(list, &seat, progress->of[place].entries, arguments, progress->of[place].reply << 1 | CALL_IS_END);
+  call_seat_t seat = call_seat_at(list, progress, place);
+  call_list_write(list, &seat, seat.progress->entries, arguments, seat.progress->reply << 1 | CALL_IS_END);
 }
 
 bool call_list_is_announced(const call_list_t *list, const call_progress_t *progress, uint32_t place) {
@@ -68,9 +68,9 @@ call_step_t call_list_step(const call_list_t *list, call_progress_t *progress, c
   if (atomic_load_explicit(order, memory_order_relaxed) != name) return CALL_BEHIND;
   if (own >> 1 != progress->of[place].reply) return CALL_DIVERGED;
   if (is_other_than(announced, place, arguments, own)) return CALL_DAMAGED;
-  call_list_begin(progress, place);
+  call_list_begin(progress, &progress->of[place]);
   uint32_t ended = own & CALL_IS_END ? note_end(list, progress, arguments[0]) : CALL_PLACES;
-  if (!(own & CALL_IS_END)) call_list_replied(progress, place, apply(object, place, arguments));
+  if (!(own & CALL_IS_END)) call_list_replied(&progress->of[place], apply(object, place, arguments));
   else if (ended != CALL_PLACES) apply(object, ended, NULL);
   return CALL_MADE;
 }

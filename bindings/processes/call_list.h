@@ -48,20 +48,24 @@ typedef struct call_announcement_t {
 /* Where the list lies in the memory of this process. */
 typedef struct call_list_t {
   uint32_t places, length;
+  uint32_t last_call, last_entry; /* the last of `length` calls, and of a place's entries */
   call_announcement_t *announcements;
   _Atomic uint64_t *order;
   call_entry_t *entries;
 } call_list_t;
 
-/* What follows from the calls so far. Copies of the object hand it on. */
+/* What follows from the calls so far of one place. */
+typedef struct call_place_t {
+  uint64_t entries; /* that are in the list or skipped */
+  uint64_t reply;   /* what told apart the last one to this place */
+  uint64_t ended;   /* the last process of this place of which the list says that it ended */
+  uint64_t died;    /* the last of those that died */
+} call_place_t;
+
+/* Of all of them. Copies of the object hand it on. */
 typedef struct call_progress_t {
   uint64_t made; /* calls, and so the number of the next one */
-  struct {
-    uint64_t entries; /* of this place that are in the list or skipped */
-    uint64_t reply;   /* what told apart the last reply to this place */
-    uint64_t ended;   /* the last process of this place of which the list says that it ended */
-    uint64_t died;    /* the last of those that died */
-  } of[CALL_PLACES];
+  call_place_t of[CALL_PLACES];
 } call_progress_t;
 
 /* Makes a call on the object. Returns a number that tells replies apart. With null arguments the process of the place has ended:
@@ -96,7 +100,7 @@ call_list_t call_list_at(void *memory, uint32_t places, uint32_t length);
 /* Announces the end of a process, which has a number that is larger than those of the processes that had its place
  * before. The list may have several calls that say the same; the first counts, and gives back what the process had. So
  * whoever says it late takes nothing from the next process in the place. */
-void call_list_announce_end(const call_list_t *list, const call_progress_t *progress, uint32_t place, call_end_t end);
+void call_list_announce_end(const call_list_t *list, call_progress_t *progress, uint32_t place, call_end_t end);
 /* Whether the place has announced a call that isn't among those made. By whoever has the place now. */
 bool call_list_is_announced(const call_list_t *list, const call_progress_t *progress, uint32_t place);
 /* Whether there is a call behind so many. It needs no progress, so that it may be asked while a call is made. */
@@ -128,19 +132,22 @@ static inline int64_t call_distance(uint64_t name, uint64_t call) {
   return (int64_t)difference >> (64 - CALL_NUMBER_BITS);
 }
 
-static inline _Atomic uint64_t *call_order(const call_list_t *list, uint64_t call) { return &list->order[call & (list->length - 1)]; }
-static inline uint64_t call_index(const call_list_t *list, uint64_t entry) { return entry & (2 * list->length - 1); }
+static inline _Atomic uint64_t *call_order(const call_list_t *list, uint64_t call) { return &list->order[call & list->last_call]; }
+static inline uint64_t call_index(const call_list_t *list, uint64_t entry) { return entry & list->last_entry; }
 static inline call_entry_t *call_entry(const call_list_t *list, uint32_t place, uint64_t entry) {
   return &list->entries[place * 2 * (size_t)list->length + call_index(list, entry)];
 }
 
-/* What of the list is a place's. */
+/* What of the list is a place's, and what follows from its calls. */
 typedef struct call_seat_t {
   uint32_t place;
   call_announcement_t *announcement;
   call_entry_t *entries;
+  call_place_t *progress;
 } call_seat_t;
-static inline call_seat_t call_seat_at(const call_list_t *list, uint32_t place) { return (call_seat_t){place, &list->announcements[place], call_entry(list, place, 0)}; }
+static inline call_seat_t call_seat_at(const call_list_t *list, call_progress_t *progress, uint32_t place) {
+  return (call_seat_t){place, &list->announcements[place], call_entry(list, place, 0), &progress->of[place]};
+}
 
 /* Writes a call, and asks whoever adds calls to add it. It is in the list as soon as `entries` of the place is more than
  * before. One call of a place at a time. `count`: its entries that are in the list or skipped. `own`: the last word. */
@@ -181,7 +188,7 @@ ALWAYS_INLINE bool call_list_add(const call_list_t *list, const call_progress_t 
 }
 
 /* A call of the place is next and says no end: before it is made, and with its reply. */
-ALWAYS_INLINE void call_list_begin(call_progress_t *progress, uint32_t place) { progress->made++, progress->of[place].entries++; }
-ALWAYS_INLINE void call_list_replied(call_progress_t *progress, uint32_t place, uint64_t reply) { progress->of[place].reply = reply & (UINT64_MAX >> 1); }
+ALWAYS_INLINE void call_list_begin(call_progress_t *progress, call_place_t *of) { progress->made++, of->entries++; }
+ALWAYS_INLINE void call_list_replied(call_place_t *of, uint64_t reply) { of->reply = reply & (UINT64_MAX >> 1); }
 
 #endif

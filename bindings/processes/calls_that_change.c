@@ -70,7 +70,7 @@ APART iox2ps_status_t lend(shared_domain_t *shared, const iox2ps_publisher_t *pu
   bool may_be_live = words_of_publisher(publisher, shared->service_id, arguments + 1);
   arguments[1 + LENGTH_WORD] = len;
   if (!shared_domain_writes(shared)) return IOX2PS_OUT_OF_MEMORY;
-  iox2ps_status_t code = may_be_live ? shared_domain_message(shared, PUBLISHER_LOAN, arguments) : shared_domain_not_live(shared);
+  iox2ps_status_t code = may_be_live ? shared_domain_message(shared, PUBLISHER_LOAN, publisher, arguments) : shared_domain_not_live(shared);
   if (code != IOX2PS_OK) {
     shared_domain_wrote(shared);
     return code;
@@ -95,7 +95,7 @@ iox2ps_status_t iox2ps_publisher_loan(iox2ps_domain_t *domain, const iox2ps_publ
 APART iox2ps_status_t send(shared_domain_t *shared, const iox2ps_loan_t *loan, size_t *receivers, iox2ps_blocked_t *blocked) {
   uint64_t arguments[CALL_ARGUMENTS];
   if (!words_of_loan(loan, shared->service_id, arguments + 1)) return shared_domain_not_live(shared);
-  iox2ps_status_t code = shared_domain_message(shared, LOAN_SEND, arguments);
+  iox2ps_status_t code = shared_domain_message(shared, LOAN_SEND, loan, arguments);
   if (code != IOX2PS_OK || !live_handles_has(&shared->memory->handles, HANDLE_PUBLISHER, shared->group->member.replica.place)) shared_domain_wrote(shared);
   if (code == IOX2PS_OK) *receivers = shared_domain_reply(shared)->count;
   if (code == IOX2PS_BLOCKED) blocked_of_words(shared_domain_reply(shared)->handle, shared->service_id, blocked);
@@ -218,7 +218,7 @@ APART iox2ps_status_t receive(shared_domain_t *shared, const iox2ps_subscriber_t
   uint64_t arguments[CALL_ARGUMENTS];
   iox2ps_status_t code = look(shared, subscriber, arguments);
   if (code != IOX2PS_OK) return code;
-  code = shared_domain_message(shared, SUBSCRIBER_RECEIVE, arguments);
+  code = shared_domain_message(shared, SUBSCRIBER_RECEIVE, subscriber, arguments);
   if (code == IOX2PS_NO_SAMPLE) shared_domain_note_empty(shared, arguments + 1);
   if (code != IOX2PS_OK) return code;
   const domain_reply_t *reply = shared_domain_reply(shared);
@@ -250,7 +250,7 @@ iox2ps_status_t iox2ps_subscriber_receive_copy(iox2ps_domain_t *domain, const io
 APART iox2ps_status_t release(shared_domain_t *shared, const iox2ps_sample_t *sample) {
   uint64_t arguments[CALL_ARGUMENTS];
   if (!words_of_sample(sample, shared->service_id, arguments + 1)) return shared_domain_not_live(shared);
-  return shared_domain_message(shared, SAMPLE_RELEASE, arguments);
+  return shared_domain_message(shared, SAMPLE_RELEASE, sample, arguments);
 }
 
 iox2ps_status_t iox2ps_sample_release(iox2ps_domain_t *domain, const iox2ps_sample_t *sample) {

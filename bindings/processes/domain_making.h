@@ -10,7 +10,7 @@
 
 /* Refuses a call that was not made, and a loan that was. */
 uint64_t domain_memory_refuse(const domain_memory_t *it, iox2ps_status_t code, domain_reply_t *reply);
-uint64_t domain_memory_refuse_loan(domain_memory_t *it, domain_reply_t *loan);
+uint64_t domain_memory_refuse_loan(domain_memory_t *it, iox2ps_status_t code, domain_reply_t *loan);
 /* Makes room for what is to be known of a publisher. */
 bool domain_memory_reserve_book(domain_memory_t *it);
 
@@ -23,7 +23,8 @@ ALWAYS_INLINE void domain_memory_count_brought(domain_memory_t *it, const domain
 
 /* Where the archive keeps its promise, the bytes of each loan lie among the payloads. */
 ALWAYS_INLINE bool domain_memory_has_payload(const domain_memory_t *it, const domain_reply_t *reply) {
-  return reply->count == 0 || (payload_extents_have(&it->group->memory.payloads, reply->payload) && payload_extents_have(&it->group->memory.payloads, reply->payload + reply->count - 1));
+  const payload_extents_t *payloads = &it->group->memory.payloads;
+  return reply->count == 0 || (payload_extents_have(payloads, reply->payload) && reply->count <= payloads->room - payload_extents_offset(payloads, reply->payload));
 }
 
 /* What is to be known of a handle that is made. */
@@ -38,35 +39,58 @@ ALWAYS_INLINE bool domain_has_handle(const domain_traits_t *traits, iox2ps_statu
 }
 
 /* Which handles there are then. */
-ALWAYS_INLINE void domain_memory_note_handles(domain_memory_t *it, uint32_t place, const domain_traits_t *traits, const uint64_t *words, const domain_reply_t *made) {
-  if (traits->ends != HANDLE_KINDS && domain_has_ended(traits, made->code)) live_handles_remove(&it->handles, traits->ends, words);
-  if (domain_has_handle(traits, made->code)) live_handles_add(&it->handles, made->code == IOX2PS_OK ? traits->makes : HANDLE_BLOCKED, place, made->handle);
-  if (made->code == IOX2PS_OK && traits->makes == HANDLE_LOAN) book_owners_note(&it->owners, &it->handles, words, made->handle[BOOK_OF_LOAN]);
+ALWAYS_INLINE void domain_memory_note_handles(domain_memory_t *it, uint32_t place, const domain_traits_t *traits, iox2ps_status_t code, const uint64_t *words,
+                                              const domain_reply_t *reply) {
+  if (traits->ends != HANDLE_KINDS && domain_has_ended(traits, code)) live_handles_remove(&it->handles, traits->ends, words);
+  if (domain_has_handle(traits, code)) live_handles_add(&it->handles, code == IOX2PS_OK ? traits->makes : HANDLE_BLOCKED, place, reply->handle);
+  if (code == IOX2PS_OK && traits->makes == HANDLE_LOAN) book_owners_note(&it->owners, &it->handles, words, reply->handle[BOOK_OF_LOAN]);
 }
 
 /* What tells replies apart, as far as another domain could give them: where a payload lies is among that. */
-ALWAYS_INLINE uint64_t domain_mark(bool has_handle, const domain_reply_t *made) {
-  uint64_t mark = made->code + made->count * UINT64_C(0x9e3779b97f4a7c15) + (uintptr_t)made->payload;
+ALWAYS_INLINE uint64_t domain_mark(bool has_handle, iox2ps_status_t code, const domain_reply_t *reply) {
+  uint64_t mark = code + reply->count * UINT64_C(0x9e3779b97f4a7c15) + (uintptr_t)reply->payload;
   if (!has_handle) return mark ^ mark >> 32;
 #pragma GCC unroll 8
-  for (int i = 0; i < HANDLE_WORDS; i++) mark = (mark ^ made->handle[i]) * UINT64_C(0xff51afd7ed558ccd);
+  for (int i = 0; i < HANDLE_WORDS; i++) mark = (mark ^ reply->handle[i]) * UINT64_C(0xff51afd7ed558ccd);
   return mark ^ mark >> 32;
 }
 
-/* Returns what tells replies apart. */
-ALWAYS_INLINE uint64_t domain_memory_make_as(domain_memory_t *it, uint32_t place, uint64_t operation, const uint64_t *words, domain_reply_t *reply) {
-  const domain_traits_t *traits = domain_traits(operation);
-  if (!domain_memory_reserve(it, traits)) return domain_memory_refuse(it, IOX2PS_OUT_OF_MEMORY, reply);
-  archive_memory_use(&it->group->memory, traits->makes == HANDLE_PUBLISHER || traits->makes == HANDLE_LOAN);
-  domain_make(&it->domain, it->service_id, operation, words, reply);
-  if (traits->makes == HANDLE_LOAN && reply->code == IOX2PS_OK && !domain_memory_has_payload(it, reply)) return domain_memory_refuse_loan(it, reply);
-  if (operation == SUBSCRIBER_RECEIVE && (it->handles.blocked == 0 || !helped_places_need_room(it, words, reply))) reply->brought &= ~(uint32_t)IOX2PS_BRINGS_ROOM;
-  archive_memory_use_plain();
-  uint64_t mark = domain_mark(domain_has_handle(traits, reply->code), reply);
-  domain_memory_count_brought(it, traits, reply->brought);
-  reply->messages = it->brought[0];
-  domain_memory_note_handles(it, place, traits, words, reply);
+/* All that is to be noted of a call that was made. Returns what tells replies apart. */
+ALWAYS_INLINE uint64_t domain_memory_note(domain_memory_t *it, uint32_t place, const domain_traits_t *traits, domain_made_t made, const uint64_t *words,
+                                          domain_reply_t *reply) {
+  uint64_t mark = domain_mark(domain_has_handle(traits, made.code), made.code, reply);
+  domain_memory_count_brought(it, traits, made.brought);
+  reply->code = made.code, reply->brought = made.brought, reply->messages = it->brought[0];
+  domain_memory_note_handles(it, place, traits, made.code, words, reply);
   return mark;
+}
+/* Of one that was refused, so that what is known of IOX2PS_OK isn't asked. */
+uint64_t domain_memory_note_refused(domain_memory_t *it, uint32_t place, const domain_traits_t *traits, domain_made_t made, const uint64_t *words, domain_reply_t *reply);
+
+/* The same for a call that is to be made. `given`: as of domain_make_given. `made` has what its reply says, too. */
+ALWAYS_INLINE uint64_t domain_memory_make_given(domain_memory_t *it, uint32_t place, uint64_t operation, const void *given, const uint64_t *words,
+                                                domain_reply_t *reply, domain_made_t *made) {
+  const domain_traits_t *traits = domain_traits(operation);
+  *made = (domain_made_t){IOX2PS_OUT_OF_MEMORY, 0};
+  if (!domain_memory_reserve(it, traits)) return domain_memory_refuse(it, made->code, reply);
+  archive_memory_use(&it->group->memory, traits->makes == HANDLE_PUBLISHER || traits->makes == HANDLE_LOAN);
+  *made = domain_make_given(&it->domain, it->service_id, operation, given, words, reply);
+  if (traits->makes == HANDLE_LOAN && made->code == IOX2PS_OK && !domain_memory_has_payload(it, reply)) {
+    made->code = IOX2PS_LOAN_ERROR_INTERNAL_FAILURE;
+    return domain_memory_refuse_loan(it, made->code, reply);
+  }
+  if (operation == SUBSCRIBER_RECEIVE && (it->handles.blocked == 0 || !helped_places_need_room(it, words, reply))) made->brought &= ~(uint32_t)IOX2PS_BRINGS_ROOM;
+  archive_memory_use_plain();
+  if (made->code != IOX2PS_OK) return domain_memory_note_refused(it, place, traits, *made, words, reply);
+  return domain_memory_note(it, place, traits, (domain_made_t){IOX2PS_OK, made->brought}, words, reply);
+}
+
+/* The same by words alone. */
+ALWAYS_INLINE uint64_t domain_memory_make_as(domain_memory_t *it, uint32_t place, uint64_t operation, const uint64_t *words, domain_reply_t *reply) {
+  given_handle_t given;
+  domain_made_t made;
+  given_handle_of_words(operation, words, it->service_id, &given);
+  return domain_memory_make_given(it, place, operation, &given, words, reply, &made);
 }
 
 #endif

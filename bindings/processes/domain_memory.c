@@ -50,11 +50,15 @@ uint64_t domain_memory_refuse(const domain_memory_t *it, iox2ps_status_t code, d
   return code;
 }
 
-uint64_t domain_memory_refuse_loan(domain_memory_t *it, domain_reply_t *loan) {
+uint64_t domain_memory_refuse_loan(domain_memory_t *it, iox2ps_status_t code, domain_reply_t *loan) {
   domain_reply_t discarded;
   domain_make(&it->domain, it->service_id, LOAN_DISCARD, loan->handle, &discarded);
   archive_memory_use_plain();
-  return domain_memory_refuse(it, IOX2PS_LOAN_ERROR_INTERNAL_FAILURE, loan);
+  return domain_memory_refuse(it, code, loan);
+}
+
+uint64_t domain_memory_note_refused(domain_memory_t *it, uint32_t place, const domain_traits_t *traits, domain_made_t made, const uint64_t *words, domain_reply_t *reply) {
+  return domain_memory_note(it, place, traits, made, words, reply);
 }
 
 bool domain_memory_reserve_book(domain_memory_t *it) {
@@ -76,7 +80,7 @@ __attribute__((noinline)) static uint64_t make_other(domain_memory_t *it, uint32
 static uint64_t make_event(domain_memory_t *it, uint32_t place, uint64_t operation, const uint64_t *words, domain_reply_t *reply) {
   *reply = event_numbers_make(&it->events, &it->group->memory.heap, place, operation, words);
   for (int i = 0; i < DOMAIN_BRINGS; i++) it->brought[i] += reply->brought >> i & 1;
-  return domain_mark(true, reply);
+  return domain_mark(true, reply->code, reply);
 }
 
 /* A send of the publisher waits that another process made, which the dead one told of its publisher. */

@@ -217,7 +217,7 @@ static iox2ps_status_t check_asked(const asked_t *asked) {
 static void give(const asked_t *asked, shared_group_t *group, shared_domain_t *made[]) {
   const shared_files_t *files = &group->member.files;
   group->open = (uint32_t)asked->count;
-  group->seat = call_seat_at(&files->list, files->places.own);
+  group->seat = call_seat_at(&files->list, &group->memory->replica.progress, files->places.own);
   group->reply = &group->memory->replies[files->places.own];
   group->other_places = SLEEP_ALL_PLACES & ~(UINT64_C(1) << files->places.own);
   for (size_t i = 0; i < asked->count; i++) {

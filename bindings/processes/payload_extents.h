@@ -21,7 +21,8 @@ typedef struct payload_extents_t {
 } payload_extents_t;
 
 bool payload_extents_make(payload_extents_t *it, region_heap_t *heap, char *payloads, size_t room);
-static inline bool payload_extents_have(const payload_extents_t *it, const void *bytes) { return (size_t)((uintptr_t)bytes - (uintptr_t)it->payloads) < it->room; }
+static inline size_t payload_extents_offset(const payload_extents_t *it, const void *bytes) { return (size_t)((uintptr_t)bytes - (uintptr_t)it->payloads); }
+static inline bool payload_extents_have(const payload_extents_t *it, const void *bytes) { return payload_extents_offset(it, bytes) < it->room; }
 /* The first room for so many bytes, or null. */
 char *payload_extents_take(payload_extents_t *it, region_heap_t *heap, size_t size);
 /* How many bytes there are for what was taken here. */

@@ -79,10 +79,10 @@ replica_status_t replica_follow(replica_t *it, uint64_t most, bool is_idle) {
 }
 
 replica_status_t replica_call(replica_t *it, const uint64_t arguments[CALL_ARGUMENTS]) {
-  call_seat_t seat = call_seat_at(&it->list, it->place);
+  call_seat_t seat = call_seat_at(&it->list, &it->memory->progress, it->place);
   if (!replica_add(it, &seat, arguments)) return replica_add_announced(it, arguments);
-  call_list_begin(&it->memory->progress, it->place);
-  call_list_replied(&it->memory->progress, it->place, it->apply(it->memory + 1, it->place, arguments));
+  call_list_begin(&it->memory->progress, seat.progress);
+  call_list_replied(seat.progress, it->apply(it->memory + 1, it->place, arguments));
   return REPLICA_OK;
 }
 

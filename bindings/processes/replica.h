@@ -47,8 +47,8 @@ replica_status_t replica_add_announced(replica_t *it, const uint64_t *announced)
  * goes on. */
 ALWAYS_INLINE bool replica_add(replica_t *it, const call_seat_t *seat, const uint64_t arguments[CALL_ARGUMENTS]) {
   const call_progress_t *progress = &it->memory->progress;
-  uint64_t call = progress->made, count = progress->of[seat->place].entries;
-  call_list_write(&it->list, seat, count, arguments, progress->of[seat->place].reply << 1);
+  uint64_t call = progress->made, count = seat->progress->entries;
+  call_list_write(&it->list, seat, count, arguments, seat->progress->reply << 1);
   if (call >= it->copy_due) replica_copy_if_due(it);
   return call_list_try(&it->list, progress, seat->place, call, count);
 }

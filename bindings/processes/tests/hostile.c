@@ -121,7 +121,7 @@ static void name_nonsense(uint64_t place, uint64_t entry) {
 static void spoil_own_call(int word) {
   uint64_t arguments[CALL_ARGUMENTS] = {LEND}, entry = keeper.replica.memory->progress.of[keeper.replica.place].entries;
   call_list_t list = keeper.files.list;
-  call_seat_t seat = call_seat_at(&list, keeper.replica.place);
+  call_seat_t seat = call_seat_at(&list, &keeper.replica.memory->progress, keeper.replica.place);
   call_list_write(&list, &seat, entry, arguments, keeper.replica.memory->progress.of[keeper.replica.place].reply << 1);
   list.entries[keeper.replica.place * 2 * LENGTH + entry % (2 * LENGTH)].words[word] ^= 1;
   call_list_add(&list, &keeper.replica.memory->progress, keeper.replica.place);

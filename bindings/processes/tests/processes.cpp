@@ -52,6 +52,7 @@ void throws(const std::string &name) {
   auto subscriber = domain.subscriber().expect("a subscriber");
   auto listener = [] { throw 7; };
   CHECK(subscriber.set_listener(listener).has_value());
+  auto other = domain.subscriber().expect("a subscriber"); /* who sees it knows that there is a listener */
   pause();
 }
 
@@ -216,11 +217,9 @@ void listeners_that_throw_end_their_program() {
   auto domain = opened(name);
   auto publisher = domain.publisher().expect("a publisher");
   pid_t child = started("throws", name);
-  int status = 0;
-  while (waitpid(child, &status, WNOHANG) == 0) {
-    static_cast<void>(publisher.timed_send_copy({1, {}}, 1ms));
-    std::this_thread::sleep_for(1ms);
-  }
+  connect(domain, publisher, 2);
+  CHECK(publisher.send_copy({1, {}})->delivered() == 2u);
+  int status = status_of(child);
   CHECK(WIFEXITED(status) && WEXITSTATUS(status) == 42);
 }
 

@@ -5,6 +5,7 @@
 
 #include "children.h"
 #include "iox2_pubsub_processes.hpp"
+#include <algorithm>
 #include <chrono>
 #include <cstdio>
 #include <cstdlib>
@@ -50,22 +51,18 @@ inline pid_t started(const char *role, const std::string &name) {
   execl("/proc/self/exe", "test", role, name.c_str(), static_cast<char *>(nullptr));
   _exit(127);
 }
-inline int status_of(pid_t child) {
-  int status = 0;
-  CHECK(waitpid(child, &status, 0) == child);
-  return status;
-}
 inline void kill_it(pid_t child) {
   CHECK(kill(child, SIGKILL) == 0);
   CHECK(WIFSIGNALED(status_of(child)));
 }
 
+/* Looks ever less often, so that whoever looks on can tell that it waits for good. */
 template <typename IsSo> void until(IsSo is_so) {
-  while (!is_so()) std::this_thread::sleep_for(1ms);
+  for (auto pause = 1ms; !is_so(); pause = std::min(2 * pause, 200ms)) std::this_thread::sleep_for(pause);
 }
-/* Until another process has a subscriber. */
-template <typename D, typename P> void connect(const D &domain, P &publisher) {
-  until([&] { return publisher.update_connections().has_value() && domain.connection_count() == 1; });
+/* Until another process has so many subscribers. */
+template <typename D, typename P> void connect(const D &domain, P &publisher, std::size_t subscribers = 1) {
+  until([&] { return publisher.update_connections().has_value() && domain.connection_count() == subscribers; });
 }
 
 template <typename P> void send_all(P &publisher) {
