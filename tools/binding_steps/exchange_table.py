@@ -112,7 +112,7 @@ ALL = {
         Places("python/src/questions.c", r"\A.*\Z", r"warning->(?P<word>publisher|subscriber)\b"),
         Statements(DOMAIN_OF_PYTHON, r"\A.*\Z", r"^            \w+=.*,\n"),
         Statements(DOMAIN_OF_PYTHON, r"\A.*\Z", r"buffer_size=buffer_size, |\bdegradation=degradation(?=\))"),
-        Statements(DOMAIN_OF_PYTHON, r"\A.*\Z", r"\[record\] if record else \[\]", "[]"),
+        Statements(DOMAIN_OF_PYTHON, r"\A.*\Z", r"\[\] if record is None else \[_recorded\(record\)\]", "[]"),
     ),
     "dds_cpp": (
         Places("dds/include/iox2_pubsub_dds.hpp", r"settings_of\(.*?return plain;", r"plain\.(?P<word>topic|type_name) ="),

@@ -9,7 +9,7 @@ from . import python_build, python_costs, python_faults
 from .places import BINDINGS, OUT, is_here
 from .programs import ARCHIVE, SANITIZERS
 from .python_wheels import (
-    IGNORED, SOURCE, TESTED_BY, answers, build_wheel, built_twice, by_later_pythons, by_nothing_else, environment, include, interpreter, lacking,
+    IGNORED, NO_DATE, SOURCE, TESTED_BY, answers, build_wheel, built_twice, by_later_pythons, by_nothing_else, environment, include, interpreter, lacking,
     later_pythons, same_bytes
 )
 from .steps import Failed, said
@@ -17,13 +17,24 @@ from .targets import X86_64
 
 # Random calls: their seeds, and how many of each.
 SEEDS, CALLS = range(1, 5), 20_000
+# The page's line that builds a wheel here.
+BUILDS = re.compile(r"^    (pip wheel .* -w (\w+) \.)$", re.M)
+
+
+def built_by_the_page(work):
+    """A wheel that the page's line builds in a release's folder, where nothing names one."""
+    line, made = BUILDS.search((SOURCE / "README.md").read_text()).groups()
+    for name in ("include", "lib", "python"):
+        shutil.copytree(OUT / name, work / name, ignore=IGNORED)
+    places = {name: value for name, value in os.environ.items() if name != "IOX2_PUBSUB_DIR"}
+    said(interpreter(), "-m", *line.split(), cwd=work / "python", env={**places, "SOURCE_DATE_EPOCH": NO_DATE})
+    return next((work / "python" / made).glob("*.whl"))
 
 
 def same_wheel_twice(work):
     """A clone and a release give the same bytes, wherever they are built."""
     said_of = built_twice(work, X86_64)
-    (work / "of_a_release").mkdir()
-    same_bytes(next(work.glob("*.whl")), build_wheel(work / "of_a_release", source=OUT / "python"))
+    same_bytes(next(work.glob("*.whl")), built_by_the_page(work / "release"))
     return said_of
 
 
@@ -139,6 +150,8 @@ def run_page(steps, work, python):
     steps.run("python, the page's line of C++", page_compiles, work)
 
 
+# Tests that valgrind watches; a child of fork, too.
+GROUND = ("bad_input", "messages", "processes", "threads", "waits")
 # The interpreter's own memory is the C library's, so that each object is a block of its own.
 WATCHED = {"PYTHONMALLOC": "malloc", "PYTHONHASHSEED": "0"}
 
@@ -152,8 +165,8 @@ def sanitized(work, python, others):
 
 
 def ground(work, python, package, *words):
-    """A program of Python's under valgrind, which has to find nothing."""
-    grind = ("valgrind", "--quiet", "--error-exitcode=9", "--undef-value-errors=no", python)
+    """A program of Python's under valgrind, which has to find nothing. Its threads take turns, as those that wait for one another need."""
+    grind = ("valgrind", "--quiet", "--error-exitcode=9", "--undef-value-errors=no", "--fair-sched=yes", python)
     return said(*grind, *words, cwd=work, env={**os.environ, **WATCHED, "PYTHONPATH": str(package)}) or "nothing is found"
 
 
@@ -191,8 +204,8 @@ def run_checked(steps, work):
         return
     package = python_build.build(include(), work / "ground", "-g")
     steps.run("python, tests/without_numpy.py, valgrind", ground, work, python, package, SOURCE / "tests/without_numpy.py")
-    bad_input = ("-m", "pytest", "-q", "-p", "no:cacheprovider", SOURCE / "tests/test_bad_input.py", SOURCE / "tests/test_messages.py")
-    steps.run("python, bad input and messages, valgrind", ground, work, python, package, *bad_input)
+    for name in GROUND:
+        steps.run(f"python, tests/test_{name}.py, valgrind", ground, work, python, package, "-m", "pytest", "-q", "-p", "no:cacheprovider", SOURCE / f"tests/test_{name}.py")
     steps.run("python, leaks by valgrind", nothing_is_lost, work, python, package)
 
 

@@ -2,7 +2,8 @@
 """Domains."""
 from __future__ import annotations
 
-from numbers import Integral, Real
+from numbers import Real
+from operator import index
 from typing import Any, Callable
 
 from . import _core
@@ -14,8 +15,7 @@ from .settings import AllocationStrategy, BackpressureHandler, BackpressureStrat
 from .subscriber import Subscriber
 from .values import type_name_of, values_of
 
-
-MOST_BYTES = 2**63  # of a message, which no memory holds
+MOST = 2**63 - 1  # bytes, which no memory holds
 MOST_SECONDS = 4_000_000  # some 46 days
 ROOMS = ("book_room", "payload_room")
 OPTIONS = (*ROOMS, "max_processes", "calls", "permissions", "spins")  # of a domain that processes share
@@ -34,13 +34,28 @@ def _milliseconds(reap_every: float) -> int:
     return max(1, round(reap_every * 1000))
 
 
-def _commands(how: str, record: int) -> int:
+def _integer(what: str, number: Any, least: int, most: int) -> int:
+    """A number from the least to the most, by what it is for."""
+    try:
+        read = index(number)
+    except TypeError as error:
+        raise TypeError(f"{what} is an integer, not {number!r}") from error
+    if not least <= read <= most:
+        raise ValueError(f"{what} is a number from {least} to {most}, not {number!r}")
+    return read
+
+
+def _recorded(record: Any) -> tuple[int, int]:
+    if not (isinstance(record, (tuple, list)) and len(record) == 2):
+        raise TypeError(f"record is a pair: for how many commands there is room, and how many bytes of each message are kept, not {record!r}")
+    commands, kept = record
+    return _integer("the number of commands in record", commands, 0, MOST), _integer("the number of bytes in record", kept, 0, MOST)
+
+
+def _commands(how: str, record: Any) -> int:
     if how != "create":
         raise TypeError("record is for Domain.create: who opens a domain finds it recorded or not")
-    if not isinstance(record, Integral) or not 0 <= record < MOST_BYTES:
-        kind = ValueError if isinstance(record, Integral) else TypeError
-        raise kind(f"record is for how many commands of a domain with a name there is room, a number from 0 on, not {record!r}")
-    return int(record)
+    return _integer("record, for how many commands there is room,", record, 0, MOST)
 
 
 def _type_and_settings(
@@ -51,9 +66,8 @@ def _type_and_settings(
     values = values_of(dtype, is_single)
     if max_len is None and dtype is bytes:
         raise TypeError("max_len is missing: the greatest number of bytes of a message")
-    if max_len is not None and not 1 <= max_len < MOST_BYTES // values.size:
-        raise ValueError(f"max_len is the greatest number of values of a message, 1 at least and of less than 2**63 bytes, not {max_len}")
-    size, aligned = values.size * (max_len or 1), values.alignment if alignment is None else alignment
+    most = 1 if max_len is None else _integer("max_len, the greatest number of values of a message,", max_len, 1, MOST // values.size)
+    size, aligned = values.size * most, values.alignment if alignment is None else alignment
     return (values.size, is_single, values[2:]), _given(payload_size=size, payload_alignment=aligned, **settings)
 
 
@@ -92,8 +106,6 @@ class Domain(_core.Domain):
         backpressure_strategy: BackpressureStrategy | None = None,
         record: tuple[int, int] | None = None,
     ) -> Domain:
-        if record is not None and not (isinstance(record, (tuple, list)) and len(record) == 2):
-            raise TypeError(f"record is a pair: for how many commands there is room, and how many bytes of each message are kept, not {record!r}")
         type_of, settings = _type_and_settings(
             dtype,
             max_len,
@@ -111,7 +123,7 @@ class Domain(_core.Domain):
             enable_safe_overflow=enable_safe_overflow,
             backpressure_strategy=backpressure_strategy,
         )
-        return super().__new__(cls, *type_of, settings, *([record] if record else []))
+        return super().__new__(cls, *type_of, settings, *([] if record is None else [_recorded(record)]))
 
     @classmethod
     def open_or_create(cls, name: str, dtype: Any = bytes, max_len: int | None = None, **settings: Any) -> Domain:
@@ -246,9 +258,11 @@ class Domain(_core.Domain):
         >>> len(publisher.loan(1000))
         1000
         """
+        if initial_max_slice_len is not None:
+            initial_max_slice_len = self._unit * _integer("initial_max_slice_len", initial_max_slice_len, 0, MOST // self._unit)
         options = _given(
             max_loaned_samples=max_loaned_samples,
-            initial_max_slice_len=None if initial_max_slice_len is None else initial_max_slice_len * self._unit,
+            initial_max_slice_len=initial_max_slice_len,
             preallocated_samples=preallocated_samples,
             backpressure_strategy=backpressure_strategy,
             backpressure_handler=backpressure_handler,

@@ -5,6 +5,8 @@ from __future__ import annotations
 from hashlib import sha256
 from typing import Any, Callable, NamedTuple
 
+from .conversion import converted, is_raw
+
 
 class Values(NamedTuple):
     """Of one value the bytes and the alignment, and how arrays become bytes and bytes arrays."""
@@ -36,19 +38,10 @@ def values_of(dtype: Any, is_single: bool) -> Values:
     if not is_single and not inner:
         shape = None  # as numpy.frombuffer makes it
 
-    def converted(message: Any) -> Any:
-        """An array of the type. What numpy would change is refused: None to nan, 1.5 to 1, 300 to a byte, a text that is cut off."""
-        given = np.asarray(message)
-        if not isinstance(message, (np.ndarray, np.generic)) and (base.fields or base.kind in "mM" or given.size == 0):
-            return np.asarray(message, dtype=base, order="C")
-        counts = given.dtype.kind in "biu" and base.kind in "iu"
-        array = given.astype(base, order="C", casting="unsafe" if counts else "same_kind", copy=False)
-        if array is not given and base.kind in "iuSU" and not np.array_equal(array, given):
-            raise ValueError(f"{base} has no room for {message!r:.60}: make the domain of a wider type")
-        return array
-
     def encode(message: Any) -> Any:
-        array = converted(message)
+        if is_raw(message):
+            return message
+        array = converted(message, base)
         if array.shape != inner if is_single else array.shape[1:] != inner or array.ndim == 0:
             wanted = str(inner) if is_single else f"(n, {', '.join(map(str, inner))})"
             raise ValueError(f"a message of this domain has the shape {wanted}, not {array.shape}: reshape the array")

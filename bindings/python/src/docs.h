@@ -182,9 +182,9 @@
 
 #define DOC_PUBLISHER_SEND_COPY \
   SIGNED("send_copy($self, message, /, timeout=None)") \
-  "Sends a copy, of a buffer or of what numpy makes a message of the domain's dtype of; bytes are taken as they are. Returns how\n" \
-  "many subscribers took it. It waits for a slot and for room in full buffers as Loan.send does. What a loan and a send raise;\n" \
-  "ValueError where the message has another length or shape.\n" \
+  "Sends a copy of what numpy makes an array of the domain's dtype of, with the same values; of bytes, or of another message, as they\n" \
+  "are. Returns how many subscribers took it. It waits for a slot and for room in full buffers as Loan.send does. What a loan and a\n" \
+  "send raise; TypeError and ValueError where a value, the length or the shape isn't one of the domain's.\n" \
   "\n" PORTS \
   ">>> publisher.send_copy(b'abc'), bytes(subscriber.receive())\n" \
   "(1, b'abc')\n"

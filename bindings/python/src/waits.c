@@ -140,10 +140,13 @@ double until_of(double seconds) { return seconds == 0 ? 0 : seconds + now(); }
 
 int read_timeout(PyObject *object, void *seconds) {
   double read = object == Py_None ? (double)INFINITY : PyFloat_AsDouble(object);
-  if (PyErr_Occurred()) return 0;
+  if (PyErr_Occurred()) {
+    if (PyErr_ExceptionMatches(PyExc_TypeError)) PyErr_Format(PyExc_TypeError, "a timeout is a number of seconds, or None to wait for good, not %R", object);
+    return 0;
+  }
   *(double *)seconds = read;
   if (read >= 0) return 1;
-  PyErr_SetString(PyExc_ValueError, "a timeout is a number of seconds that isn't negative, or None to wait for good");
+  PyErr_Format(PyExc_ValueError, "a timeout is a number of seconds that isn't negative, or None to wait for good, not %R", object);
   return 0;
 }
 

@@ -58,6 +58,23 @@ def value(sample):
         return sample.array.item()
 
 
+def switches(thread):
+    """How often a thread began or ended to run."""
+    with open(f"/proc/self/task/{thread.native_id}/status", encoding="ascii") as lines:
+        return [line for line in lines if "ctxt_switches" in line]
+
+
+def is_idle(thread, seconds=2):
+    """Whether it didn't run for so long, as one that polls does. It may be on its way to sleep at first."""
+
+    def sleeps():
+        before = switches(thread)
+        time.sleep(seconds)
+        return switches(thread) == before
+
+    return any(sleeps() for _ in range(5))
+
+
 def wants_processes():
     """Passes a file of tests over where the package was built without the library for processes."""
     try:

@@ -1,6 +1,7 @@
 # SPDX-License-Identifier: Apache-2.0 OR MIT
 """Calls that can't be right: each is an exception whose text says what to do, and leaves everything as it was."""
 import gc
+from datetime import datetime, timedelta
 
 import numpy as np
 import pytest
@@ -67,9 +68,13 @@ def test_a_wrong_shape_is_refused(max_len, message):
 @pytest.mark.parametrize("message", [np.zeros(3), np.float64(1.5), "abc", {"a": 1}, [1, None], np.zeros(3, "O")])
 def test_a_wrong_type_is_refused(message):
     publisher, subscriber = pair("i4", 8)
-    with pytest.raises((TypeError, ValueError)):
+    with pytest.raises(TypeError, match="has no values of int32: make them of it"):
         publisher.send_copy(message)
     assert subscriber.receive() is None
+
+
+PAIR, NESTED = [("a", "u1"), ("b", "f4")], [("pose", [("x", "i4"), ("t", "M8[s]")]), ("v", "f4", (3,)), ("tag", "S2")]
+NOON = np.datetime64("2026-11-30T12:00:00")
 
 
 @pytest.mark.parametrize(
@@ -77,11 +82,15 @@ def test_a_wrong_type_is_refused(message):
     [
         ("f8", None), ("f8", "1.5"), ("f8", 1j), ("i4", 1.0), ("i4", 1 << 40), ("u1", 300), ("u1", -1), ("u8", -1), ("u8", 1 << 64),
         ("i1", np.int64(200)), ("u2", np.int32(-1)), ("i4", "7"), ("U3", "long"), ("S2", "long"), ("?", 2),
+        ("f4", 1e300), ("f4", np.float64(-1e300)), ("f2", 70_000), ("c8", 1e300j), ("M8[D]", NOON), ("M8[D]", "2026-11-30T12:00"),
+        ("M8[s]", datetime(2026, 11, 30, microsecond=1)), ("m8[s]", timedelta(milliseconds=1)), ("M8[s]", np.timedelta64(1, "s")),
+        (PAIR, (300, 1.5)), (PAIR, (1, 1e300)), (PAIR, (1.5, 1)), (PAIR, (None, 1)), (PAIR, (1, None)), (PAIR, np.array((300, 1), [("a", "i4"), ("b", "f4")])),
+        (NESTED, ((1, NOON), [1, 2, 3], b"long")), (NESTED, ((1, NOON + np.timedelta64(1, "ms")), [1, 2, 3], b"")), (NESTED, ((1 << 40, NOON), [1, 2, 3], b"")),
     ],
 )  # fmt: skip
 def test_what_would_become_another_value_is_refused(dtype, message):
     publisher, subscriber = pair(dtype)
-    with pytest.raises((TypeError, ValueError)):
+    with pytest.raises((TypeError, ValueError), match="has no room for .*: make the domain of a wider type|has no values of .*: make them of it"):
         publisher.send_copy(message)
     assert subscriber.receive() is None
 
@@ -89,13 +98,77 @@ def test_what_would_become_another_value_is_refused(dtype, message):
 @pytest.mark.parametrize(
     "dtype, message",
     [
+        (PAIR, 5), (PAIR, "ab"), (PAIR, {"a": 1, "b": 2}), (PAIR, None), (PAIR, np.int64(5)), (PAIR, np.array((1, 2), [("b", "u1"), ("a", "f4")])),
+        (PAIR, np.array((1, 2), [("a", "u1"), ("c", "f4")])), (PAIR, np.zeros((), "V5")), (NESTED, (5, [1, 2, 3], b"")),
+    ],
+)  # fmt: skip
+def test_what_has_no_such_fields_is_refused(dtype, message):
+    publisher, subscriber = pair(dtype)
+    with pytest.raises(TypeError, match="a struct of .* (is given as a tuple, or by an array|isn't made of .*: name its fields so)"):
+        publisher.send_copy(message)
+    publisher, _ = pair(dtype, 3)
+    with pytest.raises(TypeError, match="a struct of .* (is given as a tuple, or by an array|isn't made of .*: name its fields so)"):
+        publisher.send_copy([message, message])
+    assert subscriber.receive() is None
+
+
+@pytest.mark.parametrize("message", [(1,), (1, 2, 3, 4), ((1, NOON), [1, 2], b""), ((1, NOON), 1.5, b""), ((1, NOON), np.zeros((1, 3)), b"")])
+def test_a_struct_of_another_shape_is_refused(message):
+    publisher, subscriber = pair(NESTED)
+    with pytest.raises(ValueError, match="structure with 3 fields|v has the shape .*: reshape it"):
+        publisher.send_copy(message)
+    assert subscriber.receive() is None
+
+
+@pytest.mark.parametrize("layout", [{}, {"align": True}])
+def test_a_struct_is_sent_from_tuples_and_from_arrays_with_its_fields(layout):
+    message = ((1, NOON), [1, 2, 3], b"ab")
+    wanted = np.array([message, message], np.dtype(NESTED, **layout))
+    wider = wanted.astype([("pose", [("x", "i8"), ("t", "M8[us]")]), ("v", "f8", (3,)), ("tag", "S4")])
+    publisher, subscriber = pair(wanted.dtype, 4)
+    for given in ([message, message], wanted, wider, [wanted[0], message], list(wanted)):
+        assert publisher.send_copy(given) == 1 and str(subscriber.receive().array) == str(wanted)
+    publisher, subscriber = pair(wanted.dtype)
+    for given in (message, wanted[0], wider[1], wanted[:1].reshape(()), np.rec.array(wanted)[0]):
+        assert publisher.send_copy(given) == 1 and str(subscriber.receive().array) == str(wanted[0])
+
+
+@pytest.mark.parametrize("dtype", ["i4", "f8", PAIR, ("u1", (2, 4))])
+def test_bytes_are_sent_as_they_are_and_so_is_another_message(dtype):
+    publisher, subscriber = pair(dtype, 4)
+    size = np.dtype(dtype).itemsize
+    sent = bytes(range(1, 2 * size + 1))
+    for given in (sent, bytearray(sent), memoryview(sent)):
+        assert publisher.send_copy(given) == 1 and bytes(subscriber.receive()) == sent
+        with pytest.raises(ValueError, match="bytes are no message: one value of the domain has"):
+            publisher.send_copy(given[1:] if size > 1 else given * 3)
+    publisher.send_copy(sent)
+    loan, sample = publisher.loan(1), subscriber.receive()
+    memoryview(loan)[:] = sent[:size]
+    for given, wanted in ((sample, sent), (memoryview(sample), sent), (sample.array, sent), (loan, sent[:size])):
+        assert publisher.send_copy(given) == 1 and bytes(subscriber.receive()) == wanted
+
+
+@pytest.mark.parametrize(
+    "dtype, message",
+    [
         ("f8", 3), ("f4", 1.5), ("f8", True), ("i4", True), ("u1", 255), ("i1", -128), ("u8", (1 << 64) - 1), ("u2", np.int64(7)),
-        ("i4", np.uint8(7)), ("c16", 1.5), ("U3", "abc"), ("?", True), ("M8[s]", np.datetime64("2026-11-30T00:00:00")),
+        ("i4", np.uint8(7)), ("c16", 1.5), ("U3", "abc"), ("?", True), ("M8[s]", NOON), ("M8[s]", "2026-11-30"), ("M8[s]", datetime(2026, 11, 30)), ("M8[s]", 5),
+        ("m8[s]", timedelta(seconds=3)), ("f4", float("inf")), ("f2", 65_504), ("f4", np.float64(0.5)),
     ],
 )  # fmt: skip
 def test_what_keeps_its_value_is_sent(dtype, message):
     publisher, subscriber = pair(dtype)
-    assert publisher.send_copy(message) == 1 and subscriber.receive().array == message
+    assert publisher.send_copy(message) == 1 and subscriber.receive().array == np.asarray(message, dtype)
+
+
+@pytest.mark.parametrize("dtype", ["f4", "M8[s]"])
+def test_a_number_is_rounded_and_what_is_none_stays_so(dtype):
+    publisher, subscriber = pair(dtype, 2)
+    nothing = np.dtype(dtype).type("nan" if dtype == "f4" else "NaT")
+    publisher.send_copy([0.1, nothing] if dtype == "f4" else [NOON, nothing])
+    got = subscriber.receive().array
+    assert np.isnan(got).tolist() == [False, True] and got[0] == (np.float32(0.1) if dtype == "f4" else NOON)
 
 
 def test_a_list_of_nothing_is_an_empty_message():

@@ -1,15 +1,17 @@
 # SPDX-License-Identifier: Apache-2.0 OR MIT
-"""Domains that processes share by a name. None of the tests looks at a clock."""
+"""Domains that processes share by a name. None of the tests looks at a clock but the one that counts looks for the dead."""
 import asyncio
 import math
 import os
 import select
+import selectors
 import signal
+import time
 from pathlib import Path
 
 import numpy as np
 import pytest
-from helpers import PATIENCE, Beside, end, go_on, hear, until, value, waiting, wants_processes
+from helpers import PATIENCE, Beside, end, go_on, hear, is_idle, until, value, waiting, wants_processes
 
 import iox2_pubsub as ps
 from other_process import SETTINGS, opened
@@ -91,6 +93,50 @@ def test_tasks_wait_in_the_event_loop(name, start):
             assert value(await begun) == number
 
     asyncio.run(asyncio.wait_for(receive_all(), PATIENCE))
+
+
+def test_an_idle_loop_makes_no_call_of_the_system_between_looks_for_the_dead(name, start):
+    domain = opened(name, reap_every=3600)
+    listener = domain.listener()
+    process = start("notifies", name)
+    assert hear(process) == "is here"
+    loop = waiting(domain, lambda: asyncio.run(listener.wait_one_async()))
+    assert is_idle(loop)
+    go_on(process)
+    assert loop.result() == 1
+
+
+class Counted(selectors.DefaultSelector):
+    """Of a loop whose sleeps are counted."""
+
+    sleeps = 0
+
+    def select(self, timeout=None):
+        self.sleeps += timeout != 0
+        return super().select(timeout)
+
+
+def test_an_idle_loop_wakes_for_a_look_for_the_dead_once_for_all_its_tasks(name, start):
+    every = 0.05
+    domain = opened(name, reap_every=every)
+    subscriber, listener, dead = domain.subscriber(), domain.listener(), domain.dead_nodes()
+    assert hear(start("listens", name)) == "is here"
+    counted = Counted()
+    loop = asyncio.SelectorEventLoop(counted)
+
+    async def main():
+        await asyncio.gather(subscriber.receive_async(), subscriber.receive_async(), listener.wait_one_async(), dead.wait_one_async())
+
+    def stop():
+        time.sleep(1)
+        domain.stop_waits()
+
+    began, beside = time.monotonic(), Beside(stop)
+    loop.run_until_complete(main())
+    took = time.monotonic() - began
+    beside.result()
+    loop.close()
+    assert counted.sleeps <= took / every + 2  # the first, and the end
 
 
 def test_a_descriptor_is_readable_when_something_came(name, start):
@@ -356,8 +402,8 @@ def test_another_build_is_refused_with_both_sums(name, start):
     [
         *(({"reap_every": wrong}, ValueError, "reap_every is a number of seconds above 0") for wrong in (0, -1, math.nan, math.inf, 1e300)),
         ({"reap_every": "1"}, TypeError, "reap_every is a number of seconds, not '1'"),
-        *(({"record": wrong}, TypeError, "record is for how many commands") for wrong in ((1, 2), "1", 1.5)),
-        *(({"record": wrong}, ValueError, "record is for how many commands") for wrong in (-1, 1 << 63)),
+        *(({"record": wrong}, TypeError, "record, for how many commands there is room, is an integer") for wrong in ((1, 2), "1", 1.5)),
+        *(({"record": wrong}, ValueError, "record, for how many commands there is room, is a number from 0") for wrong in (-1, 1 << 63)),
         ({"type_name": 5}, TypeError, "type_name is a text, not 5"),
         *(({room: wrong}, ps.OpenInvalidArgument, "lower what is too large") for room in ("payload_room", "book_room") for wrong in (1 << 63, (1 << 64) - 1)),
         *(({room: 0}, ValueError, f"{room} is a number of bytes above 0") for room in ("payload_room", "book_room")),
@@ -365,8 +411,7 @@ def test_another_build_is_refused_with_both_sums(name, start):
         *(({"max_processes": wrong}, ps.OpenInvalidArgument, "places") for wrong in (0, 1 << 63)),
         *(({name: -1}, ValueError, f"{name} is a number from 0") for name in ("payload_room", "book_room", "calls", "max_processes", "permissions", "spins")),
         ({"permissions": 1 << 40}, ps.OpenInvalidArgument, "no such permissions"),
-        ({"max_len": 0}, ValueError, "1 at least"),
-        ({"max_len": 1 << 63}, ValueError, "max_len is the greatest number of values"),
+        *(({"max_len": wrong}, ValueError, "max_len, the greatest number of values of a message, is a number from 1") for wrong in (0, 1 << 63)),
     ],
 )
 def test_an_option_that_cant_be_is_refused_in_words(name, option, kind, words):

@@ -7,9 +7,9 @@ from pathlib import Path
 import pytest
 
 import iox2_pubsub as ps
-from iox2_pubsub import _core, domain, errors, listener, nodes, publisher, settings, subscriber, values, waits
+from iox2_pubsub import _core, conversion, domain, errors, listener, nodes, publisher, settings, subscriber, values, waits
 
-MODULES = [ps, domain, errors, listener, nodes, publisher, settings, subscriber, values, waits]
+MODULES = [ps, conversion, domain, errors, listener, nodes, publisher, settings, subscriber, values, waits]
 CLASSES = [_core.Domain, _core.Port, _core.Publisher, _core.Subscriber, _core.Listener, _core.DeadNodes, ps.Loan, ps.Notifier, ps.Sample, ps.Blocked]
 
 

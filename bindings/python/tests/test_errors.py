@@ -1,6 +1,8 @@
 # SPDX-License-Identifier: Apache-2.0 OR MIT
 """Exceptions: one for each code, which says what to do."""
 import pickle
+import re
+from pathlib import Path
 
 import pytest
 
@@ -8,6 +10,24 @@ import iox2_pubsub as ps
 from iox2_pubsub import _core
 
 CODED = [kind for kind in vars(ps).values() if isinstance(kind, type) and issubclass(kind, ps.Error) and kind.code]
+
+
+# The headers of a clone lie in two folders, and those of a release in the first.
+HEADERS = [header for folder in ("include", "processes") for header in (Path(__file__).parents[2] / folder).glob("iox2_pubsub*.h")]
+CODES = re.compile(r"^typedef enum iox2ps_(?:processes_)?status_e \{\n(.*?)^\}", re.M | re.S)
+CODE = re.compile(r"^  IOX2PS_(\w+) = (\d+)\b(?!,? +/\*\*< never returned)", re.M)
+# What isn't in the name of a class, in which an error's kind comes first.
+KIND = re.compile("_CREATE_ERROR|_ERROR|_FAILURE(?=_)|^NOTIFIER_")
+# What is an answer and no exception, or can't come of what this package asks.
+NO_ERRORS = {
+    "OK", "NO_SAMPLE", "HAS_DOMAIN", "TOO_SMALL", "NO_CONNECTION", "INVALID_STRUCT_SIZE", "INVALID_RESERVED", "PROCESSES_FORKED", "PROCESSES_TIMED_OUT"
+}  # fmt: skip
+
+
+def test_each_code_of_the_headers_has_its_exception():
+    codes = [one for header in HEADERS for enum in CODES.findall(header.read_text()) for one in CODE.findall(enum) if one[0] not in NO_ERRORS]
+    named = {"SendBlocked" if name == "BLOCKED" else KIND.sub("", name).title().replace("_", ""): int(code) for name, code in codes}
+    assert named == {kind.__name__: kind.code for kind in CODED if kind not in (ps.AfterFork, ps.OtherVersion)}
 
 
 @pytest.mark.parametrize("kind", CODED)

@@ -4,10 +4,9 @@ import asyncio
 import os
 import select
 import selectors
-import time
 
 import pytest
-from helpers import Beside, pair, value, waiting
+from helpers import Beside, is_idle, pair, value, waiting
 
 import iox2_pubsub as ps
 
@@ -98,28 +97,16 @@ def test_an_idle_loop_sleeps_once_for_a_message_without_a_poll():
     assert publisher.domain.waiting == 0
 
 
-def switches(thread):
-    """How often a thread began or ended to run."""
-    with open(f"/proc/self/task/{thread.native_id}/status", encoding="ascii") as lines:
-        return [line for line in lines if "ctxt_switches" in line]
-
-
 def test_an_idle_loop_makes_no_call_of_the_system():
-    """Its thread doesn't run: one that polls does so each time."""
     publisher, subscriber = pair()
 
     async def main():
         return value(await subscriber.receive_async())
 
-    def is_idle():
-        before = switches(reader)
-        time.sleep(0.2)
-        return switches(reader) == before
-
     others = set(os.listdir("/proc/self/task"))
     reader = waiting(publisher.domain, lambda: asyncio.run(main()))
     assert set(os.listdir("/proc/self/task")) - others == {str(reader.native_id)}, "a thread beside the loop's"
-    assert any(is_idle() for _ in range(20))
+    assert is_idle(reader)
     publisher.send_copy(5)
     assert reader.result() == 5
 

@@ -189,7 +189,7 @@ def test_an_id_that_no_event_has_is_refused(name, wrong, kind):
 def test_a_timeout_that_is_none_is_refused(name, timeout, kind):
     listener = opened(name).listener()
     for call in (listener.wait_one, listener.wait_all, lambda t: next(listener.follow(t))):
-        with pytest.raises(kind):
+        with pytest.raises(kind, match="a timeout is a number of seconds"):
             call(timeout)
 
 

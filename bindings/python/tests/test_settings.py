@@ -272,11 +272,12 @@ def test_lost_messages_of_closed_publishers_are_warned_of():
         ({"alignment": 3}, ps.InvalidPayloadAlignment, "1, 2, 4, 8 or 16"),
         ({"alignment": 32}, ps.InvalidPayloadAlignment, "1, 2, 4, 8 or 16"),
         ({"alignment": 16}, ps.InvalidPayloadSize, "max_len or alignment"),
-        ({"max_len": 0}, ValueError, "1 at least"),
-        ({"max_len": 1 << 63}, ValueError, "max_len is the greatest number of values"),
-        ({"max_len": 1.5}, TypeError, "payload_size is an integer"),
+        *(({"max_len": wrong}, ValueError, "max_len, the greatest number of values of a message, is a number from 1") for wrong in (0, -1, 1 << 60, 1 << 63)),
+        *(({"max_len": wrong}, TypeError, "max_len, .*, is an integer") for wrong in (1.5, "3")),
         ({"record": 5}, TypeError, "record is a pair"),
         ({"record": (1, 2, 3)}, TypeError, "record is a pair"),
+        *(({"record": wrong}, ValueError, "number of (commands|bytes) in record is a number from 0") for wrong in ((-1, 1), (1, -1), (1 << 63, 1), (1, 1 << 70))),
+        *(({"record": wrong}, TypeError, "number of (commands|bytes) in record is an integer") for wrong in (("1", 1), (1, 1.5))),
         ({"max_len": None, "dtype": bytes}, TypeError, "max_len is missing"),
         ({"record": (1 << 62, 1)}, ps.OutOfMemory, "no memory"),
     ],
@@ -296,13 +297,16 @@ def test_bad_settings_are_refused_in_words(settings, kind, words):
         ({"allocation_strategy": 1, "initial_max_slice_len": 0}, ps.InvalidInitialMaxSliceLen),
         ({"max_loaned_samples": -1}, ValueError),
         ({"max_loaned_samples": (1 << 64) - 1}, ps.PublisherCreateError),
-        ({"initial_max_slice_len": 1 << 61}, (ps.PublisherCreateError, ValueError)),
+        ({"initial_max_slice_len": 1 << 61}, ValueError),
+        ({"initial_max_slice_len": -1}, ValueError),
+        ({"initial_max_slice_len": "3"}, TypeError),
+        ({"initial_max_slice_len": 1.5}, TypeError),
         ({"other": 1}, TypeError),
     ],
 )
 def test_bad_options_of_a_publisher_are_refused(options, kind):
     domain = ps.Domain(7, "i8", 3)
-    with pytest.raises(kind):
+    with pytest.raises(kind, match="|".join((*options, "lower .* limits"))):
         domain.publisher(**options)
     assert domain.publisher().is_open
 
