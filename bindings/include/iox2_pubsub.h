@@ -17,7 +17,8 @@
  * twice, kept too long or made up. Domains whose handles are to be told apart need service_ids of their own.
  *
  * What a call does to the domain, which code it returns, and the numbers, lengths and copies that it writes
- * are proved. That payload pointers are right is tested, not proved: they lead to the bytes of their own message
+ * are proved. What is said of each subscriber after a send, a retry, a giving up or a receive is proved of the library's
+ * calls behind these (docs/CLAUSES.md). That payload pointers are right is tested, not proved: they lead to the bytes of their own message
  * and of no other, aligned as payload_alignment says, which stay there until the loan or the sample is consumed.
  * The same holds of pointers to texts.
  *
@@ -575,7 +576,9 @@ IOX2PS_NODISCARD iox2ps_status_t iox2ps_loan_send_counted(iox2ps_domain_t *domai
                                                           size_t *receivers, iox2ps_blocked_t *blocked);
 
 /** Sends a message, and says how many subscribers took it; receivers may be null. With IOX2PS_BLOCKED it waits for one
- * whose buffer is full, and blocked names the send. The loan is consumed with IOX2PS_OK, IOX2PS_BLOCKED and each
+ * whose buffer is full, and blocked names the send: each connected subscriber has taken the message, or is unchanged
+ * and still to be tried. With IOX2PS_SEND_ERROR_UNABLE_TO_DELIVER each that had room has taken it, and with any other
+ * IOX2PS_SEND_ERROR_... nobody has. The loan is consumed with IOX2PS_OK, IOX2PS_BLOCKED and each
  * IOX2PS_SEND_ERROR_..., and stays with IOX2PS_NOT_LIVE and IOX2PS_PUBLISHER_IS_BLOCKED. Where
  * a connection can't be made, the publisher's others are made all the same. */
 IOX2PS_NODISCARD static inline iox2ps_status_t iox2ps_loan_send(iox2ps_domain_t *domain, const iox2ps_loan_t *loan,
@@ -604,9 +607,10 @@ IOX2PS_NODISCARD iox2ps_status_t iox2ps_blocked_subscriber(iox2ps_domain_t *doma
 IOX2PS_NODISCARD iox2ps_status_t iox2ps_blocked_retry_counted(iox2ps_domain_t *domain, const iox2ps_blocked_t *blocked,
                                                               uint64_t elapsed, size_t *receivers);
 
-/** Tries the send again at the subscriber that it waits for, and goes on to the others. With IOX2PS_BLOCKED it waits
- * on, by the same numbers; with IOX2PS_OK and IOX2PS_SEND_ERROR_UNABLE_TO_DELIVER it has ended. receivers may be null.
- * IOX2PS_NOT_LIVE.
+/** Tries the send again at the subscriber that it waits for, and goes on to the others that remain. Whoever took the message
+ * isn't tried again. Where all that remain have room they take it, and the send ends. With IOX2PS_BLOCKED it waits on, by the
+ * same numbers, for one whose buffer was full; with IOX2PS_OK and IOX2PS_SEND_ERROR_UNABLE_TO_DELIVER it has ended. receivers
+ * may be null. IOX2PS_NOT_LIVE.
  *
  * elapsed is how many nanoseconds ago the send was first blocked there. A handler of full buffers is told it, so that it
  * may let a send go that waits too long. The handlers of this header always answer the same, so that here each number does
@@ -622,8 +626,8 @@ IOX2PS_NODISCARD static inline iox2ps_status_t iox2ps_blocked_retry(iox2ps_domai
 IOX2PS_NODISCARD iox2ps_status_t iox2ps_blocked_give_up_counted(iox2ps_domain_t *domain, const iox2ps_blocked_t *blocked,
                                                                 size_t *receivers);
 
-/** Gives up the subscriber that the send waits for, and goes on to the others. Returns as a retry does, and receivers may
- * be null. */
+/** Gives up the subscriber that the send waits for, which is left as it was and doesn't get the message, and goes on to the
+ * others that remain. Returns as a retry does, and receivers may be null. */
 IOX2PS_NODISCARD static inline iox2ps_status_t iox2ps_blocked_give_up(iox2ps_domain_t *domain,
                                                                       const iox2ps_blocked_t *blocked,
                                                                       size_t *receivers) {
@@ -659,7 +663,10 @@ IOX2PS_NODISCARD iox2ps_status_t iox2ps_subscriber_update_connections(iox2ps_dom
 
 /** Updates the subscriber's connections and receives a message, and says where its bytes lie. They may be
  * read there until the sample is released or the domain destroyed, whatever else is called in between, and
- * are never written. With IOX2PS_NO_SAMPLE and IOX2PS_RECEIVE_ERROR_... connections may have changed.
+ * are never written. With IOX2PS_NO_SAMPLE and IOX2PS_RECEIVE_ERROR_... connections may have changed, and what waits is as
+ * it was; only what a closed publisher left may be lost, where the subscriber has no room for it. A subscriber that holds
+ * fewer samples in all than subscriber_max_borrowed_samples gets no IOX2PS_RECEIVE_ERROR_EXCEEDS_MAX_BORROWS, and no
+ * IOX2PS_RECEIVE_ERROR_... at all, if no publisher was made or closed since its last update that succeeded.
  * IOX2PS_NOT_LIVE. Messages of one publisher come in the order in which they were sent. */
 IOX2PS_NODISCARD iox2ps_status_t iox2ps_subscriber_receive(iox2ps_domain_t *domain, const iox2ps_subscriber_t *subscriber,
                                                            iox2ps_sample_t *sample, const void **payload, size_t *len);
@@ -667,8 +674,8 @@ IOX2PS_NODISCARD iox2ps_status_t iox2ps_subscriber_receive(iox2ps_domain_t *doma
 /** Receives a message, copies it to bytes, and releases it: a receive, a copy and a release in one call, and
  * len is how many bytes were written. With IOX2PS_TOO_SMALL, which says that the message has more than room
  * bytes, nothing is lost: sample names the message, which is to be copied or read and released, len says how
- * long it is, and bytes are as they were. sample is changed with IOX2PS_TOO_SMALL alone. With IOX2PS_NO_SAMPLE and
- * IOX2PS_RECEIVE_ERROR_... connections may have changed. */
+ * long it is, and bytes are as they were. sample is changed with IOX2PS_TOO_SMALL alone. IOX2PS_NO_SAMPLE
+ * and IOX2PS_RECEIVE_ERROR_... leave what iox2ps_subscriber_receive() says. */
 IOX2PS_NODISCARD iox2ps_status_t iox2ps_subscriber_receive_copy(iox2ps_domain_t *domain,
                                                                 const iox2ps_subscriber_t *subscriber, void *bytes,
                                                                 size_t room, size_t *len, iox2ps_sample_t *sample);

@@ -484,7 +484,8 @@ public:
     return count_;
   }
 
-  /** The send that waits for a subscriber whose buffer is full. Where it isn't taken it is given up. */
+  /** The send that waits for a subscriber whose buffer is full. Where it isn't taken it is given up. Each connected subscriber has
+   * taken the message, or is unchanged and still to be tried. */
   std::optional<BlockedSend<P, M>> &blocked() { return blocked_; }
 
 private:
@@ -538,9 +539,9 @@ public:
     return detail::id_of(subscriber);
   }
 
-  /** Tries the subscriber again that it waits for, and goes on to the others: how many took the message, or none
-   * where it waits on. The time is since it was first blocked there, as iox2ps_blocked_retry() says; a negative one counts
-   * as 0. */
+  /** Tries the subscriber again that it waits for, and goes on to the others that remain: how many took the message, or none
+   * where it waits on. Whoever took it isn't tried again; where all that remain have room, the send ends. The time is since
+   * it was first blocked there, as iox2ps_blocked_retry() says; a negative one counts as 0. */
   Result<std::optional<std::size_t>> retry(std::chrono::nanoseconds elapsed = {}) {
     if (!hold_) return Error::NotLive;
     std::size_t count = 0;
@@ -564,7 +565,7 @@ public:
     return blocking_retry(detail::after(timeout));
   }
 
-  /** Gives up the subscriber that it waits for, and goes on to the others. Answers as retry. */
+  /** Gives up the subscriber that it waits for, which is left as it was, and goes on to the others that remain. Answers as retry. */
   Result<std::optional<std::size_t>> give_up() {
     if (!hold_) return Error::NotLive;
     std::size_t count = 0;
@@ -1071,7 +1072,8 @@ public:
   [[nodiscard]] SubscriberOptions options() const { return *this ? options_ : SubscriberOptions(); }
 
   /** The next message of some publisher, or none where none waits. Those of one publisher come in the order in
-   * which they were sent. */
+   * which they were sent. Where it gives none, or an error, what waits is as it was, as iox2ps_subscriber_receive() says it.
+   * Error::ReceiveExceedsMaxBorrows comes only to one that holds at least as many samples in all as it may of one publisher. */
   Result<std::optional<Sample<P, M>>> receive() {
     if (!hold_) return Error::NotLive;
     Got got;

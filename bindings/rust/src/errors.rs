@@ -526,7 +526,8 @@ impl From<LoanError> for SendError {
 #[derive(Clone, Copy, Debug, PartialEq, Eq, Hash)]
 pub enum ReceiveError {
     /// Messages wait, but of each publisher that they come from the subscriber has as many samples
-    /// as it may. A sample that is dropped helps.
+    /// as it may. A sample that is dropped helps. Never returned to one that holds fewer in all than it
+    /// may of one publisher.
     ExceedsMaxBorrows,
     /// The update of the connections before the receive failed.
     ConnectionFailure(ConnectionFailure),

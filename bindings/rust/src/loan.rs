@@ -198,8 +198,9 @@ impl<P: Payload + ?Sized, M: Threads> Loan<P, M> {
     ///
     /// # Errors
     ///
-    /// See [`SendError`]. The loan is consumed: with `PublisherIsBlocked` it was given back unsent, which
-    /// [`send_or_keep`](Loan::send_or_keep) doesn't.
+    /// See [`SendError`]. With `UnableToDeliver` each connected subscriber that had room has taken the message;
+    /// with `ConnectionError` and `ConnectionBrokenSinceSenderNoLongerExists` nobody has. The loan is consumed: with
+    /// `PublisherIsBlocked` it was given back unsent, which [`send_or_keep`](Loan::send_or_keep) doesn't.
     #[inline(always)]
     pub fn send(self) -> Result<SendOutcome<P, M>, SendError> {
         let (mut receivers, mut blocked) = (0, MaybeUninit::uninit());

@@ -34,7 +34,8 @@ use std::time::{Duration, Instant};
 pub enum SendOutcome<P: Payload + ?Sized, M: Threads = OneThread> {
     /// So many subscribers took it.
     Delivered(usize),
-    /// It waits for a subscriber whose buffer is full.
+    /// It waits for a subscriber whose buffer is full. Each connected subscriber has taken the message, or is
+    /// unchanged and still to be tried.
     Blocked(BlockedSend<P, M>),
 }
 
@@ -156,8 +157,9 @@ impl<P: Payload + ?Sized, M: Threads> BlockedSend<P, M> {
         UniqueSubscriberId::of(id)
     }
 
-    /// Tries the send again at the subscriber that it waits for, and goes on to the others. `elapsed`
-    /// is the time since it was first blocked there.
+    /// Tries the send again at the subscriber that it waits for, and goes on to the others that remain. Whoever took
+    /// the message isn't tried again; where all that remain have room, the send ends. `elapsed` is the time since it
+    /// was first blocked there.
     ///
     /// # Errors
     ///
@@ -170,7 +172,8 @@ impl<P: Payload + ?Sized, M: Threads> BlockedSend<P, M> {
         self.outcome(code, count)
     }
 
-    /// Gives up the subscriber that the send waits for, and goes on to the others.
+    /// Gives up the subscriber that the send waits for, which is left as it was and doesn't get the message, and goes
+    /// on to the others that remain.
     ///
     /// # Errors
     ///

@@ -58,11 +58,13 @@ impl<P: Payload + ?Sized, M: Threads> Subscriber<P, M> {
     }
 
     /// The next message of some publisher, or `None` where none waits. The messages of one publisher
-    /// come in the order in which they were sent.
+    /// come in the order in which they were sent. With `None` and an error what waits is as it was; only what a closed
+    /// publisher left may be lost, where the subscriber has no room for it.
     ///
     /// # Errors
     ///
-    /// See [`ReceiveError`].
+    /// See [`ReceiveError`]. `ConnectionFailure` and `ExceedsMaxBorrows` don't come while it holds fewer samples in all
+    /// than it may of one publisher, and no publisher was made or closed since its last update that succeeded.
     #[inline(always)]
     pub fn receive(&self) -> Result<Option<Sample<P, M>>, ReceiveError> {
         let mut got = MaybeUninit::uninit();
