@@ -4,3 +4,4 @@ pub mod VotesWait
 pub mod Moved
 pub mod Recordings
 pub mod QueueItems
+pub mod FullQueues

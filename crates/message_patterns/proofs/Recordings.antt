@@ -2,13 +2,13 @@
 use Rattle.std.proofs.Common.{◌≡◌, ℕ, ◌+◌, List, [], ◌∷◌, ◌++◌, sym, ap, subst, ◌∙◌, inl, ⊎_elim, Result, Ok, Err, Option, None, Some}
 use Rattle.std.specs.Prelude.{IfNone, IfSome, MatchResult}
 use Rattle.iox2_pubsub.specs.Domains.{Kept, Key}
-use Rattle.iox2_pubsub.specs.BlockedSends.{Resumes, StaysSince}
-use Rattle.iox2_pubsub.specs.Live.{A_blocked_send, HasItsBuffer, HasPassed, IsBlockedSend, IsConnected, IsConsistent, IsPending, IsServed, IsUnblocked, Stays, StaysBut, UpToDateStay, WaitsAsBefore, blocked_key, blocked_send, lender_key}
+use Rattle.iox2_pubsub.specs.BlockedSends.{Resumes}
+use Rattle.iox2_pubsub.specs.Live.{HasItsBuffer, HasPassed, IsBlockedSend, IsConnected, IsConsistent, IsPending, IsServed, UpToDateStay, WaitsAsBefore, blocked_key}
 use Rattle.iox2_pubsub.specs.Payloads.{singles}
 use Rattle.iox2_pubsub.specs.declared.blocked_send.BlockedSend.{BlockedSend}
 use Rattle.iox2_pubsub.specs.declared.send_outcome.SendOutcome.TheVariants.{Blocked, Delivered}
 use Rattle.iox2_pubsub.specs.declared.subscriber.Subscriber.{Subscriber}
-use Rattle.iox2_pubsub.proofs.ForCallers.{served_joins, stays_but_twice}
+use Rattle.iox2_pubsub.proofs.ForCallers.{served_joins}
 use Rattle.iox2_pubsub.proofs.SinceThen.{served_or_pending_since, served_since, served_still}
 use Rattle.message_patterns.specs.Recordings.{IsRecorded, IsUnderway}
 use Rattle.message_patterns.specs.Values.{TakesMore}

@@ -1,5 +1,5 @@
 -- Votes, and the middle one of three.
-use Rattle.std.specs.Prelude.{ℕ, List, [], ◌∷◌, ◌+◌, ◌≡◌, ◌≢◌, ◌≤◌, ◌⊎◌, cond, length, nat_le}
+use Rattle.std.specs.Prelude.{ℕ, List, [], ◌∷◌, ◌+◌, ◌≡◌, ◌≢◌, ◌≤◌, ◌⊎◌, cond, nat_le}
 use Rattle.iox2_pubsub.specs.Domains.{Kept}
 use Rattle.iox2_pubsub.specs.Shares.{AllFromEach, Share, share_of}
 use Rattle.iox2_pubsub.specs.declared.subscriber.Subscriber.{Subscriber}

@@ -2,8 +2,9 @@
 //! blocked send is given to the caller, who tries it again once there is room.
 ghost use Rattle.std.specs.Prelude.{ℕ, List, [], ◌∷◌, ◌++◌, ◌+◌, ◌<◌, ◌≤◌, ◌≡◌, length, IfNone, IfOk, IfSome, OnOk};
 ghost use Rattle.iox2_pubsub.specs.Handles.{blocked_sender, buffer_size_of, publisher_id};
-ghost use Rattle.iox2_pubsub.specs.Live.{A_blocked_send, HasItsBuffer, IsBlockedSend, IsConnected, IsLiveSubscriber, IsPending, IsReadyPublisher, IsSingleValued, IsUpToDate, StaysBut, UpToDateStay, blocked_key, lender_key, publisher_key};
-ghost use Rattle.iox2_pubsub.specs.RoomyPublishers.{HasRoomAlone};
+ghost use Rattle.iox2_pubsub.specs.Live.{A_blocked_send, HasItsBuffer, IsBlockedSend, IsConnected, IsLiveSubscriber, IsPending, IsReadyPublisher, IsSingleValued, IsSubscriberKey, IsUpToDate, StaysBut, UpToDateStay, blocked_key, lender_key, publisher_key, subscriber_key};
+ghost use Rattle.iox2_pubsub.specs.BorrowsLeft.{BorrowsLeftStay, HasBorrowsLeft};
+ghost use Rattle.iox2_pubsub.specs.RoomyPublishers.{HasRoomAlone, HasRoomAt};
 ghost use Rattle.iox2_pubsub.specs.declared.subscriber.Subscriber.{Subscriber as Port};
 ghost use Rattle.message_patterns.specs.Values.{TakesMore, Wait};
 
@@ -31,6 +32,7 @@ pub fn push_or_wait<F: BackpressureFn, G: DegradationFn>(
     ensures waits { (subscriber : Port) (earlier : List ℕ) → Wait domain.old (publisher_id publisher.now) subscriber earlier → IsConnected domain.old (publisher_id publisher.now) subscriber
         → IfOk result (λ waits. IfSome waits (λ it. Wait domain.new (publisher_id publisher.now) subscriber earlier × IsPending domain.new it subscriber (value ∷ []))) }
     ensures blocked { IfOk result (λ waits. IfSome waits (λ it. IsBlockedSend domain.new it × (lender_key (blocked_key it) ≡ publisher_key publisher.now))) }
+    ensures borrows { BorrowsLeftStay domain.old domain.new }
     ensures up_to_date { UpToDateStay domain.old domain.new }
     ensures stays { StaysBut (A_blocked_send (publisher_id publisher.now)) domain.old domain.new }
 {
@@ -56,6 +58,8 @@ pub fn push_again<F: BackpressureFn, G: DegradationFn>(
     ensures waits { (subscriber : Port) (value : ℕ) (earlier : List ℕ) → IsPending domain.old waiting subscriber (value ∷ []) → IsConnected domain.old (blocked_sender waiting) subscriber
         → Wait domain.old (blocked_sender waiting) subscriber earlier
         → IfOk result (λ waits. IfSome waits (λ it. Wait domain.new (blocked_sender waiting) subscriber earlier × IsPending domain.new it subscriber (value ∷ []))) }
+    ensures roomy { (subscriber : Port) (value : ℕ) → IsPending domain.old waiting subscriber (value ∷ []) → IsSubscriberKey domain.old (subscriber_key subscriber) → HasRoomAt domain.old (blocked_sender waiting) subscriber
+        → IfOk result (λ waits. IfSome waits (λ it. ⊥)) }
     ensures blocked { IfOk result (λ waits. IfSome waits (λ it. IsBlockedSend domain.new it × (blocked_key it ≡ blocked_key waiting))) }
     ensures up_to_date { UpToDateStay domain.old domain.new }
 {
@@ -66,8 +70,8 @@ pub fn push_again<F: BackpressureFn, G: DegradationFn>(
     }
 }
 
-/// Puts a value behind those that wait. If the subscriber is full, takes the first out for it, and returns
-/// that.
+/// Puts a value behind those that wait, all of this publisher. If the subscriber is full, takes the first
+/// out for it, and returns that.
 pub fn push_over(
     domain: &mut Numbers,
     publisher: &Publisher,
@@ -78,11 +82,15 @@ pub fn push_over(
     requires one { (domain.old.config).max_subscribers ≡ 1 }
     requires publisher { IsReadyPublisher domain.old publisher.now }
     requires subscriber { IsLiveSubscriber domain.old subscriber.now }
+    requires joined { IsConnected domain.old (publisher_id publisher.now) subscriber.now }
+    requires buffer { HasItsBuffer domain.old subscriber.now }
+    requires holds { 0 < buffer_size_of subscriber.now }
+    requires own { (earlier : List ℕ) × Wait domain.old (publisher_id publisher.now) subscriber.now earlier }
     requires up_to_date { IsUpToDate domain.old subscriber.now }
+    requires borrows { HasBorrowsLeft domain.old subscriber.now 1 }
     ensures taken { (earlier : List ℕ) → TakesMore domain.old (publisher_id publisher.now) subscriber.now earlier 1
         → IfOk result (λ out. IfNone out (Wait domain.new (publisher_id publisher.now) subscriber.now (earlier ++ value ∷ []))) }
-    ensures over { (earlier : List ℕ) → Wait domain.old (publisher_id publisher.now) subscriber.now earlier → IsConnected domain.old (publisher_id publisher.now) subscriber.now
-        → HasItsBuffer domain.old subscriber.now → length earlier ≤ buffer_size_of subscriber.now
+    ensures over { (earlier : List ℕ) → Wait domain.old (publisher_id publisher.now) subscriber.now earlier → length earlier ≤ buffer_size_of subscriber.now
         → IfOk result (λ out. IfSome out (λ first. (others : List ℕ) × (earlier ≡ first ∷ others) × Wait domain.new (publisher_id publisher.now) subscriber.now (others ++ value ∷ []))) }
 {
     let Some(waiting) = push_or_wait(domain, publisher, value)? else {
@@ -91,18 +99,9 @@ pub fn push_over(
     match read_one(domain, subscriber) {
         Ok(Some(first)) => match push_again(domain, waiting)? {
             None => Ok(Some(first)),
-            Some(again) => {
-                again.disown();
-                Err(Failure::Full)
-            }
+            Some(_) => unreachable!(),
         },
-        Ok(None) => {
-            waiting.disown();
-            Err(Failure::Full)
-        }
-        Err(error) => {
-            waiting.disown();
-            Err(error)
-        }
+        Ok(None) => unreachable!(),
+        Err(_) => unreachable!(),
     }
 }

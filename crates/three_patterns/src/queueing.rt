@@ -8,7 +8,7 @@ ghost use Rattle.three_patterns.specs.Ports.{AreJoined};
 
 use crate::failure::Failure;
 use crate::ports::{Pair, join, settings};
-use iox2_pubsub::{Domain, Publisher, Subscriber};
+use iox2_pubsub::{Publisher, Subscriber};
 use message_patterns::{Numbers, Queue, is_idle};
 use std::alloc::Global;
 

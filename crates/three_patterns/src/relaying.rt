@@ -4,7 +4,6 @@ ghost use Rattle.three_patterns.specs.Ports.{IsSetUp};
 
 use crate::failure::Failure;
 use crate::ports::{join, settings};
-use iox2_pubsub::Domain;
 use message_patterns::{Numbers, relay_if_idle};
 use std::alloc::Global;
 

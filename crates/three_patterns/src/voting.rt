@@ -7,7 +7,7 @@ ghost use Rattle.three_patterns.specs.Ports.{AreJoined, IsSetUp};
 
 use crate::failure::Failure;
 use crate::ports::{connected_publisher, join, settings};
-use iox2_pubsub::{Domain, Publisher, Subscriber};
+use iox2_pubsub::{Publisher, Subscriber};
 use message_patterns::{Numbers, vote};
 use std::alloc::Global;
 

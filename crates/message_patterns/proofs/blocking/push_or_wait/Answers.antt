@@ -1,4 +1,4 @@
-use Rattle.std.proofs.Common.{◌+◌, ◌++◌, ◌∷◌, [], ⊎_elim}
+use Rattle.std.proofs.Common.{⊎_elim}
 use Rattle.iox2_pubsub.specs.Handles.{publisher_id}
 use Rattle.iox2_pubsub.proofs.ForCallers.{all_from_as_before}
 use Rattle.iox2_pubsub.specs.Payloads.{singles}
@@ -21,4 +21,4 @@ returns-in-Ok-Blocked-clause-waits g c = λ reader earlier wait joined.
     (sent.pending reader joined)
 
 pub returns-in-Ok-Blocked-clause-roomy : goal.returns-in-Ok-Blocked-clause-roomy
-returns-in-Ok-Blocked-clause-roomy g c = λ reader room. (rw c.in-Ok-Blocked.field-0-is at c.in-Ok-Blocked.ensures).roomy_alone reader room
+returns-in-Ok-Blocked-clause-roomy g c = λ reader room. ((rw c.in-Ok-Blocked.field-0-is at c.in-Ok-Blocked.ensures).roomy_alone reader room).0

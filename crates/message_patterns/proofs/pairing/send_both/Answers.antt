@@ -5,7 +5,7 @@ use Rattle.iox2_pubsub.proofs.ForCallers.{no_shares}
 use Rattle.message_patterns.proofs.pairing.send_both.Goals as goal
 
 pub returns-clause-each : goal.returns-clause-each
-returns-clause-each g c =
+returns-clause-each c =
     let subscriber = c.args.subscriber.now in
     let left = publisher_id c.args.left.now in
     let one = c.in_ok-send_beside.ensures.begins subscriber [] (no_shares c.args.domain.now subscriber c.requires.drained) tt c.requires.connected.0 in

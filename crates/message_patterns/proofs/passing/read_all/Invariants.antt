@@ -4,7 +4,7 @@ use Rattle.message_patterns.specs.Values.{Wait}
 use Rattle.message_patterns.proofs.passing.read_all.Given as goal
 
 abbrev pub invariant-loop-value : goal.invariant-loop-value
-invariant-loop-value g l = record {
+invariant-loop-value l = record {
   stays : Stays l.fn.domain l.domain;
   up_to_date : UpToDateStay l.fn.domain l.domain;
   taken : KeepsAll l.fn.domain l.subscriber → (publisher : ℕ) (values : List ℕ) → Wait l.fn.domain publisher l.subscriber values
@@ -12,4 +12,4 @@ invariant-loop-value g l = record {
 }
 
 abbrev pub decreases-loop-value : goal.decreases-loop-value
-decreases-loop-value g l = waiting l.domain l.subscriber
+decreases-loop-value l = waiting l.domain l.subscriber

@@ -5,7 +5,7 @@ use Rattle.iox2_pubsub.proofs.ReceivedLaws.{received_first, received_oldest}
 use Rattle.message_patterns.proofs.passing.read_one.Goals as goal
 
 pub returns-clause-first : goal.returns-clause-first
-returns-clause-first g c = λ publisher values wait.
+returns-clause-first c = λ publisher values wait.
     let received = rw c.in-Ok-Some.field-0-is at c.in-Ok-Some.ensures in
     let got = received_first c.args.domain.now c.receive.new.domain c.args.subscriber.now c.in-Ok-Some.sample received.received publisher values wait in (
       got.1,
@@ -14,7 +14,7 @@ returns-clause-first g c = λ publisher values wait.
     )
 
 pub returns-clause-oldest : goal.returns-clause-oldest
-returns-clause-oldest g c = λ keeps.
+returns-clause-oldest c = λ keeps.
     let received = rw c.in-Ok-Some.field-0-is at c.in-Ok-Some.ensures in
     let sample = c.in-Ok-Some.sample in
     let value = c.payload-value.result.now in
@@ -27,9 +27,9 @@ returns-clause-oldest g c = λ keeps.
     )
 
 pub returns-clause-borrows : goal.returns-clause-borrows
-returns-clause-borrows g c = λ left.
+returns-clause-borrows c = λ left.
     let received = rw c.in-Ok-Some.field-0-is at c.in-Ok-Some.ensures in
     c.release.ensures.gives_back c.args.subscriber.now 0 (sym received.received.subscriber) (received.takes.own 0 left)
 
 pub returns-in-Err-clause-granted : goal.returns-in-Err-clause-granted
-returns-in-Err-clause-granted g c = λ updated left. c.in-Err.ensures.granted 0 updated left
+returns-in-Err-clause-granted c = λ updated left. c.in-Err.ensures.granted 0 updated left

@@ -6,7 +6,7 @@ use Rattle.message_patterns.proofs.Waits.{takes-all, takes-fewer, takes-taken}
 use Rattle.message_patterns.proofs.passing.send_all.Goals as goal
 
 pub loop-value-preserved : goal.loop-value-preserved
-loop-value-preserved g c = record {
+loop-value-preserved c = record {
   stays = search rules;
   up_to_date = search rules;
   sent = λ subscriber earlier more takes.
@@ -20,7 +20,7 @@ loop-value-preserved g c = record {
 }
 
 pub returns-clause-sent : goal.returns-clause-sent
-returns-clause-sent g c = λ subscriber earlier more takes.
+returns-clause-sent c = λ subscriber earlier more takes.
     let publisher = publisher_id c.args.publisher.now in
     let i = c.loop-value.value-index in
     let within : i ≤ length c.args.values.now = omega arith in
@@ -29,7 +29,7 @@ returns-clause-sent g c = λ subscriber earlier more takes.
     (c.loop-value.invariant.sent subscriber earlier more (takes-fewer c.args.domain.now publisher subscriber earlier (length c.args.values.now + more) (i + more) (omega arith) takes))
 
 pub returns-in_err-send_one-clause-granted : goal.returns-in_err-send_one-clause-granted
-returns-in_err-send_one-clause-granted g c = λ n can.
+returns-in_err-send_one-clause-granted c = λ n can.
     let i = c.loop-value.value-index in
     let low : i < length c.args.values.now = omega arith in
     let left : ℕ = length c.args.values.now - i - 1 in

@@ -6,7 +6,7 @@ use Rattle.message_patterns.specs.Values.{CanSend, TakesMore}
 use Rattle.message_patterns.proofs.passing.send_all.Given as goal
 
 abbrev pub invariant-loop-value : goal.invariant-loop-value
-invariant-loop-value g l = record {
+invariant-loop-value l = record {
   stays : Stays l.fn.domain l.domain;
   up_to_date : UpToDateStay l.fn.domain l.domain;
   sent : (subscriber : Subscriber) (earlier : List ℕ) (more : ℕ) → TakesMore l.fn.domain (publisher_id l.publisher) subscriber earlier (l.value-index + more)

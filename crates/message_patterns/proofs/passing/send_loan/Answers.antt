@@ -7,7 +7,7 @@ use Rattle.message_patterns.proofs.Waits.{room-for-one, takes-next, takes-stay}
 use Rattle.message_patterns.proofs.passing.send_loan.Goals as goal
 
 pub returns-clause-sent : goal.returns-clause-sent
-returns-clause-sent g c = λ publisher reader earlier more lent.
+returns-clause-sent c = λ publisher reader earlier more lent.
     let old = c.args.domain.now in
     let mid = c.write_payload.new.domain in
     let new = c.send.new.domain in

@@ -1,4 +1,4 @@
-use Rattle.std.proofs.Common.{◌≡◌, ℕ, None, Ok, [], ◌∷◌, sym, ap, subst}
+use Rattle.std.proofs.Common.{◌≡◌, ℕ, None, Ok, sym, ap, subst}
 use Rattle.std.proofs.lemmas.Result.{IfOk-weaker}
 use Rattle.iox2_pubsub.specs.Domains.{Key}
 use Rattle.iox2_pubsub.specs.Handles.{blocked_sender, publisher_id}

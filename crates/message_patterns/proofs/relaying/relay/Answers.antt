@@ -1,4 +1,4 @@
-use Rattle.std.proofs.Common.{refl, sym, arith, rules, ◌+◌, ◌-◌, ◌<◌, ◌≤◌, ◌≡◌, ℕ, suc}
+use Rattle.std.proofs.Common.{refl, sym, arith, rules, ◌+◌, ◌-◌, ◌<◌, ◌≤◌, ◌≡◌, ℕ}
 use Rattle.std.proofs.lemmas.Bool.{true≢false}
 use Rattle.iox2_pubsub.specs.Handles.{publisher_id}
 use Rattle.iox2_pubsub.proofs.ForCallers.{keeps_all_stays}
@@ -7,7 +7,7 @@ use Rattle.message_patterns.proofs.Waits.{takes-fewer}
 use Rattle.message_patterns.proofs.relaying.relay.Goals as goal
 
 pub loop-moved-preserved : goal.loop-moved-preserved
-loop-moved-preserved g c = record {
+loop-moved-preserved c = record {
   stays = search rules;
   up_to_date = search rules;
   moves = λ origin reader values earlier more keeps wait takes.
@@ -24,7 +24,7 @@ loop-moved-preserved g c = record {
 }
 
 pub returns-clause-moves : goal.returns-clause-moves
-returns-clause-moves g c = λ origin reader values earlier more keeps wait takes.
+returns-clause-moves c = λ origin reader values earlier more keeps wait takes.
     let publisher = publisher_id c.args.publisher.now in
     let moved = c.loop-moved.moved in
     let within : moved ≤ c.args.n = omega arith in
@@ -32,7 +32,7 @@ returns-clause-moves g c = λ origin reader values earlier more keeps wait takes
     (moved, within, c.loop-moved.invariant.moves origin reader values earlier more keeps wait (takes-fewer c.args.to.now publisher reader earlier (c.args.n + more) (moved + more) (omega arith) takes), all)
 
 pub returns-in_default-clause-moves : goal.returns-in_default-clause-moves
-returns-in_default-clause-moves g c = λ origin reader values earlier more keeps wait takes.
+returns-in_default-clause-moves c = λ origin reader values earlier more keeps wait takes.
     let publisher = publisher_id c.args.publisher.now in
     let moved = c.loop-moved.moved in
     let within : moved ≤ c.args.n = omega arith in
@@ -47,7 +47,7 @@ returns-in_default-clause-moves g c = λ origin reader values earlier more keeps
     )
 
 pub returns-in_err-_value-clause-moves : goal.returns-in_err-_value-clause-moves
-returns-in_err-_value-clause-moves g c = λ origin reader values earlier more keeps wait takes.
+returns-in_err-_value-clause-moves c = λ origin reader values earlier more keeps wait takes.
     let publisher = publisher_id c.args.publisher.now in
     let moved = c.loop-moved.moved in
     let within : moved ≤ c.args.n = omega arith in
@@ -61,7 +61,7 @@ returns-in_err-_value-clause-moves g c = λ origin reader values earlier more ke
     )
 
 pub returns-in_err-_value-clause-granted : goal.returns-in_err-_value-clause-granted
-returns-in_err-_value-clause-granted g c = λ updated borrows can.
+returns-in_err-_value-clause-granted c = λ updated borrows can.
     let now = c.loop-moved.invariant.up_to_date.0.subscribers c.args.subscriber.now updated in
     let left : ℕ = c.args.n - c.loop-moved.moved - 1 in
     let more : c.loop-moved.moved < c.args.n = c.loop-moved-test.true in

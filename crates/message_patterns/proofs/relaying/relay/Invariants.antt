@@ -1,4 +1,4 @@
-use Rattle.std.proofs.Common.{◌≡◌, ℕ, ◌+◌, ◌<◌, List}
+use Rattle.std.proofs.Common.{ℕ, ◌+◌, List}
 use Rattle.iox2_pubsub.specs.Handles.{publisher_id}
 use Rattle.iox2_pubsub.specs.Live.{IsUpToDate, KeepsAll, Stays, UpToDateStay}
 use Rattle.iox2_pubsub.specs.declared.subscriber.Subscriber.{Subscriber}
@@ -8,7 +8,7 @@ use Rattle.message_patterns.specs.Values.{CanSend, TakesMore, Wait}
 use Rattle.message_patterns.proofs.relaying.relay.Given as goal
 
 abbrev pub invariant-loop-moved : goal.invariant-loop-moved
-invariant-loop-moved g l = record {
+invariant-loop-moved l = record {
   stays : Stays l.fn.from l.from × Stays l.fn.to l.to;
   up_to_date : UpToDateStay l.fn.from l.from × UpToDateStay l.fn.to l.to;
   moves : (origin : ℕ) (reader : Subscriber) (values earlier : List ℕ) (more : ℕ) → KeepsAll l.fn.from l.subscriber → Wait l.fn.from origin l.subscriber values

@@ -1,4 +1,4 @@
-use Rattle.std.proofs.Common.{◌≡◌, ◌+◌, ◌∙◌, [], arith, sym, ⊎_elim, refl, length, ℕ, List, ◌++◌, ap}
+use Rattle.std.proofs.Common.{◌≡◌, ◌+◌, ◌∙◌, [], arith, sym, ⊎_elim, length, ℕ, List, ◌++◌, ap}
 use Rattle.iox2_pubsub.specs.Handles.{publisher_id}
 use Rattle.iox2_pubsub.proofs.ForCallers.{keeps_all_stays}
 use Rattle.message_patterns.proofs.Moved.{moved-all, moved-as-many}
@@ -6,7 +6,7 @@ use Rattle.message_patterns.proofs.Waits.{takes-fewer}
 use Rattle.message_patterns.proofs.relaying.relay_all.Goals as goal
 
 pub returns-clause-same : goal.returns-clause-same
-returns-clause-same g c =
+returns-clause-same c =
     let values = c.args.values.now in
     let sender = publisher_id c.args.sender.now in
     let publisher = publisher_id c.args.publisher.now in

@@ -14,8 +14,8 @@ returns-in-Ok-Blocked-clause-waits g c =
 pub returns-in-Ok-Blocked-clause-roomy : goal.returns-in-Ok-Blocked-clause-roomy
 returns-in-Ok-Blocked-clause-roomy g c = λ first second.
     let sent = rw c.in-Ok-Blocked.field-0-is at c.in-Ok-Blocked.ensures in
-    sent.roomy_at_all (c.args.first.now ∷ c.args.second.now ∷ []) (record {
+    (sent.roomy_at_all (c.args.first.now ∷ c.args.second.now ∷ []) (record {
       different = ((c.requires.apart, tt), (tt, tt));
       full = let two : c.args.domain.now.config.max_subscribers ≡ 2 = c.requires.two in omega (arith, two);
       each = (first, (second, tt));
-    })
+    })).0

@@ -5,7 +5,7 @@ use Rattle.message_patterns.specs.Votes.{shares_of, vote_of}
 use Rattle.message_patterns.proofs.voter.cast_all.Goals as goal
 
 pub returns-clause-cast : goal.returns-clause-cast
-returns-clause-cast g c = λ q drained with-first with-second with-third.
+returns-clause-cast c = λ q drained with-first with-second with-third.
     let apart = c.requires.apart in
     let first = vote_of (publisher_id c.args.first.now) c.args.readings.0 in
     let second = vote_of (publisher_id c.args.second.now) c.args.readings.1 in
