@@ -574,7 +574,8 @@ IOX2PS_NODISCARD iox2ps_status_t iox2ps_loan_send_counted(iox2ps_domain_t *domai
                                                           size_t *receivers, iox2ps_blocked_t *blocked);
 
 /** Sends a message, and says how many subscribers took it; receivers may be null. With IOX2PS_BLOCKED it waits for one
- * whose buffer is full, and blocked names the send. The loan is consumed with IOX2PS_OK, IOX2PS_BLOCKED and each
+ * whose buffer is full, and blocked names the send; any other with which the publisher was connected has been served by then, or
+ * nothing moved for it and the send comes to it yet. The loan is consumed with IOX2PS_OK, IOX2PS_BLOCKED and each
  * IOX2PS_SEND_ERROR_..., and stays with IOX2PS_NOT_LIVE and IOX2PS_PUBLISHER_IS_BLOCKED. Where
  * a connection can't be made, the publisher's others are made all the same. */
 IOX2PS_NODISCARD static inline iox2ps_status_t iox2ps_loan_send(iox2ps_domain_t *domain, const iox2ps_loan_t *loan,
@@ -621,8 +622,8 @@ IOX2PS_NODISCARD static inline iox2ps_status_t iox2ps_blocked_retry(iox2ps_domai
 IOX2PS_NODISCARD iox2ps_status_t iox2ps_blocked_give_up_counted(iox2ps_domain_t *domain, const iox2ps_blocked_t *blocked,
                                                                 size_t *receivers);
 
-/** Gives up the subscriber that the send waits for, and goes on to the others. Returns as a retry does, and receivers may
- * be null. */
+/** Gives up the subscriber that the send waits for, for which nothing moves, and goes on to the others. Returns as a retry
+ * does, and receivers may be null. */
 IOX2PS_NODISCARD static inline iox2ps_status_t iox2ps_blocked_give_up(iox2ps_domain_t *domain,
                                                                       const iox2ps_blocked_t *blocked,
                                                                       size_t *receivers) {
@@ -658,8 +659,9 @@ IOX2PS_NODISCARD iox2ps_status_t iox2ps_subscriber_update_connections(iox2ps_dom
 
 /** Updates the subscriber's connections and receives a message, and says where its bytes lie. They may be
  * read there until the sample is released or the domain destroyed, whatever else is called in between, and
- * are never written. With IOX2PS_NO_SAMPLE and IOX2PS_RECEIVE_ERROR_... connections may have changed.
- * IOX2PS_NOT_LIVE. Messages of one publisher come in the order in which they were sent. */
+ * are never written. With IOX2PS_NO_SAMPLE and IOX2PS_RECEIVE_ERROR_... connections may have changed, but nothing that waits
+ * moves, unless more publishers were closed than the subscriber keeps. IOX2PS_NOT_LIVE. Messages of one publisher come in
+ * the order in which they were sent. */
 IOX2PS_NODISCARD iox2ps_status_t iox2ps_subscriber_receive(iox2ps_domain_t *domain, const iox2ps_subscriber_t *subscriber,
                                                            iox2ps_sample_t *sample, const void **payload, size_t *len);
 

@@ -557,7 +557,7 @@ public:
     return blocking_retry(detail::after(timeout));
   }
 
-  /** Gives up the subscriber that it waits for, and goes on to the others. Answers as retry. */
+  /** Gives up the subscriber that it waits for, for which nothing moves, and goes on to the others. Answers as retry. */
   Result<std::optional<std::size_t>> give_up() {
     if (!hold_) return Error::NotLive;
     std::size_t count = 0;

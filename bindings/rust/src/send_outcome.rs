@@ -109,8 +109,9 @@ impl<P: Payload + ?Sized, M: Threads> fmt::Debug for SendOutcome<P, M> {
     }
 }
 
-/// A send that waits for a subscriber whose buffer is full. Its publisher lends and sends nothing until
-/// it has ended. When it is dropped it is given up at every full subscriber.
+/// A send that waits for a subscriber whose buffer is full. Each subscriber with which its publisher was
+/// connected has been served, or nothing moved for it and the send comes to it yet. The publisher lends
+/// and sends nothing until it has ended. When it is dropped it is given up at every full subscriber.
 #[must_use = "a send that is blocked is given up where it is dropped"]
 pub struct BlockedSend<P: Payload + ?Sized, M: Threads = OneThread> {
     hold: M::Hold,
@@ -170,7 +171,8 @@ impl<P: Payload + ?Sized, M: Threads> BlockedSend<P, M> {
         self.outcome(code, count)
     }
 
-    /// Gives up the subscriber that the send waits for, and goes on to the others.
+    /// Gives up the subscriber that the send waits for, for which nothing moves, and goes on to the
+    /// others.
     ///
     /// # Errors
     ///
