@@ -265,7 +265,7 @@ static void a_refused_send_writes_nothing(void) {
 typedef struct channels_t {
   iox2ps_domain_t domain;
   iox2ps_publisher_t publisher;
-  iox2ps_subscriber_t subscriber;
+  iox2ps_subscriber_t other, subscriber; /* at the places 0 and 1 */
 } channels_t;
 
 static void change_channels(channels_t *of) {
@@ -275,12 +275,12 @@ static void change_channels(channels_t *of) {
   IS(iox2ps_subscriber_set_channel_state(&of->domain, &of->subscriber, 3, 7, &answer), IOX2PS_OK);
   IS(iox2ps_subscriber_set_channel_state(&of->domain, &of->subscriber, 3, 8, &answer), IOX2PS_OK);
   IS(iox2ps_subscriber_set_disconnect_hint(&of->domain, &of->subscriber, 3, 7), IOX2PS_OK);
-  IS(iox2ps_publisher_has_disconnect_hint(&of->domain, &of->publisher, 3, 0, 7, &answer), IOX2PS_OK);
-  IS(iox2ps_publisher_close_channel(&of->domain, &of->publisher, 3, 0, 7), IOX2PS_OK);
+  IS(iox2ps_publisher_has_disconnect_hint(&of->domain, &of->publisher, 3, 1, 7, &answer), IOX2PS_OK);
+  IS(iox2ps_publisher_close_channel(&of->domain, &of->publisher, 3, 1, 7), IOX2PS_OK);
 }
 
-static const char changes[] = "\nupdate 1 = done\nshut 2 4 0 = skipped\nshut 2 3 0 = done\nopen 2 3 7 = all were closed\n"
-                              "open 2 3 8 = not all were closed\nhint 2 3 7 = done\nhinted 1 3 0 7 = true\nshut 1 3 0 7 = done\n";
+static const char changes[] = "\nupdate 1 = done\nshut 3 4 0 = skipped\nshut 3 3 0 = done\nopen 3 3 7 = all were closed\n"
+                              "open 3 3 8 = not all were closed\nhint 3 3 7 = done\nhinted 1 3 1 7 = true\nshut 1 3 1 7 = done\n";
 
 static void ask_about_channels(channels_t *of) {
   const iox2ps_wide_t nobody = {.low = UINT64_MAX, .high = UINT64_MAX};
@@ -288,14 +288,14 @@ static void ask_about_channels(channels_t *of) {
   uint32_t answer;
   IS(iox2ps_subscriber_at_least_one_channel_has_state(&of->domain, &of->subscriber, 2, 0, &answer), IOX2PS_OK);
   IS(iox2ps_subscriber_at_least_one_channel_has_state(&of->domain, &of->subscriber, 4, 0, &answer), IOX2PS_NO_SUCH_CHANNEL);
-  IS(iox2ps_publisher_has_channel_state(&of->domain, &of->publisher, 3, 0, 7, &answer), IOX2PS_OK);
-  IS(iox2ps_publisher_has_disconnect_hint(&of->domain, &of->publisher, 4, 0, 7, &answer), IOX2PS_NO_SUCH_CHANNEL);
+  IS(iox2ps_publisher_has_channel_state(&of->domain, &of->publisher, 3, 1, 7, &answer), IOX2PS_OK);
+  IS(iox2ps_publisher_has_disconnect_hint(&of->domain, &of->publisher, 4, 1, 7, &answer), IOX2PS_NO_SUCH_CHANNEL);
   IS(iox2ps_publisher_get_connection_id_of(&of->domain, &of->publisher, &of->subscriber.id, &place), IOX2PS_OK);
   IS(iox2ps_publisher_get_connection_id_of(&of->domain, &of->publisher, &nobody, &place), IOX2PS_NO_CONNECTION);
 }
 
-static const char questions[] = "\nshut 1 3 0 7 = done\nstate 2 2 0 = true\nstate 2 4 0 = skipped\nstate 1 3 0 7 = false\nhinted 1 4 0 7 = skipped\n"
-                                "connection 1 2 = place 0\nconnection 1 340282366920938463463374607431768211455 = no place\nslice 1 1 = loaned\n";
+static const char questions[] = "\nshut 1 3 1 7 = done\nstate 3 2 0 = true\nstate 3 4 0 = skipped\nstate 1 3 1 7 = false\nhinted 1 4 1 7 = skipped\n"
+                                "connection 1 3 = place 1\nconnection 1 340282366920938463463374607431768211455 = no place\nslice 1 1 = loaned\n";
 
 static void send_into_channels(channels_t *of) {
   iox2ps_loan_t loan;
@@ -304,13 +304,13 @@ static void send_into_channels(channels_t *of) {
   for (uint8_t i = 0; i < 2; i++) {
     IS(iox2ps_publisher_loan(&of->domain, &of->publisher, 1, &loan, &payload), IOX2PS_OK);
     *(uint8_t *)payload = (uint8_t)(9 + i);
-    IS(iox2ps_loan_deliver_offset_to_connection(&of->domain, &loan, 4, 0, NULL, &blocked), IOX2PS_NO_SUCH_CHANNEL);
-    IS(iox2ps_loan_deliver_offset_to_connection(&of->domain, &loan, 2, 0, NULL, &blocked), IOX2PS_OK);
+    IS(iox2ps_loan_deliver_offset_to_connection(&of->domain, &loan, 4, 1, NULL, &blocked), IOX2PS_NO_SUCH_CHANNEL);
+    IS(iox2ps_loan_deliver_offset_to_connection(&of->domain, &loan, 2, 1, NULL, &blocked), IOX2PS_OK);
   }
 }
 
-static const char sends[] = "\nslice 1 1 = loaned\ndeliver 17 4 0 = skipped\nwrite 17 9 = done\ndeliver 17 2 0 = delivered 1\n"
-                            "slice 1 1 = loaned\ndeliver 21 4 0 = skipped\nwrite 21 10 = done\ndeliver 21 2 0 = delivered 1\n";
+static const char sends[] = "\nslice 1 1 = loaned\ndeliver 18 4 1 = skipped\nwrite 18 9 = done\ndeliver 18 2 1 = delivered 1\n"
+                            "slice 1 1 = loaned\ndeliver 22 4 1 = skipped\nwrite 22 10 = done\ndeliver 22 2 1 = delivered 1\n";
 
 /* Reads the recording of all these calls, of which the last two name a publisher that is closed. */
 static void record_channels(size_t bytes) {
@@ -322,14 +322,15 @@ static void record_channels(size_t bytes) {
   config.number_of_channels = 4;
   IS(iox2ps_domain_create_recorded(&of.domain, &config, 50, bytes), IOX2PS_OK);
   IS(iox2ps_publisher_create(&of.domain, &of.publisher), IOX2PS_OK);
+  IS(iox2ps_subscriber_create(&of.domain, &of.other), IOX2PS_OK);
   IS(iox2ps_subscriber_create(&of.domain, &of.subscriber), IOX2PS_OK);
   IS(iox2ps_publisher_update_connections(&of.domain, &of.publisher), IOX2PS_OK);
   change_channels(&of);
   ask_about_channels(&of);
   send_into_channels(&of);
   IS(iox2ps_publisher_close(&of.domain, &of.publisher), IOX2PS_OK);
-  IS(iox2ps_publisher_close_channel(&of.domain, &of.publisher, 3, 0, 7), IOX2PS_NOT_LIVE);
-  IS(iox2ps_publisher_has_channel_state(&of.domain, &of.publisher, 3, 0, 7, &answer), IOX2PS_NOT_LIVE);
+  IS(iox2ps_publisher_close_channel(&of.domain, &of.publisher, 3, 1, 7), IOX2PS_NOT_LIVE);
+  IS(iox2ps_publisher_has_channel_state(&of.domain, &of.publisher, 3, 1, 7, &answer), IOX2PS_NOT_LIVE);
   read_recording(&of.domain, &missed);
   CHECK(missed == 0);
   IS(iox2ps_domain_destroy(&of.domain), IOX2PS_OK);
@@ -339,14 +340,14 @@ static void record_channels(size_t bytes) {
 static void calls_on_channels_are_recorded(void) {
   record_channels(1);
   CHECK(strstr(text, changes) != NULL && strstr(text, questions) != NULL && strstr(text, sends) != NULL);
-  CHECK(strstr(text, "\nclose 1 = done\nshut 0 3 0 7 = skipped\nstate 0 3 0 7 = skipped\nend ") != NULL);
+  CHECK(strstr(text, "\nclose 1 = done\nshut 0 3 1 7 = skipped\nstate 0 3 1 7 = skipped\nend ") != NULL);
 }
 
 /* What asks isn't recorded where no bytes are. */
 static void a_recording_of_no_bytes_has_changes_alone(void) {
   record_channels(0);
-  CHECK(strstr(text, "\nhint 2 3 7 = done\nshut 1 3 0 7 = done\nslice 1 1 = loaned\n") != NULL);
-  CHECK(strstr(text, "\nclose 1 = done\nshut 0 3 0 7 = skipped\nend ") != NULL);
+  CHECK(strstr(text, "\nhint 3 3 7 = done\nshut 1 3 1 7 = done\nslice 1 1 = loaned\n") != NULL);
+  CHECK(strstr(text, "\nclose 1 = done\nshut 0 3 1 7 = skipped\nend ") != NULL);
   CHECK(strstr(text, "\nstate ") == NULL && strstr(text, "\nhinted ") == NULL && strstr(text, "\nconnection ") == NULL);
 }
 

@@ -17,6 +17,7 @@ enum fault {
   THE_LAST_CALL_LACKS_ITS_END,
   ROOM_IS_FOR_FOURTEEN_COMMANDS,
   CHANNELS_ARE_LEFT_OUT,
+  PLACES_ARE_LEFT_OUT,
   QUESTIONS_ARE_LEFT_OUT,
   NOTHING_IS_KEPT
 };
@@ -44,6 +45,13 @@ static int has_channel(const char *line) {
   return 0;
 }
 
+/* Where a number of the line begins. */
+static size_t place_of_number(const char *line, int number) {
+  const char *at = line;
+  while (number-- > 0) at = strchr(at, ' ') + 1;
+  return (size_t)(at - line);
+}
+
 /* Adds the line of a command, of which so many stand before it, and is told whether one follows and whether it is the first read. Returns
  * how many lines it added. */
 static size_t add_command(const char *line, size_t len, size_t before, int is_last, int is_first_read) {
@@ -54,7 +62,8 @@ static size_t add_command(const char *line, size_t len, size_t before, int is_la
                    || FAULT == NOTHING_IS_KEPT;
   if (is_missing) return 0;
   add(line, len);
-  if (FAULT == CHANNELS_ARE_LEFT_OUT && has_channel(line)) strchr(strchr(made + made_len - len, ' ') + 1, ' ')[1] = '0';
+  if (FAULT == CHANNELS_ARE_LEFT_OUT && has_channel(line)) made[made_len - len + place_of_number(line, 2)] = '0';
+  if (FAULT == PLACES_ARE_LEFT_OUT && (begins(line, "deliver ") || begins(line, "hinted "))) made[made_len - len + place_of_number(line, 3)] = '0';
   if (FAULT == A_READ_HAS_ANOTHER_VALUE && is_first_read) made[made_len - 2] ^= 1;
   if (FAULT == A_READ_IS_THERE_TWICE && is_first_read) {
     add(line, len);

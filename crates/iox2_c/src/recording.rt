@@ -24,8 +24,8 @@ pub struct Room {
 
 impl Room {
     // Whether calls that only ask about a channel are kept: not where no bytes are. Processes that share a
-    // domain have the same recording, and each asks for itself (docs/DECISIONS.md, "A recording of no bytes has
-    // no questions").
+    // domain record none, since these lie elsewhere in each. So all have the same recording, though each asks
+    // for itself.
     fn keeps_questions(self) -> bool {
         self.bytes != 0
     }

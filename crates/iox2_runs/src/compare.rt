@@ -16,14 +16,14 @@ use std::alloc::Global;
 ///
 /// The second list may leave out some calls of other subscribers than one, which the first has: their
 /// receives, questions, updates and calls on channels, and what releases or reads their samples, with
-/// `Nothing` in place of each. Publishers may be told something else then, as how many took a message. Then that subscriber isn't felt to be slower or faster: if its own receives get
-/// the same replies in both runs, it sees the same after each number of commands in both, and reads
-/// of its samples get the same replies. This holds if no publisher that was made has memory that
-/// grows, each has as many slots as `worst_case_slots` says and never waits for a receiver, each other
-/// subscriber that is closed has released all its samples before, in both runs, and in neither
-/// run an allocation failed: no port was refused because of one, and `refused_connections` of both
-/// domains is 0. All this is said of types that each have one default value alone. For any types, both lists
-/// ran, as `run` says of its own.
+/// `Nothing` in place of each. Publishers may be told something else then, as how many took a message.
+/// But that subscriber isn't felt to be slower or faster: if its own receives get the same replies in
+/// both runs, it sees the same after each number of commands in both, and reads of its samples get the
+/// same replies. This holds if no publisher that was made has memory that grows, each has as many slots
+/// as `worst_case_slots` says and never waits for a receiver, each other subscriber that is closed has
+/// released all its samples before, in both runs, and in neither run an allocation failed: no port was
+/// refused because of one, and `refused_connections` of both domains is 0. All this is said of types
+/// that each have one default value alone. For any types, both lists ran, as `run` says of its own.
 ///
 /// `None` if a domain, or the replies of a run, can't be allocated, or if `run` would hand each
 /// list back on such a domain (`lacks_cells`), which is never so where messages are single values.
