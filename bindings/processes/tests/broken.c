@@ -160,18 +160,6 @@ static void damaged(void) {
   all_say(&it, IOX2PS_PROCESSES_DAMAGED);
 }
 
-static pid_t run_child(void (*runs)(void)) {
-  pid_t child = fork_child();
-  CHECK(child >= 0);
-  if (child > 0) return child;
-  runs();
-  _exit(0);
-}
-static int status_of(pid_t child) {
-  int status;
-  CHECK(waitpid(child, &status, 0) == child);
-  return status;
-}
 
 /* As if its last call had replied otherwise than in each other process. Its next call says so. */
 static void replies_otherwise(void) {
@@ -183,7 +171,7 @@ static void replies_otherwise(void) {
 
 static void diverged(void) {
   had_t it = has_all();
-  CHECK(WIFSIGNALED(status_of(run_child(replies_otherwise))));
+  CHECK(WIFSIGNALED(status_of(child_that(replies_otherwise))));
   all_say(&it, IOX2PS_PROCESSES_DIVERGED);
 }
 
@@ -197,7 +185,7 @@ static void breaks_itself(void) {
 static void others_go_on(void) {
   had_t it = has_all();
   size_t books, cleanups;
-  CHECK(status_of(run_child(breaks_itself)) == 0 && iox2ps_domain_book_count(&it.domain, &books) == IOX2PS_OK && books == 2);
+  CHECK(status_of(child_that(breaks_itself)) == 0 && iox2ps_domain_book_count(&it.domain, &books) == IOX2PS_OK && books == 2);
   CHECK(iox2ps_domain_cleanup_dead_nodes(&it.domain, &cleanups) == IOX2PS_OK && cleanups == 1);
   CHECK(iox2ps_domain_book_count(&it.domain, &books) == IOX2PS_OK && books == 1 && iox2ps_domain_destroy(&it.domain) == IOX2PS_OK);
 }
@@ -218,7 +206,7 @@ static void counts(void) {
   iox2ps_domain_t domain = opened(), ordinary = IOX2PS_DOMAIN_INIT;
   uint64_t before[DOMAIN_BRINGS], each[DOMAIN_BRINGS], count, calls = iox2ps_domain_calls(&domain);
   CHECK(iox2ps_domain_brought_each(&domain, before) == IOX2PS_OK && iox2ps_domain_has_more_calls(&domain, calls) == 0);
-  CHECK(status_of(run_child(send_some)) == 0 && iox2ps_domain_calls(&domain) == calls && iox2ps_domain_has_more_calls(&domain, calls) == 1);
+  CHECK(status_of(child_that(send_some)) == 0 && iox2ps_domain_calls(&domain) == calls && iox2ps_domain_has_more_calls(&domain, calls) == 1);
   CHECK(iox2ps_domain_brought_each(&domain, each) == IOX2PS_OK && each[0] >= before[0] + MESSAGES);
   for (uint32_t brings = 1; brings < 1u << DOMAIN_BRINGS; brings++) {
     uint64_t sum = 0;

@@ -32,11 +32,6 @@ static pid_t child_with_mailbox(const char *name, member_t *it) {
   return 0;
 }
 
-static int status_of(pid_t child) {
-  int status;
-  CHECK(waitpid(child, &status, 0) == child);
-  return status;
-}
 
 /* Publishers die one after the other with slots, in a mailbox that is full each time and whose keeper does nothing. */
 static void a_place_for_the_next(const char *name) {

@@ -2,8 +2,8 @@
 #define _GNU_SOURCE
 /* Event loops: the descriptor of a domain is readable when another process has brought something, and when one may have died. Where it
  * isn't said otherwise nobody looks by itself for an hour, so that only a wake-up can be what the loop waits for. */
-#include "check_domains.h"
 #include "children.h"
+#include "numbers.h"
 #include "shared_domain.h"
 #include <glob.h>
 #include <poll.h>
@@ -11,21 +11,12 @@
 #include <sys/epoll.h>
 #include <sys/wait.h>
 
-enum { MESSAGES = 300, HOUR_MS = 3600000, SHORT_MS = 20 };
-#define SECOND UINT64_C(1000000000)
+enum { MESSAGES = 300, SHORT_MS = 20 };
 
 static char name[64];
 static iox2ps_config_t config;
 
-static iox2ps_domain_t opened(uint32_t reap_every_ms) {
-  iox2ps_domain_t domain = IOX2PS_DOMAIN_INIT;
-  iox2ps_processes_options_t options;
-  iox2ps_processes_options_of(&config, &options);
-  options.reap_every_ms = reap_every_ms, options.spins = 10;
-  CHECK(iox2ps_domain_open_or_create(&domain, name, "number", &config, &options) == IOX2PS_OK);
-  return domain;
-}
-static void destroy(iox2ps_domain_t *domain) { CHECK(iox2ps_domain_destroy(domain) == IOX2PS_OK); }
+static iox2ps_domain_t opened(uint32_t reap_every_ms) { return open_numbers(name, &config, looking_every(&config, reap_every_ms)); }
 
 static int descriptor_of(iox2ps_domain_t *domain, uint32_t brings) {
   int fd = -1;
@@ -43,19 +34,6 @@ static bool receive(iox2ps_domain_t *domain, const iox2ps_subscriber_t *subscrib
   return code == IOX2PS_OK;
 }
 
-/* A child that opens the domain for itself. */
-static pid_t run_child(void (*runs)(void)) {
-  pid_t child = fork_child();
-  CHECK(child >= 0);
-  if (child > 0) return child;
-  runs();
-  _exit(0);
-}
-static int status_of(pid_t child) {
-  int status;
-  CHECK(waitpid(child, &status, 0) == child);
-  return status;
-}
 
 /* Sends all numbers in order, in an event loop that waits for room. */
 static void send_numbers(void) {
@@ -83,7 +61,7 @@ static void by_event_loops(void) {
   int loop = epoll_create1(EPOLL_CLOEXEC), fd = descriptor_of(&domain, IOX2PS_BRINGS_MESSAGE);
   uint64_t number = 0, expected = 1;
   CHECK(iox2ps_subscriber_create(&domain, &subscriber) == IOX2PS_OK && epoll_ctl(loop, EPOLL_CTL_ADD, fd, &event) == 0);
-  pid_t child = run_child(send_numbers);
+  pid_t child = child_that(send_numbers);
   while (expected <= MESSAGES) {
     if (expected % 70 == 0) usleep(20000); /* so that the other one waits */
     clear(&domain);
@@ -113,9 +91,9 @@ static void readable_until_cleared(void) {
   CHECK(descriptor_of(&domain, IOX2PS_BRINGS_MESSAGE) == fd && !is_readable(fd) && iox2ps_subscriber_create(&domain, &subscriber) == IOX2PS_OK);
   CHECK(iox2ps_domain_brought(&domain, IOX2PS_BRINGS_MESSAGE, &seen) == IOX2PS_OK);
   CHECK(iox2ps_domain_wait(&domain, IOX2PS_BRINGS_MESSAGE, seen, SECOND / 100) == IOX2PS_PROCESSES_TIMED_OUT && !is_readable(fd));
-  CHECK(status_of(run_child(send_one)) == 0 && is_readable(fd) && is_readable(fd));
+  CHECK(status_of(child_that(send_one)) == 0 && is_readable(fd) && is_readable(fd));
   clear(&domain);
-  CHECK(!is_readable(fd) && status_of(run_child(send_one)) == 0 && is_readable(fd));
+  CHECK(!is_readable(fd) && status_of(child_that(send_one)) == 0 && is_readable(fd));
   clear(&domain);
   iox2ps_publisher_t own;
   iox2ps_blocked_t blocked;
@@ -143,9 +121,9 @@ static size_t count_files(const char *what) {
 static void who_died_with_one(void) {
   iox2ps_domain_t domain = opened(HOUR_MS), other = IOX2PS_DOMAIN_INIT;
   const sleepers_shared_t *sleepers = shared_domain_of(&domain)->group->member.files.sleepers;
-  CHECK(count_files("wake.*") == 0 && WIFSIGNALED(status_of(run_child(keep_a_descriptor))) && count_files("wake.1") == 1);
+  CHECK(count_files("wake.*") == 0 && WIFSIGNALED(status_of(child_that(keep_a_descriptor))) && count_files("wake.1") == 1);
   CHECK(sleepers->by_descriptor == 2 && iox2ps_domain_cleanup_dead_nodes(&domain, NULL) == IOX2PS_OK);
-  CHECK(status_of(run_child(send_one)) == 0 && sleepers->by_descriptor == 0 && count_files("wake.1") == 1); /* in its place */
+  CHECK(status_of(child_that(send_one)) == 0 && sleepers->by_descriptor == 0 && count_files("wake.1") == 1); /* in its place */
   CHECK(iox2ps_domain_get_file_descriptor(&other, IOX2PS_BRINGS_MESSAGE, &(int){0}) == IOX2PS_NO_DOMAIN);
   destroy(&domain);
   CHECK(count_files("*") == 0);
@@ -168,7 +146,7 @@ static void a_death(void) {
   size_t books = 1;
   int fd = descriptor_of(&domain, IOX2PS_BRINGS_DEAD_NODE);
   CHECK(iox2ps_domain_set_dead_node_listener(&domain, note, &died) == IOX2PS_OK);
-  pid_t child = run_child(dies_with_a_publisher);
+  pid_t child = child_that(dies_with_a_publisher);
   CHECK(WIFSIGNALED(status_of(child)));
   while (died == 0) {
     CHECK(poll(&(struct pollfd){.fd = fd, .events = POLLIN}, 1, HOUR_MS) == 1);
@@ -181,7 +159,7 @@ static void a_death(void) {
 /* Also where the program has closed its input. */
 static void without_input(void) {
   iox2ps_domain_t domain = opened(HOUR_MS);
-  CHECK(close(0) == 0 && descriptor_of(&domain, IOX2PS_BRINGS_MESSAGE) > 0 && status_of(run_child(send_one)) == 0);
+  CHECK(close(0) == 0 && descriptor_of(&domain, IOX2PS_BRINGS_MESSAGE) > 0 && status_of(child_that(send_one)) == 0);
   CHECK(is_readable(descriptor_of(&domain, IOX2PS_BRINGS_MESSAGE)));
   destroy(&domain);
 }
@@ -202,7 +180,7 @@ static void refusals(void) {
   CHECK(iox2ps_domain_get_file_descriptor(&of_parent, 0, &fd) == IOX2PS_OPEN_ERROR_INVALID_ARGUMENT && count_files("wake.*") == 0);
   CHECK(iox2ps_domain_get_file_descriptor(&of_parent, 64, &fd) == IOX2PS_OPEN_ERROR_INVALID_ARGUMENT);
   fd = descriptor_of(&of_parent, IOX2PS_BRINGS_MESSAGE);
-  CHECK(status_of(run_child(forked)) == 0 && is_readable(fd));
+  CHECK(status_of(child_that(forked)) == 0 && is_readable(fd));
   destroy(&of_parent);
   CHECK(iox2ps_domain_create(&ordinary, &config) == IOX2PS_OK && iox2ps_domain_get_file_descriptor(&ordinary, 1, &fd) == IOX2PS_PROCESSES_NOT_SHARED);
   CHECK(iox2ps_domain_clear_file_descriptor(&ordinary) == IOX2PS_PROCESSES_NOT_SHARED && iox2ps_domain_destroy(&ordinary) == IOX2PS_OK);
@@ -216,7 +194,7 @@ int main(void) {
   by_event_loops();
   who_died_with_one();
   a_death();
-  CHECK(status_of(run_child(without_input)) == 0);
+  CHECK(status_of(child_that(without_input)) == 0);
   refusals();
   puts("descriptors: each event loop is woken by what it waits for");
   return 0;

@@ -2,8 +2,8 @@
 #define _GNU_SOURCE
 /* Events: each listener is told of each id that came since it told of it last, in whichever process, and whatever dies or is stopped. Where
  * it isn't said otherwise none looks by itself for an hour, so that only a wake-up ends a sleep. */
-#include "check_domains.h"
 #include "children.h"
+#include "numbers.h"
 #include "shared_domain.h"
 #include <poll.h>
 #include <stdlib.h>
@@ -12,36 +12,18 @@
 #include <sys/wait.h>
 
 enum { EVENT_BIT = 5 }; /* that of IOX2PS_BRINGS_EVENT */
-enum { HOUR_MS = 3600000, SHORT_MS = 20, CALLS = 8, NOTIFIERS = 3, LISTENERS = 3, IDS_OF_NOTIFIER = 20, ROUNDS = 15, KILLS = 40 };
-#define SECOND UINT64_C(1000000000)
-#define PATIENCE (600 * SECOND)
+enum { SHORT_MS = 20, CALLS = 8, NOTIFIERS = 3, LISTENERS = 3, IDS_OF_NOTIFIER = 20, ROUNDS = 15, KILLS = 40 };
 
 static char name[64];
 static iox2ps_config_t config;
 
 /* A list of few calls: who makes none for a while is left behind. */
 static iox2ps_domain_t opened(uint32_t reap_every_ms) {
-  iox2ps_domain_t domain = IOX2PS_DOMAIN_INIT;
-  iox2ps_processes_options_t options;
-  iox2ps_processes_options_of(&config, &options);
-  options.reap_every_ms = reap_every_ms, options.spins = 10, options.calls = CALLS;
-  CHECK(iox2ps_domain_open_or_create(&domain, name, "number", &config, &options) == IOX2PS_OK);
-  return domain;
+  iox2ps_processes_options_t options = looking_every(&config, reap_every_ms);
+  options.calls = CALLS;
+  return open_numbers(name, &config, options);
 }
-static void destroy(iox2ps_domain_t *domain) { CHECK(iox2ps_domain_destroy(domain) == IOX2PS_OK); }
 
-static pid_t run_child(void (*runs)(uint64_t which), uint64_t which) {
-  pid_t child = fork_child();
-  CHECK(child >= 0);
-  if (child > 0) return child;
-  runs(which);
-  _exit(0);
-}
-static int status_of(pid_t child) {
-  int status;
-  CHECK(waitpid(child, &status, 0) == child);
-  return status;
-}
 
 static iox2ps_listener_t listener_of(iox2ps_domain_t *domain) {
   iox2ps_listener_t listener;

@@ -6,6 +6,7 @@
  *   groups          60 kills
  *   groups whole    2,000 */
 #include "children.h"
+#include "numbers.h"
 #include "random_caller.h"
 #include "shared_domain.h"
 #include <string.h>
@@ -14,7 +15,6 @@
 #include <time.h>
 
 enum { CALLERS = 3, SHORT = 60, WHOLE = 2000, CHECK_EVERY = 20, ROUNDS = 100, DOMAINS = 2 };
-#define PATIENCE UINT64_C(600000000000)
 
 static char name[64];
 static iox2ps_config_t configs[DOMAINS];
@@ -26,24 +26,13 @@ static iox2ps_domain_t *const both[DOMAINS] = {&one, &two};
 typedef struct state_t { uint64_t calls, used, taken, handles[DOMAINS], brought[DOMAINS][DOMAIN_BRINGS]; size_t books[DOMAINS], connections[DOMAINS]; } state_t;
 static state_t *common;
 
+/* A child opens them anew: those of the parent stay with it. */
+static void forget_parents(void) { one.domain_ = two.domain_ = NULL; }
 static void open_both(void) { CHECK(iox2ps_domains_open_or_create(both, DOMAINS, name, settings, NULL) == IOX2PS_OK); }
 static void destroy_both(void) {
   for (int i = 0; i < DOMAINS; i++) CHECK(iox2ps_domain_destroy(both[i]) == IOX2PS_OK && both[i]->domain_ == NULL);
 }
 
-static pid_t run_child(void (*runs)(uint64_t seed), uint64_t seed) {
-  pid_t child = fork_child();
-  CHECK(child >= 0);
-  if (child > 0) return child;
-  one.domain_ = two.domain_ = NULL; /* those of the parent stay with it */
-  runs(seed);
-  _exit(0);
-}
-static int status_of(pid_t child) {
-  int status;
-  CHECK(waitpid(child, &status, 0) == child);
-  return status;
-}
 
 /* Until a child has done what is waited for: it lives. */
 static void wait_for(pid_t child) {
@@ -59,20 +48,8 @@ static void send_number(iox2ps_domain_t *domain, const iox2ps_publisher_t *publi
   CHECK(iox2ps_publisher_send_copy(domain, publisher, &number, sizeof number, &receivers, &blocked) == IOX2PS_OK && receivers == 1);
 }
 
-static uint64_t receive_number(iox2ps_domain_t *domain, const iox2ps_subscriber_t *subscriber) {
-  uint64_t number = 0, seen;
-  size_t len;
-  iox2ps_sample_t sample;
-  iox2ps_status_t code;
-  do {
-    CHECK(iox2ps_domain_brought(domain, IOX2PS_BRINGS_MESSAGE, &seen) == IOX2PS_OK);
-    code = iox2ps_subscriber_receive_copy(domain, subscriber, &number, sizeof number, &len, &sample);
-  } while (code == IOX2PS_NO_SAMPLE && iox2ps_domain_wait(domain, IOX2PS_BRINGS_MESSAGE, seen, PATIENCE) == IOX2PS_OK);
-  CHECK(code == IOX2PS_OK && len == sizeof number);
-  return number;
-}
-
 static void respond(uint64_t rounds) {
+  forget_parents();
   iox2ps_subscriber_t requests;
   iox2ps_publisher_t responses;
   open_both();
@@ -117,6 +94,7 @@ static counts_t counts_of(iox2ps_domain_t *domain) {
 static size_t subscribers_of(iox2ps_domain_t *domain) { return counts_of(domain).subscribers; }
 
 static void make_ports(uint64_t seed) {
+  forget_parents();
   (void)seed;
   open_both();
   for (int i = 0; i < DOMAINS; i++) CHECK(iox2ps_publisher_create(both[i], &(iox2ps_publisher_t){0}) == IOX2PS_OK && iox2ps_subscriber_create(both[i], &(iox2ps_subscriber_t){0}) == IOX2PS_OK);
@@ -144,6 +122,7 @@ static void destroys_one(void) {
 /* ---- kills */
 
 static void call_on_both(uint64_t seed) {
+  forget_parents();
   static random_caller_t callers[DOMAINS];
   for (uint64_t i = 0; i < DOMAINS; i++) callers[i] = (random_caller_t){.domain = IOX2PS_DOMAIN_INIT, .state = seed + i, .number = (2 * seed + i) << 32};
   iox2ps_domain_t *const domains[DOMAINS] = {&callers[0].domain, &callers[1].domain};
@@ -166,6 +145,7 @@ static state_t state_now(void) {
 
 /* Joins by the newest copy, and says what it has. */
 static void join_both(uint64_t seed) {
+  forget_parents();
   (void)seed;
   CHECK(iox2ps_domains_open(both, DOMAINS, name, settings, NULL) == IOX2PS_OK);
   *common = state_now();
@@ -222,6 +202,7 @@ static void refused(iox2ps_domain_t *const domains[], size_t count, const iox2ps
 }
 
 static void open_otherwise(uint64_t seed) {
+  forget_parents();
   iox2ps_domain_t *const twice[DOMAINS] = {&one, &one}, *const many[] = {&one, &two, &one, &two, &one};
   iox2ps_config_t other = configs[1];
   iox2ps_domain_settings_t with[DOMAINS] = {settings[0], settings[1]};

@@ -64,7 +64,7 @@ static bool exists(const char *name) {
   return access(path, F_OK) == 0;
 }
 
-static pid_t child_that(void (*runs)(const char *), const char *name) {
+static pid_t child_with_name(void (*runs)(const char *), const char *name) {
   pid_t child = fork_child();
   CHECK(child >= 0);
   if (child > 0) return child;
@@ -72,18 +72,13 @@ static pid_t child_that(void (*runs)(const char *), const char *name) {
   _exit(0);
 }
 
-static int status_of(pid_t child) {
-  int status;
-  CHECK(waitpid(child, &status, 0) == child);
-  return status;
-}
 
 static void sends(const char *name) { send_all(name, 1, MESSAGES); }
 
 static void messages_by_name(const char *name) {
   member_t keeper; /* so that the name stays until both have come */
   CHECK(join_mailbox(&keeper, name, SHARED_CREATE, false) == SHARED_OK);
-  pid_t sender = child_that(sends, name);
+  pid_t sender = child_with_name(sends, name);
   CHECK(receive_all(name, MESSAGES) == (uint64_t)MESSAGES * (MESSAGES + 1) / 2);
   CHECK(status_of(sender) == 0);
   /* Nobody took it for dead. */
@@ -99,7 +94,7 @@ static void killed_publishers(const char *name) {
   member_t it;
   CHECK(join_mailbox(&it, name, SHARED_CREATE, false) == SHARED_OK);
   for (int i = 0; i < PUBLISHERS; i++) {
-    pid_t publisher = child_that(sends_for_ever, name);
+    pid_t publisher = child_with_name(sends_for_ever, name);
     for (int n = 0; n < 20 + 7 * i; n++) receive_number(&it);
     CHECK(kill(publisher, SIGKILL) == 0);
     status_of(publisher);
@@ -125,7 +120,7 @@ static void stray_write(const char *name) {
   uint64_t slot = call(&it, LEND, 0);
   CHECK(slot == 0);
   memset(bytes_of(&it, slot), 42, BYTES);
-  int status = status_of(child_that(writes_what_it_may_not, name));
+  int status = status_of(child_with_name(writes_what_it_may_not, name));
   CHECK(WIFSIGNALED(status) && WTERMSIG(status) == SIGSEGV);
   for (int i = 0; i < BYTES; i++) CHECK(bytes_of(&it, slot)[i] == 42);
   leave_mailbox(&it);

@@ -1,30 +1,25 @@
 // SPDX-License-Identifier: Apache-2.0 OR MIT
 #define _GNU_SOURCE
 /* Who is there: which process sent a message, which processes and ports a domain has, and which process died. */
-#include "check_domains.h"
 #include "children.h"
 #include "iox2_pubsub_processes.h"
+#include "numbers.h"
 #include <stdbool.h>
 #include <stdio.h>
 #include <string.h>
 #include <sys/wait.h>
 
-enum { HOUR_MS = 3600000, PUBLISHERS = 10, DEATHS = 70, KEPT = 64 };
-#define SECOND UINT64_C(1000000000)
+enum { PUBLISHERS = 10, DEATHS = 70, KEPT = 64 };
 
 static char name[64];
 static iox2ps_config_t config;
 static uint32_t most_processes = 16;
 
 static iox2ps_domain_t opened(uint32_t reap_every_ms) {
-  iox2ps_domain_t domain = IOX2PS_DOMAIN_INIT;
-  iox2ps_processes_options_t options;
-  iox2ps_processes_options_of(&config, &options);
-  options.reap_every_ms = reap_every_ms, options.spins = 10, options.max_processes = most_processes;
-  CHECK(iox2ps_domain_open_or_create(&domain, name, "number", &config, &options) == IOX2PS_OK);
-  return domain;
+  iox2ps_processes_options_t options = looking_every(&config, reap_every_ms);
+  options.max_processes = most_processes;
+  return open_numbers(name, &config, options);
 }
-static void destroy(iox2ps_domain_t *domain) { CHECK(iox2ps_domain_destroy(domain) == IOX2PS_OK); }
 static bool is_same(iox2ps_wide_t one, iox2ps_wide_t other) { return one.low == other.low && one.high == other.high; }
 
 static iox2ps_wide_t own_id(iox2ps_domain_t *domain) {

@@ -26,18 +26,6 @@ static uint64_t read_recording(iox2ps_domain_t *domain, char *text) {
   return missed;
 }
 
-static pid_t run_child(void (*runs)(uint64_t seed), uint64_t seed) {
-  pid_t child = fork_child();
-  CHECK(child >= 0);
-  if (child > 0) return child;
-  runs(seed);
-  _exit(0);
-}
-static int status_of(pid_t child) {
-  int status;
-  CHECK(waitpid(child, &status, 0) == child);
-  return status;
-}
 
 static void pause_shortly(void) { nanosleep(&(struct timespec){.tv_nsec = 1000}, NULL); }
 

@@ -32,18 +32,6 @@ static void refused(const char *type_name, const iox2ps_config_t *config, iox2ps
   CHECK(got == code && strstr(iox2ps_processes_why(), words) != NULL && other.domain_ == NULL && strlen(iox2ps_error_text(code)) > 0);
 }
 
-/* In a child, which has no part in the domains of its parent. */
-static int status_of(void (*runs)(void)) {
-  int status;
-  pid_t child = fork_child();
-  if (child == 0) {
-    runs();
-    _exit(0);
-  }
-  CHECK(child > 0 && waitpid(child, &status, 0) == child);
-  return status;
-}
-
 static void other_settings(void) {
   iox2ps_domain_t domain = opened();
   iox2ps_config_t other = good;
@@ -111,7 +99,7 @@ static void no_permission(void) {
   iox2ps_domain_t domain = opened();
   struct stat file;
   for (int which = 0; which < 2; which++) CHECK(stat(path[which], &file) == 0 && (file.st_mode & 0777) == 0600 && chmod(path[which], 0) == 0);
-  CHECK(status_of(other_user) == 0);
+  CHECK(status_of(child_that(other_user)) == 0);
   destroy(&domain);
 }
 
@@ -174,7 +162,7 @@ static void too_many_processes(void) {
   iox2ps_processes_options_t options;
   iox2ps_processes_options_of(&good, &options);
   options.max_processes = 1;
-  CHECK(iox2ps_domain_open_or_create(&domain, name, "reading", &good, &options) == IOX2PS_OK && status_of(one_too_many) == 0);
+  CHECK(iox2ps_domain_open_or_create(&domain, name, "reading", &good, &options) == IOX2PS_OK && status_of(child_that(one_too_many)) == 0);
   destroy(&domain);
 }
 
@@ -248,7 +236,7 @@ static void forks(void) {
   CHECK(iox2ps_subscriber_receive(&of_parent, &subscriber_of_parent, &sample, &received, &len) == IOX2PS_OK);
   CHECK(iox2ps_publisher_loan(&of_parent, &publisher, 1, &loan, &lent) == IOX2PS_OK);
   received_by_parent = received, lent_to_parent = lent, *lent_to_parent = 'l';
-  CHECK(status_of(forked) == 0 && *received_by_parent == 'r' && *lent_to_parent == 'l');
+  CHECK(status_of(child_that(forked)) == 0 && *received_by_parent == 'r' && *lent_to_parent == 'l');
   CHECK(iox2ps_subscriber_has_samples(&of_parent, &subscriber_of_parent, &waits) == IOX2PS_OK && waits == 0);
   destroy(&of_parent);
 }
@@ -309,7 +297,7 @@ static void dead_publishers(void) {
   iox2ps_publisher_t publisher;
   size_t books;
   for (int i = 0; i < 3; i++) {
-    CHECK(WIFSIGNALED(status_of(dies_with_publishers)));
+    CHECK(WIFSIGNALED(status_of(child_that(dies_with_publishers))));
     CHECK(iox2ps_publisher_create(&domain, &publisher) == IOX2PS_OK && iox2ps_domain_book_count(&domain, &books) == IOX2PS_OK && books == 1);
     CHECK(iox2ps_publisher_close(&domain, &publisher) == IOX2PS_OK);
   }
@@ -333,7 +321,7 @@ static void told_publisher(void) {
   size_t receivers;
   uint32_t is_blocked;
   CHECK(pipe(numbers) == 0 && iox2ps_subscriber_create(&domain, &subscriber) == IOX2PS_OK);
-  CHECK(WIFSIGNALED(status_of(dies_with_told_publisher)) && read(numbers[0], &publisher, sizeof publisher) == sizeof publisher);
+  CHECK(WIFSIGNALED(status_of(child_that(dies_with_told_publisher))) && read(numbers[0], &publisher, sizeof publisher) == sizeof publisher);
   for (size_t i = 0; i < good.subscriber_max_buffer_size; i++) CHECK(iox2ps_publisher_send_copy(&domain, &publisher, "", 1, &receivers, &blocked) == IOX2PS_OK);
   CHECK(iox2ps_publisher_send_copy(&domain, &publisher, "", 1, &receivers, &blocked) == IOX2PS_BLOCKED);
   CHECK(iox2ps_publisher_is_blocked(&domain, &publisher, &is_blocked) == IOX2PS_OK && is_blocked == 1);

@@ -51,11 +51,6 @@ inline pid_t started(const char *role, const std::string &name) {
   execl("/proc/self/exe", "test", role, name.c_str(), static_cast<char *>(nullptr));
   _exit(127);
 }
-inline int status_of(pid_t child) {
-  int status = 0;
-  CHECK(waitpid(child, &status, 0) == child);
-  return status;
-}
 inline void kill_it(pid_t child) {
   CHECK(kill(child, SIGKILL) == 0);
   CHECK(WIFSIGNALED(status_of(child)));
@@ -82,6 +77,18 @@ template <typename S> void receive_all(S &subscriber, std::uint64_t first, std::
     auto sample = std::move(*subscriber.blocking_receive().expect("a receive"));
     CHECK(sample->number == number && sample->celsius[1] == 1.5);
   }
+}
+
+/* The roles of who sends all, and of who receives all. */
+template <typename D> void sends(const std::string &name) {
+  auto domain = open_by<D>(name);
+  auto publisher = domain.publisher().expect("a publisher");
+  send_all(publisher);
+}
+template <typename D> void receives(const std::string &name) {
+  auto domain = open_by<D>(name);
+  auto subscriber = domain.subscriber().expect("a subscriber");
+  receive_all(subscriber, 1, messages);
 }
 
 struct Role {

@@ -2,37 +2,21 @@
 #define _GNU_SOURCE
 /* Processes that sleep until a call of another brings a message, room or a loan; or until the time is over; or until one dies. Where
  * it isn't said otherwise none looks by itself for an hour, so that only a wake-up ends a sleep. */
-#include "check_domains.h"
 #include "children.h"
 #include "iox2_pubsub_processes.h"
+#include "numbers.h"
 #include <pthread.h>
 #include <stdbool.h>
 #include <stdio.h>
 #include <sys/wait.h>
 #include <time.h>
 
-enum { MESSAGES = 300, HOUR_MS = 3600000 };
-#define SECOND UINT64_C(1000000000)
-#define PATIENCE (600 * SECOND)
+enum { MESSAGES = 300 };
 
 static char name[64];
 static iox2ps_config_t config;
 
-static iox2ps_domain_t opened(uint32_t reap_every_ms) {
-  iox2ps_domain_t domain = IOX2PS_DOMAIN_INIT;
-  iox2ps_processes_options_t options;
-  iox2ps_processes_options_of(&config, &options);
-  options.reap_every_ms = reap_every_ms, options.spins = 10;
-  CHECK(iox2ps_domain_open_or_create(&domain, name, "number", &config, &options) == IOX2PS_OK);
-  return domain;
-}
-static void destroy(iox2ps_domain_t *domain) { CHECK(iox2ps_domain_destroy(domain) == IOX2PS_OK); }
-
-static uint64_t seen_of(iox2ps_domain_t *domain, uint32_t brings) {
-  uint64_t seen;
-  CHECK(iox2ps_domain_brought(domain, brings, &seen) == IOX2PS_OK);
-  return seen;
-}
+static iox2ps_domain_t opened(uint32_t reap_every_ms) { return open_numbers(name, &config, looking_every(&config, reap_every_ms)); }
 
 static uint64_t now(void) {
   struct timespec it;
@@ -52,19 +36,6 @@ static void send_number(iox2ps_domain_t *domain, const iox2ps_publisher_t *publi
     code = iox2ps_blocked_retry(domain, &blocked, 0, &receivers);
   }
   CHECK(code == IOX2PS_OK && receivers == 1);
-}
-
-static uint64_t receive_number(iox2ps_domain_t *domain, const iox2ps_subscriber_t *subscriber) {
-  uint64_t number = 0, seen;
-  size_t len;
-  iox2ps_sample_t sample;
-  iox2ps_status_t code;
-  do {
-    seen = seen_of(domain, IOX2PS_BRINGS_MESSAGE);
-    code = iox2ps_subscriber_receive_copy(domain, subscriber, &number, sizeof number, &len, &sample);
-  } while (code == IOX2PS_NO_SAMPLE && iox2ps_domain_wait(domain, IOX2PS_BRINGS_MESSAGE, seen, PATIENCE) == IOX2PS_OK);
-  CHECK(code == IOX2PS_OK && len == sizeof number);
-  return number;
 }
 
 /* Who found nothing finds what comes then. */

@@ -2,16 +2,14 @@
 #define _GNU_SOURCE
 /* Who is woken by what, as the list of those who sleep counts it, and how many calls of the system that takes: a publisher only where there
  * is room or a loan for it, and it alone. Where it isn't said otherwise none looks by itself for an hour. */
-#include "check_domains.h"
+#include "numbers.h"
 #include "shared_domain.h"
 #include "traced.h"
 #include <string.h>
 #include <sys/mman.h>
 
-enum { HOUR_MS = 3600000, SHORT_MS = 50, OFTEN_MS = 10, SUBSCRIBERS = 8, MESSAGES = 40, PUBLISHERS = 3, LOOKS = 8, IDLE = 3 };
+enum { SHORT_MS = 50, OFTEN_MS = 10, SUBSCRIBERS = 8, MESSAGES = 40, PUBLISHERS = 3, LOOKS = 8, IDLE = 3 };
 enum { MESSAGE_SLEEPERS = 0, ROOM_SLEEPERS = 1, LOAN_SLEEPERS = 3, EVENT_SLEEPERS = 5 }; /* the bits of what they wait for */
-#define SECOND UINT64_C(1000000000)
-#define PATIENCE (600 * SECOND)
 
 static char name[64];
 static iox2ps_config_t config;
@@ -20,25 +18,9 @@ static iox2ps_config_t config;
 static struct told_t { _Atomic uint64_t places[SUBSCRIBERS], ready, stands_at, looks, is_over; } *told;
 
 static iox2ps_domain_t opened(uint32_t reap_every_ms) {
-  iox2ps_domain_t domain = IOX2PS_DOMAIN_INIT;
-  iox2ps_processes_options_t options;
-  iox2ps_processes_options_of(&config, &options);
-  options.reap_every_ms = reap_every_ms, options.spins = 0;
-  CHECK(iox2ps_domain_open_or_create(&domain, name, "number", &config, &options) == IOX2PS_OK);
-  return domain;
-}
-static void destroy(iox2ps_domain_t *domain) { CHECK(iox2ps_domain_destroy(domain) == IOX2PS_OK); }
-
-static pid_t run_child(void (*runs)(uint64_t which), uint64_t which) {
-  pid_t child = fork_child();
-  CHECK(child >= 0);
-  if (child > 0) return child;
-  runs(which);
-  _exit(0);
-}
-static void check_ended(pid_t child) {
-  int status;
-  CHECK(waitpid(child, &status, 0) == child && status == 0);
+  iox2ps_processes_options_t options = looking_every(&config, reap_every_ms);
+  options.spins = 0;
+  return open_numbers(name, &config, options);
 }
 
 static uint32_t place_of(const iox2ps_domain_t *domain) { return shared_domain_of(domain)->group->member.replica.place; }
@@ -65,25 +47,6 @@ static void wait_until_asleep(pid_t process) {
 }
 static void wait_for_ready(uint64_t count) {
   while (told->ready < count) usleep(1000);
-}
-
-static uint64_t seen_of(iox2ps_domain_t *domain, uint32_t brings) {
-  uint64_t seen;
-  CHECK(iox2ps_domain_brought(domain, brings, &seen) == IOX2PS_OK);
-  return seen;
-}
-
-static uint64_t receive_number(iox2ps_domain_t *domain, const iox2ps_subscriber_t *subscriber) {
-  uint64_t number = 0, seen;
-  size_t len;
-  iox2ps_sample_t sample;
-  iox2ps_status_t code;
-  do {
-    seen = seen_of(domain, IOX2PS_BRINGS_MESSAGE);
-    code = iox2ps_subscriber_receive_copy(domain, subscriber, &number, sizeof number, &len, &sample);
-  } while (code == IOX2PS_NO_SAMPLE && iox2ps_domain_wait(domain, IOX2PS_BRINGS_MESSAGE, seen, PATIENCE) == IOX2PS_OK);
-  CHECK(code == IOX2PS_OK && len == sizeof number);
-  return number;
 }
 
 static uint64_t subscriber_of(iox2ps_domain_t *domain, const iox2ps_blocked_t *blocked) {
@@ -136,7 +99,7 @@ static void many_subscribers(void) {
   for (uint64_t number = 1; number <= MESSAGES; number++) stops += send_number(&domain, &publisher, number);
   uint64_t wakes = wakes_of(&domain, place_of(&domain));
   told->is_over = true;
-  for (int i = 0; i < SUBSCRIBERS; i++) check_ended(children[i]);
+  for (int i = 0; i < SUBSCRIBERS; i++) CHECK(status_of(children[i]) == 0);
   printf("a publisher with %d subscribers stood at %llu full buffers in %d messages, and was woken %llu times\n", SUBSCRIBERS, (unsigned long long)stops,
          MESSAGES, (unsigned long long)wakes);
   fflush(stdout);
@@ -169,7 +132,7 @@ static void where_it_stands(void) {
   CHECK(receive_number(&domain, &both[at]) == told->places[0] && wakes_of(&domain, told->places[0]) == 1 && all_wakes(&domain) == 1);
   for (int i = 0; i < 2; i++) CHECK(receive_number(&domain, &both[i]) == told->places[0]);
   told->is_over = true;
-  check_ended(child);
+  CHECK(status_of(child) == 0);
   destroy(&domain);
 }
 
@@ -190,7 +153,7 @@ static void one_of_several(void) {
   for (int i = 0; i < PUBLISHERS; i++) CHECK(wakes_of(&domain, told->places[i]) == 1);
   CHECK(seen_of(&domain, IOX2PS_BRINGS_ROOM) == before + PUBLISHERS);
   told->is_over = true;
-  for (int i = 0; i < PUBLISHERS; i++) check_ended(children[i]);
+  for (int i = 0; i < PUBLISHERS; i++) CHECK(status_of(children[i]) == 0);
   destroy(&domain);
 }
 
@@ -243,7 +206,7 @@ static void loans(void) {
   CHECK(all_wakes(&domain) == 2);
   wait_for_ready(2);
   told->is_over = true;
-  for (int i = 0; i < 2; i++) check_ended(children[i]);
+  for (int i = 0; i < 2; i++) CHECK(status_of(children[i]) == 0);
   destroy(&domain);
 }
 
@@ -277,7 +240,7 @@ static void leaves_one_domain(void) {
   wait_for_sleepers(&two, ROOM_SLEEPERS, 1);
   destroy(&one);
   CHECK(all_wakes(&two) == 1);
-  check_ended(child);
+  CHECK(status_of(child) == 0);
   destroy(&two);
 }
 
@@ -400,7 +363,7 @@ static void a_notification(void) {
   CHECK(child > 0 && run_to_mark(child, PTRACE_SYSCALL, 2, &is_at_mark) == 2 && !is_at_mark); /* as that call begins */
   CHECK(iox2ps_listener_try_wait_one(&domain, &listener, &id) == IOX2PS_OK && id == 9);
   CHECK(run_to_mark(child, PTRACE_SYSCALL, UINT64_MAX, &is_at_mark) == 2 && is_at_mark);
-  check_ended(sleeper);
+  CHECK(status_of(sleeper) == 0);
   CHECK(run_to_mark(child, PTRACE_SYSCALL, UINT64_MAX, &is_at_mark) == 2 && is_at_mark);
   end_child(child);
   CHECK(iox2ps_domain_cleanup_dead_nodes(&domain, NULL) == IOX2PS_OK);
