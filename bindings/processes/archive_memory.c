@@ -2,7 +2,7 @@
 #include "archive_memory.h"
 #include <string.h>
 
-OF_THREAD archive_memory_t *archive_memory_now;
+_Thread_local archive_memory_t *archive_memory_now;
 
 void *archive_memory_fill(void *bytes, int with, size_t size) {
   const archive_memory_t *now = archive_memory_now;

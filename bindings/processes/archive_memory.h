@@ -14,14 +14,17 @@ typedef struct archive_memory_t {
   bool may_make_slots;        /* the call makes a publisher or lends, as no other does that takes memory of the extents */
 } archive_memory_t;
 
-/* A variable of each thread whose offset is known as soon as it is loaded, so that no call of a message asks the loader. These 8 bytes
- * find room in what glibc keeps for libraries that are opened later. */
-#define OF_THREAD _Thread_local __attribute__((tls_model("initial-exec")))
 /* What this thread takes memory of, and gives back what it took there; null is malloc's. */
-extern OF_THREAD archive_memory_t *archive_memory_now;
-static inline void archive_memory_use(archive_memory_t *it, bool may_make_slots) {
+extern _Thread_local archive_memory_t *archive_memory_now;
+/* Where that is. Each question may be a call of the loader: so a call of a message asks once, before it has anything to keep. */
+static inline archive_memory_t **archive_memory_of_thread(void) {
+  archive_memory_t **now = &archive_memory_now;
+  __asm__("" : "+r"(now)); /* else a compiler asks again */
+  return now;
+}
+static inline void archive_memory_use(archive_memory_t **now, archive_memory_t *it, bool may_make_slots) {
   it->may_make_slots = may_make_slots, it->last = (slot_blocks_t){0};
-  archive_memory_now = it;
+  *now = it;
 }
 static inline void archive_memory_use_plain(void) { archive_memory_now = NULL; }
 /* The archive's memset, which leaves payloads alone: who is lent one fills it where that is. */

@@ -164,6 +164,15 @@ ALWAYS_INLINE void call_list_write(const call_list_t *list, const call_seat_t *s
   atomic_store_explicit(&seat->announcement->count, count + 1, memory_order_release);
 }
 
+/* Adds call number `call`: this entry of a place. False if another did. */
+ALWAYS_INLINE bool call_list_put(const call_list_t *list, _Atomic uint64_t *order, uint64_t before, uint64_t call, uint32_t place, uint64_t entry) {
+  uint64_t name = call_name(call, place, call_index(list, entry));
+  /* Release: whoever finds the entry named sees the whole entry, and all that its process wrote before. Relaxed, another list is
+   * made. Sequentially consistent for sleepers and those who wake them (sleepers.c), since a process doesn't look again at its own
+   * call. Relaxed where it fails: the next step looks at the word again. */
+  return atomic_compare_exchange_strong_explicit(order, &before, name, memory_order_seq_cst, memory_order_relaxed);
+}
+
 /* Tries to add call number `call`, when all before it are made: that which place `call` % places has announced, or else that of the own
  * place. True if it was the own, which so is next, and is as it was announced. Otherwise the next step says whether one is there. */
 ALWAYS_INLINE bool call_list_try(const call_list_t *list, const call_progress_t *progress, uint32_t place, uint64_t call, uint64_t count) {
@@ -171,15 +180,12 @@ ALWAYS_INLINE bool call_list_try(const call_list_t *list, const call_progress_t 
   /* Relaxed: only compared. What the call before did, this process has seen as it made that call. */
   uint64_t before = atomic_load_explicit(order, memory_order_relaxed);
   if (call_distance(before, call) <= 0) return false;
-  uint32_t turn = (uint32_t)(call % list->places), whose = place;
+  uint32_t turn = (uint32_t)(call % list->places);
   /* Acquire: the entry is published on as this process names it. Relaxed, others read words that are not those of the entry. */
   uint64_t announced = atomic_load_explicit(&list->announcements[turn].count, memory_order_acquire);
-  if (announced == progress->of[turn].entries + 1) whose = turn, count = announced - 1;
-  uint64_t name = call_name(call, whose, call_index(list, count));
-  /* Release: whoever finds the entry named sees the whole entry, and all that its process wrote before. Relaxed, another list is
-   * made. Sequentially consistent for sleepers and those who wake them (sleepers.c), since a process doesn't look again at its own
-   * call. Relaxed where it fails: the next step looks at the word again. */
-  return atomic_compare_exchange_strong_explicit(order, &before, name, memory_order_seq_cst, memory_order_relaxed) && whose == place;
+  bool is_its_turn = announced == progress->of[turn].entries + 1;
+  if (is_its_turn && turn != place) return (void)call_list_put(list, order, before, call, turn, announced - 1), false;
+  return call_list_put(list, order, before, call, place, count);
 }
 
 /* The same behind all calls that this process has made. */

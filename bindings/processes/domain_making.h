@@ -67,20 +67,20 @@ ALWAYS_INLINE uint64_t domain_memory_note(domain_memory_t *it, uint32_t place, c
 /* Of one that was refused, so that what is known of IOX2PS_OK isn't asked. */
 uint64_t domain_memory_note_refused(domain_memory_t *it, uint32_t place, const domain_traits_t *traits, domain_made_t made, const uint64_t *words, domain_reply_t *reply);
 
-/* The same for a call that is to be made. `given`: as of domain_make_given. `made` has what its reply says, too. */
-ALWAYS_INLINE uint64_t domain_memory_make_given(domain_memory_t *it, uint32_t place, uint64_t operation, const void *given, const uint64_t *words,
-                                                domain_reply_t *reply, domain_made_t *made) {
+/* The same for a call that is to be made. `now`: that of this thread. `given`: as of domain_make_given. `made` has what its reply says, too. */
+ALWAYS_INLINE uint64_t domain_memory_make_given(archive_memory_t **now, domain_memory_t *it, uint32_t place, uint64_t operation, const void *given,
+                                                const uint64_t *words, domain_reply_t *reply, domain_made_t *made) {
   const domain_traits_t *traits = domain_traits(operation);
   *made = (domain_made_t){IOX2PS_OUT_OF_MEMORY, 0};
   if (!domain_memory_reserve(it, traits)) return domain_memory_refuse(it, made->code, reply);
-  archive_memory_use(&it->group->memory, traits->makes == HANDLE_PUBLISHER || traits->makes == HANDLE_LOAN);
+  archive_memory_use(now, &it->group->memory, traits->makes == HANDLE_PUBLISHER || traits->makes == HANDLE_LOAN);
   *made = domain_make_given(&it->domain, it->service_id, operation, given, words, reply);
   if (traits->makes == HANDLE_LOAN && made->code == IOX2PS_OK && !domain_memory_has_payload(it, reply)) {
     made->code = IOX2PS_LOAN_ERROR_INTERNAL_FAILURE;
     return domain_memory_refuse_loan(it, made->code, reply);
   }
   if (operation == SUBSCRIBER_RECEIVE && (it->handles.blocked == 0 || !helped_places_need_room(it, words, reply))) made->brought &= ~(uint32_t)IOX2PS_BRINGS_ROOM;
-  archive_memory_use_plain();
+  *now = NULL;
   if (made->code != IOX2PS_OK) return domain_memory_note_refused(it, place, traits, *made, words, reply);
   return domain_memory_note(it, place, traits, (domain_made_t){IOX2PS_OK, made->brought}, words, reply);
 }
@@ -90,7 +90,7 @@ ALWAYS_INLINE uint64_t domain_memory_make_as(domain_memory_t *it, uint32_t place
   given_handle_t given;
   domain_made_t made;
   given_handle_of_words(operation, words, it->service_id, &given);
-  return domain_memory_make_given(it, place, operation, &given, words, reply, &made);
+  return domain_memory_make_given(archive_memory_of_thread(), it, place, operation, &given, words, reply, &made);
 }
 
 #endif

@@ -7,7 +7,7 @@ void group_memory_note_size(replica_memory_t *memory) {
 }
 
 iox2ps_domain_t *domain_memory_ask(domain_memory_t *it) {
-  archive_memory_use(&it->group->memory, false);
+  archive_memory_use(&archive_memory_now, &it->group->memory, false);
   return &it->domain;
 }
 
@@ -16,7 +16,7 @@ void domain_memory_asked(void) { archive_memory_use_plain(); }
 static iox2ps_status_t make_domain(domain_memory_t *it, group_memory_t *group, const domain_plan_t *plan) {
   it->group = group;
   it->service_id = plan->config->service_id;
-  live_handles_make(&it->handles);
+  if (!live_handles_make(&it->handles, &group->memory.heap)) return IOX2PS_OUT_OF_MEMORY;
   iox2ps_domain_t *domain = domain_memory_ask(it);
   /* No bytes of messages: a process that makes the call later may find others there. */
   iox2ps_status_t code = plan->commands == 0 ? iox2ps_proved_domain_create(domain, plan->config) : iox2ps_proved_domain_create_recorded(domain, plan->config, plan->commands, 0);

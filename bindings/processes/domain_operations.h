@@ -40,8 +40,7 @@ ALWAYS_INLINE iox2ps_status_t domain_lend(iox2ps_domain_t *domain, iox2ps_wide_t
   iox2ps_loan_t loan;
   void *payload;
   iox2ps_status_t code = iox2ps_proved_publisher_loan(domain, publisher, len, &loan, &payload);
-  domain_reply_nothing(reply);
-  if (code != IOX2PS_OK) return code;
+  if (code != IOX2PS_OK) return domain_reply_nothing(reply), code;
   (void)words_of_loan(&loan, id, reply->handle);
   reply->payload = domain_payload(payload, len), reply->count = len;
   return code;
@@ -66,8 +65,7 @@ ALWAYS_INLINE iox2ps_status_t domain_receive(iox2ps_domain_t *domain, iox2ps_wid
   const void *payload;
   size_t len;
   iox2ps_status_t code = iox2ps_proved_subscriber_receive(domain, subscriber, &sample, &payload, &len);
-  domain_reply_nothing(reply);
-  if (code != IOX2PS_OK) return code;
+  if (code != IOX2PS_OK) return domain_reply_nothing(reply), code;
   (void)words_of_sample(&sample, id, reply->handle);
   reply->payload = domain_payload(payload, len), reply->count = len;
   return code;

@@ -4,9 +4,10 @@
 enum { FIRST_ROOM = 16 };
 static const uint32_t NONE = LIVE_HANDLES_NONE;
 
-void live_handles_make(live_handles_t *it) {
+bool live_handles_make(live_handles_t *it, region_heap_t *heap) {
   *it = (live_handles_t){.free = NONE};
   memset(it->first, 0xff, sizeof it->first);
+  return live_handles_grow(it, heap);
 }
 
 static void put_in_bucket(live_handles_t *it, uint32_t which) {
@@ -37,7 +38,6 @@ bool live_handles_grow(live_handles_t *it, region_heap_t *heap) {
 }
 
 const live_handle_t *live_handles_find(const live_handles_t *it, handle_kind_t kind, const uint64_t words[HANDLE_WORDS]) {
-  if (it->count == 0) return NULL;
   uint32_t which = *live_handles_link(it, kind, words);
   return which == NONE ? NULL : &it->all[which];
 }

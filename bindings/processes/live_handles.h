@@ -29,7 +29,8 @@ typedef struct live_handles_t {
 
 #define LIVE_HANDLES_NONE UINT32_MAX
 
-void live_handles_make(live_handles_t *it);
+/* An empty list. False without memory. */
+bool live_handles_make(live_handles_t *it, region_heap_t *heap);
 /* Makes room for more, where all is in use. */
 bool live_handles_grow(live_handles_t *it, region_heap_t *heap);
 /* The handle with the same numbers, or null. */
@@ -87,7 +88,6 @@ ALWAYS_INLINE uint32_t *live_handles_link(const live_handles_t *it, handle_kind_
 
 /* Removes the handle with the same numbers, if there is one. */
 ALWAYS_INLINE void live_handles_remove(live_handles_t *it, handle_kind_t kind, const uint64_t words[HANDLE_WORDS]) {
-  if (it->count == 0) return;
   uint32_t *link = live_handles_link(it, kind, words), which = *link;
   if (which == LIVE_HANDLES_NONE) return;
   live_handle_t *handle = &it->all[which];

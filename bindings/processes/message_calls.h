@@ -9,16 +9,17 @@
 
 /* As `shared_domain_call`, by an operation of a message, with the handle that it is given. */
 ALWAYS_INLINE iox2ps_status_t shared_domain_message(shared_domain_t *it, domain_operation_t operation, const void *given, uint64_t arguments[CALL_ARGUMENTS]) {
+  archive_memory_t **now = archive_memory_of_thread();
   shared_group_t *group = it->group;
   replica_t *replica = &group->member.replica;
   const call_seat_t *seat = &group->seat;
   domain_reply_t *reply = group->reply;
   if (group->broken != IOX2PS_OK) return group->broken;
-  arguments[0] = domain_call(it->which, operation);
+  arguments[0] = it->calls | operation;
   domain_made_t made;
   if (replica_add(replica, seat, arguments)) {
     call_list_begin(&replica->memory->progress, seat->progress);
-    call_list_replied(seat->progress, domain_memory_make_given(it->memory, seat->place, operation, given, arguments + 1, reply, &made));
+    call_list_replied(seat->progress, domain_memory_make_given(now, it->memory, seat->place, operation, given, arguments + 1, reply, &made));
   } else {
     replica_status_t status = replica_add_announced(replica, arguments);
     if (status != REPLICA_OK) return shared_group_break(group, status);

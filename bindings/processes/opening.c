@@ -223,7 +223,7 @@ static void give(const asked_t *asked, shared_group_t *group, shared_domain_t *m
   for (size_t i = 0; i < asked->count; i++) {
     const iox2ps_config_t *config = asked->settings[i].config;
     shared_domain_t *it = made[i];
-    it->group = group, it->which = (uint32_t)i, it->memory = &group->memory->domains[i], it->service_id = config->service_id;
+    it->group = group, it->calls = domain_call((uint32_t)i, 0), it->memory = &group->memory->domains[i], it->service_id = config->service_id;
     it->names_nodes = config->node_id.low == 0 && config->node_id.high == 0, it->deaths_told = it->deaths_known = it->memory->brought[BROUGHT_DEATHS];
     asked->domains[i]->domain_ = (void *)((uintptr_t)it | 1);
   }

@@ -107,7 +107,7 @@ iox2ps_status_t shared_domain_call_again(shared_domain_t *it, uint64_t arguments
 
 iox2ps_status_t shared_domain_call(shared_domain_t *it, domain_operation_t operation, uint64_t arguments[CALL_ARGUMENTS]) {
   if (it->group->broken != IOX2PS_OK) return it->group->broken;
-  arguments[0] = domain_call(it->which, operation);
+  arguments[0] = it->calls | operation;
   replica_status_t status = replica_call(&it->group->member.replica, arguments);
   if (status != REPLICA_OK) return shared_group_break(it->group, status);
   const domain_reply_t *reply = shared_domain_reply(it);

@@ -30,7 +30,7 @@ typedef struct shared_group_t {
 typedef struct shared_domain_t {
   shared_group_t *group;
   domain_memory_t *memory;
-  uint32_t which; /* of the group */
+  uint64_t calls; /* `domain_call` of no operation */
   iox2ps_wide_t service_id;
   bool names_nodes;         /* headers name processes, and not a node that the settings name */
   iox2ps_node_list_t *died; /* told of processes that died since; or null */

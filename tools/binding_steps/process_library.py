@@ -3,6 +3,7 @@
 import hashlib
 import re
 import tarfile
+from copy import copy
 from pathlib import Path
 
 from .places import BINDINGS, EXAMPLES, TOP
@@ -106,6 +107,14 @@ class ProcessLibrary:
         for file in sorted((*self.sources.glob("*.[ch]"), *of_archive)):
             total.update(file.read_bytes())
         return f"0x{total.hexdigest()[:16]}"
+
+    def with_file(self, sources, name):
+        """The library that was compiled, but for one of its files, which is that of other sources."""
+        other, target = copy(self), self.work / f"other_{name}.o"
+        said(*self.flags, "-fPIC", f"-DIOX2PS_SUM_OF_SOURCES={self.sum_of_sources()}", "-I", self.bindings / "include", "-I", sources, "-c", sources / name, "-o", target)
+        other.sources = sources
+        other.objects = [target if file.name == f"{Path(name).stem}.o" else file for file in self.objects]
+        return other
 
     def compile(self, warnings=()):
         of_sources = f"-DIOX2PS_SUM_OF_SOURCES={self.sum_of_sources()}"

@@ -122,7 +122,7 @@ static void handles_by_random(void) {
   region_heap_t heap = region_heap_at(region, sizeof region);
   live_handles_t handles;
   struct { bool is_there; uint32_t kind, place; uint64_t words[HANDLE_WORDS]; } all[HANDLES] = {0};
-  live_handles_make(&handles);
+  CHECK(live_handles_make(&handles, &heap));
   CHECK(live_handles_first(&handles, 0) == NULL && live_handles_find(&handles, HANDLE_LOAN, all[0].words) == NULL);
   for (int step = 0; step < STEPS; step++) {
     size_t which = random_below(HANDLES);

@@ -12,16 +12,6 @@ Domain opened(const std::string &name, const iox2ps::ProcessesOptions &options =
 
 /* ---- other roles */
 
-void sends(const std::string &name) {
-  auto domain = opened(name);
-  auto publisher = domain.publisher().expect("a publisher");
-  send_all(publisher);
-}
-void receives(const std::string &name) {
-  auto domain = opened(name);
-  auto subscriber = domain.subscriber().expect("a subscriber");
-  receive_all(subscriber, 1, messages);
-}
 void goes_over_all(const std::string &name) {
   auto domain = opened(name);
   auto subscriber = domain.subscriber().expect("a subscriber");
@@ -225,7 +215,7 @@ void who_may_not_wait() {
 } // namespace
 
 int main(int count, char **words) {
-  if (has_played(count, words, {{"sends", sends}, {"receives", receives}, {"goes_over_all", goes_over_all}, {"takes_copies", takes_copies}, {"holds_one", holds_one}, {"has_a_subscriber", has_a_subscriber}})) return 0;
+  if (has_played(count, words, {{"sends", sends<Domain>}, {"receives", receives<Domain>}, {"goes_over_all", goes_over_all}, {"takes_copies", takes_copies}, {"holds_one", holds_one}, {"has_a_subscriber", has_a_subscriber}})) return 0;
   messages_come_and_make_room();
   loans_come_free();
   time_is_over();

@@ -116,7 +116,7 @@ static void requests(void) {
                                                                             {9, 1, false}, {2, 1, false}, {16, 8, false}, {9, 1, false}};
   void *blocks[sizeof all / sizeof *all];
   for (int may_make_slots = 0; may_make_slots < 2; may_make_slots++) {
-    archive_memory_use(&it->memory, may_make_slots);
+    archive_memory_use(&archive_memory_now, &it->memory, may_make_slots);
     for (size_t i = 0; i < sizeof all / sizeof *all; i++) {
       tried_t tried = rattle_alloc(all[i].size, all[i].alignment);
       CHECK(tried.is_ok && payload_extents_have(&it->memory.payloads, blocks[i] = tried.block) == (may_make_slots && all[i].is_payload));

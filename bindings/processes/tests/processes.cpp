@@ -19,16 +19,6 @@ Domain opened(const std::string &name, const iox2ps::ProcessesOptions &options =
 
 /* ---- other roles */
 
-void sends(const std::string &name) {
-  auto domain = opened(name);
-  auto publisher = domain.publisher().expect("a publisher");
-  send_all(publisher);
-}
-void receives(const std::string &name) {
-  auto domain = opened(name);
-  auto subscriber = domain.subscriber().expect("a subscriber");
-  receive_all(subscriber, 1, messages);
-}
 void sends_one(const std::string &name) {
   auto domain = opened(name);
   auto publisher = domain.publisher().expect("a publisher");
@@ -226,7 +216,7 @@ void listeners_that_throw_end_their_program() {
 } // namespace
 
 int main(int count, char **words) {
-  if (has_played(count, words, {{"sends", sends}, {"receives", receives}, {"sends_one", sends_one}, {"has_a_publisher", has_a_publisher}, {"has_a_subscriber", has_a_subscriber}, {"throws", throws}})) return 0;
+  if (has_played(count, words, {{"sends", sends<Domain>}, {"receives", receives<Domain>}, {"sends_one", sends_one}, {"has_a_publisher", has_a_publisher}, {"has_a_subscriber", has_a_subscriber}, {"throws", throws}})) return 0;
   messages_come_and_make_room();
   all_threads_hear();
   a_listener_begins_where_it_is_set();

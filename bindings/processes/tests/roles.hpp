@@ -79,6 +79,18 @@ template <typename S> void receive_all(S &subscriber, std::uint64_t first, std::
   }
 }
 
+/* The roles of who sends all, and of who receives all. */
+template <typename D> void sends(const std::string &name) {
+  auto domain = open_by<D>(name);
+  auto publisher = domain.publisher().expect("a publisher");
+  send_all(publisher);
+}
+template <typename D> void receives(const std::string &name) {
+  auto domain = open_by<D>(name);
+  auto subscriber = domain.subscriber().expect("a subscriber");
+  receive_all(subscriber, 1, messages);
+}
+
 struct Role {
   const char *name;
   void (*run)(const std::string &);

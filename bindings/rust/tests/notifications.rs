@@ -243,26 +243,17 @@ fn a_descriptor_is_readable() {
     let listener = domain.listener().unwrap();
     let descriptor = listener.event_fd().unwrap();
     let mut child = started(&name);
+    // It begins readable. Who looks now, and so before an event, is woken by each that comes.
+    assert_eq!(polled(descriptor.as_raw_fd(), 0), 1);
+    descriptor.reset().unwrap();
+    assert!(all_of(&listener).is_empty());
     for turn in 1..=5 {
+        assert_eq!(polled(descriptor.as_raw_fd(), 0), 0);
         child.go_on();
-        let mut ids = Vec::new();
-        while ids.is_empty() {
-            assert_eq!(polled(descriptor.as_raw_fd(), LONG.as_millis() as i32), 1);
-            descriptor.reset().unwrap();
-            ids = all_of(&listener);
-        }
-        assert_eq!(ids, [turn]);
-        // What wakes may come behind the event that it tells of, once it was read.
-        let is_quiet = (0..100).any(|_| {
-            if polled(descriptor.as_raw_fd(), 0) == 0 {
-                return true;
-            }
-            descriptor.reset().unwrap();
-            assert!(all_of(&listener).is_empty());
-            std::thread::sleep(std::time::Duration::from_millis(1));
-            false
-        });
-        assert!(is_quiet, "it stays readable");
+        assert_eq!(polled(descriptor.as_raw_fd(), LONG.as_millis() as i32), 1);
+        descriptor.reset().unwrap();
+        assert_eq!(all_of(&listener), [turn]);
+        assert_eq!(polled(descriptor.as_raw_fd(), 0), 0);
     }
 }
 
