@@ -195,6 +195,8 @@ class Domain(_core.Domain):
 
     @classmethod
     def _named(cls, how: str, name: str, dtype: Any, max_len: int | None, settings: dict[str, Any]) -> Domain:
+        if not isinstance(name, str):
+            raise TypeError(f"a name is a text, as 'My/Service', not {name!r}")
         given: dict[str, Any] = {"service_id": 0, **settings}
         options = _given(**{option: given.pop(option, None) for option in OPTIONS})
         reap_every, record, alignment = given.pop("reap_every", None), given.pop("record", None), given.pop("alignment", None)
