@@ -144,9 +144,9 @@ void lock_order_end(void) {
 #define REAL(result, name, ...) result __real_##name(__VA_ARGS__); result __wrap_##name(__VA_ARGS__)
 
 REAL(uint32_t, iox2ps_domain_create, iox2ps_domain_t *domain, const iox2ps_config_t *config) {
-  put(&script, "domain %zu %zu %zu %zu %zu %zu %s\n", config->max_publishers, config->max_subscribers,
+  put(&script, "domain %zu %zu %zu %zu %zu %zu %s channels %zu\n", config->max_publishers, config->max_subscribers,
       config->subscriber_max_buffer_size, config->subscriber_max_borrowed_samples, config->history_size,
-      config->subscriber_expired_connection_buffer, config->enable_safe_overflow ? "overflow" : "keep");
+      config->subscriber_expired_connection_buffer, config->enable_safe_overflow ? "overflow" : "keep", config->number_of_channels);
   return __real_iox2ps_domain_create(domain, config);
 }
 REAL(uint32_t, iox2ps_domain_config_sized, iox2ps_domain_t *domain, iox2ps_config_t *config, size_t struct_size) {
@@ -251,19 +251,36 @@ static void sent(uint32_t code, uint64_t number, size_t receivers) {
   else if (code == IOX2PS_BLOCKED) { reply("blocked"); add(BLOCKED, 0, number, NULL); }
   else reply_error(code);
 }
-REAL(uint32_t, iox2ps_loan_send_counted, iox2ps_domain_t *domain, const iox2ps_loan_t *it, size_t *receivers, iox2ps_blocked_t *blocked) {
-  uint32_t code;
+/* A loan that is sent, whose write comes before. */
+static thing_t *written(const iox2ps_loan_t *it) {
   thing_t *loan = find(LOAN, 0, it->number.low);
   if (!loan->is_written) {
     put(&script, "write %zu %" PRIu64 "\n", loan->command, number_at(loan->bytes));
     reply("ok");
     loan->is_written = 1;
   }
+  return loan;
+}
+/* What its send returned, which may have left it as it was. */
+static void sent_loan(uint32_t code, thing_t *loan, uint64_t number, size_t receivers) {
+  if (code == IOX2PS_PUBLISHER_IS_BLOCKED || code == IOX2PS_NO_SUCH_CHANNEL) { reply("skipped"); return; }
+  spend(LOAN, loan);
+  sent(code, number, receivers);
+}
+REAL(uint32_t, iox2ps_loan_send_counted, iox2ps_domain_t *domain, const iox2ps_loan_t *it, size_t *receivers, iox2ps_blocked_t *blocked) {
+  uint32_t code;
+  thing_t *loan = written(it);
   CALL(__real_iox2ps_loan_send_counted(domain, it, receivers, blocked));
   line("send", loan->command);
-  if (code == IOX2PS_PUBLISHER_IS_BLOCKED) { reply("skipped"); return code; }
-  spend(LOAN, loan);
-  sent(code, it->number.low, *receivers);
+  sent_loan(code, loan, it->number.low, *receivers);
+  return code;
+}
+REAL(uint32_t, iox2ps_loan_deliver_offset_to_connection_counted, iox2ps_domain_t *domain, const iox2ps_loan_t *it, size_t channel, size_t connection, size_t *receivers, iox2ps_blocked_t *blocked) {
+  uint32_t code;
+  thing_t *loan = written(it);
+  CALL(__real_iox2ps_loan_deliver_offset_to_connection_counted(domain, it, channel, connection, receivers, blocked));
+  put(&script, "deliver %zu %zu %zu\n", loan->command, channel, connection);
+  sent_loan(code, loan, it->number.low, *receivers);
   return code;
 }
 REAL(uint32_t, iox2ps_publisher_send_copy_counted, iox2ps_domain_t *domain, const iox2ps_publisher_t *it, const void *bytes, size_t len, size_t *receivers, iox2ps_blocked_t *blocked) {
@@ -304,6 +321,76 @@ REAL(uint32_t, iox2ps_blocked_give_up_counted, iox2ps_domain_t *domain, const io
   thing_t *thing = find(BLOCKED, 0, it->number.low);
   CALL(__real_iox2ps_blocked_give_up_counted(domain, it, receivers));
   went_on("giveup", thing, code, *receivers);
+  return code;
+}
+
+/* ---- channels */
+
+static void at_channel(uint32_t code, const char *words) { reply(code == IOX2PS_NO_SUCH_CHANNEL ? "skipped" : words); }
+static void answered(uint32_t code, uint32_t is_so) { at_channel(code, code == IOX2PS_OK && is_so ? "true" : "false"); }
+
+/* The line of a subscriber's call, and of one of a publisher at a connection. */
+static void of_subscriber(const char *word, const iox2ps_subscriber_t *it, size_t channel, uint64_t state) {
+  put(&script, "%s %zu %zu %" PRIu64 "\n", word, find(SUBSCRIBER, 0, it->id.low)->command, channel, state);
+}
+static void of_publisher(const char *word, const iox2ps_publisher_t *it, size_t channel, size_t connection, uint64_t state) {
+  put(&script, "%s %zu %zu %zu %" PRIu64 "\n", word, find(PUBLISHER, 0, it->id.low)->command, channel, connection, state);
+}
+REAL(uint32_t, iox2ps_subscriber_set_channel_state, iox2ps_domain_t *domain, const iox2ps_subscriber_t *it, size_t channel, uint64_t state, uint32_t *were_closed) {
+  uint32_t code;
+  CALL(__real_iox2ps_subscriber_set_channel_state(domain, it, channel, state, were_closed));
+  of_subscriber("open", it, channel, state);
+  answered(code, *were_closed);
+  return code;
+}
+REAL(uint32_t, iox2ps_subscriber_at_least_one_channel_has_state, iox2ps_domain_t *domain, const iox2ps_subscriber_t *it, size_t channel, uint64_t state, uint32_t *has) {
+  uint32_t code;
+  CALL(__real_iox2ps_subscriber_at_least_one_channel_has_state(domain, it, channel, state, has));
+  of_subscriber("state", it, channel, state);
+  answered(code, *has);
+  return code;
+}
+REAL(uint32_t, iox2ps_subscriber_close_channel, iox2ps_domain_t *domain, const iox2ps_subscriber_t *it, size_t channel, uint64_t expected) {
+  uint32_t code;
+  CALL(__real_iox2ps_subscriber_close_channel(domain, it, channel, expected));
+  of_subscriber("shut", it, channel, expected);
+  at_channel(code, "ok");
+  return code;
+}
+REAL(uint32_t, iox2ps_subscriber_set_disconnect_hint, iox2ps_domain_t *domain, const iox2ps_subscriber_t *it, size_t channel, uint64_t expected) {
+  uint32_t code;
+  CALL(__real_iox2ps_subscriber_set_disconnect_hint(domain, it, channel, expected));
+  of_subscriber("hint", it, channel, expected);
+  at_channel(code, "ok");
+  return code;
+}
+REAL(uint32_t, iox2ps_publisher_close_channel, iox2ps_domain_t *domain, const iox2ps_publisher_t *it, size_t channel, size_t connection, uint64_t expected) {
+  uint32_t code;
+  CALL(__real_iox2ps_publisher_close_channel(domain, it, channel, connection, expected));
+  of_publisher("shut", it, channel, connection, expected);
+  at_channel(code, "ok");
+  return code;
+}
+REAL(uint32_t, iox2ps_publisher_has_channel_state, iox2ps_domain_t *domain, const iox2ps_publisher_t *it, size_t channel, size_t connection, uint64_t state, uint32_t *has) {
+  uint32_t code;
+  CALL(__real_iox2ps_publisher_has_channel_state(domain, it, channel, connection, state, has));
+  of_publisher("state", it, channel, connection, state);
+  answered(code, *has);
+  return code;
+}
+REAL(uint32_t, iox2ps_publisher_has_disconnect_hint, iox2ps_domain_t *domain, const iox2ps_publisher_t *it, size_t channel, size_t connection, uint64_t state, uint32_t *has) {
+  uint32_t code;
+  CALL(__real_iox2ps_publisher_has_disconnect_hint(domain, it, channel, connection, state, has));
+  of_publisher("hinted", it, channel, connection, state);
+  answered(code, *has);
+  return code;
+}
+REAL(uint32_t, iox2ps_publisher_get_connection_id_of, iox2ps_domain_t *domain, const iox2ps_publisher_t *it, const iox2ps_wide_t *subscriber, size_t *connection) {
+  uint32_t code;
+  CALL(__real_iox2ps_publisher_get_connection_id_of(domain, it, subscriber, connection));
+  put(&script, "connection %zu %" PRIu64 "\n", find(PUBLISHER, 0, it->id.low)->command, subscriber->low);
+  if (code == IOX2PS_NO_CONNECTION) reply("none");
+  else reply_number(*connection);
   return code;
 }
 

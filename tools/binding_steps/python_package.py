@@ -150,8 +150,6 @@ def run_page(steps, work, python):
     steps.run("python, the page's line of C++", page_compiles, work)
 
 
-# Tests that valgrind watches; a child of fork, too.
-GROUND = ("bad_input", "messages", "processes", "threads", "waits")
 # The interpreter's own memory is the C library's, so that each object is a block of its own.
 WATCHED = {"PYTHONMALLOC": "malloc", "PYTHONHASHSEED": "0"}
 
@@ -164,10 +162,12 @@ def sanitized(work, python, others):
     return said(python, "-m", "pytest", "-q", "-p", "no:cacheprovider", SOURCE / "tests", cwd=work, env=places)
 
 
-def ground(work, python, package, *words):
-    """A program of Python's under valgrind, which has to find nothing. Its threads take turns, as those that wait for one another need."""
+def ground(work, python, package, others, *words):
+    """A program of Python's and what it forks under valgrind, which has to find nothing. Its threads take turns, as those that wait for
+    one another need."""
     grind = ("valgrind", "--quiet", "--error-exitcode=9", "--undef-value-errors=no", "--fair-sched=yes", python)
-    return said(*grind, *words, cwd=work, env={**os.environ, **WATCHED, "PYTHONPATH": str(package)}) or "nothing is found"
+    places = {**os.environ, **WATCHED, "PYTHONPATH": str(package), "IOX2_PUBSUB_CAMERAS": others}
+    return said(*grind, *words, cwd=work, env=places) or "nothing is found"
 
 
 def lost(work, python, package, messages, domains):
@@ -198,14 +198,14 @@ def run_checked(steps, work):
         return
     build_wheel(work)
     python = environment(work, "with_numpy", "--system-site-packages")
-    steps.run("python, pytest, sanitizers", sanitized, work, python, cameras(work))
+    others = cameras(work)
+    steps.run("python, pytest, sanitizers", sanitized, work, python, others)
     if not is_here("valgrind"):
         steps.skip("python by valgrind", "valgrind")
         return
     package = python_build.build(include(), work / "ground", "-g")
-    steps.run("python, tests/without_numpy.py, valgrind", ground, work, python, package, SOURCE / "tests/without_numpy.py")
-    for name in GROUND:
-        steps.run(f"python, tests/test_{name}.py, valgrind", ground, work, python, package, "-m", "pytest", "-q", "-p", "no:cacheprovider", SOURCE / f"tests/test_{name}.py")
+    steps.run("python, tests/without_numpy.py, valgrind", ground, work, python, package, others, SOURCE / "tests/without_numpy.py")
+    steps.run("python, pytest, valgrind", ground, work, python, package, others, "-m", "pytest", "-q", "-p", "no:cacheprovider", SOURCE / "tests")
     steps.run("python, leaks by valgrind", nothing_is_lost, work, python, package)
 
 

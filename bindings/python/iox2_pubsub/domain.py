@@ -18,12 +18,20 @@ from .values import type_name_of, values_of
 MOST = 2**63 - 1  # bytes, which no memory holds
 MOST_SECONDS = 4_000_000  # some 46 days
 ROOMS = ("book_room", "payload_room")
+ENUMS = {
+    "backpressure_strategy": BackpressureStrategy, "backpressure_handler": BackpressureHandler, "degradation": DegradationAction,
+    "allocation_strategy": AllocationStrategy,
+}  # fmt: skip
 OPTIONS = (*ROOMS, "max_processes", "calls", "permissions", "spins")  # of a domain that processes share
 
 
 def _given(**settings: int | None) -> dict[str, int]:
     """Those that were said."""
-    return {name: value for name, value in settings.items() if value is not None}
+    given = {name: value for name, value in settings.items() if value is not None}
+    for name in given.keys() & ENUMS.keys():
+        if not hasattr(given[name], "__index__"):
+            raise TypeError(f"{name} is one of {', '.join(f'{one.__class__.__name__}.{one.name}' for one in ENUMS[name])}, not {given[name]!r}")
+    return given
 
 
 def _milliseconds(reap_every: float) -> int:
@@ -187,6 +195,8 @@ class Domain(_core.Domain):
 
     @classmethod
     def _named(cls, how: str, name: str, dtype: Any, max_len: int | None, settings: dict[str, Any]) -> Domain:
+        if not isinstance(name, str):
+            raise TypeError(f"a name is a text, as 'My/Service', not {name!r}")
         given: dict[str, Any] = {"service_id": 0, **settings}
         options = _given(**{option: given.pop(option, None) for option in OPTIONS})
         reap_every, record, alignment = given.pop("reap_every", None), given.pop("record", None), given.pop("alignment", None)

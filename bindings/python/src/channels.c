@@ -36,13 +36,13 @@ static iox2ps_status_t close_made(iox2ps_domain_t *handle, void *what) {
 
 static int read_of_publisher(Channel *one, PyObject *args, PyObject *names, const char *state) {
   char *words[] = {"channel", "connection", (char *)state, NULL};
-  return PyArg_ParseTupleAndKeywords(args, names, "O&O&O&", words, read_size, &one->channel, read_size, &one->connection, read_state,
+  return PyArg_ParseTupleAndKeywords(args, names, "O&O&O&", words, read_channel, &one->channel, read_connection, &one->connection, read_state,
                                      &one->state);
 }
 
 static int read_of_subscriber(Channel *one, PyObject *args, PyObject *names, const char *state) {
   char *words[] = {"channel", (char *)state, NULL};
-  return PyArg_ParseTupleAndKeywords(args, names, "O&O&", words, read_size, &one->channel, read_state, &one->state);
+  return PyArg_ParseTupleAndKeywords(args, names, "O&O&", words, read_channel, &one->channel, read_state, &one->state);
 }
 
 /* What is made there, and its answer. */

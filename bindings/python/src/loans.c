@@ -51,7 +51,7 @@ static PyObject *loan_deliver(Message *self, PyObject *args, PyObject *names) {
   static char *words[] = {"channel", "connection", "timeout", NULL};
   double seconds = Py_HUGE_VAL;
   Sending sending = {.port = self->port, .message = self, .is_to_one = 1};
-  if (!PyArg_ParseTupleAndKeywords(args, names, "O&O&|O&:deliver_offset_to_connection", words, read_size, &sending.channel, read_size,
+  if (!PyArg_ParseTupleAndKeywords(args, names, "O&O&|O&:deliver_offset_to_connection", words, read_channel, &sending.channel, read_connection,
                                    &sending.connection, read_timeout, &seconds)) {
     return NULL;
   }

@@ -51,7 +51,8 @@ int size_of(PyObject *number, const char *name, size_t *size) {
   return 0;
 }
 
-int read_size(PyObject *number, void *size) { return size_of(number, "this", size); }
+int read_channel(PyObject *number, void *channel) { return size_of(number, "a channel", channel); }
+int read_connection(PyObject *number, void *connection) { return size_of(number, "a connection", connection); }
 
 int read_state(PyObject *number, void *state) {
   size_t size;

@@ -116,6 +116,7 @@ static PyObject *module_exists(PyObject *module, PyObject *name) {
   uint32_t exists = 0;
   (void)module;
   Py_ssize_t len;
+  if (!PyUnicode_Check(name)) return PyErr_Format(PyExc_TypeError, "a name is a text, as 'My/Service', not %R", name);
   const char *text = PyUnicode_AsUTF8AndSize(name, &len);
   if (!text) return NULL;
   if (strlen(text) != (size_t)len) return PyErr_SetString(PyExc_ValueError, "a name has no zero in it"), NULL;

@@ -28,8 +28,9 @@ int wide_of(PyObject *number, const char *name, iox2ps_wide_t *wide);
 /* An int as a size. 0 with an exception, a ValueError where it is negative or has more than 64 bits. */
 int size_of(PyObject *number, const char *name, size_t *size);
 
-/* For PyArg_Parse..: an int as a size, as an unsigned number of 64 bits, and as an id. */
-int read_size(PyObject *number, void *size);
+/* For PyArg_Parse..: an int as the number of a channel or a connection, as a state, and as an id. */
+int read_channel(PyObject *number, void *channel);
+int read_connection(PyObject *number, void *connection);
 int read_state(PyObject *number, void *state);
 int read_id(PyObject *number, void *wide);
 

@@ -14,6 +14,7 @@ import iox2_pubsub as ps
 
 SEED, CALLS, THREADS = map(int, sys.argv[1:4])
 KINDS = ("publishers", "subscribers", "loans", "blocked", "samples")
+CHANNELS = 2
 
 
 class Things:
@@ -116,6 +117,35 @@ class Worker(threading.Thread):
         if (subscriber := self.pick("subscribers")) is not None:
             subscriber.has_samples()
 
+    def deliver(self):
+        if (loan := self.take("loans")) is not None:
+            try:
+                loan.deliver_offset_to_connection(self.channel(), self.connection(), timeout=self.timeout())
+            except (ps.PublisherIsBlocked, ps.NoSuchChannel):
+                self.own.loans.append(loan)
+                raise
+
+    def channel(self):
+        return self.random.randrange(CHANNELS + 1)  # the last isn't there
+
+    def connection(self):
+        return self.random.randrange(6)
+
+    def state(self):
+        return self.random.choice((ps.CHANNEL_STATE_OPEN, ps.CHANNEL_STATE_OPEN, 1, ps.CHANNEL_STATE_CLOSED))
+
+    def of_publisher(self):
+        if (publisher := self.pick("publishers")) is not None:
+            call = self.random.choice((publisher.close_channel, publisher.has_channel_state, publisher.has_disconnect_hint))
+            call(self.channel(), self.connection(), self.state())
+            publisher.get_connection_id_of(self.random.randrange(20))
+
+    def of_subscriber(self):
+        if (subscriber := self.pick("subscribers")) is not None:
+            subscriber.set_channel_state(self.channel(), self.state())
+            call = self.random.choice((subscriber.close_channel, subscriber.set_disconnect_hint, subscriber.at_least_one_channel_has_state))
+            call(self.channel(), self.state())
+
     def exchange(self):
         with self.pool.lock:
             for kind in KINDS:
@@ -126,6 +156,7 @@ class Worker(threading.Thread):
     CALLS = (
         (publisher, 1), (subscriber, 1), (drop_port, 1), (loan, 6), (send, 6), (send_copy, 6), (discard, 1), (retry, 4), (give_up, 2),
         (receive, 12), (release, 8), (update, 1), (ask, 2), (exchange, 4),
+        (deliver, 4), (of_publisher, 4), (of_subscriber, 4),
     )
 
     def run(self):
@@ -148,7 +179,8 @@ def main():
     order.lock_order_begin(*(ctypes.c_char_p(path.encode()) for path in sys.argv[4:6]))
     domain = ps.Domain(
         7, np.dtype(("u8", 8)), max_publishers=4, max_subscribers=4, subscriber_max_buffer_size=3, subscriber_max_borrowed_samples=3,
-        history_size=2, subscriber_expired_connection_buffer=4, publisher_max_loaned_samples=3, enable_safe_overflow=SEED % 2 == 0,
+        history_size=2, number_of_channels=CHANNELS, subscriber_expired_connection_buffer=4, publisher_max_loaned_samples=3,
+        enable_safe_overflow=SEED % 2 == 0,
     )
     pool = Pool()
     workers = [Worker(domain, pool, number) for number in range(1, THREADS + 1)]

@@ -266,10 +266,11 @@ def test_what_is_no_name_is_refused(wrong):
 
 @pytest.mark.parametrize("wrong, kind", [(b"bytes", TypeError), (7, TypeError), (None, TypeError), ("zero\0inside", ValueError), ("\ud800", UnicodeEncodeError)])
 def test_what_is_no_text_is_no_name(wrong, kind):
+    words = "a name is a text, as 'My/Service', not" if kind is TypeError else ""
     for call in (ps.Domain.open_or_create, ps.Domain.open, ps.Domain.create):
-        with pytest.raises(kind):
+        with pytest.raises(kind, match=words):
             call(wrong, "i8")
-    with pytest.raises((kind, ValueError)):
+    with pytest.raises(kind, match=words):
         ps.Domain.exists(wrong)
 
 

@@ -86,3 +86,19 @@ def test_a_state_has_64_bits(state):
         subscriber.close_channel(0, state)
     with pytest.raises(ValueError, match="an id is a number from 0 to 2"):
         subscriber.domain.publisher().get_connection_id_of(1 << 128)
+
+
+def test_a_channel_and_a_connection_are_numbers():
+    publisher, subscriber = pair()
+    loan = publisher.loan()
+    for wrong, kind, words in [("0", TypeError, "is an integer, not '0'"), (-1, ValueError, "is a number from 0"), (1 << 64, ValueError, "is a number from 0")]:
+        for call in (
+            lambda: loan.deliver_offset_to_connection(wrong, 0), lambda: subscriber.close_channel(wrong, 0), lambda: subscriber.set_channel_state(wrong, 0),
+            lambda: publisher.has_disconnect_hint(wrong, 0, 0),
+        ):  # fmt: skip
+            with pytest.raises(kind, match=f"a channel {words}"):
+                call()
+        for call in (lambda: loan.deliver_offset_to_connection(0, wrong), lambda: publisher.has_disconnect_hint(0, wrong, 0)):
+            with pytest.raises(kind, match=f"a connection {words}"):
+                call()
+    assert loan.is_live

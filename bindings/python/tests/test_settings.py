@@ -262,6 +262,7 @@ def test_lost_messages_of_closed_publishers_are_warned_of():
     [
         ({"buffer": 3}, TypeError, "buffer"),
         ({"backpressure_strategy": 9}, ps.InvalidBackpressureStrategy, "is a BackpressureStrategy"),
+        ({"backpressure_strategy": "retry"}, TypeError, "is one of BackpressureStrategy.RETRY_UNTIL_DELIVERED, .*, not 'retry'"),
         ({"max_subscribers": -1}, ValueError, "max_subscribers is a number from 0"),
         ({"max_subscribers": 1 << 64}, ValueError, "max_subscribers is a number from 0"),
         ({"history_size": "3"}, TypeError, "history_size is an integer, not '3'"),
@@ -294,6 +295,7 @@ def test_bad_settings_are_refused_in_words(settings, kind, words):
         ({"backpressure_handler": 5}, ps.InvalidBackpressureHandler),
         ({"degradation": 1 << 40}, ps.InvalidDegradation),
         ({"allocation_strategy": 3}, ps.InvalidAllocationStrategy),
+        *(({name: "x"}, TypeError) for name in ("backpressure_strategy", "backpressure_handler", "degradation", "allocation_strategy")),
         ({"allocation_strategy": 1, "initial_max_slice_len": 0}, ps.InvalidInitialMaxSliceLen),
         ({"max_loaned_samples": -1}, ValueError),
         ({"max_loaned_samples": (1 << 64) - 1}, ps.PublisherCreateError),
@@ -306,7 +308,7 @@ def test_bad_settings_are_refused_in_words(settings, kind, words):
 )
 def test_bad_options_of_a_publisher_are_refused(options, kind):
     domain = ps.Domain(7, "i8", 3)
-    with pytest.raises(kind, match="|".join((*options, "lower .* limits"))):
+    with pytest.raises(kind, match="|".join((*(f"{name} (is|makes) " for name in options), "lower .* limits|keyword argument"))):
         domain.publisher(**options)
     assert domain.publisher().is_open
 
