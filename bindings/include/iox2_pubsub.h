@@ -69,7 +69,7 @@ extern "C" {
 
 #define IOX2PS_VERSION_MAJOR 0 /**< the first number of this header's version; that of the archive is iox2ps_version() */
 #define IOX2PS_VERSION_MINOR 2 /**< the second number */
-#define IOX2PS_VERSION_PATCH 1 /**< the third number */
+#define IOX2PS_VERSION_PATCH 2 /**< the third number */
 
 /** The version as one number, which grows with each version. */
 #define IOX2PS_VERSION (IOX2PS_VERSION_MAJOR * 65536 + IOX2PS_VERSION_MINOR * 256 + IOX2PS_VERSION_PATCH)

@@ -40,9 +40,9 @@ pub extern "C" fn iox2ps_error_text_at(code: u32, text: &mut *const u8, len: &mu
 /// program compares it with that of the header that it was compiled with.
 #[unsafe(no_mangle)]
 pub extern "C" fn iox2ps_version() -> u32
-    ensures { result ≡ 513 }
+    ensures { result ≡ 514 }
 {
-    513
+    514
 }
 
 /// Makes and removes a publisher's connections.
