@@ -78,13 +78,12 @@ pub fn change_received(
     ensures refused { 0 < result → service.new ≡ service.old }
     ensures stays { ServesBut No_item service.old service.new }
 {
-    let call = change.call(expected);
     let subscriber = match subscriber_with_channel(&service.domain, numbers, channel) {
         Ok(subscriber) => subscriber,
         Err(code) => {
             service
                 .recording
-                .subscriber_channel(numbers, channel, call, code, false);
+                .subscriber_channel(numbers, channel, change.call(expected), code, false);
             return code;
         }
     };
@@ -96,7 +95,7 @@ pub fn change_received(
     subscriber.disown();
     service
         .recording
-        .subscriber_channel(numbers, channel, call, OK, false);
+        .subscriber_channel(numbers, channel, change.call(expected), OK, false);
     OK
 }
 

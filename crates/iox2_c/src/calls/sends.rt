@@ -80,16 +80,30 @@ pub fn send(
     ensures { SendReturns numbers.now service.old service.new receivers.old receivers.new blocked.old blocked.new result }
 {
     if service.recording.is_on() {
-        record_bytes(service, numbers);
-        let mut failed = None;
-        let code = send_elsewhere(service, numbers, receivers, blocked, Some(&mut failed));
-        service.recording.sent(numbers, code, *receivers, failed);
-        return code;
+        return send_recorded(service, numbers, receivers, blocked);
     }
     match service.domain.sends_at_once(&numbers.parts()) {
         Some(book) => send_named(service, numbers, book, receivers, blocked, None),
         None => send_elsewhere(service, numbers, receivers, blocked, None),
     }
+}
+
+// The same, and records it.
+#[cold]
+#[inline(never)]
+fn send_recorded(
+    service: &mut Service,
+    numbers: &LoanNumbers,
+    receivers: &mut usize,
+    blocked: &mut LoanNumbers,
+) -> u32
+    ensures { SendReturns numbers.now service.old service.new receivers.old receivers.new blocked.old blocked.new result }
+{
+    record_bytes(service, numbers);
+    let mut failed = None;
+    let code = send_elsewhere(service, numbers, receivers, blocked, Some(&mut failed));
+    service.recording.sent(numbers, code, *receivers, failed);
+    code
 }
 
 // The same, and why it failed, where that is asked. The loan is looked for in this book first. What was
@@ -135,8 +149,6 @@ fn send_elsewhere(
 }
 
 // Records the bytes of a loan that is out, unless a send of its publisher waits: the loan isn't sent then.
-#[cold]
-#[inline(never)]
 pub(crate) fn record_bytes(service: &mut Service, numbers: &LoanNumbers)
     ensures { service.new ≡ service.old }
 {
