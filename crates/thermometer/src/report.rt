@@ -61,9 +61,7 @@ fn report_pair(
     let first = publisher.loan_uninit(domain).unwrap();
     let second = publisher.loan_uninit(domain).unwrap();
     send_pair(domain, first, second, celsius, later)?;
-    show(rt, domain, subscriber)?;
-    show(rt, domain, subscriber)?;
-    Ok(())
+    show_both(rt, domain, subscriber)
 }
 
 // Sends two loans, the later one first.
@@ -83,6 +81,21 @@ fn send_pair(
     let outcome = send(domain, second, later);
     send(domain, first, celsius)?;
     outcome
+}
+
+// Shows the next two readings.
+fn show_both(
+    rt: &HostRuntime,
+    domain: &mut Domain<Reading, ()>,
+    subscriber: &Subscriber,
+) -> Result<(), Failure>
+    requires single_valued { IsSingleValued domain.old }
+    requires subscriber { IsLiveSubscriber domain.old subscriber.now }
+    ensures { Stays domain.old domain.new }
+{
+    show(rt, domain, subscriber)?;
+    show(rt, domain, subscriber)?;
+    Ok(())
 }
 
 // Writes a reading into the loan, and sends it.
