@@ -44,8 +44,8 @@ def threads_of(process):
 
 
 def sleeps(threads):
-    """Whether all of them do."""
-    return all(state == "S" for state, *_ in threads.values())
+    """Whether all of them do. A child that has ended does nothing either, until somebody asks how."""
+    return all(state in "SZ" for state, *_ in threads.values())
 
 
 def stood_still(process):
