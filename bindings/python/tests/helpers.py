@@ -1,13 +1,36 @@
 # SPDX-License-Identifier: Apache-2.0 OR MIT
 """What the tests share. None of them looks at a clock: a thread has come to a place when the domain says so."""
+import os
 import threading
 import time
 
+import numpy  # noqa: F401, it may start threads of its own, before they are counted
 import pytest
 
 import iox2_pubsub as ps
 
 PATIENCE = 120  # seconds, after which a thread that should have ended has failed
+
+
+def threads_of_the_system():
+    return len(os.listdir("/proc/self/task"))
+
+
+# Threads that aren't Python's.
+OTHERS = threads_of_the_system() - threading.active_count()
+
+
+def let_threads_end():
+    """Those that were joined. One that hasn't ended may hold a lock of the sanitizers' memory, which a child of fork would wait for."""
+    for _ in range(1000):
+        if threads_of_the_system() <= OTHERS + threading.active_count():
+            return
+        time.sleep(0.001)
+
+
+def fork():
+    let_threads_end()
+    return os.fork()
 
 
 def pair(dtype="i8", max_len=None, **settings):

@@ -11,7 +11,7 @@ from pathlib import Path
 
 import numpy as np
 import pytest
-from helpers import PATIENCE, Beside, end, go_on, hear, is_idle, until, value, waiting, wants_processes
+from helpers import PATIENCE, Beside, end, fork, go_on, hear, is_idle, until, value, waiting, wants_processes
 
 import iox2_pubsub as ps
 from other_process import SETTINGS, opened
@@ -285,7 +285,7 @@ def test_what_is_a_name_is_taken(right):
 
 def refused_as_another_user(call, path):
     """In a child that may not read the file: whether the call is refused, and nobody is said to have the domain."""
-    child = os.fork()
+    child = fork()
     if child == 0:
         try:
             if os.geteuid() == 0:
@@ -474,7 +474,7 @@ def test_calls_are_recorded_where_it_is_created_so(name):
 def test_a_child_of_fork_opens_it_for_itself(name):
     domain = opened(name)
     subscriber = domain.subscriber()
-    child = os.fork()
+    child = fork()
     if child == 0:
         try:
             try:

@@ -10,6 +10,7 @@ from pathlib import Path
 
 import numpy as np
 import pytest
+from helpers import fork
 
 import iox2_pubsub as ps
 
@@ -228,7 +229,7 @@ def test_what_is_joined_has_settings_and_fits(opened):
 def test_a_child_has_nothing_of_it(opened):
     camera, domain = opened()
     publisher = domain.publisher()
-    child = os.fork()
+    child = fork()
     if child == 0:
         status = 1
         try:

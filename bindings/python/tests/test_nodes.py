@@ -6,7 +6,7 @@ import select
 from itertools import islice
 
 import pytest
-from helpers import PATIENCE, end, hear, kill, waiting, wants_processes
+from helpers import PATIENCE, end, fork, hear, kill, waiting, wants_processes
 
 import iox2_pubsub as ps
 from iox2_pubsub import NodeState, PortKind
@@ -183,7 +183,7 @@ def test_nobody_else_has_a_domain_of_one_process():
 def test_a_child_of_fork_is_told(name):
     domain = opened(name)
     dead = domain.dead_nodes()
-    child = os.fork()
+    child = fork()
     if child == 0:
         try:
             for call in (domain.nodes, domain.ports, domain.cleanup_dead_nodes, domain.dead_nodes, dead.wait_one, dead.fileno, lambda: domain.node_id):

@@ -8,7 +8,7 @@ import weakref
 from itertools import islice
 
 import pytest
-from helpers import PATIENCE, go_on, hear, kill, value, waiting, wants_processes
+from helpers import PATIENCE, fork, go_on, hear, kill, value, waiting, wants_processes
 
 import iox2_pubsub as ps
 from other_process import opened
@@ -203,7 +203,7 @@ def test_a_domain_of_one_process_has_no_events():
 def test_a_child_of_fork_is_told(name):
     domain = opened(name)
     listener, notifier = domain.listener(), domain.notifier()
-    child = os.fork()
+    child = fork()
     if child == 0:
         try:
             for call in (listener.wait_one, listener.wait_all, listener.close, listener.fileno, notifier.notify, domain.listener, domain.notifier):

@@ -6,14 +6,14 @@ import subprocess
 import sys
 
 import pytest
-from helpers import pair, value, waiting
+from helpers import fork, let_threads_end, pair, value, waiting
 
 import iox2_pubsub as ps
 
 
 def in_child(check):
     """Whether the check holds in a child of this process."""
-    child = os.fork()
+    child = fork()
     if child == 0:
         try:
             os._exit(0 if check() else 1)
@@ -95,6 +95,7 @@ def receive_in_worker(_):
 def test_a_worker_of_multiprocessing_is_told():
     global RECEIVES
     RECEIVES = pair()[1].receive
+    let_threads_end()
     with multiprocessing.get_context("fork").Pool(1) as pool:
         assert pool.map(receive_in_worker, [1]) == [True]
 
