@@ -6,7 +6,8 @@ use Rattle.iox2_pubsub.specs.Live.{IsWrittenLoan, LoanHasUserHeader, written_loa
 use Rattle.iox2_pubsub.specs.declared.sample_mut.SampleMut.{SampleMut}
 use Rattle.iox2_machine.specs.declared.key.Key.{Key}
 
--- The handle is the same one and the loan can still be sent. What else is live reads as before, and what waits still does.
+-- The handle is the same one and the loan can still be sent. What else is live reads as before, and what waits still
+-- does.
 pub record ChangesLoan {T U F G : Type 0} (old new : Kept T U F G) (before after : SampleMut) : Type 0 where
   pub same : after ≡ before
   pub live : IsWrittenLoan new after
@@ -14,4 +15,5 @@ pub record ChangesLoan {T U F G : Type 0} (old new : Kept T U F G) (before after
 
 -- The loan with the second key is of the same sensor as the loan with the first key was.
 abbrev pub SensorStays : {T F G : Type 0} → (old new : Kept T ℕ F G) → (before after : Key) → Type 0
-SensorStays old new before after = (sensor : ℕ) → LoanHasUserHeader old before sensor → LoanHasUserHeader new after sensor
+SensorStays old new before after =
+    (sensor : ℕ) → LoanHasUserHeader old before sensor → LoanHasUserHeader new after sensor

@@ -5,4 +5,5 @@ unwrap-first-requires g c = c.loan_uninit.ensures.granted 1 1 c.requires.loans.l
 
 pub unwrap-second-requires : goal.unwrap-second-requires
 unwrap-second-requires g c =
-    c.loan_uninit-2.ensures.granted 0 0 (c.loan_uninit.ensures.leaves.loans_left.loans 1 c.requires.loans.loans) (c.loan_uninit.ensures.leaves.loans_left.numbers 1 c.requires.loans.numbers)
+    c.loan_uninit-2.ensures.granted 0 0 (c.loan_uninit.ensures.leaves.loans_left.loans 1 c.requires.loans.loans)
+    (c.loan_uninit.ensures.leaves.loans_left.numbers 1 c.requires.loans.numbers)

@@ -5,5 +5,8 @@ use Rattle.thermometer.proofs.series.publish.Goals as goal
 
 pub returns : goal.returns
 returns g c =
-    let sent = stays_twice c.args.domain.now c.create.new.domain c.send_both-outcome.new.domain c.in_ok-publisher.ensures.leaves.stays c.send_both-outcome.ensures in
-    stays_on c.args.domain.now c.send_both-outcome.new.domain c.close.new.domain sent (publisher_port (as_publisher c.in_ok-publisher.publisher)) c.in_ok-publisher.ensures.made.is_new c.close.ensures.stays
+    let sent = stays_twice c.args.domain.now c.create.new.domain c.send_both-outcome.new.domain
+    c.in_ok-publisher.ensures.leaves.stays c.send_both-outcome.ensures in
+    stays_on c.args.domain.now c.send_both-outcome.new.domain c.close.new.domain sent
+    (publisher_port (as_publisher c.in_ok-publisher.publisher)) c.in_ok-publisher.ensures.made.is_new
+    c.close.ensures.stays
