@@ -730,7 +730,7 @@ int main(int count, char **arguments) {
   random_state = strtoull(arguments[1], NULL, 10);
   size_t calls = strtoull(arguments[2], NULL, 10), on_channels = 0, by_nothing = 0;
   choose_settings();
-  is_code(count == 4 ? iox2ps_domain_create_recorded(&domain, &config, 300 * calls, 8) : iox2ps_domain_create(&domain, &config), IOX2PS_OK);
+  is_code(count == 4 ? iox2ps_domain_create_recorded(&domain, &config, 100 * calls, 8) : iox2ps_domain_create(&domain, &config), IOX2PS_OK);
   for (size_t i = 0; i < calls; i++) {
     channel_calls = not_live = 0;
     call(&domain);

@@ -152,9 +152,9 @@ def record_random_calls(work, replayer, seed):
 
 
 def record_random_channels(work, replayer, seed):
-    """And random calls on channels, which a model of their own compares, too. Behind each come up to a hundred questions."""
+    """And random calls on channels, which a model of their own compares, too."""
     program, recording = work / "random_channels_recorded", work / "recording"
-    said(program, seed, 1000, recording)
+    said(program, seed, 3000, recording)
     return replay(recording, replayer)
 
 
