@@ -103,8 +103,8 @@ IOX2PS_NODISCARD iox2ps_status_t iox2ps_domain_create_named(iox2ps_domain_t *dom
 /** As iox2ps_domain_create_named(), and keeps a recording of the first calls of all processes, as many as give this number of commands.
  * iox2ps_domain_recording() gives it in each process, whenever that came. The calls are in the order of the list, with those that gave
  * back what a process had that ended; bytes of messages are 0. A call that another has made needless isn't among them: a receive, where
- * nothing can have come since the last one; nor is a question about a channel, which each process asks for itself. The recording is in each copy of the book-keeping, of which the file has
- * two for each process that there may be: some 200 bytes for each command. */
+ * nothing can have come since the last one; nor is a question about a channel, which each process asks for itself. The recording is in
+ * each copy of the book-keeping, of which the file has two for each process that there may be: some 200 bytes for each command. */
 IOX2PS_NODISCARD iox2ps_status_t iox2ps_domain_create_named_recorded(iox2ps_domain_t *domain, const char *name, const char *type_name,
                                                                      const iox2ps_config_t *config,
                                                                      const iox2ps_processes_options_t *options, size_t commands);
