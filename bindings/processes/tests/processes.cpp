@@ -25,6 +25,13 @@ void sends_one(const std::string &name) {
   CHECK(publisher.send_copy({1, {}}).has_value());
   pause();
 }
+/* Sends what it is told in a domain of its own. */
+void sends_when_told(const std::string &name) {
+  auto domain = opened(name), tells = opened(name + ".told");
+  auto publisher = domain.publisher().expect("a publisher");
+  auto subscriber = tells.subscriber().expect("a subscriber");
+  while (auto sample = subscriber.blocking_receive().expect("a receive")) CHECK(publisher.send_copy(**sample).has_value());
+}
 void has_a_publisher(const std::string &name) {
   auto domain = opened(name, by_looks);
   auto publisher = domain.publisher().expect("a publisher");
@@ -91,6 +98,31 @@ void a_listener_begins_where_it_is_set() {
   CHECK(publisher.send_copy({1, {}})->delivered() == 1u);
   CHECK(subscriber.set_listener([&] { calls++; }).has_value() && calls == 0);
   CHECK(publisher.send_copy({2, {}})->delivered() == 1u && calls == 1);
+}
+
+/* Also where the thread that sleeps for all has last heard of a message that nobody listened to. */
+void a_listener_is_set_again() {
+  constexpr int turns = 6;
+  std::string name = name_of("again");
+  std::atomic<bool> is_called{false};
+  auto domain = opened(name), tells = opened(name + ".told");
+  auto subscriber = domain.subscriber().expect("a subscriber");
+  auto publisher = tells.publisher().expect("a publisher");
+  auto is_received = [&] { return subscriber.receive()->has_value(); };
+  pid_t child = started("sends_when_told", name);
+  connect(tells, publisher);
+  for (int turn = 0; turn < turns; turn++) {
+    CHECK(publisher.send_copy({1, {}})->delivered() == 1u);
+    until(is_received);
+    std::this_thread::sleep_for(20ms); /* mostly it sleeps again by then */
+    is_called = false;
+    CHECK(subscriber.set_listener([&] { is_called = true; }).has_value());
+    CHECK(publisher.send_copy({2, {}})->delivered() == 1u);
+    until([&] { return is_called.load(); });
+    until(is_received);
+    subscriber.clear_listener();
+  }
+  kill_it(child);
 }
 
 /* A listener, a descriptor and a wait set, of which no thread of this process waits in the domain. */
@@ -216,10 +248,11 @@ void listeners_that_throw_end_their_program() {
 } // namespace
 
 int main(int count, char **words) {
-  if (has_played(count, words, {{"sends", sends<Domain>}, {"receives", receives<Domain>}, {"sends_one", sends_one}, {"has_a_publisher", has_a_publisher}, {"has_a_subscriber", has_a_subscriber}, {"throws", throws}})) return 0;
+  if (has_played(count, words, {{"sends", sends<Domain>}, {"receives", receives<Domain>}, {"sends_one", sends_one}, {"sends_when_told", sends_when_told}, {"has_a_publisher", has_a_publisher}, {"has_a_subscriber", has_a_subscriber}, {"throws", throws}})) return 0;
   messages_come_and_make_room();
   all_threads_hear();
   a_listener_begins_where_it_is_set();
+  a_listener_is_set_again();
   listeners_hear();
   waits_are_ended();
   the_dead_give_back();
