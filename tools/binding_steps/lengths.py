@@ -28,6 +28,11 @@ ROUDI = ("-liceoryx_binding_c", "-liceoryx_posh_roudi", "-liceoryx_posh", "-lice
 ACCESS_LISTS = Path("/usr/include/sys/acl.h")
 
 
+def has_roudi():
+    """Whether all is here that ROUDI needs."""
+    return (ICEORYX / "iceoryx_posh/roudi").is_dir() and (ICEORYX / "iceoryx_binding_c/api.h").exists() and ACCESS_LISTS.exists()
+
+
 def main_program(work):
     """The part that all programs share."""
     said("gcc", "-std=c11", *WARNINGS, "-O2", "-c", BESIDE / "lengths.c", "-o", work / "lengths.o")
@@ -83,7 +88,7 @@ def programs(work, is_proved):
                 print(f"skipped {crate}: Debian's {registry.package(crate)} isn't here")
     else:
         print("skipped what is in Rust: cargo isn't here")
-    if (ICEORYX / "iceoryx_posh/roudi").is_dir() and ACCESS_LISTS.exists():
+    if has_roudi():
         columns.append(("iceoryx 2.0.3", of_iceoryx(work)))
     else:
         print("skipped iceoryx: libiceoryx-binding-c-dev, libiceoryx-posh-dev and libacl1-dev aren't here")

@@ -11,7 +11,7 @@ from dataclasses import dataclass
 
 from . import machine, rust_beside
 from .headers import ICEORYX
-from .lengths import ACCESS_LISTS, ROUDI
+from .lengths import ROUDI, has_roudi
 from .places import BINDINGS, is_here, version
 from .programs import WARNINGS
 from .steps import said
@@ -91,10 +91,10 @@ def programs(work, library, times="figures.c"):
         found[RUST] = rust_beside.carrier(work, library, main)
     else:
         print("skipped Rust: cargo isn't here")
-    if (ICEORYX / "iceoryx_posh/roudi").is_dir() and ACCESS_LISTS.exists():
+    if has_roudi():
         found[OTHER] = of_iceoryx(work, main)
     else:
-        print("skipped iceoryx: libiceoryx-posh-dev and libacl1-dev aren't here")
+        print("skipped iceoryx: libiceoryx-posh-dev, libiceoryx-binding-c-dev and libacl1-dev aren't here")
     for name, source in ((SOCKET, "by_socket"), (FLAG, "by_flag")):
         said("gcc", main, compiled(work, "gcc", f"{source}.c"), "-o", work / source)
         found[name] = work / source
