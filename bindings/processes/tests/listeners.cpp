@@ -159,7 +159,12 @@ void a_set_hears() {
     return iox2ps::CallbackProgression::Continue;
   }).has_value());
   listener.close();
-  CHECK(set.wait_and_process([](iox2ps::WaitSetAttachmentId) { return iox2ps::CallbackProgression::Continue; }).error() == Error::NoAttachments);
+  int missed = 0; /* by a set that keeps it, one each millisecond */
+  auto none = set.wait_and_process([&](iox2ps::WaitSetAttachmentId) {
+    CHECK(++missed < 1000);
+    return iox2ps::CallbackProgression::Continue;
+  });
+  CHECK(none.error() == Error::NoAttachments);
 }
 
 /* Listeners of events and those of subscribers have numbers of their own. */
