@@ -1,7 +1,8 @@
 -- What of a service stays from one state to the next.
 use Rattle.std.proofs.Common.{le_trans, ◌∙◌}
 use Rattle.iox2_domain.specs.Kept.{Kept}
-use Rattle.iox2_pubsub.specs.Live.{IsLivePublisher, IsLiveSubscriber, IsOtherSubscriber, Item, Stays, StaysBut, publisher_key, subscriber_key}
+use Rattle.iox2_pubsub.specs.Live.{IsLivePublisher, IsLiveSubscriber, IsOtherSubscriber, Item, Stays, StaysBut}
+use Rattle.iox2_pubsub.specs.Live.{publisher_key, subscriber_key}
 use Rattle.iox2_pubsub.specs.UpdateCalls.{ready_stays}
 use Rattle.iox2_pubsub.specs.declared.publisher.Publisher.{Publisher}
 use Rattle.iox2_pubsub.specs.declared.subscriber.Subscriber.{Subscriber}
@@ -11,13 +12,15 @@ use Rattle.iox2_request_response.specs.declared.service.RequestResponse.{Request
 
 module _ {T U F G : Type 0} (old new : Kept T U F G) where
   -- a port that is live stays so, if it isn't the item
-  pub subscriber-live : (item : Item) (subscriber : Subscriber) → StaysBut item old new → IsOtherSubscriber item subscriber.id → IsLiveSubscriber old subscriber → IsLiveSubscriber new subscriber
+  pub subscriber-live : (item : Item) (subscriber : Subscriber) → StaysBut item old new
+      → IsOtherSubscriber item subscriber.id → IsLiveSubscriber old subscriber → IsLiveSubscriber new subscriber
   subscriber-live item subscriber stays other live = record {
     there = stays.subscribers (subscriber_key subscriber) live.there other;
     placed = stays.placed_subscribers subscriber live.placed;
   }
 
-  pub publisher-live : (publisher : Publisher) → Stays old new → IsLivePublisher old publisher → IsLivePublisher new publisher
+  pub publisher-live : (publisher : Publisher) → Stays old new → IsLivePublisher old publisher
+      → IsLivePublisher new publisher
   publisher-live publisher stays live = record {
     ready = ready_stays old new publisher stays live.ready;
     never_waits = stays.never_wait (publisher_key publisher) live.never_waits;
@@ -25,7 +28,8 @@ module _ {T U F G : Type 0} (old new : Kept T U F G) where
 
 module _ {Q P F G : Type 0} where
   -- twice
-  pub service-twice : (asked answered : Item) (start old new : RequestResponse Q P F G) → StaysBoth asked answered start old → StaysBoth asked answered old new → StaysBoth asked answered start new
+  pub service-twice : (asked answered : Item) (start old new : RequestResponse Q P F G)
+      → StaysBoth asked answered start old → StaysBoth asked answered old new → StaysBoth asked answered start new
   service-twice asked answered start old new before next = record {
     requests = stays-twice asked start.requests old.requests new.requests before.requests next.requests;
     responses = stays-twice answered start.responses old.responses new.responses before.responses next.responses;

@@ -6,7 +6,9 @@ use Rattle.iox2_machine.specs.machine.ChannelCalls.{connection_place}
 use Rattle.iox2_machine.specs.machine.State.{State, Messages}
 use Rattle.iox2_domain.specs.Shows.{Shows}
 use Rattle.iox2_pubsub.specs.Handles.{publisher_id, subscriber_id}
-use Rattle.iox2_pubsub.specs.Live.{IsLivePublisher, IsLiveSample, IsLiveSubscriber, IsNewIn, No_item, SampleHasUserHeader, publisher_port, received_sample, sample_key, subscriber_port, subscriber_ports}
+use Rattle.iox2_pubsub.specs.Live.{IsLivePublisher, IsLiveSample, IsLiveSubscriber, IsNewIn, No_item}
+use Rattle.iox2_pubsub.specs.Live.{SampleHasUserHeader, publisher_port, received_sample, sample_key, subscriber_port}
+use Rattle.iox2_pubsub.specs.Live.{subscriber_ports}
 use Rattle.iox2_pubsub.specs.declared.subscriber.Subscriber.{Subscriber}
 use Rattle.iox2_request_response.specs.Service.{StaysBoth}
 use Rattle.iox2_request_response.specs.Slots.{AreDistinct, HasIdle, IsInUse, idle_ports, slot_ids}
@@ -25,11 +27,12 @@ pub record IsRequestNumber (number : ℕ) : Type 0 where
   pub not_closed : number < closed_state
 
 module _ {Q P F G : Type 0} (service : RequestResponse Q P F G) where
-  -- The client's publisher of requests is live, and so are its subscribers of responses that no request uses. No two of its
-  -- subscribers are the same.
+  -- The client's publisher of requests is live, and so are its subscribers of responses that no request uses. No two of
+  -- its subscribers are the same.
   pub record IsLiveClient (client : Client) : Type 0 where
     pub requests : IsLivePublisher service.requests client.requests
-    pub slots : (index : ℕ) (subscriber : Subscriber) → HasIdle (client.slots).items index subscriber → IsLiveSubscriber service.responses subscriber
+    pub slots : (index : ℕ) (subscriber : Subscriber) → HasIdle (client.slots).items index subscriber
+        → IsLiveSubscriber service.responses subscriber
     pub distinct : AreDistinct (slot_ids (client.slots).items)
 
   -- Both ports of the server are live.
@@ -50,13 +53,14 @@ module _ {Q P F G : Type 0} (service : RequestResponse Q P F G) where
   abbrev pub IsLiveResponse : Response → Type 0
   IsLiveResponse response = IsLiveSample service.responses response.sample
 
-  -- The request has the number that its tag says, and its place is that of the server's connection to the subscriber that the tag
-  -- names.
+  -- The request has the number that its tag says, and its place is that of the server's connection to the subscriber
+  -- that the tag names.
   pub record IsTagged (server : Server) (active : ActiveRequest) : Type 0 where
     pub tag : RequestTag
     pub reads : SampleHasUserHeader service.requests (sample_key active.sample) tag
     pub number : active.number ≡ tag.number
-    pub place : (m : Messages P ResponseTag) (s : State P ResponseTag) → Shows service.responses m s → connection_place s (publisher_id server.responses) tag.slot ≡ Some active.place
+    pub place : (m : Messages P ResponseTag) (s : State P ResponseTag) → Shows service.responses m s
+        → connection_place s (publisher_id server.responses) tag.slot ≡ Some active.place
 
   -- ---- what a call made
 
@@ -123,4 +127,5 @@ pub record HasPortsOf (before client : Client) : Type 0 where
 
 -- Who is idle was so before, at the same place.
 abbrev pub HasIdleOf : (before client : Client) → Type 0
-HasIdleOf before client = (index : ℕ) (subscriber : Subscriber) → HasIdle (client.slots).items index subscriber → HasIdle (before.slots).items index subscriber
+HasIdleOf before client = (index : ℕ) (subscriber : Subscriber) → HasIdle (client.slots).items index subscriber
+    → HasIdle (before.slots).items index subscriber

@@ -30,7 +30,8 @@ module _ {Q P F G : Type 0} (service : RequestResponse Q P F G) where
   -- The client's publisher was closed, and so were its idle subscribers.
   pub record IsClosedClient (client : Client) : Type 0 where
     pub requests : IsPublisherKey service.requests (publisher_key client.requests) → ⊥
-    pub slots : (index : ℕ) (subscriber : Subscriber) → HasIdle (client.slots).items index subscriber → IsGoneSubscriber service.responses (subscriber_id subscriber)
+    pub slots : (index : ℕ) (subscriber : Subscriber) → HasIdle (client.slots).items index subscriber
+        → IsGoneSubscriber service.responses (subscriber_id subscriber)
 
   -- Both ports of the server were closed.
   pub record IsClosedServer (server : Server) : Type 0 where

@@ -8,7 +8,8 @@ use Rattle.iox2_domain.specs.Kept.{Kept}
 use Rattle.iox2_domain.specs.Shows.{Shows}
 
 -- The message that was sent, whatever was shown before: it has a number that none had, this user header and this value.
-pub record Sent {T U F G : Type 0} (user_header : U) (payload : T) (m : Messages T U) (new : Kept T U F G) : Type 0 where
+pub record Sent {T U F G : Type 0} (user_header : U) (payload : T) (m : Messages T U)
+    (new : Kept T U F G) : Type 0 where
   pub number : ℕ
   pub entry : Entry T U
   pub after : State T U

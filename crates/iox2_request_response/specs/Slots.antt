@@ -36,7 +36,8 @@ AllInUse slots = (index : ℕ) (subscriber : Subscriber) → HasIdle slots index
 
 -- No id stands in the list twice.
 abbrev pub AreDistinct : List ℕ → Type 0
-AreDistinct ids = (index other : ℕ) → index < length ids → other < length ids → slice_index_or ids index 0 ≡ slice_index_or ids other 0 → index ≡ other
+AreDistinct ids = (index other : ℕ) → index < length ids → other < length ids
+    → slice_index_or ids index 0 ≡ slice_index_or ids other 0 → index ≡ other
 
 -- A request has the subscriber with this id, whose place is at this index.
 pub record IsInUse (slots : List Slot) (index id : ℕ) : Type 0 where

@@ -5,4 +5,5 @@ use Rattle.iox2_request_response.proofs.slots.take_idle.Given as goal
 
 abbrev pub invariant-loop-index : goal.invariant-loop-index
 invariant-loop-index l =
-    (l.slots.items ≡ l.fn.slots.items) × ((k : ℕ) → k < l.index → (subscriber : Subscriber) → HasIdle l.fn.slots.items k subscriber → ⊥)
+    (l.slots.items ≡ l.fn.slots.items)
+    × ((k : ℕ) → k < l.index → (subscriber : Subscriber) → HasIdle l.fn.slots.items k subscriber → ⊥)

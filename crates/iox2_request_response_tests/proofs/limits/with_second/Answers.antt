@@ -6,10 +6,14 @@ pub returns-clause-stays : goal.returns-clause-stays
 returns-clause-stays g c =
     let start = c.args.service.now in
     let asked = c.ask_and_hold.new.service in
-    let before = service_then start c.client_of-second.new.service asked c.client_of-second.ensures.stays c.ask_and_hold.ensures.stays in
-    let is_new = client_new_still start c.client_of-second.result c.ask_and_hold.new.second c.client_of-second.ensures.is_new c.ask_and_hold.ensures.second_ports in
+    let before = service_then start c.client_of-second.new.service asked c.client_of-second.ensures.stays
+    c.ask_and_hold.ensures.stays in
+    let is_new = client_new_still start c.client_of-second.result c.ask_and_hold.new.second
+    c.client_of-second.ensures.is_new c.ask_and_hold.ensures.second_ports in
     client_ends start asked c.close.new.service c.ask_and_hold.new.second before is_new c.close.ensures.stays
 
 pub returns-clause-first : goal.returns-clause-first
 returns-clause-first g c =
-    client_with_ports c.args.service.now c.ask_and_hold.new.service c.close.new.service (returns-clause-stays g c) c.args.first.now c.ask_and_hold.new.first c.requires.first c.ask_and_hold.ensures.first_ports c.ask_and_hold.ensures.first_idle c.ask_and_hold.ensures.first
+    client_with_ports c.args.service.now c.ask_and_hold.new.service c.close.new.service
+    (returns-clause-stays g c) c.args.first.now c.ask_and_hold.new.first c.requires.first
+    c.ask_and_hold.ensures.first_ports c.ask_and_hold.ensures.first_idle c.ask_and_hold.ensures.first

@@ -2,4 +2,6 @@ use Rattle.iox2_request_response.proofs.Calling.{client_stays, service_then}
 use Rattle.iox2_request_response_tests.proofs.servers.ask_later.Goals as goal
 
 pub close-requires-clause-client : goal.close-requires-clause-client
-close-requires-clause-client g c = client_stays _ _ (service_then _ _ _ c.serve.ensures.stays (service_then _ _ _ c.next_response.ensures.stays c.next_response-2.ensures.stays)) _ c.sent-late.ensures.client
+close-requires-clause-client g c =
+    client_stays _ _ (service_then _ _ _ c.serve.ensures.stays
+    (service_then _ _ _ c.next_response.ensures.stays c.next_response-2.ensures.stays)) _ c.sent-late.ensures.client

@@ -6,10 +6,14 @@ pub returns-clause-stays : goal.returns-clause-stays
 returns-clause-stays g c =
     let start = c.args.service.now in
     let asked = c.ask_three.new.service in
-    let before = service_then start c.client_of-second.new.service asked c.client_of-second.ensures.stays c.ask_three.ensures.stays in
-    let is_new = client_new_still start c.client_of-second.result c.ask_three.new.second c.client_of-second.ensures.is_new c.ask_three.ensures.second_ports in
+    let before = service_then start c.client_of-second.new.service asked c.client_of-second.ensures.stays
+    c.ask_three.ensures.stays in
+    let is_new = client_new_still start c.client_of-second.result c.ask_three.new.second
+    c.client_of-second.ensures.is_new c.ask_three.ensures.second_ports in
     client_ends start asked c.close.new.service c.ask_three.new.second before is_new c.close.ensures.stays
 
 pub returns-clause-first : goal.returns-clause-first
 returns-clause-first g c =
-    client_with_ports c.args.service.now c.ask_three.new.service c.close.new.service (returns-clause-stays g c) c.args.first.now c.ask_three.new.first c.requires.first c.ask_three.ensures.first_ports c.ask_three.ensures.first_idle c.ask_three.ensures.first
+    client_with_ports c.args.service.now c.ask_three.new.service c.close.new.service
+    (returns-clause-stays g c) c.args.first.now c.ask_three.new.first c.requires.first c.ask_three.ensures.first_ports
+    c.ask_three.ensures.first_idle c.ask_three.ensures.first

@@ -10,4 +10,5 @@ returns-then-is_connected-clause-tagged g c = record {
 }
 
 pub returns-then-is_connected-clause-connected : goal.returns-then-is_connected-clause-connected
-returns-then-is_connected-clause-connected g c = λ m s shown. sym (c.is_connected.ensures m s shown) ∙ c.if-is_connected.true
+returns-then-is_connected-clause-connected g c =
+    λ m s shown. sym (c.is_connected.ensures m s shown) ∙ c.if-is_connected.true
