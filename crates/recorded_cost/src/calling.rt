@@ -25,7 +25,9 @@ fn kept_of<T: Copy + Default + Drop, U: Copy + Default + Drop>(
     calls: &[Command<T, U>],
     room: usize,
 ) -> Option<usize> {
-    let mut recorded = Recorder::<T, U>::new(alloc, config, room).ok()?;
+    let Ok(mut recorded) = Recorder::<T, U>::new(alloc, config, room) else {
+        return None;
+    };
     let called = call_all(&mut recorded, calls);
     let (_domain, commands, _replies) = recorded.finish();
     called.ok()?;
