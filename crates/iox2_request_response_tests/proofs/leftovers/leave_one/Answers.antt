@@ -15,3 +15,9 @@ returns-clause-response g c = response_stays _ _
 pub returns-clause-is_new : goal.returns-clause-is_new
 returns-clause-is_new g c = response_is_new _ _ c.response_of-held.result
     (service_then _ _ _ c.sent-pending.ensures.stays c.serve.ensures.stays) c.response_of-held.ensures.is_new
+
+pub returns-clause-stays : goal.returns-clause-stays
+returns-clause-stays g c = service_then _ _ _ c.sent-pending.ensures.stays
+    (service_then _ _ _ c.serve.ensures.stays
+    (service_then _ _ _ c.response_of-held.ensures.stays
+    (service_then _ _ _ c.response_is_refused.ensures.stays c.close.ensures.stays)))

@@ -11,7 +11,8 @@ ask_and_hold-returns-clause-first_ports g t c = ports_then _ _ _ c.sent-pending.
 
 pub ask_and_hold-returns-clause-first_idle : goal.ask_and_hold-returns-clause-first_idle
 ask_and_hold-returns-clause-first_idle g t c = c.close.ensures.idle c.args.first.now
-    (idle_then _ _ _ c.sent-pending.ensures.idle c.serve_and_hold.ensures.first_idle) c.sent-pending.ensures.was_idle
+    (idle_then c.args.first.now c.sent-pending.new.client c.serve_and_hold.new.first c.sent-pending.ensures.idle
+    c.serve_and_hold.ensures.first_idle) c.sent-pending.ensures.was_idle
 
 pub ask_and_hold-returns-clause-second : goal.ask_and_hold-returns-clause-second
 ask_and_hold-returns-clause-second g t c = client_stays _ _ c.close.ensures.stays _ c.serve_and_hold.ensures.second

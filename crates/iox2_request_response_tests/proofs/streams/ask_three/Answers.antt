@@ -25,3 +25,15 @@ returns-clause-first_idle g c =
 
 pub returns-clause-second : goal.returns-clause-second
 returns-clause-second g c = client_stays _ _ c.close-3.ensures.stays _ c.close-2.ensures.client
+
+pub sent-b-requires-clause-client : goal.sent-b-requires-clause-client
+sent-b-requires-clause-client g c =
+    client_stays _ _ (service_then _ _ _ c.sent-a.ensures.stays c.sent-c.ensures.stays) _ c.requires.second
+
+pub returns-clause-stays : goal.returns-clause-stays
+returns-clause-stays g c = service_then _ _ _ c.sent-a.ensures.stays
+    (service_then _ _ _ c.sent-c.ensures.stays
+    (service_then _ _ _ c.sent-b.ensures.stays
+    (service_then _ _ _ c.serve_first.ensures.stays
+    (service_then _ _ _ c.close.ensures.stays
+    (service_then _ _ _ c.close-2.ensures.stays c.close-3.ensures.stays)))))
