@@ -19,7 +19,8 @@ returns-clause-first_ports g c = ports_then _ _ _ c.sent-a.ensures.ports
 
 pub returns-clause-first_idle : goal.returns-clause-first_idle
 returns-clause-first_idle g c =
-    let both = idle_then _ _ _ c.sent-a.ensures.idle c.sent-c.ensures.idle in
+    let both = idle_then c.args.first.now c.sent-a.new.client c.sent-c.new.client c.sent-a.ensures.idle
+    c.sent-c.ensures.idle in
     let one = c.close.ensures.idle c.args.first.now both c.sent-a.ensures.was_idle in
     c.close-3.ensures.idle c.args.first.now one (c.sent-a.ensures.idle _ _ c.sent-c.ensures.was_idle)
 
