@@ -10,7 +10,7 @@ LOOSE = {"→": 1, "↔": 2, "×": 2, "⊎": 2, "$": 3, "∵": 3, "∙": 3, "|":
 TIGHT = set("≡ ≢ < ≤ ⊑ + - * ^ / % ++ ∷ && || == ▸ ⊛".split())
 # Before these, and behind those, no line is broken.
 NEVER_BEFORE = CLOSING | set(", ; : = ↦ . in where as with".split())
-NEVER_BEHIND = OPENING | set(LOOSE) | TIGHT | set("λ let elim record : as pub abbrev unfoldable data module ¬ ‵ ←".split()) - {"]"}
+NEVER_BEHIND = OPENING | set(LOOSE) | TIGHT | set("λ let elim record : as pub abbrev unfoldable data module ¬ ‵ ←".split())
 APPLIED, BOUND = 4, 6
 # What a break costs: by its depth; by how tightly the line holds together there; where much of the line stays empty, and what
 # follows takes more than a line; before a plain argument; before the `=` of a clause.
