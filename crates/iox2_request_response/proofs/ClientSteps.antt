@@ -5,7 +5,7 @@ use Rattle.iox2_pubsub.specs.Live.{IsLivePublisher, IsLiveSubscriber, No_item}
 use Rattle.iox2_pubsub.specs.declared.subscriber.Subscriber.{Subscriber}
 use Rattle.iox2_request_response.specs.Handles.{HasPortsOf, IsLiveClient}
 use Rattle.iox2_request_response.specs.Service.{StaysService}
-use Rattle.iox2_request_response.specs.Slots.{AreDistinct, AreOthers, HasIdle}
+use Rattle.iox2_request_response.specs.Slots.{AreDistinctIdle, AreOthers, HasIdle}
 use Rattle.iox2_request_response.specs.declared.client.Client.{Client}
 use Rattle.iox2_request_response.specs.declared.service.RequestResponse.{RequestResponse}
 use Rattle.iox2_request_response.specs.declared.slots.Slot.{Slot}
@@ -16,12 +16,12 @@ use Rattle.iox2_request_response.proofs.SlotSteps.{put-distinct, set-idle, taken
 module _ {Q P F G : Type 0} (old new : RequestResponse Q P F G) (stays : StaysService old new) where
   -- a client is live where all that it has was live before
   live-client : (client : Client) (slots : List Slot) → (client.slots).items ≡ slots → IsLivePublisher old.requests client.requests
-      → ((at : ℕ) (subscriber : Subscriber) → HasIdle slots at subscriber → IsLiveSubscriber old.responses subscriber) → AreDistinct slots → IsLiveClient new client
+      → ((at : ℕ) (subscriber : Subscriber) → HasIdle slots at subscriber → IsLiveSubscriber old.responses subscriber) → AreDistinctIdle slots → IsLiveClient new client
   live-client client slots is requests live distinct = record {
     requests = publisher-live old.requests new.requests client.requests stays.requests requests;
     slots = λ at subscriber idle.
         subscriber-live old.responses new.responses No_item subscriber stays.responses tt (live at subscriber (ap (λ (xs : List Slot). slice_index_or xs at InUse) (sym is) ∙ idle));
-    distinct = subst AreDistinct (sym is) distinct;
+    distinct = subst AreDistinctIdle (sym is) distinct;
   }
 
   -- one that changes nothing

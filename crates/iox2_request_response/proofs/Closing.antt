@@ -7,7 +7,7 @@ use Rattle.iox2_pubsub.specs.declared.subscriber.Subscriber.{Subscriber}
 use Rattle.iox2_pubsub.proofs.StaysBut.{both-new, first-part, new-since, part-new, second-part, stays-itself, stays-on, stays-twice, unchanged-stays}
 use Rattle.iox2_request_response.specs.Handles.{IsLiveClient}
 use Rattle.iox2_request_response.specs.Service.{StaysBoth}
-use Rattle.iox2_request_response.specs.Slots.{AreDistinct, AreOthers, HasIdle, idle_ports}
+use Rattle.iox2_request_response.specs.Slots.{AreDistinctIdle, AreOthers, HasIdle, idle_ports}
 use Rattle.iox2_request_response.specs.declared.client.Client.{Client}
 use Rattle.iox2_request_response.specs.declared.service.RequestResponse.{RequestResponse}
 use Rattle.iox2_request_response.specs.declared.slots.Slot.{Slot}
@@ -37,11 +37,11 @@ module _ {Q P F G : Type 0} (all : List Slot) (start : RequestResponse Q P F G) 
 
     module _ (subscriber : Subscriber) (last : rest ≡ left ++ Idle subscriber ∷ []) where
       -- it is live still
-      pub last-live : ((at : ℕ) (it : Subscriber) → HasIdle all at it → IsLiveSubscriber start.responses it) → AreDistinct all → IsLiveSubscriber now.responses subscriber
+      pub last-live : ((at : ℕ) (it : Subscriber) → HasIdle all at it → IsLiveSubscriber start.responses it) → AreDistinctIdle all → IsLiveSubscriber now.responses subscriber
       last-live live distinct =
           let is = moves (Idle subscriber) last in
           let stood : HasIdle all (length left) subscriber = ap (λ (xs : List Slot). slice_index_or xs (length left) InUse) is ∙ middle-idle left closing.closed subscriber in
-          let apart = middle-apart left closing.closed subscriber (subst AreDistinct is distinct) in
+          let apart = middle-apart left closing.closed subscriber (subst AreDistinctIdle is distinct) in
           subscriber-live start.responses now.responses (idle_ports closing.closed) subscriber closing.responses (other-ports closing.closed (subscriber_id subscriber) apart)
           (live (length left) subscriber stood)
 
@@ -53,7 +53,7 @@ pub record IsFilling {Q P F G : Type 0} (requests : Publisher) (start : RequestR
   pub requests_stay : now.requests ≡ start.requests
   pub stays : Stays start.responses now.responses
   pub slots : (at : ℕ) (subscriber : Subscriber) → HasIdle (client.slots).items at subscriber → IsLiveSubscriber now.responses subscriber
-  pub distinct : AreDistinct (client.slots).items
+  pub distinct : AreDistinctIdle (client.slots).items
   pub are_new : IsNewIn start.responses (idle_ports (client.slots).items)
 
 module _ {Q P F G : Type 0} (requests : Publisher) (start : RequestResponse Q P F G) where
@@ -108,7 +108,7 @@ module _ {Q P F G : Type 0} (requests : Publisher) (start : RequestResponse Q P 
         | inl here ↦ subst (IsLiveSubscriber new.responses) (let is = here.1 in cc) live
         | inr there ↦ subscriber-live now.responses new.responses No_item subscriber stays tt (filling.slots at subscriber there.1)
       ];
-      distinct = subst AreDistinct (sym items) (push-distinct (client.slots).items made filling.distinct apart);
+      distinct = subst AreDistinctIdle (sym items) (push-distinct (client.slots).items made filling.distinct apart);
       are_new = subst (λ (xs : List Slot). IsNewIn start.responses (idle_ports xs)) (sym items)
           (push-new (client.slots).items made filling.are_new (new-since start.responses now.responses filling.stays (subscriber_port made) is-new));
     }

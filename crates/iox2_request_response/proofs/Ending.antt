@@ -2,7 +2,7 @@
 use Rattle.iox2_pubsub.specs.Live.{IsOtherBlocked, IsOtherPublisher, IsOtherSubscriber, Item, No_item, publisher_key, publisher_port, received_sample, subscriber_port}
 use Rattle.iox2_pubsub.specs.Handles.{publisher_id, subscriber_id}
 use Rattle.iox2_pubsub.proofs.StaysBut.{new-since, stays-on, stays-twice}
-use Rattle.iox2_request_response.specs.Handles.{AreApart, HasPortsOf, IsLiveActive, IsLiveClient, IsLivePending, IsLiveServer, IsNewActive, IsNewResponse, IsPendingOf, StaysButActive, StaysButClient, StaysButPending, StaysButResponse, StaysButServer}
+use Rattle.iox2_request_response.specs.Handles.{AreSeparateRequests, HasPortsOf, IsLiveActive, IsLiveClient, IsLivePending, IsLiveServer, IsNewActive, IsNewResponse, IsPendingOf, StaysButActive, StaysButClient, StaysButPending, StaysButResponse, StaysButServer}
 use Rattle.iox2_request_response.specs.Service.{IsService, StaysBoth, StaysService}
 use Rattle.iox2_request_response.specs.Slots.{idle_ports}
 use Rattle.iox2_request_response.specs.declared.active_request.ActiveRequest.{ActiveRequest}
@@ -18,7 +18,7 @@ use Rattle.std.proofs.Common.{◌∙◌, ℕ, ap, sym}
 use Rattle.iox2_machine.specs.declared.service_config.ServiceConfig.{ServiceConfig}
 
 -- two that are apart are so either way
-pub apart_back : (first second : PendingResponse) → AreApart first second → AreApart second first
+pub apart_back : (first second : PendingResponse) → AreSeparateRequests first second → AreSeparateRequests second first
 apart_back first second apart = ((λ same. apart.0 (sym same)), (λ same. apart.1 (sym same)))
 
 module _ {Q P F G : Type 0} where

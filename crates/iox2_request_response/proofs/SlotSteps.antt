@@ -4,7 +4,7 @@ use Rattle.std.proofs.lemmas.List.{set-get_or}
 use Rattle.iox2_pubsub.specs.Handles.{subscriber_id}
 use Rattle.iox2_pubsub.specs.Live.{IsOtherSubscriber}
 use Rattle.iox2_pubsub.specs.declared.subscriber.Subscriber.{Subscriber}
-use Rattle.iox2_request_response.specs.Slots.{AreDistinct, AreOthers, HasIdle, idle_ports}
+use Rattle.iox2_request_response.specs.Slots.{AreDistinctIdle, AreOthers, HasIdle, idle_ports}
 use Rattle.iox2_request_response.specs.declared.slots.Slot.{Slot}
 use Rattle.iox2_request_response.specs.declared.slots.Slot.TheVariants.{Idle, InUse}
 
@@ -54,7 +54,7 @@ module _ (slots : List Slot) (index : ℕ) (taken : Subscriber) (stands : HasIdl
   taken-idle at subscriber idle = elim (set-idle slots index InUse at subscriber idle) [ inl here ↦ absurd (let clash = here.1 in cc) | inr there ↦ there ]
 
   -- the others are distinct still
-  pub taken-distinct : AreDistinct slots → AreDistinct (slice_set slots index InUse)
+  pub taken-distinct : AreDistinctIdle slots → AreDistinctIdle (slice_set slots index InUse)
   taken-distinct distinct at other first second one two = distinct at other first second (taken-idle at first one).1 (taken-idle other second two).1
 
 -- ---- one is taken out and put back
@@ -71,9 +71,9 @@ back-same (slot ∷ slots) (suc index) taken stands = ap (λ (xs : List Slot). s
 pub put-same : (put subscriber : Subscriber) → Idle put ≡ Idle subscriber → subscriber_id put ≡ subscriber_id subscriber
 put-same put subscriber is = let e : put ≡ subscriber = cc in ap subscriber_id e
 
-module _ (slots : List Slot) (put : Subscriber) (distinct : AreDistinct slots) (apart : AreOthers slots (subscriber_id put)) where
+module _ (slots : List Slot) (put : Subscriber) (distinct : AreDistinctIdle slots) (apart : AreOthers slots (subscriber_id put)) where
   -- one that is apart from all is put at an index, and they are distinct still
-  pub put-distinct : (index : ℕ) → AreDistinct (slice_set slots index (Idle put))
+  pub put-distinct : (index : ℕ) → AreDistinctIdle (slice_set slots index (Idle put))
   put-distinct index at other first second one two same = elim (set-idle slots index (Idle put) at first one) [
     | inl here ↦ elim (set-idle slots index (Idle put) other second two) [
       | inl there ↦ here.0 ∙ sym there.0
@@ -86,7 +86,7 @@ module _ (slots : List Slot) (put : Subscriber) (distinct : AreDistinct slots) (
   ]
 
   -- or behind them
-  pub push-distinct : AreDistinct (slots ++ Idle put ∷ [])
+  pub push-distinct : AreDistinctIdle (slots ++ Idle put ∷ [])
   push-distinct at other first second one two same = elim (push-idle slots (Idle put) at first one) [
     | inl here ↦ elim (push-idle slots (Idle put) other second two) [
       | inl there ↦ here.0 ∙ sym there.0
@@ -122,7 +122,7 @@ later-idle [] after slot at subscriber idle = idle
 later-idle (first ∷ before) after slot at subscriber idle = later-idle before after slot at subscriber idle
 
 -- so he is another than these
-pub middle-apart : (before after : List Slot) (subscriber : Subscriber) → AreDistinct (before ++ Idle subscriber ∷ after) → AreOthers after (subscriber_id subscriber)
+pub middle-apart : (before after : List Slot) (subscriber : Subscriber) → AreDistinctIdle (before ++ Idle subscriber ∷ after) → AreOthers after (subscriber_id subscriber)
 middle-apart before after subscriber distinct at other idle same =
     past-middle before at (distinct (length before) (past before at) subscriber other (middle-idle before after subscriber) (later-idle before after (Idle subscriber) at other idle) same)
 

@@ -8,7 +8,7 @@ use Rattle.iox2_pubsub.specs.Handles.{publisher_id, subscriber_id}
 use Rattle.iox2_pubsub.specs.Live.{IsLivePublisher, IsLiveSample, IsLiveSubscriber, IsNewIn, No_item, SampleHasUserHeader, publisher_port, received_sample, sample_key, subscriber_port}
 use Rattle.iox2_pubsub.specs.declared.subscriber.Subscriber.{Subscriber}
 use Rattle.iox2_request_response.specs.Service.{StaysBoth}
-use Rattle.iox2_request_response.specs.Slots.{AreDistinct, AreOthers, HasIdle, IsInUse, idle_ports}
+use Rattle.iox2_request_response.specs.Slots.{AreDistinctIdle, AreOthers, HasIdle, IsPlaceInUse, idle_ports}
 use Rattle.iox2_request_response.specs.declared.active_request.ActiveRequest.{ActiveRequest}
 use Rattle.iox2_request_response.specs.declared.client.Client.{Client}
 use Rattle.iox2_request_response.specs.declared.pending_response.PendingResponse.{PendingResponse}
@@ -23,7 +23,7 @@ module _ {Q P F G : Type 0} (service : RequestResponse Q P F G) where
   pub record IsLiveClient (client : Client) : Type 0 where
     pub requests : IsLivePublisher service.requests client.requests
     pub slots : (index : ℕ) (subscriber : Subscriber) → HasIdle (client.slots).items index subscriber → IsLiveSubscriber service.responses subscriber
-    pub distinct : AreDistinct (client.slots).items
+    pub distinct : AreDistinctIdle (client.slots).items
 
   -- Both ports of the server are live.
   pub record IsLiveServer (server : Server) : Type 0 where
@@ -97,12 +97,12 @@ module _ {Q P F G : Type 0} (old new : RequestResponse Q P F G) where
 
 -- The pending response is one of this client's: its place is in use, and its subscriber is none of the idle ones.
 pub record IsPendingOf (client : Client) (pending : PendingResponse) : Type 0 where
-  pub place : IsInUse (client.slots).items pending.index
+  pub place : IsPlaceInUse (client.slots).items pending.index
   pub apart : AreOthers (client.slots).items (subscriber_id pending.slot)
 
 -- The two have places and subscribers of their own.
-abbrev pub AreApart : (first second : PendingResponse) → Type 0
-AreApart first second = (first.index ≢ second.index) × (subscriber_id first.slot ≢ subscriber_id second.slot)
+abbrev pub AreSeparateRequests : (first second : PendingResponse) → Type 0
+AreSeparateRequests first second = (first.index ≢ second.index) × (subscriber_id first.slot ≢ subscriber_id second.slot)
 
 -- The client has the ports that it had before: its publisher is the same one, and who is idle was so at the same place.
 pub record HasPortsOf (before client : Client) : Type 0 where

@@ -20,11 +20,11 @@ abbrev pub AreOthers : List Slot → (id : ℕ) → Type 0
 AreOthers slots id = (index : ℕ) (subscriber : Subscriber) → HasIdle slots index subscriber → id ≢ subscriber_id subscriber
 
 -- No two idle subscribers have the same id.
-abbrev pub AreDistinct : List Slot → Type 0
-AreDistinct slots = (index other : ℕ) (first second : Subscriber) → HasIdle slots index first → HasIdle slots other second → subscriber_id first ≡ subscriber_id second → index ≡ other
+abbrev pub AreDistinctIdle : List Slot → Type 0
+AreDistinctIdle slots = (index other : ℕ) (first second : Subscriber) → HasIdle slots index first → HasIdle slots other second → subscriber_id first ≡ subscriber_id second → index ≡ other
 
 -- The place at this index is in use.
-pub record IsInUse (slots : List Slot) (index : ℕ) : Type 0 where
+pub record IsPlaceInUse (slots : List Slot) (index : ℕ) : Type 0 where
   pub there : index < length slots
   pub in_use : slice_index_or slots index InUse ≡ InUse
 
@@ -35,7 +35,7 @@ idle_ports (Idle subscriber ∷ slots) = Both (subscriber_port subscriber) (idle
 idle_ports (InUse ∷ slots) = idle_ports slots
 
 -- An idle subscriber was taken out, from this index, or there is none.
-abbrev pub IsTakenOut : (old : List Slot) → Option (ℕ × Subscriber) → (new : List Slot) → Type 0
-IsTakenOut old result new =
+abbrev pub IsIdleTakenOut : (old : List Slot) → Option (ℕ × Subscriber) → (new : List Slot) → Type 0
+IsIdleTakenOut old result new =
     MatchOption result ((new ≡ old) × AllInUse old)
     (λ it. (it.0 < length old) × HasIdle old it.0 it.1 × (new ≡ slice_set old it.0 InUse))

@@ -1,9 +1,9 @@
 //! A client.
 ghost use Rattle.std.specs.Prelude.{◌≡◌, ◌≤◌, ◌↔◌, [], Err, IfErr, IfOk, slice_set, vec_capacity};
 ghost use Rattle.iox2_pubsub.specs.Live.{IsLivePublisher, IsLiveSubscriber, IsNewIn, No_item, publisher_port};
-ghost use Rattle.iox2_request_response.specs.Handles.{AreApart, HasPortsOf, IsLiveClient, IsLivePending, IsNewClient, IsPendingOf, StaysButClient};
+ghost use Rattle.iox2_request_response.specs.Handles.{AreSeparateRequests, HasPortsOf, IsLiveClient, IsLivePending, IsNewClient, IsPendingOf, StaysButClient};
 ghost use Rattle.iox2_request_response.specs.Service.{IsService, StaysBoth, StaysService};
-ghost use Rattle.iox2_request_response.specs.Slots.{AllInUse, HasIdle, IsInUse, idle_ports};
+ghost use Rattle.iox2_request_response.specs.Slots.{AllInUse, HasIdle, IsPlaceInUse, idle_ports};
 ghost use Rattle.iox2_request_response.specs.declared.pending_response.PendingResponse.{PendingResponse as Pending};
 ghost use Rattle.iox2_request_response.specs.declared.slots.Slot.TheVariants.{Idle};
 
@@ -88,7 +88,7 @@ impl Client {
         ensures kept { IfErr result (λ _. self.new.slots.items ≡ self.old.slots.items) }
         ensures pending { IfOk result (IsLivePending service.new) }
         ensures its { IfOk result (IsPendingOf self.new) }
-        ensures others { (other : Pending) → IsPendingOf self.old other → IsPendingOf self.new other × IfOk result (AreApart other) }
+        ensures others { (other : Pending) → IsPendingOf self.old other → IsPendingOf self.new other × IfOk result (AreSeparateRequests other) }
         ensures ports { HasPortsOf self.old self.new }
         ensures was_idle { IfOk result (λ pending. HasIdle self.old.slots.items pending.index pending.slot) }
         ensures client { IsLiveClient service.new self.new }
@@ -113,7 +113,7 @@ impl Client {
 
     // The subscriber is idle again.
     pub(crate) fn give_back(&mut self, index: usize, slot: Subscriber)
-        requires { IsInUse self.old.slots.items index }
+        requires { IsPlaceInUse self.old.slots.items index }
         ensures requests { self.new.requests ≡ self.old.requests }
         ensures slots { self.new.slots.items ≡ slice_set self.old.slots.items index (Idle slot) }
     {

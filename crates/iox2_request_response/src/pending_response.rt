@@ -5,7 +5,7 @@ ghost use Rattle.iox2_machine.specs.machine.State.{State, Messages};
 ghost use Rattle.iox2_domain.specs.Shows.{Shows};
 ghost use Rattle.iox2_pubsub.specs.Handles.{subscriber_id};
 ghost use Rattle.iox2_pubsub.specs.Live.{IsLiveSubscriber, SampleHasUserHeader, sample_key, waiting};
-ghost use Rattle.iox2_request_response.specs.Handles.{AreApart, HasPortsOf, IsLiveClient, IsLivePending, IsLiveResponse, IsNewResponse, IsPendingOf, StaysButPending};
+ghost use Rattle.iox2_request_response.specs.Handles.{AreSeparateRequests, HasPortsOf, IsLiveClient, IsLivePending, IsLiveResponse, IsNewResponse, IsPendingOf, StaysButPending};
 ghost use Rattle.iox2_request_response.specs.Service.{StaysService};
 ghost use Rattle.iox2_request_response.specs.Slots.{HasIdle};
 ghost use Rattle.iox2_request_response.specs.declared.client.Client.{Client as ItsClient};
@@ -106,7 +106,7 @@ impl PendingResponse {
         requires its { IsPendingOf client.old self }
         ensures client { IsLiveClient service.new client.new }
         ensures given { HasIdle client.new.slots.items self.index self.slot }
-        ensures others { (other : Pending) → IsPendingOf client.old other → AreApart self other → IsPendingOf client.new other }
+        ensures others { (other : Pending) → IsPendingOf client.old other → AreSeparateRequests self other → IsPendingOf client.new other }
         ensures ports { (before : ItsClient) → HasPortsOf before client.old → HasIdle before.slots.items self.index self.slot → HasPortsOf before client.new }
         ensures stays { StaysService service.old service.new }
     {

@@ -3,14 +3,14 @@ use Rattle.std.proofs.Common.{◌≡◌, ℕ, ◌+◌, List, [], ◌∷◌, ◌+
 use Rattle.std.specs.Prelude.{IfNone, IfSome, MatchResult}
 use Rattle.iox2_pubsub.specs.Domains.{Kept, Key}
 use Rattle.iox2_pubsub.specs.BlockedSends.{Resumes, StaysSince}
-use Rattle.iox2_pubsub.specs.Live.{A_blocked_send, HasItsBuffer, HasPassed, IsBlockedSend, IsConnected, IsConsistent, IsPending, IsServed, IsUnblocked, Stays, StaysBut, UpToDateStay, WaitsAsBefore, blocked_key, blocked_send, lender_key}
+use Rattle.iox2_pubsub.specs.Live.{A_blocked_send, HasItsBuffer, HasPassed, IsBlockedSend, IsConnected, IsConsistent, IsPending, IsServed, IsUnblocked, Stays, StaysBut, UpToDateStay, WaitsAsBefore, blocked_key, blocked_item, lender_key}
 use Rattle.iox2_pubsub.specs.Payloads.{singles}
 use Rattle.iox2_pubsub.specs.declared.blocked_send.BlockedSend.{BlockedSend}
 use Rattle.iox2_pubsub.specs.declared.send_outcome.SendOutcome.TheVariants.{Blocked, Delivered}
 use Rattle.iox2_pubsub.specs.declared.subscriber.Subscriber.{Subscriber}
 use Rattle.iox2_pubsub.proofs.ForCallers.{served_joins, stays_but_twice}
 use Rattle.iox2_pubsub.proofs.SinceThen.{served_or_pending_since, served_since, served_still}
-use Rattle.message_patterns.specs.Recordings.{IsRecorded, IsUnderway}
+use Rattle.message_patterns.specs.Recordings.{RecorderIsServed, IsUnderway}
 use Rattle.message_patterns.specs.Values.{TakesMore}
 use Rattle.message_patterns.proofs.Waits.{room-for-one, takes-next}
 
@@ -46,7 +46,7 @@ waits-for-it start now blocked recorder number under ahead = ⊎_elim (λ served
 
 module _ {U F G : Type 0} (old new : Kept ℕ U F G) (publisher : ℕ) (recorder : Subscriber) (number : ℕ) where
   -- where there is room a recorded number waits behind the others
-  pub recorded-takes : IsConsistent old → (IsConsistent old → IsConsistent new) → UpToDateStay old new → ((s : Subscriber) → HasItsBuffer old s → HasItsBuffer new s) → (waits : Option BlockedSend) → IsRecorded old new publisher recorder number waits
+  pub recorded-takes : IsConsistent old → (IsConsistent old → IsConsistent new) → UpToDateStay old new → ((s : Subscriber) → HasItsBuffer old s → HasItsBuffer new s) → (waits : Option BlockedSend) → RecorderIsServed old new publisher recorder number waits
       → (earlier : List ℕ) (more : ℕ) → TakesMore old publisher recorder earlier (more + 1) → IfNone waits (TakesMore new publisher recorder (earlier ++ number ∷ []) more)
   recorded-takes consistent still stay buffers None served earlier more takes =
       takes-next old new publisher recorder earlier number more takes
@@ -74,12 +74,12 @@ ended-so (Ok (Some it)) P Q so is = tt
 ended-so (Err e) P Q so is = so is
 
 module _ {U F G : Type 0} (old mid new : Kept ℕ U F G) (blocked : BlockedSend) where
-  pub stays-then : IsUnblocked old (lender_key (blocked_key blocked)) → StaysBut (blocked_send blocked) old mid → StaysSince blocked mid new → Stays old new
+  pub stays-then : IsUnblocked old (lender_key (blocked_key blocked)) → StaysBut (blocked_item blocked) old mid → StaysSince blocked mid new → Stays old new
   unfolding StaysSince
   stays-then free stood since = since old free stood
 
-  pub stays-since : (waiting : BlockedSend) → blocked_key blocked ≡ blocked_key waiting → StaysBut (blocked_send waiting) old mid → StaysSince blocked mid new → StaysSince waiting old new
+  pub stays-since : (waiting : BlockedSend) → blocked_key blocked ≡ blocked_key waiting → StaysBut (blocked_item waiting) old mid → StaysSince blocked mid new → StaysSince waiting old new
   unfolding StaysSince
   stays-since waiting same stood since = λ before free stays.
       since before (subst (λ (k : Key). IsUnblocked before (lender_key k)) (sym same) free)
-      (subst (λ (k : Key). StaysBut (A_blocked_send k.port) before mid) (sym same) (stays_but_twice before old mid (blocked_send waiting) stays stood))
+      (subst (λ (k : Key). StaysBut (A_blocked_send k.port) before mid) (sym same) (stays_but_twice before old mid (blocked_item waiting) stays stood))

@@ -1,6 +1,6 @@
 //! A blocked send is tried again, or given up.
 ghost use Rattle.std.specs.Prelude.{◌≡◌, ◌≤◌, ◌<◌, IfOk, List, ⊤};
-ghost use Rattle.iox2_pubsub.specs.BlockedSends.{GoesOn, IsLeftBehind, IsNext, IsNotNext, Resumes, receivers_ahead};
+ghost use Rattle.iox2_pubsub.specs.BlockedSends.{BlockedSendGoesOn, IsLeftBehind, IsNext, IsNotNext, Resumes, receivers_ahead};
 ghost use Rattle.iox2_pubsub.specs.SendCalls.{IfBlocked, result_of_send};
 
 use crate::blocked_send::BlockedSend;
@@ -41,7 +41,7 @@ impl BlockedSend {
         ensures retries { (m : Messages T U) (s : State T U) (x : Record) (b : Waiting) → Shows domain.old m s → s.publishers (blocked_sender self) ≡ Some x → x.blocked ≡ Some b
             → (s' : State T U) × Shows domain.new m s' × Retry (answers_of F.allows G.allows (domain.old.boxes).publishers) s (blocked_sender self) b elapsed s' (result_of_send result) }
         ensures no_more { IfOk result (λ outcome. IfBlocked outcome (λ blocked. receivers_ahead domain.new blocked ≤ receivers_ahead domain.old self)) }
-        ensures goes_on { GoesOn self result domain.old domain.new }
+        ensures goes_on { BlockedSendGoesOn self result domain.old domain.new }
         ensures resumes { Resumes (λ subscriber. ⊤) self result domain.old domain.new }
     {
         let BlockedSend { service_id, loan } = self;
@@ -64,7 +64,7 @@ impl BlockedSend {
         ensures gives_up { (m : Messages T U) (s : State T U) (x : Record) (b : Waiting) → Shows domain.old m s → s.publishers (blocked_sender self) ≡ Some x → x.blocked ≡ Some b
             → (s' : State T U) × Shows domain.new m s' × GiveUp (answers_of F.allows G.allows (domain.old.boxes).publishers) s (blocked_sender self) b s' (result_of_send result) }
         ensures fewer { IfOk result (λ outcome. IfBlocked outcome (λ blocked. receivers_ahead domain.new blocked < receivers_ahead domain.old self)) }
-        ensures goes_on { GoesOn self result domain.old domain.new }
+        ensures goes_on { BlockedSendGoesOn self result domain.old domain.new }
         ensures resumes { Resumes (IsNotNext domain.old self) self result domain.old domain.new }
         ensures skips { (subscriber : Subscriber) (values : List T) → IsNext domain.old self subscriber → IsPending domain.old self subscriber values → IsLeftBehind subscriber result domain.old domain.new }
     {

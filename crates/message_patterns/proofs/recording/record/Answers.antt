@@ -5,7 +5,7 @@ use Rattle.iox2_pubsub.specs.Handles.{blocked_sender, publisher_id}
 use Rattle.iox2_pubsub.specs.Live.{A_blocked_send, IsConnected, IsUnblocked, Item, StaysBut, blocked_key, lender_key}
 use Rattle.iox2_pubsub.specs.declared.send_outcome.SendOutcome.TheVariants.{Blocked}
 use Rattle.iox2_pubsub.proofs.ForCallers.{copy_leaves, stays_but_twice}
-use Rattle.message_patterns.specs.Recordings.{IsRecorded, IsUnderway}
+use Rattle.message_patterns.specs.Recordings.{RecorderIsServed, IsUnderway}
 use Rattle.message_patterns.proofs.Recordings.{blocked-as, ended-so, recorded-takes, stays-then, up-to-date-twice}
 use Rattle.message_patterns.proofs.recording.record.Goals as goal
 
@@ -34,7 +34,7 @@ returns-in-Ok-Blocked-clause-recorded g c =
       buffer = sent.stays.buffers recorder;
       came = sent.pending recorder c.requires.connected;
     } in
-    IfOk-weaker c.pass_others.result _ _ (λ waits carries. subst (λ (p : ℕ). IsRecorded old c.pass_others.new.domain p recorder c.args.number waits) same (carries old c.args.number under)) c.pass_others.ensures.carries_on
+    IfOk-weaker c.pass_others.result _ _ (λ waits carries. subst (λ (p : ℕ). RecorderIsServed old c.pass_others.new.domain p recorder c.args.number waits) same (carries old c.args.number under)) c.pass_others.ensures.carries_on
 
 pub returns-in-Ok-Blocked-clause-taken : goal.returns-in-Ok-Blocked-clause-taken
 returns-in-Ok-Blocked-clause-taken g c = λ earlier more takes.
