@@ -1,15 +1,12 @@
 -- What a caller's functions are proved by: what is live stays so, and one call follows another.
-use Rattle.iox2_domain.specs.Kept.{Kept}
 use Rattle.iox2_pubsub.specs.Handles.{publisher_id, receiver_of, sample_number, subscriber_id}
-use Rattle.iox2_pubsub.specs.Live.{Both, IsNewIn, IsOtherBlocked, IsOtherPublisher, IsOtherSample, IsOtherSubscriber, Item, No_item, publisher_key, publisher_port, received_sample, subscriber_port}
+use Rattle.iox2_pubsub.specs.Live.{IsNewIn, IsOtherBlocked, IsOtherPublisher, IsOtherSubscriber, Item, No_item, publisher_key, publisher_port, received_sample, subscriber_port, subscriber_ports}
 use Rattle.iox2_pubsub.specs.declared.publisher.Publisher.{Publisher}
-use Rattle.iox2_pubsub.specs.declared.subscriber.Subscriber.{Subscriber}
-use Rattle.iox2_pubsub.proofs.StaysBut.{both-new, first-part, new-since, nothing-is-new, part-new, second-part, stays-on}
+use Rattle.iox2_pubsub.proofs.PortLists.{subscribers_no_blocked, subscribers_no_publisher, subscribers_no_sample}
+use Rattle.iox2_pubsub.proofs.StaysBut.{new-since, stays-on}
 use Rattle.iox2_request_response.specs.Handles.{HasPortsOf, IsLiveActive, IsLiveClient, IsLivePending, IsLiveResponse, IsLiveServer, IsNewClient, IsNewServer, StaysButActive, StaysButClient, StaysButResponse, StaysButServer}
 use Rattle.iox2_request_response.specs.Service.{IsService, StaysBoth, StaysService}
-use Rattle.iox2_request_response.specs.Slots.{HasIdle, idle_ports}
-use Rattle.iox2_request_response.specs.declared.slots.Slot.{Slot}
-use Rattle.iox2_request_response.specs.declared.slots.Slot.TheVariants.{Idle, InUse}
+use Rattle.iox2_request_response.specs.Slots.{idle_ids, idle_ports, slot_ids}
 use Rattle.iox2_request_response.specs.declared.active_request.ActiveRequest.{ActiveRequest}
 use Rattle.iox2_request_response.specs.declared.client.Client.{Client}
 use Rattle.iox2_request_response.specs.declared.pending_response.PendingResponse.{PendingResponse}
@@ -17,8 +14,9 @@ use Rattle.iox2_request_response.specs.declared.response.Response.{Response}
 use Rattle.iox2_request_response.specs.declared.server.Server.{Server}
 use Rattle.iox2_request_response.specs.declared.service.RequestResponse.{RequestResponse}
 use Rattle.iox2_request_response.proofs.ClientSteps.{client-stays, ports_then}
+use Rattle.iox2_request_response.proofs.Closing.{idle-new}
 use Rattle.iox2_request_response.proofs.Frames.{publisher-live, service-twice, subscriber-live}
-use Rattle.std.proofs.Common.{◌≡◌, ◌∙◌, ℕ, zero, suc, List, [], ◌∷◌, ap, refl, subst, sym}
+use Rattle.std.proofs.Common.{◌∙◌, ℕ, List, ap, arith, le_trans, subst, sym}
 use Rattle.iox2_machine.specs.declared.service_config.ServiceConfig.{ServiceConfig}
 
 module _ {Q P F G : Type 0} where
@@ -31,6 +29,7 @@ module _ {Q P F G : Type 0} where
     responses = stays.responses.single_valued is.responses;
     requests_discard = ap (λ (c : ServiceConfig). c.backpressure_strategy) stays.requests.settings ∙ is.requests_discard;
     responses_discard = ap (λ (c : ServiceConfig). c.backpressure_strategy) stays.responses.settings ∙ is.responses_discard;
+    numbered = let some = is.numbered in let rises = stays.numbers in omega (arith, some, rises);
   }
 
   pub client_stays : (old new : RequestResponse Q P F G) → StaysService old new → (client : Client) → IsLiveClient old client → IsLiveClient new client
@@ -43,7 +42,7 @@ module _ {Q P F G : Type 0} where
   }
 
   pub pending_stays : (old new : RequestResponse Q P F G) → StaysService old new → (pending : PendingResponse) → IsLivePending old pending → IsLivePending new pending
-  pending_stays old new stays pending live = subscriber-live old.responses new.responses No_item pending.slot stays.responses tt live
+  pending_stays old new stays pending live = record { slot = subscriber-live old.responses new.responses No_item pending.slot stays.responses tt live.slot; number = live.number }
 
   pub active_stays : (old new : RequestResponse Q P F G) → StaysService old new → (active : ActiveRequest) → IsLiveActive old active → IsLiveActive new active
   active_stays old new stays active live = stays.requests.live_samples active.sample live tt
@@ -53,42 +52,6 @@ module _ {Q P F G : Type 0} where
 
 -- ---- what is spent
 
--- who is idle is neither a publisher nor a sample
-ports-publish : (slots : List Slot) (id : ℕ) → IsOtherPublisher (idle_ports slots) id
-ports-publish [] id = tt
-ports-publish (Idle subscriber ∷ slots) id = (tt, ports-publish slots id)
-ports-publish (InUse ∷ slots) id = ports-publish slots id
-
-ports-sample : (slots : List Slot) (id number : ℕ) → IsOtherSample (idle_ports slots) id number
-ports-sample [] id number = tt
-ports-sample (Idle subscriber ∷ slots) id number = (tt, ports-sample slots id number)
-ports-sample (InUse ∷ slots) id number = ports-sample slots id number
-
-ports-unblocked : (slots : List Slot) (id : ℕ) → IsOtherBlocked (idle_ports slots) id
-ports-unblocked [] id = tt
-ports-unblocked (Idle subscriber ∷ slots) id = (tt, ports-unblocked slots id)
-ports-unblocked (InUse ∷ slots) id = ports-unblocked slots id
-
-module _ {T U F G : Type 0} (start : Kept T U F G) where
-  -- one of those that are new
-  one-new : (slots : List Slot) → IsNewIn start (idle_ports slots) → (at : ℕ) (subscriber : Subscriber) → HasIdle slots at subscriber → IsNewIn start (subscriber_port subscriber)
-  one-new [] are at subscriber idle = absurd (let none : InUse ≡ Idle subscriber = idle in cc)
-  one-new (Idle first ∷ slots) are zero subscriber idle =
-      let stands : Idle first ≡ Idle subscriber = idle in
-      let is : first ≡ subscriber = cc in
-      subst (λ (s : Subscriber). IsNewIn start (subscriber_port s)) is
-      (part-new start (subscriber_port first) (Both (subscriber_port first) (idle_ports slots)) (first-part (subscriber_port first) (idle_ports slots)) are)
-  one-new (Idle first ∷ slots) are (suc at) subscriber idle =
-      one-new slots (part-new start (idle_ports slots) (Both (subscriber_port first) (idle_ports slots)) (second-part (subscriber_port first) (idle_ports slots)) are) at subscriber idle
-  one-new (InUse ∷ slots) are zero subscriber idle = absurd (let none : InUse ≡ Idle subscriber = idle in cc)
-  one-new (InUse ∷ slots) are (suc at) subscriber idle = one-new slots are at subscriber idle
-
-  -- all of them, where each is
-  all-new : (slots : List Slot) → ((at : ℕ) (subscriber : Subscriber) → HasIdle slots at subscriber → IsNewIn start (subscriber_port subscriber)) → IsNewIn start (idle_ports slots)
-  all-new [] are = nothing-is-new start
-  all-new (Idle subscriber ∷ slots) are = both-new start (subscriber_port subscriber) (idle_ports slots) (are zero subscriber refl) (all-new slots (λ at it idle. are (suc at) it idle))
-  all-new (InUse ∷ slots) are = all-new slots (λ at it idle. are (suc at) it idle)
-
 module _ {Q P F G : Type 0} where
   -- where a client is closed, servers, requests and responses stay
   pub server_but_client : (old new : RequestResponse Q P F G) (client : Client) → StaysButClient old new client → (server : Server) → IsLiveServer old server → IsLiveServer new server
@@ -96,9 +59,9 @@ module _ {Q P F G : Type 0} where
     requests = subscriber-live old.requests new.requests (publisher_port client.requests) server.requests stays.requests tt live.requests;
     responses = record {
       ready = record {
-        there = stays.responses.publishers (publisher_key server.responses) live.responses.ready.there (ports-publish (client.slots).items (publisher_id server.responses));
+        there = stays.responses.publishers (publisher_key server.responses) live.responses.ready.there (subscribers_no_publisher (publisher_id server.responses) (idle_ids (client.slots).items));
         placed = stays.responses.placed_publishers server.responses live.responses.ready.placed;
-        unblocked = stays.responses.unblocked (publisher_key server.responses) live.responses.ready.unblocked (ports-unblocked (client.slots).items (publisher_id server.responses));
+        unblocked = stays.responses.unblocked (publisher_key server.responses) live.responses.ready.unblocked (subscribers_no_blocked (publisher_id server.responses) (idle_ids (client.slots).items));
       };
       never_waits = stays.responses.never_wait (publisher_key server.responses) live.responses.never_waits;
     };
@@ -109,7 +72,7 @@ module _ {Q P F G : Type 0} where
 
   pub response_but_client : (old new : RequestResponse Q P F G) (client : Client) → StaysButClient old new client → (response : Response) → IsLiveResponse old response → IsLiveResponse new response
   response_but_client old new client stays response live =
-      stays.responses.live_samples response.sample live (ports-sample (client.slots).items (receiver_of response.sample) (sample_number response.sample))
+      stays.responses.live_samples response.sample live (subscribers_no_sample (receiver_of response.sample) (sample_number response.sample) (idle_ids (client.slots).items))
 
   -- where what is spent is neither its publisher nor one of its subscribers, a client stays
   client-apart : (asked answered : Item) (old new : RequestResponse Q P F G) → StaysBoth asked answered old new → ((id : ℕ) → IsOtherPublisher asked id) → ((id : ℕ) → IsOtherBlocked asked id)
@@ -140,20 +103,24 @@ module _ {Q P F G : Type 0} where
   pub client_ends : (start old new : RequestResponse Q P F G) (client : Client) → StaysService start old → IsNewClient start client → StaysButClient old new client → StaysService start new
   client_ends start old new client before is stays = record {
     requests = stays-on start.requests old.requests before.requests (publisher_port client.requests) new.requests is.requests stays.requests;
-    responses = stays-on start.responses old.responses before.responses (idle_ports (client.slots).items) new.responses is.slots stays.responses;
+    responses = stays-on start.responses old.responses before.responses (idle_ports (client.slots).items) new.responses (idle-new start.responses (client.slots).items is.slots) stays.responses;
+    numbers = le_trans before.numbers stays.numbers;
+    limit = stays.limit ∙ before.limit;
   }
 
   pub server_ends : (start old new : RequestResponse Q P F G) (server : Server) → StaysService start old → IsNewServer start server → StaysButServer old new server → StaysService start new
   server_ends start old new server before is stays = record {
     requests = stays-on start.requests old.requests before.requests (subscriber_port server.requests) new.requests is.requests stays.requests;
     responses = stays-on start.responses old.responses before.responses (publisher_port server.responses) new.responses is.responses stays.responses;
+    numbers = le_trans before.numbers stays.numbers;
+    limit = stays.limit ∙ before.limit;
   }
 
   -- what is new later was new before
   pub client_is_new : (start old : RequestResponse Q P F G) (client : Client) → StaysService start old → IsNewClient old client → IsNewClient start client
   client_is_new start old client before is = record {
     requests = new-since start.requests old.requests before.requests (publisher_port client.requests) is.requests;
-    slots = new-since start.responses old.responses before.responses (idle_ports (client.slots).items) is.slots;
+    slots = new-since start.responses old.responses before.responses (subscriber_ports (slot_ids (client.slots).items)) is.slots;
   }
 
   pub server_is_new : (start old : RequestResponse Q P F G) (server : Server) → StaysService start old → IsNewServer old server → IsNewServer start server
@@ -166,7 +133,7 @@ module _ {Q P F G : Type 0} where
   pub client_new_still : (start : RequestResponse Q P F G) (before client : Client) → IsNewClient start before → HasPortsOf before client → IsNewClient start client
   client_new_still start before client is ports = record {
     requests = subst (λ (p : Publisher). IsNewIn start.requests (publisher_port p)) (sym ports.requests) is.requests;
-    slots = all-new start.responses (client.slots).items (λ at subscriber idle. one-new start.responses (before.slots).items is.slots at subscriber (ports.slots at subscriber idle));
+    slots = subst (λ (ids : List ℕ). IsNewIn start.responses (subscriber_ports ids)) (sym ports.slots) is.slots;
   }
 
 pub ruleset calling = (service_then, service_stays, client_stays, server_stays, pending_stays, active_stays, response_stays, server_but_client, active_but_client, response_but_client, client_ends, server_ends, client_is_new, server_is_new, client_new_still, ports_then)

@@ -2,7 +2,7 @@
 use Rattle.iox2_pubsub.specs.Live.{IsOtherBlocked, IsOtherPublisher, IsOtherSubscriber, Item, No_item, publisher_key, publisher_port, received_sample, subscriber_port}
 use Rattle.iox2_pubsub.specs.Handles.{publisher_id, subscriber_id}
 use Rattle.iox2_pubsub.proofs.StaysBut.{new-since, stays-on, stays-twice}
-use Rattle.iox2_request_response.specs.Handles.{AreApart, HasPortsOf, IsLiveActive, IsLiveClient, IsLivePending, IsLiveServer, IsNewActive, IsNewResponse, IsPendingOf, StaysButActive, StaysButClient, StaysButPending, StaysButResponse, StaysButServer}
+use Rattle.iox2_request_response.specs.Handles.{AreApart, HasIdleOf, HasPortsOf, IsLiveActive, IsLiveClient, IsLivePending, IsLiveServer, IsNewActive, IsNewResponse, IsPendingOf, StaysButActive, StaysButClient, StaysButPending, StaysButResponse, StaysButServer}
 use Rattle.iox2_request_response.specs.Service.{IsService, StaysBoth, StaysService}
 use Rattle.iox2_request_response.specs.Slots.{idle_ports}
 use Rattle.iox2_request_response.specs.declared.active_request.ActiveRequest.{ActiveRequest}
@@ -11,15 +11,16 @@ use Rattle.iox2_request_response.specs.declared.pending_response.PendingResponse
 use Rattle.iox2_request_response.specs.declared.response.Response.{Response}
 use Rattle.iox2_request_response.specs.declared.server.Server.{Server}
 use Rattle.iox2_request_response.specs.declared.service.RequestResponse.{RequestResponse}
-use Rattle.iox2_request_response.proofs.Calling.{client_but_active, client_but_response, client_but_server, client_stays}
+use Rattle.iox2_request_response.proofs.Calling.{client_but_active, client_but_response, client_but_server}
+use Rattle.iox2_request_response.proofs.ClientSteps.{client-taken}
 use Rattle.iox2_request_response.proofs.Frames.{subscriber-live}
-use Rattle.iox2_request_response.proofs.SlotSteps.{other-ports}
-use Rattle.std.proofs.Common.{◌∙◌, ℕ, ap, sym}
+use Rattle.iox2_request_response.proofs.SlotSteps.{other-ports, pending-apart}
+use Rattle.std.proofs.Common.{◌∙◌, ℕ, ap, arith, le_trans, sym}
 use Rattle.iox2_machine.specs.declared.service_config.ServiceConfig.{ServiceConfig}
 
 -- two that are apart are so either way
 pub apart_back : (first second : PendingResponse) → AreApart first second → AreApart second first
-apart_back first second apart = ((λ same. apart.0 (sym same)), (λ same. apart.1 (sym same)))
+apart_back first second apart same = apart (sym same)
 
 module _ {Q P F G : Type 0} where
   -- a service stays one, whatever was spent
@@ -29,6 +30,7 @@ module _ {Q P F G : Type 0} where
     responses = stays.responses.single_valued is.responses;
     requests_discard = ap (λ (c : ServiceConfig). c.backpressure_strategy) stays.requests.settings ∙ is.requests_discard;
     responses_discard = ap (λ (c : ServiceConfig). c.backpressure_strategy) stays.responses.settings ∙ is.responses_discard;
+    numbered = let some = is.numbered in let rises = stays.numbers in omega (arith, some, rises);
   }
 
   -- ---- requests and responses that were received since
@@ -43,29 +45,36 @@ module _ {Q P F G : Type 0} where
   active_ends start old new active before is stays = record {
     requests = stays-on start.requests old.requests before.requests (received_sample active.sample) new.requests is stays.requests;
     responses = stays-twice No_item start.responses old.responses new.responses before.responses stays.responses;
+    numbers = le_trans before.numbers stays.numbers;
+    limit = stays.limit ∙ before.limit;
   }
 
   pub response_ends : (start old new : RequestResponse Q P F G) (response : Response) → StaysService start old → IsNewResponse start response → StaysButResponse old new response → StaysService start new
   response_ends start old new response before is stays = record {
     requests = stays-twice No_item start.requests old.requests new.requests before.requests stays.requests;
     responses = stays-on start.responses old.responses before.responses (received_sample response.sample) new.responses is stays.responses;
+    numbers = le_trans before.numbers stays.numbers;
+    limit = stays.limit ∙ before.limit;
   }
 
   -- ---- what stays live where something else is spent
 
   pub pending_but_active : (old new : RequestResponse Q P F G) (active : ActiveRequest) → StaysButActive old new active → (pending : PendingResponse) → IsLivePending old pending → IsLivePending new pending
-  pending_but_active old new active stays pending live = subscriber-live old.responses new.responses No_item pending.slot stays.responses tt live
+  pending_but_active old new active stays pending live = record { slot = subscriber-live old.responses new.responses No_item pending.slot stays.responses tt live.slot; number = live.number }
 
   pub pending_but_response : (old new : RequestResponse Q P F G) (response : Response) → StaysButResponse old new response → (pending : PendingResponse) → IsLivePending old pending → IsLivePending new pending
-  pending_but_response old new response stays pending live = subscriber-live old.responses new.responses (received_sample response.sample) pending.slot stays.responses tt live
+  pending_but_response old new response stays pending live = record { slot = subscriber-live old.responses new.responses (received_sample response.sample) pending.slot stays.responses tt live.slot; number = live.number }
 
   pub pending_but_server : (old new : RequestResponse Q P F G) (server : Server) → StaysButServer old new server → (pending : PendingResponse) → IsLivePending old pending → IsLivePending new pending
-  pending_but_server old new server stays pending live = subscriber-live old.responses new.responses (publisher_port server.responses) pending.slot stays.responses tt live
+  pending_but_server old new server stays pending live = record { slot = subscriber-live old.responses new.responses (publisher_port server.responses) pending.slot stays.responses tt live.slot; number = live.number }
 
-  pub pending_but_client : (old new : RequestResponse Q P F G) (client : Client) → StaysButClient old new client → (pending : PendingResponse) → IsPendingOf client pending → IsLivePending old pending
-      → IsLivePending new pending
-  pending_but_client old new client stays pending its live =
-      subscriber-live old.responses new.responses (idle_ports (client.slots).items) pending.slot stays.responses (other-ports (client.slots).items (subscriber_id pending.slot) its.apart) live
+  pub pending_but_client : (old new : RequestResponse Q P F G) (client : Client) → StaysButClient old new client → IsLiveClient old client → (pending : PendingResponse) → IsPendingOf client pending
+      → IsLivePending old pending → IsLivePending new pending
+  pending_but_client old new client stays whose pending its live = record {
+    slot = subscriber-live old.responses new.responses (idle_ports (client.slots).items) pending.slot stays.responses
+        (other-ports (client.slots).items (subscriber_id pending.slot) (pending-apart (client.slots).items whose.distinct pending.index (subscriber_id pending.slot) its)) live.slot;
+    number = live.number;
+  }
 
   pub active_but_server : (old new : RequestResponse Q P F G) (server : Server) → StaysButServer old new server → (active : ActiveRequest) → IsLiveActive old active → IsLiveActive new active
   active_but_server old new server stays active live = stays.requests.live_samples active.sample live tt
@@ -97,14 +106,9 @@ module _ {Q P F G : Type 0} where
   pub server_but_pending : (old new : RequestResponse Q P F G) (pending : PendingResponse) → StaysButPending old new pending → (server : Server) → IsLiveServer old server → IsLiveServer new server
   server_but_pending old new pending stays = server-apart No_item (subscriber_port pending.slot) old new stays (λ id. tt) (λ id. tt) (λ id. tt)
 
-  -- a client that has its ports from before, of which none was spent
-  pub client_with_ports : (start old new : RequestResponse Q P F G) → StaysService start new → (before client : Client) → IsLiveClient start before → HasPortsOf before client → IsLiveClient old client
-      → IsLiveClient new client
-  client_with_ports start old new stays before client was ports live =
-      let there = client_stays start new stays before was in record {
-        requests = rw ports.requests there.requests;
-        slots = λ at subscriber idle. there.slots at subscriber (ports.slots at subscriber idle);
-        distinct = live.distinct;
-      }
+  -- a client whose idle subscribers are those from before, of which none was spent
+  pub client_with_ports : (start old new : RequestResponse Q P F G) → StaysService start new → (before client : Client) → IsLiveClient start before → HasPortsOf before client → HasIdleOf before client
+      → IsLiveClient old client → IsLiveClient new client
+  client_with_ports start old new stays before client was ports idle live = client-taken start new stays before client ports idle was
 
 pub ruleset ending = (apart_back, active_is_new, response_is_new, active_ends, response_ends, client_but_active, client_but_response, client_but_server, pending_but_active, pending_but_response, pending_but_server, pending_but_client, active_but_server, active_but_pending, server_but_active, server_but_response, server_but_pending)

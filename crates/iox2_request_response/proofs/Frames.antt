@@ -1,4 +1,5 @@
 -- What of a service stays from one state to the next.
+use Rattle.std.proofs.Common.{le_trans, ◌∙◌}
 use Rattle.iox2_domain.specs.Kept.{Kept}
 use Rattle.iox2_pubsub.specs.Live.{IsLivePublisher, IsLiveSubscriber, IsOtherSubscriber, Item, Stays, StaysBut, publisher_key, subscriber_key}
 use Rattle.iox2_pubsub.specs.UpdateCalls.{ready_stays}
@@ -28,4 +29,6 @@ module _ {Q P F G : Type 0} where
   service-twice asked answered start old new before next = record {
     requests = stays-twice asked start.requests old.requests new.requests before.requests next.requests;
     responses = stays-twice answered start.responses old.responses new.responses before.responses next.responses;
+    numbers = le_trans before.numbers next.numbers;
+    limit = next.limit ∙ before.limit;
   }

@@ -1,6 +1,10 @@
 pub mod Calling
 pub mod ClientSteps
+pub mod ClosedChannels
 pub mod Closing
 pub mod Ending
 pub mod Frames
+pub mod PortChanges
+pub mod PortSteps
+pub mod SentMessages
 pub mod SlotSteps

@@ -1,14 +1,15 @@
 -- When handles of a service are live.
-use Rattle.std.specs.Prelude.{◌≡◌, ◌≢◌, ℕ}
+use Rattle.std.specs.Prelude.{◌≡◌, ◌≢◌, ◌<◌, ◌≤◌, ℕ}
 use Rattle.std.specs.declared.option.Option.TheVariants.{Some}
+use Rattle.iox2_machine.specs.machine.Channel.{closed_state}
 use Rattle.iox2_machine.specs.machine.ChannelCalls.{connection_place}
 use Rattle.iox2_machine.specs.machine.State.{State, Messages}
 use Rattle.iox2_domain.specs.Shows.{Shows}
 use Rattle.iox2_pubsub.specs.Handles.{publisher_id, subscriber_id}
-use Rattle.iox2_pubsub.specs.Live.{IsLivePublisher, IsLiveSample, IsLiveSubscriber, IsNewIn, No_item, SampleHasUserHeader, publisher_port, received_sample, sample_key, subscriber_port}
+use Rattle.iox2_pubsub.specs.Live.{IsLivePublisher, IsLiveSample, IsLiveSubscriber, IsNewIn, No_item, SampleHasUserHeader, publisher_port, received_sample, sample_key, subscriber_port, subscriber_ports}
 use Rattle.iox2_pubsub.specs.declared.subscriber.Subscriber.{Subscriber}
 use Rattle.iox2_request_response.specs.Service.{StaysBoth}
-use Rattle.iox2_request_response.specs.Slots.{AreDistinct, AreOthers, HasIdle, IsInUse, idle_ports}
+use Rattle.iox2_request_response.specs.Slots.{AreDistinct, HasIdle, IsInUse, idle_ports, slot_ids}
 use Rattle.iox2_request_response.specs.declared.active_request.ActiveRequest.{ActiveRequest}
 use Rattle.iox2_request_response.specs.declared.client.Client.{Client}
 use Rattle.iox2_request_response.specs.declared.pending_response.PendingResponse.{PendingResponse}
@@ -18,21 +19,28 @@ use Rattle.iox2_request_response.specs.declared.service.RequestResponse.{Request
 use Rattle.iox2_request_response.specs.declared.tags.RequestTag.{RequestTag}
 use Rattle.iox2_request_response.specs.declared.tags.ResponseTag.{ResponseTag}
 
+-- A request may have this number: it is the state neither of a new channel nor of a closed one.
+pub record IsRequestNumber (number : ℕ) : Type 0 where
+  pub not_open : 0 < number
+  pub not_closed : number < closed_state
+
 module _ {Q P F G : Type 0} (service : RequestResponse Q P F G) where
-  -- The client's publisher of requests is live, and so are its subscribers of responses that no request uses, no two of which are the same.
+  -- The client's publisher of requests is live, and so are its subscribers of responses that no request uses. No two of its
+  -- subscribers are the same.
   pub record IsLiveClient (client : Client) : Type 0 where
     pub requests : IsLivePublisher service.requests client.requests
     pub slots : (index : ℕ) (subscriber : Subscriber) → HasIdle (client.slots).items index subscriber → IsLiveSubscriber service.responses subscriber
-    pub distinct : AreDistinct (client.slots).items
+    pub distinct : AreDistinct (slot_ids (client.slots).items)
 
   -- Both ports of the server are live.
   pub record IsLiveServer (server : Server) : Type 0 where
     pub requests : IsLiveSubscriber service.requests server.requests
     pub responses : IsLivePublisher service.responses server.responses
 
-  -- The subscriber of the responses to the request is live.
-  abbrev pub IsLivePending : PendingResponse → Type 0
-  IsLivePending pending = IsLiveSubscriber service.responses pending.slot
+  -- The subscriber of the responses to the request is live, and the request has a number.
+  pub record IsLivePending (pending : PendingResponse) : Type 0 where
+    pub slot : IsLiveSubscriber service.responses pending.slot
+    pub number : IsRequestNumber pending.number
 
   -- The request is borrowed.
   abbrev pub IsLiveActive : ActiveRequest → Type 0
@@ -55,7 +63,7 @@ module _ {Q P F G : Type 0} (service : RequestResponse Q P F G) where
   -- No port of the client was there.
   pub record IsNewClient (client : Client) : Type 0 where
     pub requests : IsNewIn service.requests (publisher_port client.requests)
-    pub slots : IsNewIn service.responses (idle_ports (client.slots).items)
+    pub slots : IsNewIn service.responses (subscriber_ports (slot_ids (client.slots).items))
 
   -- No port of the server was there.
   pub record IsNewServer (server : Server) : Type 0 where
@@ -93,18 +101,26 @@ module _ {Q P F G : Type 0} (old new : RequestResponse Q P F G) where
   abbrev pub StaysButResponse : Response → Type 0
   StaysButResponse response = StaysBoth No_item (received_sample response.sample) old new
 
+  -- The request got its number now: it is none that was given before.
+  pub record HasNewNumber (pending : PendingResponse) : Type 0 where
+    pub at_least : old.next_request ≤ pending.number
+    pub given : pending.number < new.next_request
+
 -- ---- a client and its requests
 
--- The pending response is one of this client's: its place is in use, and its subscriber is none of the idle ones.
-pub record IsPendingOf (client : Client) (pending : PendingResponse) : Type 0 where
-  pub place : IsInUse (client.slots).items pending.index
-  pub apart : AreOthers (client.slots).items (subscriber_id pending.slot)
+-- The pending response is one of this client's: its subscriber is that of the place that it has there.
+abbrev pub IsPendingOf : Client → PendingResponse → Type 0
+IsPendingOf client pending = IsInUse (client.slots).items pending.index (subscriber_id pending.slot)
 
--- The two have places and subscribers of their own.
+-- The two have places of their own.
 abbrev pub AreApart : (first second : PendingResponse) → Type 0
-AreApart first second = (first.index ≢ second.index) × (subscriber_id first.slot ≢ subscriber_id second.slot)
+AreApart first second = first.index ≢ second.index
 
--- The client has the ports that it had before: its publisher is the same one, and who is idle was so at the same place.
+-- The client has the ports that it had before, whoever of them is idle.
 pub record HasPortsOf (before client : Client) : Type 0 where
   pub requests : client.requests ≡ before.requests
-  pub slots : (index : ℕ) (subscriber : Subscriber) → HasIdle (client.slots).items index subscriber → HasIdle (before.slots).items index subscriber
+  pub slots : slot_ids (client.slots).items ≡ slot_ids (before.slots).items
+
+-- Who is idle was so before, at the same place.
+abbrev pub HasIdleOf : (before client : Client) → Type 0
+HasIdleOf before client = (index : ℕ) (subscriber : Subscriber) → HasIdle (client.slots).items index subscriber → HasIdle (before.slots).items index subscriber

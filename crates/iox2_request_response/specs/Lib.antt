@@ -1,3 +1,5 @@
 pub mod Handles
+pub mod Ports
+pub mod Sent
 pub mod Service
 pub mod Slots

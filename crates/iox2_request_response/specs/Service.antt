@@ -1,5 +1,5 @@
 -- What a service of requests and responses is, and what a call leaves of it.
-use Rattle.std.specs.Prelude.{◌≡◌}
+use Rattle.std.specs.Prelude.{◌≡◌, ◌<◌, ◌≤◌}
 use Rattle.iox2_machine.specs.declared.backpressure.BackpressureStrategy.TheVariants.{DiscardData}
 use Rattle.iox2_machine.specs.declared.service_config.ServiceConfig.{ServiceConfig}
 use Rattle.iox2_machine.specs.declared.service_config.TypeVariant.TheVariants.{FixedSize}
@@ -13,17 +13,22 @@ pub record IsOfService (config : ServiceConfig) : Type 0 where
   pub discards : config.backpressure_strategy ≡ DiscardData
 
 module _ {Q P F G : Type 0} where
-  -- Each request and each response is a single value, and its publisher goes past whoever has no room for it.
+  -- Each request and each response is a single value, and its publisher goes past whoever has no room for it. The next request's number
+  -- isn't the state of a new channel.
   pub record IsService (service : RequestResponse Q P F G) : Type 0 where
     pub requests : IsSingleValued service.requests
     pub responses : IsSingleValued service.responses
     pub requests_discard : ((service.requests).config).backpressure_strategy ≡ DiscardData
     pub responses_discard : ((service.responses).config).backpressure_strategy ≡ DiscardData
+    pub numbered : 0 < service.next_request
 
   -- All that was live in either domain is, and reads as it did, but these items: one of the requests, and one of the responses.
+  -- Numbers of requests that were given stay given, and a client may have as many requests as before.
   pub record StaysBoth (asked answered : Item) (old new : RequestResponse Q P F G) : Type 0 where
     pub requests : StaysBut asked old.requests new.requests
     pub responses : StaysBut answered old.responses new.responses
+    pub numbers : old.next_request ≤ new.next_request
+    pub limit : new.max_active_requests ≡ old.max_active_requests
 
   -- All that was live in either domain is, and reads as it did.
   abbrev pub StaysService : (old new : RequestResponse Q P F G) → Type 0

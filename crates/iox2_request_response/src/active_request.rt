@@ -1,11 +1,12 @@
 //! A request that a server has received.
-ghost use Rattle.std.specs.Prelude.{◌≡◌, false, Ok};
+ghost use Rattle.std.specs.Prelude.{◌≡◌, false, true, Ok};
 ghost use Rattle.iox2_machine.specs.machine.ChannelCalls.{has_channel_state, has_disconnect_hint, sent_closed};
 ghost use Rattle.iox2_machine.specs.machine.State.{State, Messages};
 ghost use Rattle.iox2_domain.specs.Shows.{Shows};
 ghost use Rattle.iox2_pubsub.specs.Handles.{origin_of, publisher_id};
 ghost use Rattle.iox2_pubsub.specs.Live.{SampleReads};
 ghost use Rattle.iox2_request_response.specs.Handles.{IsLiveActive, IsLiveServer, StaysButActive};
+ghost use Rattle.iox2_request_response.specs.Sent.{SendsOne};
 ghost use Rattle.iox2_request_response.specs.Service.{IsService, StaysService};
 ghost use Rattle.iox2_request_response.specs.declared.tags.ResponseTag.{ResponseTag as Tag};
 
@@ -98,6 +99,7 @@ impl ActiveRequest {
         requires service { IsService service.old }
         requires server { IsLiveServer service.old server.now }
         ensures let_go { (m : Messages P Tag) (s : State P Tag) → Shows service.old.responses m s → has_channel_state s (publisher_id server.now.responses) 0 self.now.place self.now.number ≡ false → result ≡ Ok false }
+        ensures tagged { result ≡ Ok true → SendsOne (record { number = self.now.number }) value service.old.responses service.new.responses }
         ensures stays { StaysService service.old service.new }
     {
         if !self.is_connected(server, service) {

@@ -1,9 +1,12 @@
 //! A client.
-ghost use Rattle.std.specs.Prelude.{◌≡◌, ◌≤◌, ◌↔◌, [], Err, IfErr, IfOk, slice_set, vec_capacity};
-ghost use Rattle.iox2_pubsub.specs.Live.{IsLivePublisher, IsLiveSubscriber, IsNewIn, No_item, publisher_port};
-ghost use Rattle.iox2_request_response.specs.Handles.{AreApart, HasPortsOf, IsLiveClient, IsLivePending, IsNewClient, IsPendingOf, StaysButClient};
+ghost use Rattle.std.specs.Prelude.{◌≡◌, ◌≤◌, ◌↔◌, [], Err, ◌+◌, IfErr, IfOk, length, slice_set, vec_capacity};
+ghost use Rattle.iox2_pubsub.specs.Handles.{publisher_id, subscriber_id};
+ghost use Rattle.iox2_pubsub.specs.Live.{IsLivePublisher, IsLiveSubscriber, IsNewIn, No_item, publisher_port, subscriber_ports};
+ghost use Rattle.iox2_request_response.specs.Handles.{AreApart, HasIdleOf, HasNewNumber, HasPortsOf, IsLiveClient, IsLivePending, IsNewClient, IsPendingOf, IsRequestNumber, StaysButClient};
+ghost use Rattle.iox2_request_response.specs.Ports.{HasLostPublisher, HasNoNewPublisher, HasNoNewSubscriber, IsClosedClient};
+ghost use Rattle.iox2_request_response.specs.Sent.{SendsOne};
 ghost use Rattle.iox2_request_response.specs.Service.{IsService, StaysBoth, StaysService};
-ghost use Rattle.iox2_request_response.specs.Slots.{AllInUse, HasIdle, IsInUse, idle_ports};
+ghost use Rattle.iox2_request_response.specs.Slots.{AllInUse, HasIdle, IsInUse, slot_ids};
 ghost use Rattle.iox2_request_response.specs.declared.pending_response.PendingResponse.{PendingResponse as Pending};
 ghost use Rattle.iox2_request_response.specs.declared.slots.Slot.TheVariants.{Idle};
 
@@ -28,9 +31,13 @@ impl<Q: Drop, P: Drop, F: BackpressureFn, G: DegradationFn> RequestResponse<Q, P
     pub fn create_client(&mut self, alloc: Global) -> Result<Client, ClientCreateError>
         requires service { IsService self.old }
         ensures client { IfOk result (IsLiveClient self.new) }
+        ensures places { IfOk result (λ client. length client.slots.items ≡ self.old.max_active_requests) }
         ensures is_new { IfOk result (IsNewClient self.old) }
+        ensures unmade { IfErr result (λ _. HasNoNewPublisher self.old.requests self.new.requests × HasNoNewSubscriber self.old.responses self.new.responses) }
         ensures stays { StaysService self.old self.new }
     {
+        // Their contract says that a domain always shows some state.
+        self.configs();
         let slots = Vec::with_capacity(alloc, self.max_active_requests)?;
         match self.requests.publisher_builder().create(&mut self.requests) {
             Ok(requests) => {
@@ -51,9 +58,13 @@ impl<Q: Drop, P: Drop, F: BackpressureFn, G: DegradationFn> RequestResponse<Q, P
         requires room { self.old.max_active_requests ≤ vec_capacity client.slots }
         ensures client { IfOk result (IsLiveClient self.new) }
         ensures requests { IfOk result (λ it. it.requests ≡ client.requests) }
-        ensures are_new { IfOk result (λ it. IsNewIn self.old.responses (idle_ports it.slots.items)) }
+        ensures places { IfOk result (λ it. length it.slots.items ≡ self.old.max_active_requests) }
+        ensures are_new { IfOk result (λ it. IsNewIn self.old.responses (subscriber_ports (slot_ids it.slots.items))) }
+        ensures unmade { IfErr result (λ _. HasLostPublisher (publisher_id client.requests) self.old.requests self.new.requests × HasNoNewSubscriber self.old.responses self.new.responses) }
         ensures stays { StaysBoth (publisher_port client.requests) No_item self.old self.new }
     {
+        // Their contract says that a domain always shows some state.
+        self.configs();
         for _ in 0..self.max_active_requests {
             match self
                 .responses
@@ -89,7 +100,10 @@ impl Client {
         ensures pending { IfOk result (IsLivePending service.new) }
         ensures its { IfOk result (IsPendingOf self.new) }
         ensures others { (other : Pending) → IsPendingOf self.old other → IsPendingOf self.new other × IfOk result (AreApart other) }
+        ensures number { IfOk result (HasNewNumber service.old service.new) }
+        ensures asked { IfOk result (λ pending. SendsOne (record { slot = subscriber_id pending.slot; number = pending.number }) value service.old.requests service.new.requests) }
         ensures ports { HasPortsOf self.old self.new }
+        ensures idle { HasIdleOf self.old self.new }
         ensures was_idle { IfOk result (λ pending. HasIdle self.old.slots.items pending.index pending.slot) }
         ensures client { IsLiveClient service.new self.new }
         ensures stays { StaysService service.old service.new }
@@ -113,7 +127,7 @@ impl Client {
 
     // The subscriber is idle again.
     pub(crate) fn give_back(&mut self, index: usize, slot: Subscriber)
-        requires { IsInUse self.old.slots.items index }
+        requires { IsInUse self.old.slots.items index (subscriber_id slot) }
         ensures requests { self.new.requests ≡ self.old.requests }
         ensures slots { self.new.slots.items ≡ slice_set self.old.slots.items index (Idle slot) }
     {
@@ -126,15 +140,18 @@ impl Client {
         service: &mut RequestResponse<Q, P, F, G>,
     )
         requires client { IsLiveClient service.old self }
-        ensures spent { IsLiveClient service.new self → ⊥ }
+        ensures spent { IsClosedClient service.new self }
+        ensures left { HasLostPublisher (publisher_id self.requests) service.old.requests service.new.requests × HasNoNewSubscriber service.old.responses service.new.responses }
         ensures stays { StaysButClient service.old service.new self }
     {
         let Client { requests, slots } = self;
         let mut slots = slots;
+        // Their contract says that a domain always shows some state.
+        service.configs();
         while let Some(slot) = slots.pop() {
             match slot {
                 Slot::Idle(subscriber) => subscriber.close(&mut service.responses),
-                Slot::InUse => {}
+                Slot::InUse(_) => {}
             }
         }
         slots.destroy_empty();
@@ -154,6 +171,8 @@ fn send_request<Q: Drop, P: Drop, F: BackpressureFn, G: DegradationFn>(
     requires requests { IsLivePublisher service.old.requests requests.now }
     requires slot { IsLiveSubscriber service.old.responses slot.now }
     ensures errors { result ≡ Err RequestSendError.ExceedsMaxActiveRequests → ⊥ }
+    ensures number { IfOk result (λ sent. IsRequestNumber sent.0 × (service.old.next_request ≡ sent.0) × (service.new.next_request ≡ sent.0 + 1)) }
+    ensures asked { IfOk result (λ sent. SendsOne (record { slot = subscriber_id slot.now; number = sent.0 }) value service.old.requests service.new.requests) }
     ensures stays { StaysService service.old service.new }
 {
     let number = service.next_request;

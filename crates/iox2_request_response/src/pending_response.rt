@@ -1,11 +1,13 @@
 //! What waits for the responses to a request.
-ghost use Rattle.std.specs.Prelude.{◌≡◌, ◌<◌, ◌↔◌, IfOk, IfSome, IsTrue};
-ghost use Rattle.iox2_machine.specs.machine.ChannelCalls.{received_hinted, some_channel_has_state};
+ghost use Rattle.std.specs.Prelude.{◌≡◌, ◌<◌, ◌↔◌, IfNone, IfOk, IfSome, IsTrue, Some, false};
+ghost use Rattle.iox2_machine.specs.machine.ChannelCalls.{received_closed, received_hinted, some_channel_has_state};
+ghost use Rattle.iox2_machine.specs.machine.Ports.{subscriber_closed};
+ghost use Rattle.iox2_machine.specs.machine.Records.{Subscriber as Record};
 ghost use Rattle.iox2_machine.specs.machine.State.{State, Messages};
 ghost use Rattle.iox2_domain.specs.Shows.{Shows};
 ghost use Rattle.iox2_pubsub.specs.Handles.{subscriber_id};
-ghost use Rattle.iox2_pubsub.specs.Live.{IsLiveSubscriber, SampleHasUserHeader, sample_key, waiting};
-ghost use Rattle.iox2_request_response.specs.Handles.{AreApart, HasPortsOf, IsLiveClient, IsLivePending, IsLiveResponse, IsNewResponse, IsPendingOf, StaysButPending};
+ghost use Rattle.iox2_pubsub.specs.Live.{IsLiveSubscriber, IsSubscriberKey, SampleHasUserHeader, sample_key, subscriber_key, waiting};
+ghost use Rattle.iox2_request_response.specs.Handles.{AreApart, HasIdleOf, HasPortsOf, IsLiveClient, IsLivePending, IsLiveResponse, IsNewResponse, IsPendingOf, IsRequestNumber, StaysButPending};
 ghost use Rattle.iox2_request_response.specs.Service.{StaysService};
 ghost use Rattle.iox2_request_response.specs.Slots.{HasIdle};
 ghost use Rattle.iox2_request_response.specs.declared.client.Client.{Client as ItsClient};
@@ -83,6 +85,7 @@ impl PendingResponse {
         ensures response { IfOk result (λ response. IfSome response (IsLiveResponse service.new)) }
         ensures is_new { IfOk result (λ response. IfSome response (IsNewResponse service.old)) }
         ensures its { IfOk result (λ response. IfSome response (λ it. (tag : Tag) × SampleHasUserHeader service.new.responses (sample_key it.sample) tag × (tag.number ≡ self.now.number))) }
+        ensures none { IfOk result (λ response. IfNone response (waiting service.new.responses self.now.slot ≡ 0)) }
         ensures stays { StaysService service.old service.new }
     {
         while let Some(sample) = self.slot.receive(&mut service.responses)? {
@@ -107,7 +110,9 @@ impl PendingResponse {
         ensures client { IsLiveClient service.new client.new }
         ensures given { HasIdle client.new.slots.items self.index self.slot }
         ensures others { (other : Pending) → IsPendingOf client.old other → AreApart self other → IsPendingOf client.new other }
-        ensures ports { (before : ItsClient) → HasPortsOf before client.old → HasIdle before.slots.items self.index self.slot → HasPortsOf before client.new }
+        ensures ports { HasPortsOf client.old client.new }
+        ensures idle { (before : ItsClient) → HasIdleOf before client.old → HasIdle before.slots.items self.index self.slot → HasIdleOf before client.new }
+        ensures let_go { (m : Messages P Tag) (s : State P Tag) → Shows service.new.responses m s → some_channel_has_state s (subscriber_id self.slot) 0 self.number ≡ false }
         ensures stays { StaysService service.old service.new }
     {
         let PendingResponse {
@@ -116,8 +121,7 @@ impl PendingResponse {
             number,
             servers: _,
         } = self;
-        slot.close_channel(&mut service.responses, 0, number);
-        empty(&slot, service);
+        settle(&slot, number, service);
         client.give_back(index, slot);
     }
 
@@ -127,7 +131,9 @@ impl PendingResponse {
         service: &mut RequestResponse<Q, P, F, G>,
     )
         requires live { IsLivePending service.old self }
-        ensures spent { IsLivePending service.new self → ⊥ }
+        ensures let_go { (m : Messages P Tag) (s : State P Tag) (y : Record) → Shows service.old.responses m s → s.subscribers (subscriber_id self.slot) ≡ Some y
+            → Shows service.new.responses m (subscriber_closed (received_closed s (subscriber_id self.slot) 0 self.number) (subscriber_id self.slot) y) }
+        ensures spent { IsSubscriberKey service.new.responses (subscriber_key self.slot) → ⊥ }
         ensures stays { StaysButPending service.old service.new self }
     {
         let PendingResponse {
@@ -137,9 +143,39 @@ impl PendingResponse {
             servers: _,
         } = self;
         // A publisher sees the state until it makes its connections anew, also of a closed subscriber.
-        slot.close_channel(&mut service.responses, 0, number);
+        let_go(&slot, number, service);
         slot.close(&mut service.responses);
     }
+}
+
+// Releases what waits for the slot, as long as it may receive, and lets the request go.
+fn settle<Q: Drop, P: Drop, F: BackpressureFn, G: DegradationFn>(
+    slot: &Subscriber,
+    number: u64,
+    service: &mut RequestResponse<Q, P, F, G>,
+)
+    requires slot { IsLiveSubscriber service.old.responses slot.now }
+    requires number { IsRequestNumber number }
+    ensures let_go { (m : Messages P Tag) (s : State P Tag) → Shows service.new.responses m s → some_channel_has_state s (subscriber_id slot.now) 0 number ≡ false }
+    ensures stays { StaysService service.old service.new }
+{
+    empty(slot, service);
+    // Its contract says that a domain always shows some state.
+    service.responses.config();
+    let_go(slot, number, service);
+}
+
+// Closes the channel where it is in the state that is the request's number.
+fn let_go<Q: Drop, P: Drop, F: BackpressureFn, G: DegradationFn>(
+    slot: &Subscriber,
+    number: u64,
+    service: &mut RequestResponse<Q, P, F, G>,
+)
+    requires slot { IsLiveSubscriber service.old.responses slot.now }
+    ensures closed { (m : Messages P Tag) (s : State P Tag) → Shows service.old.responses m s → Shows service.new.responses m (received_closed s (subscriber_id slot.now) 0 number) }
+    ensures stays { StaysService service.old service.new }
+{
+    slot.close_channel(&mut service.responses, 0, number);
 }
 
 // Releases what waits for the subscriber, as long as it may receive.

@@ -1,5 +1,5 @@
 //! A server.
-ghost use Rattle.std.specs.Prelude.{◌≡◌, true, IfErr, IfOk, IfSome, ◌<◌, ◌↔◌, IsTrue};
+ghost use Rattle.std.specs.Prelude.{◌≡◌, true, IfErr, IfNone, IfOk, IfSome, ◌<◌, ◌↔◌, IsTrue};
 ghost use Rattle.iox2_machine.specs.machine.ChannelCalls.{has_channel_state};
 ghost use Rattle.iox2_machine.specs.machine.State.{State, Messages};
 ghost use Rattle.iox2_domain.specs.Shows.{Shows};
@@ -7,6 +7,7 @@ ghost use Rattle.iox2_pubsub.specs.Handles.{publisher_id};
 ghost use Rattle.iox2_request_response.specs.declared.tags.ResponseTag.{ResponseTag as Answered};
 ghost use Rattle.iox2_pubsub.specs.Live.{IsLiveSample, waiting};
 ghost use Rattle.iox2_request_response.specs.Handles.{IsLiveActive, IsLiveServer, IsNewActive, IsNewServer, IsTagged, StaysButServer};
+ghost use Rattle.iox2_request_response.specs.Ports.{HasNoNewPublisher, HasNoNewSubscriber, IsClosedServer};
 ghost use Rattle.iox2_request_response.specs.Service.{IsService, StaysService};
 
 use crate::active_request::ActiveRequest;
@@ -31,8 +32,11 @@ impl<Q: Drop, P: Drop, F: BackpressureFn, G: DegradationFn> RequestResponse<Q, P
         requires service { IsService self.old }
         ensures server { IfOk result (IsLiveServer self.new) }
         ensures is_new { IfOk result (IsNewServer self.old) }
+        ensures unmade { IfErr result (λ _. HasNoNewSubscriber self.old.requests self.new.requests × HasNoNewPublisher self.old.responses self.new.responses) }
         ensures stays { StaysService self.old self.new }
     {
+        // Their contract says that a domain always shows some state.
+        self.configs();
         let requests = match self
             .requests
             .subscriber_builder()
@@ -81,6 +85,7 @@ impl Server {
         ensures is_new { IfOk result (λ active. IfSome active (IsNewActive service.old)) }
         ensures tagged { IfOk result (λ active. IfSome active (λ it. IsTagged service.new self.now it)) }
         ensures connected { IfOk result (λ active. IfSome active (λ it. (m : Messages P Answered) (s : State P Answered) → Shows service.new.responses m s → has_channel_state s (publisher_id self.now.responses) 0 it.place it.number ≡ true)) }
+        ensures none { IfOk result (λ active. IfNone active (waiting service.new.requests self.now.requests ≡ 0)) }
         ensures stays { StaysService service.old service.new }
     {
         self.responses.update_connections(&mut service.responses)?;
@@ -134,7 +139,7 @@ impl Server {
         service: &mut RequestResponse<Q, P, F, G>,
     )
         requires live { IsLiveServer service.old self }
-        ensures spent { IsLiveServer service.new self → ⊥ }
+        ensures spent { IsClosedServer service.new self }
         ensures stays { StaysButServer service.old service.new self }
     {
         let Server {

@@ -1,5 +1,6 @@
 //! A service of requests and responses.
 ghost use Rattle.std.specs.Prelude.{◌≡◌, IfOk};
+ghost use Rattle.iox2_pubsub.specs.Live.{IsConsistent};
 ghost use Rattle.iox2_request_response.specs.Service.{IsOfService, IsService};
 
 use crate::tags::{RequestTag, ResponseTag};
@@ -125,7 +126,11 @@ impl<Q: Drop, P: Drop, F: BackpressureFn, G: DegradationFn> RequestResponse<Q, P
     }
 
     /// The settings of the two domains, of requests and of responses.
-    pub fn configs(&self) -> (&ServiceConfig, &ServiceConfig) {
+    pub fn configs(&self) -> (&ServiceConfig, &ServiceConfig)
+        ensures requests { result.0.now ≡ self.now.requests.config }
+        ensures responses { result.1.now ≡ self.now.responses.config }
+        ensures consistent { IsConsistent self.now.requests × IsConsistent self.now.responses }
+    {
         (self.requests.config(), self.responses.config())
     }
 

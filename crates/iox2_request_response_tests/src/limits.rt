@@ -1,4 +1,4 @@
-ghost use Rattle.iox2_request_response.specs.Handles.{HasPortsOf, IsLiveClient, IsLivePending, IsLiveServer, IsPendingOf};
+ghost use Rattle.iox2_request_response.specs.Handles.{HasIdleOf, HasPortsOf, IsLiveClient, IsLivePending, IsLiveServer, IsPendingOf};
 ghost use Rattle.iox2_request_response.specs.Service.{IsService, StaysService};
 ghost use Rattle.iox2_request_response.specs.declared.pending_response.PendingResponse.{PendingResponse as Pending};
 
@@ -68,9 +68,11 @@ fn ask_and_hold<R: Abort, F: BackpressureFn, G: DegradationFn>(
     ensures first { IsLiveClient service.new first.new }
     ensures first_others { (other : Pending) → IsPendingOf first.old other → IsPendingOf first.new other }
     ensures first_ports { HasPortsOf first.old first.new }
+    ensures first_idle { HasIdleOf first.old first.new }
     ensures second { IsLiveClient service.new second.new }
     ensures second_others { (other : Pending) → IsPendingOf second.old other → IsPendingOf second.new other }
     ensures second_ports { HasPortsOf second.old second.new }
+    ensures second_idle { HasIdleOf second.old second.new }
     ensures stays { StaysService service.old service.new }
 {
     if requests == 0 {
@@ -100,9 +102,11 @@ fn serve_and_hold<R: Abort, F: BackpressureFn, G: DegradationFn>(
     ensures first { IsLiveClient service.new first.new }
     ensures first_others { (other : Pending) → IsPendingOf first.old other → IsPendingOf first.new other }
     ensures first_ports { HasPortsOf first.old first.new }
+    ensures first_idle { HasIdleOf first.old first.new }
     ensures second { IsLiveClient service.new second.new }
     ensures second_others { (other : Pending) → IsPendingOf second.old other → IsPendingOf second.new other }
     ensures second_ports { HasPortsOf second.old second.new }
+    ensures second_idle { HasIdleOf second.old second.new }
     ensures stays { StaysService service.old service.new }
 {
     let active = active_of(rt, server, service);
@@ -133,9 +137,11 @@ fn hold_one<R: Abort, F: BackpressureFn, G: DegradationFn>(
     ensures first { IsLiveClient service.new first.new }
     ensures first_others { (other : Pending) → IsPendingOf first.old other → IsPendingOf first.new other }
     ensures first_ports { HasPortsOf first.old first.new }
+    ensures first_idle { HasIdleOf first.old first.new }
     ensures second { IsLiveClient service.new second.new }
     ensures second_others { (other : Pending) → IsPendingOf second.old other → IsPendingOf second.new other }
     ensures second_ports { HasPortsOf second.old second.new }
+    ensures second_idle { HasIdleOf second.old second.new }
     ensures stays { StaysService service.old service.new }
 {
     let held = response_of(rt, pending, service);
@@ -166,9 +172,11 @@ fn hold_both<R: Abort, F: BackpressureFn, G: DegradationFn>(
     ensures first { IsLiveClient service.new first.new }
     ensures first_others { (other : Pending) → IsPendingOf first.old other → IsPendingOf first.new other }
     ensures first_ports { HasPortsOf first.old first.new }
+    ensures first_idle { HasIdleOf first.old first.new }
     ensures second { IsLiveClient service.new second.new }
     ensures second_others { (other : Pending) → IsPendingOf second.old other → IsPendingOf second.new other }
     ensures second_ports { HasPortsOf second.old second.new }
+    ensures second_idle { HasIdleOf second.old second.new }
     ensures stays { StaysService service.old service.new }
 {
     let held = response_of(rt, pending, service);

@@ -1,4 +1,4 @@
-ghost use Rattle.iox2_request_response.specs.Handles.{HasPortsOf, IsLiveClient, IsLivePending, IsLiveServer};
+ghost use Rattle.iox2_request_response.specs.Handles.{HasIdleOf, HasPortsOf, IsLiveClient, IsLivePending, IsLiveServer};
 ghost use Rattle.iox2_request_response.specs.Service.{IsService, StaysService};
 
 use crate::fixtures::{
@@ -53,6 +53,7 @@ fn ask_three(
     requires first { IsLiveClient service.old first.old }
     requires second { IsLiveClient service.old second.old }
     ensures first { IsLiveClient service.new first.new }
+    ensures first_idle { HasIdleOf first.old first.new }
     ensures first_ports { HasPortsOf first.old first.new }
     ensures second { IsLiveClient service.new second.new }
     ensures second_ports { HasPortsOf second.old second.new }

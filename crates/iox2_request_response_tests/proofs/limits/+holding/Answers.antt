@@ -1,10 +1,13 @@
 use Rattle.iox2_request_response.proofs.Calling.{active_stays, client_but_active, client_but_response, client_stays, pending_stays, response_stays, server_stays, service_stays, service_then}
-use Rattle.iox2_request_response.proofs.ClientSteps.{ports_then}
+use Rattle.iox2_request_response.proofs.ClientSteps.{idle_then, ports_then}
 use Rattle.iox2_request_response.proofs.Ending.{active_ends, apart_back, response_ends}
 use Rattle.iox2_request_response_tests.proofs.limits.+holding.Goals as goal
 
 pub ask_and_hold-returns-clause-first_ports : goal.ask_and_hold-returns-clause-first_ports
-ask_and_hold-returns-clause-first_ports g t c = c.close.ensures.ports c.args.first.now (ports_then _ _ _ c.sent-pending.ensures.ports c.serve_and_hold.ensures.first_ports) c.sent-pending.ensures.was_idle
+ask_and_hold-returns-clause-first_ports g t c = ports_then _ _ _ c.sent-pending.ensures.ports (ports_then _ _ _ c.serve_and_hold.ensures.first_ports c.close.ensures.ports)
+
+pub ask_and_hold-returns-clause-first_idle : goal.ask_and_hold-returns-clause-first_idle
+ask_and_hold-returns-clause-first_idle g t c = c.close.ensures.idle c.args.first.now (idle_then _ _ _ c.sent-pending.ensures.idle c.serve_and_hold.ensures.first_idle) c.sent-pending.ensures.was_idle
 
 pub ask_and_hold-returns-clause-second : goal.ask_and_hold-returns-clause-second
 ask_and_hold-returns-clause-second g t c = client_stays _ _ c.close.ensures.stays _ c.serve_and_hold.ensures.second

@@ -12,4 +12,4 @@ returns-clause-stays g c =
 
 pub returns-clause-first : goal.returns-clause-first
 returns-clause-first g c =
-    client_with_ports c.args.service.now c.ask_and_hold.new.service c.close.new.service (returns-clause-stays g c) c.args.first.now c.ask_and_hold.new.first c.requires.first c.ask_and_hold.ensures.first_ports c.ask_and_hold.ensures.first
+    client_with_ports c.args.service.now c.ask_and_hold.new.service c.close.new.service (returns-clause-stays g c) c.args.first.now c.ask_and_hold.new.first c.requires.first c.ask_and_hold.ensures.first_ports c.ask_and_hold.ensures.first_idle c.ask_and_hold.ensures.first

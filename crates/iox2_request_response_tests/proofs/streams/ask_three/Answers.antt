@@ -1,5 +1,5 @@
 use Rattle.iox2_request_response.proofs.Calling.{client_stays, service_then}
-use Rattle.iox2_request_response.proofs.ClientSteps.{ports_then}
+use Rattle.iox2_request_response.proofs.ClientSteps.{idle_then, ports_then}
 use Rattle.iox2_request_response_tests.proofs.streams.ask_three.Goals as goal
 
 pub close-requires-clause-client : goal.close-requires-clause-client
@@ -12,10 +12,13 @@ pub close-requires-3-clause-client : goal.close-requires-3-clause-client
 close-requires-3-clause-client g c = client_stays _ _ c.close-2.ensures.stays _ c.close.ensures.client
 
 pub returns-clause-first_ports : goal.returns-clause-first_ports
-returns-clause-first_ports g c =
-    let both = ports_then _ _ _ c.sent-a.ensures.ports c.sent-c.ensures.ports in
-    let one = c.close.ensures.ports c.args.first.now both c.sent-a.ensures.was_idle in
-    c.close-3.ensures.ports c.args.first.now one (c.sent-a.ensures.ports.slots _ _ c.sent-c.ensures.was_idle)
+returns-clause-first_ports g c = ports_then _ _ _ c.sent-a.ensures.ports (ports_then _ _ _ c.sent-c.ensures.ports (ports_then _ _ _ c.close.ensures.ports c.close-3.ensures.ports))
+
+pub returns-clause-first_idle : goal.returns-clause-first_idle
+returns-clause-first_idle g c =
+    let both = idle_then _ _ _ c.sent-a.ensures.idle c.sent-c.ensures.idle in
+    let one = c.close.ensures.idle c.args.first.now both c.sent-a.ensures.was_idle in
+    c.close-3.ensures.idle c.args.first.now one (c.sent-a.ensures.idle _ _ c.sent-c.ensures.was_idle)
 
 pub returns-clause-second : goal.returns-clause-second
 returns-clause-second g c = client_stays _ _ c.close-3.ensures.stays _ c.close-2.ensures.client
