@@ -15,8 +15,8 @@ use Rattle.iox2_request_response.specs.declared.server.Server.{Server}
 use Rattle.iox2_request_response.specs.declared.service.RequestResponse.{RequestResponse}
 use Rattle.iox2_request_response.proofs.ClientSteps.{client-stays, ports_then}
 use Rattle.iox2_request_response.proofs.Closing.{idle-new}
-use Rattle.iox2_request_response.proofs.Frames.{publisher-live, service-twice, subscriber-live}
-use Rattle.std.proofs.Common.{◌∙◌, ℕ, List, ap, arith, le_trans, subst, sym}
+use Rattle.iox2_request_response.proofs.Frames.{counts-twice, numbers-rise, publisher-live, service-twice, subscriber-live}
+use Rattle.std.proofs.Common.{◌∙◌, ℕ, List, ap, arith, subst, sym}
 use Rattle.iox2_machine.specs.declared.service_config.ServiceConfig.{ServiceConfig}
 
 module _ {Q P F G : Type 0} where
@@ -29,7 +29,7 @@ module _ {Q P F G : Type 0} where
     responses = stays.responses.single_valued is.responses;
     requests_discard = ap (λ (c : ServiceConfig). c.backpressure_strategy) stays.requests.settings ∙ is.requests_discard;
     responses_discard = ap (λ (c : ServiceConfig). c.backpressure_strategy) stays.responses.settings ∙ is.responses_discard;
-    numbered = let some = is.numbered in let rises = stays.numbers in omega (arith, some, rises);
+    numbered = let some = is.numbered in let rises = numbers-rise old new stays.counts in omega (arith, some, rises);
   }
 
   pub client_stays : (old new : RequestResponse Q P F G) → StaysService old new → (client : Client) → IsLiveClient old client → IsLiveClient new client
@@ -104,16 +104,14 @@ module _ {Q P F G : Type 0} where
   client_ends start old new client before is stays = record {
     requests = stays-on start.requests old.requests before.requests (publisher_port client.requests) new.requests is.requests stays.requests;
     responses = stays-on start.responses old.responses before.responses (idle_ports (client.slots).items) new.responses (idle-new start.responses (client.slots).items is.slots) stays.responses;
-    numbers = le_trans before.numbers stays.numbers;
-    limit = stays.limit ∙ before.limit;
+    counts = counts-twice start old new before.counts stays.counts;
   }
 
   pub server_ends : (start old new : RequestResponse Q P F G) (server : Server) → StaysService start old → IsNewServer start server → StaysButServer old new server → StaysService start new
   server_ends start old new server before is stays = record {
     requests = stays-on start.requests old.requests before.requests (subscriber_port server.requests) new.requests is.requests stays.requests;
     responses = stays-on start.responses old.responses before.responses (publisher_port server.responses) new.responses is.responses stays.responses;
-    numbers = le_trans before.numbers stays.numbers;
-    limit = stays.limit ∙ before.limit;
+    counts = counts-twice start old new before.counts stays.counts;
   }
 
   -- what is new later was new before

@@ -1,5 +1,5 @@
 -- A client's subscribers are closed one after the other, or made.
-use Rattle.std.proofs.Common.{◌≡◌, ℕ, ◌<◌, ◌≤◌, zero, suc, arith, List, [], ◌∷◌, ◌++◌, ◌⊎◌, length, refl, sym, ap, subst, ◌∙◌, inl, inr, slice_index_or, append_assoc, get_or}
+use Rattle.std.proofs.Common.{◌≡◌, ℕ, ◌<◌, zero, suc, arith, List, [], ◌∷◌, ◌++◌, ◌⊎◌, length, refl, sym, ap, subst, ◌∙◌, inl, inr, slice_index_or, append_assoc, get_or}
 use Rattle.std.specs.Prelude.{◌≢◌}
 use Rattle.iox2_machine.specs.declared.key.Key.{Key}
 use Rattle.iox2_domain.specs.Kept.{Kept}
@@ -17,7 +17,7 @@ use Rattle.iox2_request_response.specs.declared.client.Client.{Client}
 use Rattle.iox2_request_response.specs.declared.service.RequestResponse.{RequestResponse}
 use Rattle.iox2_request_response.specs.declared.slots.Slot.{Slot}
 use Rattle.iox2_request_response.specs.declared.slots.Slot.TheVariants.{Idle, InUse}
-use Rattle.iox2_request_response.proofs.Frames.{publisher-live, subscriber-live}
+use Rattle.iox2_request_response.proofs.Frames.{counts-same, counts-twice, publisher-live, subscriber-live}
 use Rattle.iox2_request_response.proofs.SlotSteps.{as-many, id-there, ids-append, middle-apart, middle-idle, other-ports, push-distinct, push-idle}
 
 append-none : (slots : List Slot) → slots ++ [] ≡ slots
@@ -195,8 +195,7 @@ module _ {Q P F G : Type 0} (requests : Publisher) (start : RequestResponse Q P 
       requests = subst (λ (p : Publisher). StaysBut (publisher_port p) start.requests closed.requests) filling.publisher
           (subst (λ d. StaysBut (publisher_port client.requests) d closed.requests) filling.requests_stay stays.requests);
       responses = stays-on start.responses now.responses filling.stays (idle_ports (client.slots).items) closed.responses (idle-new start.responses (client.slots).items filling.are_new) stays.responses;
-      numbers = subst (λ (n : ℕ). n ≤ closed.next_request) filling.numbers stays.numbers;
-      limit = stays.limit ∙ filling.limit;
+      counts = counts-twice start now closed (counts-same start now filling.numbers filling.limit) stays.counts;
     }
 
     -- and no subscriber is there that wasn't

@@ -13,9 +13,9 @@ use Rattle.iox2_request_response.specs.declared.server.Server.{Server}
 use Rattle.iox2_request_response.specs.declared.service.RequestResponse.{RequestResponse}
 use Rattle.iox2_request_response.proofs.Calling.{client_but_active, client_but_response, client_but_server}
 use Rattle.iox2_request_response.proofs.ClientSteps.{client-taken}
-use Rattle.iox2_request_response.proofs.Frames.{subscriber-live}
+use Rattle.iox2_request_response.proofs.Frames.{counts-twice, numbers-rise, subscriber-live}
 use Rattle.iox2_request_response.proofs.SlotSteps.{other-ports, pending-apart}
-use Rattle.std.proofs.Common.{◌∙◌, ℕ, ap, arith, le_trans, sym}
+use Rattle.std.proofs.Common.{◌∙◌, ℕ, ap, arith, sym}
 use Rattle.iox2_machine.specs.declared.service_config.ServiceConfig.{ServiceConfig}
 
 -- two that are apart are so either way
@@ -30,7 +30,7 @@ module _ {Q P F G : Type 0} where
     responses = stays.responses.single_valued is.responses;
     requests_discard = ap (λ (c : ServiceConfig). c.backpressure_strategy) stays.requests.settings ∙ is.requests_discard;
     responses_discard = ap (λ (c : ServiceConfig). c.backpressure_strategy) stays.responses.settings ∙ is.responses_discard;
-    numbered = let some = is.numbered in let rises = stays.numbers in omega (arith, some, rises);
+    numbered = let some = is.numbered in let rises = numbers-rise old new stays.counts in omega (arith, some, rises);
   }
 
   -- ---- requests and responses that were received since
@@ -45,16 +45,14 @@ module _ {Q P F G : Type 0} where
   active_ends start old new active before is stays = record {
     requests = stays-on start.requests old.requests before.requests (received_sample active.sample) new.requests is stays.requests;
     responses = stays-twice No_item start.responses old.responses new.responses before.responses stays.responses;
-    numbers = le_trans before.numbers stays.numbers;
-    limit = stays.limit ∙ before.limit;
+    counts = counts-twice start old new before.counts stays.counts;
   }
 
   pub response_ends : (start old new : RequestResponse Q P F G) (response : Response) → StaysService start old → IsNewResponse start response → StaysButResponse old new response → StaysService start new
   response_ends start old new response before is stays = record {
     requests = stays-twice No_item start.requests old.requests new.requests before.requests stays.requests;
     responses = stays-on start.responses old.responses before.responses (received_sample response.sample) new.responses is stays.responses;
-    numbers = le_trans before.numbers stays.numbers;
-    limit = stays.limit ∙ before.limit;
+    counts = counts-twice start old new before.counts stays.counts;
   }
 
   -- ---- what stays live where something else is spent

@@ -1,12 +1,12 @@
 -- What of a service stays from one state to the next.
-use Rattle.std.proofs.Common.{le_trans, ◌∙◌}
+use Rattle.std.proofs.Common.{◌≡◌, ◌≤◌, arith, le_trans, ◌∙◌}
 use Rattle.iox2_domain.specs.Kept.{Kept}
 use Rattle.iox2_pubsub.specs.Live.{IsLivePublisher, IsLiveSubscriber, IsOtherSubscriber, Item, Stays, StaysBut, publisher_key, subscriber_key}
 use Rattle.iox2_pubsub.specs.UpdateCalls.{ready_stays}
 use Rattle.iox2_pubsub.specs.declared.publisher.Publisher.{Publisher}
 use Rattle.iox2_pubsub.specs.declared.subscriber.Subscriber.{Subscriber}
 use Rattle.iox2_pubsub.proofs.StaysBut.{stays-twice}
-use Rattle.iox2_request_response.specs.Service.{StaysBoth}
+use Rattle.iox2_request_response.specs.Service.{CountsStay, StaysBoth}
 use Rattle.iox2_request_response.specs.declared.service.RequestResponse.{RequestResponse}
 
 module _ {T U F G : Type 0} (old new : Kept T U F G) where
@@ -24,11 +24,29 @@ module _ {T U F G : Type 0} (old new : Kept T U F G) where
   }
 
 module _ {Q P F G : Type 0} where
+  -- counts stay where they stay from one call to the next
+  pub counts-twice : (start old new : RequestResponse Q P F G) → CountsStay start old → CountsStay old new → CountsStay start new
+  unfolding CountsStay
+  counts-twice start old new before next = (le_trans before.0 next.0, next.1 ∙ before.1)
+
+  -- where they are the same
+  pub counts-same : (old new : RequestResponse Q P F G) → new.next_request ≡ old.next_request → new.max_active_requests ≡ old.max_active_requests → CountsStay old new
+  unfolding CountsStay
+  counts-same old new same limit = (omega (arith, same), limit)
+
+  -- and where numbers rise
+  pub counts-rise : (old new : RequestResponse Q P F G) → old.next_request ≤ new.next_request → new.max_active_requests ≡ old.max_active_requests → CountsStay old new
+  unfolding CountsStay
+  counts-rise old new rises limit = (rises, limit)
+
+  pub numbers-rise : (old new : RequestResponse Q P F G) → CountsStay old new → old.next_request ≤ new.next_request
+  unfolding CountsStay
+  numbers-rise old new stay = stay.0
+
   -- twice
   pub service-twice : (asked answered : Item) (start old new : RequestResponse Q P F G) → StaysBoth asked answered start old → StaysBoth asked answered old new → StaysBoth asked answered start new
   service-twice asked answered start old new before next = record {
     requests = stays-twice asked start.requests old.requests new.requests before.requests next.requests;
     responses = stays-twice answered start.responses old.responses new.responses before.responses next.responses;
-    numbers = le_trans before.numbers next.numbers;
-    limit = next.limit ∙ before.limit;
+    counts = counts-twice start old new before.counts next.counts;
   }

@@ -22,13 +22,16 @@ module _ {Q P F G : Type 0} where
     pub responses_discard : ((service.responses).config).backpressure_strategy ≡ DiscardData
     pub numbered : 0 < service.next_request
 
+  -- Numbers of requests that were given stay given, and a client may have as many requests as before. A caller's proof needs not look
+  -- into it.
+  unfoldable pub CountsStay : (old new : RequestResponse Q P F G) → Type 0
+  CountsStay old new = (old.next_request ≤ new.next_request) × (new.max_active_requests ≡ old.max_active_requests)
+
   -- All that was live in either domain is, and reads as it did, but these items: one of the requests, and one of the responses.
-  -- Numbers of requests that were given stay given, and a client may have as many requests as before.
   pub record StaysBoth (asked answered : Item) (old new : RequestResponse Q P F G) : Type 0 where
     pub requests : StaysBut asked old.requests new.requests
     pub responses : StaysBut answered old.responses new.responses
-    pub numbers : old.next_request ≤ new.next_request
-    pub limit : new.max_active_requests ≡ old.max_active_requests
+    pub counts : CountsStay old new
 
   -- All that was live in either domain is, and reads as it did.
   abbrev pub StaysService : (old new : RequestResponse Q P F G) → Type 0

@@ -2,11 +2,12 @@ use Rattle.std.proofs.Common.{arith, refl, rules, subst, ◌∙◌, ℕ}
 use Rattle.iox2_pubsub.specs.ChangedLoans.{with_user_header}
 use Rattle.iox2_request_response.specs.Sent.{SendsOne}
 use Rattle.iox2_request_response.specs.declared.tags.RequestTag.{RequestTag}
+use Rattle.iox2_request_response.proofs.Frames.{counts-rise}
 use Rattle.iox2_request_response.proofs.SentMessages.{sends-tagged}
 use Rattle.iox2_request_response.proofs.client.send_request.Goals as goal
 
 pub returns-in-Ok-clause-stays : goal.returns-in-Ok-clause-stays
-returns-in-Ok-clause-stays g c = record { requests = search rules; responses = search rules; numbers = omega arith; limit = refl }
+returns-in-Ok-clause-stays g c = record { requests = search rules; responses = search rules; counts = counts-rise c.args.service.now _ (omega arith) refl }
 
 pub returns-in-Ok-clause-asked : goal.returns-in-Ok-clause-asked
 returns-in-Ok-clause-asked g c =

@@ -12,8 +12,7 @@ returns-in-Ok-clause-stays g c = record {
   requests = stays-on c.args.self.now.requests c.create.new.domain c.create.ensures.leaves.stays (publisher_port c.in-Ok.requests) c.with_slots.new.self.requests c.in-Ok.ensures.made.is_new
       c.with_slots.ensures.stays.requests;
   responses = c.with_slots.ensures.stays.responses;
-  numbers = c.with_slots.ensures.stays.numbers;
-  limit = c.with_slots.ensures.stays.limit;
+  counts = c.with_slots.ensures.stays.counts;
 }
 
 pub returns-in-Ok-clause-unmade : goal.returns-in-Ok-clause-unmade
