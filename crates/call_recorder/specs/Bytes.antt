@@ -1,5 +1,5 @@
 -- The commands that a message's bytes are.
-use Rattle.std.specs.Prelude.{ℕ, List, [], ◌∷◌, ◌++◌, ◌+◌, Some, cond, map, nat_eq}
+use Rattle.std.specs.Prelude.{ℕ, List, [], ◌∷◌, ◌++◌, ◌+◌, Some, if◌then◌else◌, map, nat_eq}
 use Rattle.iox2_commands.specs.declared.command.Command.{Command}
 use Rattle.iox2_commands.specs.declared.command.Command.TheVariants.{Read, SetPayload, WriteAll}
 use Rattle.iox2_commands.specs.declared.reply.Reply.{Reply}
@@ -17,7 +17,7 @@ cells bytes = map (λ byte. Cell (Some byte)) bytes
 -- A change of each byte that isn't the value, from that one on.
 abbrev pub changes_from : (of value at : ℕ) → List ℕ → List (Command ℕ ℕ)
 changes_from of value at [] = []
-changes_from of value at (byte ∷ rest) = cond (nat_eq byte value) [] (SetPayload of at byte ∷ []) ++ changes_from of value (at + 1) rest
+changes_from of value at (byte ∷ rest) = (if nat_eq byte value then [] else SetPayload of at byte ∷ []) ++ changes_from of value (at + 1) rest
 
 -- A write of the value to all bytes, and a change of each that is another.
 abbrev pub writes : (of value : ℕ) → List ℕ → List (Command ℕ ℕ)

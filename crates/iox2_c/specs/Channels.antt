@@ -1,5 +1,5 @@
 -- Calls on the channels of connections: why they are refused, what they answer, and which step of the machine they made.
-use Rattle.std.specs.Prelude.{ℕ, Bool, cond, ◌≡◌, ◌≤◌, ◌⊎◌}
+use Rattle.std.specs.Prelude.{ℕ, Bool, if◌then◌else◌, ◌≡◌, ◌≤◌, ◌⊎◌}
 use Rattle.std.specs.declared.option.Option.{Option}
 use Rattle.std.specs.declared.option.Option.TheVariants.{Some}
 use Rattle.iox2_machine.specs.declared.key.Key.{Key}
@@ -37,7 +37,7 @@ module _ (domain : KeptBytes) (key : Key) (channel : ℕ) where
 
 -- 1 where it is so, and else 0.
 abbrev pub as_number : Bool → ℕ
-as_number is_so = cond is_so 1 0
+as_number is_so = if is_so then 1 else 0
 
 module _ (domain : KeptBytes) where
   -- This is so of each state that the domain shows.

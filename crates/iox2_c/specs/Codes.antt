@@ -1,5 +1,5 @@
 -- The numbers by which C reads errors and settings.
-use Rattle.std.specs.Prelude.{ℕ, zero, suc, ◌+◌, cond, nat_eq}
+use Rattle.std.specs.Prelude.{ℕ, zero, suc, ◌+◌, if◌then◌else◌, nat_eq}
 use Rattle.std.specs.declared.option.Option.{Option}
 use Rattle.std.specs.declared.option.Option.TheVariants.{None, Some}
 use Rattle.std.specs.declared.result.Result.{Result}
@@ -86,23 +86,23 @@ code_of code (Err error) = code error
 
 -- The strategy with this number: 1 stands for one that discards.
 abbrev pub strategy_numbered : ℕ → BackpressureStrategy
-strategy_numbered n = cond (nat_eq n 1) DiscardData RetryUntilDelivered
+strategy_numbered n = if nat_eq n 1 then DiscardData else RetryUntilDelivered
 
 -- The handler of full buffers with this number: 0 stands for none.
 abbrev pub handler_numbered : ℕ → Option (Handler BackpressureAction)
 handler_numbered n =
-    cond (nat_eq n 1) (Some (Fixed action.FollowBackpressureyStrategy))
-    (cond (nat_eq n 2) (Some (Fixed action.Retry))
-    (cond (nat_eq n 3) (Some (Fixed action.DiscardData))
-    (cond (nat_eq n 4) (Some (Fixed action.DiscardDataAndFail)) None)))
+    if nat_eq n 1 then Some (Fixed action.FollowBackpressureyStrategy)
+    else if nat_eq n 2 then Some (Fixed action.Retry)
+    else if nat_eq n 3 then Some (Fixed action.DiscardData)
+    else if nat_eq n 4 then Some (Fixed action.DiscardDataAndFail) else None
 
 -- What is done where memory for a connection is refused, by its number: 0 stands for nothing, and 2 for a failure of the call.
 abbrev pub degradation_numbered : ℕ → DegradationAction
-degradation_numbered n = cond (nat_eq n 0) Ignore (cond (nat_eq n 2) DegradeAndFail Warn)
+degradation_numbered n = if nat_eq n 0 then Ignore else if nat_eq n 2 then DegradeAndFail else Warn
 
 -- How a publisher's memory grows, by its number: 0 stands for one that doesn't.
 abbrev pub allocation_numbered : ℕ → AllocationStrategy
-allocation_numbered n = cond (nat_eq n 1) BestFit (cond (nat_eq n 2) PowerOfTwo Static)
+allocation_numbered n = if nat_eq n 1 then BestFit else if nat_eq n 2 then PowerOfTwo else Static
 
 -- For how many slots a publisher asks: 0 stands for no override, which leaves it the worst case.
 abbrev pub slots_numbered : ℕ → Option ℕ

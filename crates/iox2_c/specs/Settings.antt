@@ -1,5 +1,5 @@
 -- The settings that C may choose.
-use Rattle.std.specs.Prelude.{ℕ, Bool, false, cond, not, nat_eq, nat_lt, ◌≡◌, ◌%◌, ◌==◌, ◌&&◌, ◌||◌}
+use Rattle.std.specs.Prelude.{ℕ, Bool, false, if◌then◌else◌, not, nat_eq, nat_lt, ◌≡◌, ◌%◌, ◌==◌, ◌&&◌, ◌||◌}
 use Rattle.iox2_machine.specs.declared.service_config.ServiceConfig.{ServiceConfig}
 use Rattle.iox2_machine.specs.declared.service_config.TypeVariant.TheVariants.{Dynamic}
 use Rattle.iox2_machine.specs.declared.allocation.AllocationStrategy.TheVariants.{Static}
@@ -41,29 +41,29 @@ is_aligned length alignment = nat_lt 0 alignment && ((length % alignment) == 0)
 -- has to be a multiple of it.
 abbrev pub invalid_setting : Config → ℕ
 invalid_setting it =
-    cond (not (it.struct_size == config_size)) invalid_struct_size
-    (cond (not (is_alignment it.payload_alignment)) invalid_payload_alignment
-    (cond (not (is_aligned it.payload_size it.payload_alignment)) invalid_payload_size
-    (cond (not (nat_lt it.backpressure_strategy 2)) invalid_backpressure_strategy 0)))
+    if not (it.struct_size == config_size) then invalid_struct_size
+    else if not (is_alignment it.payload_alignment) then invalid_payload_alignment
+    else if not (is_aligned it.payload_size it.payload_alignment) then invalid_payload_size
+    else if not (nat_lt it.backpressure_strategy 2) then invalid_backpressure_strategy else 0
 
 -- The first setting of a publisher that is invalid where payloads are aligned so, in the order of the fields. Memory that grows
 -- begins with some.
 abbrev pub invalid_publisher_option : (alignment : ℕ) → PublisherOptions → ℕ
 invalid_publisher_option alignment it =
-    cond (not (it.struct_size == publisher_options_size)) invalid_struct_size
-    (cond (not (is_aligned it.initial_max_slice_len alignment)) invalid_initial_max_slice_len
-    (cond ((it.initial_max_slice_len == 0) && ((it.allocation_strategy == 1) || (it.allocation_strategy == 2))) invalid_initial_max_slice_len
-    (cond (not (nat_lt it.backpressure_strategy 2)) invalid_backpressure_strategy
-    (cond (not (nat_lt it.backpressure_handler 5)) invalid_backpressure_handler
-    (cond (not (nat_lt it.degradation 3)) invalid_degradation
-    (cond (not (nat_lt it.allocation_strategy 3)) invalid_allocation_strategy 0))))))
+    if not (it.struct_size == publisher_options_size) then invalid_struct_size
+    else if not (is_aligned it.initial_max_slice_len alignment) then invalid_initial_max_slice_len
+    else if (it.initial_max_slice_len == 0) && ((it.allocation_strategy == 1) || (it.allocation_strategy == 2)) then invalid_initial_max_slice_len
+    else if not (nat_lt it.backpressure_strategy 2) then invalid_backpressure_strategy
+    else if not (nat_lt it.backpressure_handler 5) then invalid_backpressure_handler
+    else if not (nat_lt it.degradation 3) then invalid_degradation
+    else if not (nat_lt it.allocation_strategy 3) then invalid_allocation_strategy else 0
 
 -- The first setting of a subscriber that is invalid, in the order of the fields.
 abbrev pub invalid_subscriber_option : SubscriberOptions → ℕ
 invalid_subscriber_option it =
-    cond (not (it.struct_size == subscriber_options_size)) invalid_struct_size
-    (cond (not (nat_lt it.degradation 3)) invalid_degradation
-    (cond (not (it.reserved == 0)) invalid_reserved 0))
+    if not (it.struct_size == subscriber_options_size) then invalid_struct_size
+    else if not (nat_lt it.degradation 3) then invalid_degradation
+    else if not (it.reserved == 0) then invalid_reserved else 0
 
 -- ---- domains
 

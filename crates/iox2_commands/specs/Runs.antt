@@ -1,5 +1,5 @@
 -- Whole runs: lists of commands with their replies.
-use Rattle.std.specs.Prelude.{ℕ, cond, ◌&&◌, List, [], ◌∷◌, ◌++◌, ◌≡◌, ◌==◌}
+use Rattle.std.specs.Prelude.{ℕ, if◌then◌else◌, ◌&&◌, List, [], ◌∷◌, ◌++◌, ◌≡◌, ◌==◌}
 use Rattle.iox2_machine.specs.machine.Records.{Environment}
 use Rattle.iox2_machine.specs.machine.State.{State, Messages}
 use Rattle.iox2_commands.specs.Outcomes.{Handle, Event, No_event, Message_sent, Message_received, Outcome, messages_after}
@@ -49,7 +49,7 @@ Run environment defaults m s commands replies events m' s' =
 abbrev pub sent : {T U : Type 0} → (p : ℕ) → List (Event T U) → List ℕ
 sent p [] = []
 sent p (No_event ∷ events) = sent p events
-sent p (Message_sent p' n entry ∷ events) = cond (p' == p) (n ∷ sent p events) (sent p events)
+sent p (Message_sent p' n entry ∷ events) = if p' == p then n ∷ sent p events else sent p events
 sent p (Message_received p' q n ∷ events) = sent p events
 
 -- The messages that q received from p, in the order of receipt.
@@ -57,7 +57,7 @@ abbrev pub received : {T U : Type 0} → (p q : ℕ) → List (Event T U) → Li
 received p q [] = []
 received p q (No_event ∷ events) = received p q events
 received p q (Message_sent p' n entry ∷ events) = received p q events
-received p q (Message_received p' q' n ∷ events) = cond (p' == p && q' == q) (n ∷ received p q events) (received p q events)
+received p q (Message_received p' q' n ∷ events) = if p' == p && q' == q then n ∷ received p q events else received p q events
 
 -- The first list is the second with some elements left out.
 pub data IsSubsequence : List ℕ → List ℕ → Type 0 where

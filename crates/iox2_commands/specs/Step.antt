@@ -1,5 +1,5 @@
 -- One command of a run: its reply, and the state after it.
-use Rattle.std.specs.Prelude.{ℕ, Bool, true, false, cond, List, length, ◌≡◌, ◌==◌, nat_lt, MatchOption, slice_get, is_none}
+use Rattle.std.specs.Prelude.{ℕ, Bool, true, false, if◌then◌else◌, List, length, ◌≡◌, ◌==◌, nat_lt, MatchOption, slice_get, is_none}
 use Rattle.std.specs.List.{list_all}
 use Rattle.std.specs.Option.{option_and_then, option_map}
 use Rattle.std.specs.declared.option.Option.{Option}
@@ -49,12 +49,12 @@ module _ {T U : Type 0} where
 
   -- A publisher that wasn't closed and waits for no receiver.
   abbrev pub unblocked_at : State T U → List Handle → (of : ℕ) → Option (ℕ × Publisher)
-  unblocked_at s handles of = option_and_then (λ named. cond (is_none named.1.blocked) (Some named) None) (publisher_at s handles of)
+  unblocked_at s handles of = option_and_then (λ named. if is_none named.1.blocked then Some named else None) (publisher_at s handles of)
 
   -- A subscriber that wasn't closed, with its id.
   abbrev pub subscriber_at : State T U → List Handle → (of : ℕ) → Option (ℕ × Subscriber)
   subscriber_at s handles of = elim (slice_get handles of) [
-    | Some (Subscriber_handle q) ↦ option_and_then {U = ℕ × Subscriber} (λ y. cond y.is_open (Some (q, y)) None) (s.subscribers q)
+    | Some (Subscriber_handle q) ↦ option_and_then {U = ℕ × Subscriber} (λ y. if y.is_open then Some (q, y) else None) (s.subscribers q)
     | _ ↦ None
   ]
 
@@ -67,33 +67,33 @@ module _ {T U : Type 0} where
 
   -- A loan that is a `SampleMutUninit`.
   abbrev pub unwritten_at : State T U → List Handle → (of : ℕ) → Option (ℕ × Loan T U)
-  unwritten_at s handles of = option_and_then (λ named. cond named.1.is_written None (Some named)) (loan_at s handles of)
+  unwritten_at s handles of = option_and_then (λ named. if named.1.is_written then None else Some named) (loan_at s handles of)
 
   -- A loan that is a `SampleMut`.
   abbrev pub written_at : State T U → List Handle → (of : ℕ) → Option (ℕ × Loan T U)
-  written_at s handles of = option_and_then (λ named. cond named.1.is_written (Some named) None) (loan_at s handles of)
+  written_at s handles of = option_and_then (λ named. if named.1.is_written then Some named else None) (loan_at s handles of)
 
   -- The loan, if it has a cell there.
   abbrev pub with_cell_at : (at : ℕ) → Option (ℕ × Loan T U) → Option (ℕ × Loan T U)
-  with_cell_at at loan = option_and_then (λ named. cond (nat_lt at (length named.1.cells)) (Some named) None) loan
+  with_cell_at at loan = option_and_then (λ named. if nat_lt at (length named.1.cells) then Some named else None) loan
 
   -- A written loan whose publisher waits for no receiver.
   abbrev pub sendable_at : State T U → List Handle → (of : ℕ) → Option (ℕ × Loan T U)
-  sendable_at s handles of = option_and_then (λ named. cond (is_blocked s named.1.publisher) None (Some named)) (written_at s handles of)
+  sendable_at s handles of = option_and_then (λ named. if is_blocked s named.1.publisher then None else Some named) (written_at s handles of)
 
   -- A send that still waits, with its publisher.
   abbrev pub blocked_at : State T U → List Handle → (of : ℕ) → Option (ℕ × BlockedSend)
   blocked_at s handles of = elim (slice_get handles of) [
     | Some (Blocked_handle p n) ↦
         option_and_then {U = ℕ × BlockedSend} (λ x.
-        option_and_then {U = ℕ × BlockedSend} (λ b. cond (b.message == n) (Some (p, b)) None) x.blocked) (s.publishers p)
+        option_and_then {U = ℕ × BlockedSend} (λ b. if b.message == n then Some (p, b) else None) x.blocked) (s.publishers p)
     | _ ↦ None
   ]
 
   -- A sample that wasn't released: its publisher, its subscriber and its message.
   abbrev pub sample_at : State T U → List Handle → (of : ℕ) → Option (ℕ × ℕ × ℕ)
   sample_at s handles of = elim (slice_get handles of) [
-    | Some (Sample_handle p q n) ↦ cond (is_borrowed n (s.mailboxes p q)) (Some (p, q, n)) None
+    | Some (Sample_handle p q n) ↦ if is_borrowed n (s.mailboxes p q) then Some (p, q, n) else None
     | _ ↦ None
   ]
 
@@ -101,7 +101,7 @@ module _ {T U : Type 0} where
 
   -- Loans and receives of typed values are for services with elements of one unit.
   abbrev pub if_single_units : {A : Type 0} → State T U → Option A → Option A
-  if_single_units s named = cond ((s.config).units_per_element == 1) named None
+  if_single_units s named = if (s.config).units_per_element == 1 then named else None
 
   -- What is named counts in a service for single values only.
   abbrev pub if_fixed_size : {A : Type 0} → State T U → Option A → Option A
@@ -113,7 +113,7 @@ module _ {T U : Type 0} where
 
   -- What is named counts if connections have that channel.
   abbrev pub if_channel : {A : Type 0} → State T U → (channel : ℕ) → Option A → Option A
-  if_channel s channel named = cond (nat_lt channel (channel_count s.config)) named None
+  if_channel s channel named = if nat_lt channel (channel_count s.config) then named else None
 
   -- ---- what is replied
 
@@ -288,7 +288,7 @@ module _ {T U : Type 0} (environment : Environment) (default_value : T) (default
       IfLive o (with_cell_at at (unwritten_at s handles of)) (λ loan. o ≡ done (with_loan s loan.0 (Some (with_cell loan.1 at value))))
   Step (WriteAll of value) o = IfLive o (unwritten_at s handles of) (λ loan. o ≡ done (with_loan s loan.0 (Some (written loan.1 value))))
   Step (AssumeInit of) o =
-      IfLive o (unwritten_at s handles of) (λ loan. o ≡ cond (is_initialized loan.1) (done (initialized s loan.0 loan.1)) (replied Unwritten s))
+      IfLive o (unwritten_at s handles of) (λ loan. o ≡ (if is_initialized loan.1 then done (initialized s loan.0 loan.1) else replied Unwritten s))
   Step (WriteHeader of value) o =
       IfLive o (loan_at s handles of) (λ loan. o ≡ done (with_loan s loan.0 (Some (record (loan.1) { user_header = value }))))
   Step (SetPayload of at value) o =

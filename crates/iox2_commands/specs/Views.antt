@@ -1,5 +1,5 @@
 -- What one subscriber sees of a state, and lists of commands that differ only in what the other subscribers do.
-use Rattle.std.specs.Prelude.{ℕ, Bool, true, false, cond, not, List, [], ◌∷◌, map, ◌≡◌, ◌⊎◌, ◌==◌, slice_get}
+use Rattle.std.specs.Prelude.{ℕ, Bool, true, false, if◌then◌else◌, not, List, [], ◌∷◌, map, ◌≡◌, ◌⊎◌, ◌==◌, slice_get}
 use Rattle.std.specs.declared.option.Option.{Option}
 use Rattle.std.specs.declared.option.Option.TheVariants.{Some}
 use Rattle.std.specs.Option.{option_map}
@@ -20,7 +20,7 @@ public_part o = option_map {T = Subscriber} {U = PublicPart} (λ y. record { is_
 
 -- The handle, or none if it is another subscriber's sample.
 abbrev pub seen_handle : (q : ℕ) → Handle → Handle
-seen_handle q (Sample_handle p q' n) = cond (q' == q) (Sample_handle p q' n) No_handle
+seen_handle q (Sample_handle p q' n) = if q' == q then Sample_handle p q' n else No_handle
 seen_handle q handle = handle
 
 -- Both have the same configuration, counters, places, publishers, loans and messages. They have the same record,

@@ -1,5 +1,5 @@
 -- The counters of one publisher's slots, and the connections in which its slots stand.
-use Rattle.std.specs.Prelude.{◌≡◌, ◌≢◌, ℕ, ◌+◌, ◌-◌, ◌<◌, ◌≤◌, ◌==◌, cond, List, count_by, sum_by, slice_index, slice_set}
+use Rattle.std.specs.Prelude.{◌≡◌, ◌≢◌, ℕ, ◌+◌, ◌-◌, ◌<◌, ◌≤◌, ◌==◌, if◌then◌else◌, List, count_by, sum_by, slice_index, slice_set}
 use Rattle.std.specs.declared.option.Option.{Option}
 use Rattle.std.specs.declared.option.Option.TheVariants.{None, Some}
 use Rattle.iox2_connections.specs.Link.{Link, other_slots}
@@ -18,7 +18,7 @@ stands_in slot c = times slot c.waiting + times slot c.borrowed + times slot c.r
 -- How often a slot of the publisher p stands in a connection.
 abbrev pub stands : (p slot : ℕ) → Option Link → ℕ
 stands p slot None = 0
-stands p slot (Some c) = cond (c.home.publisher == p) (stands_in slot c) 0
+stands p slot (Some c) = if c.home.publisher == p then stands_in slot c else 0
 
 -- No slot of the publisher p stands in connections more often than its counter says.
 pub record IsCovered (p : ℕ) (holders : List ℕ) (connections : List (Option Link)) : Type 0 where

@@ -1,5 +1,5 @@
 -- A delivery from the slots of a slab's connections, in the machine's words.
-use Rattle.std.specs.Prelude.{◌≡◌, ◌==◌, ℕ, false, cond, List, drop}
+use Rattle.std.specs.Prelude.{◌≡◌, ◌==◌, ℕ, false, if◌then◌else◌, List, drop}
 use Rattle.std.specs.declared.option.Option.{Option}
 use Rattle.std.specs.declared.time.Duration.{Duration}
 use Rattle.slab.specs.Slab.{Slab}
@@ -40,10 +40,10 @@ end_of n channel ends (DeliveryOutcome.Suspended at) =
 -- How often the receiver at a place was asked again, and the time since it was asked first: the one at which the delivery
 -- is taken up was asked before, the others are asked anew.
 abbrev pub retries_at : Delivery → (place : ℕ) → ℕ
-retries_at d place = cond (place == (d.start).place) (d.start).retries 0
+retries_at d place = if place == (d.start).place then (d.start).retries else 0
 
 abbrev pub elapsed_at : Delivery → (place : ℕ) → Duration
-elapsed_at d place = cond (place == (d.start).place) d.elapsed no_time
+elapsed_at d place = if place == (d.start).place then d.elapsed else no_time
 
 -- A publisher delivers under these settings, with this handler.
 module _ {F : Type 0} (environment : Environment) (config : ServiceConfig) (d : Delivery) (handler : Option (BackpressureHandler F)) where

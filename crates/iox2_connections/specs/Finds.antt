@@ -1,5 +1,5 @@
 -- A subscriber's search for a message to receive.
-use Rattle.std.specs.Prelude.{◌≡◌, ℕ, Bool, true, false, cond, List, [], ◌∷◌, map, IsSomeAnd, slice_index_or}
+use Rattle.std.specs.Prelude.{◌≡◌, ℕ, Bool, true, false, if◌then◌else◌, List, [], ◌∷◌, map, IsSomeAnd, slice_index_or}
 use Rattle.std.specs.declared.option.Option.{Option}
 use Rattle.std.specs.declared.option.Option.TheVariants.{None, Some}
 use Rattle.slab.specs.Slab.{Slab, get, ContainsKey}
@@ -18,7 +18,7 @@ use Rattle.iox2_connections.specs.declared.receiver.Found.{Found}
 -- What one connection offers, if there is one.
 abbrev pub offer_of : (key : ℕ) → Option Link → Found
 offer_of key None = Found.Nothing
-offer_of key (Some c) = cond (can_borrow c) (Found.Ready key) (cond (has_slots c) Found.AtLimit Found.Nothing)
+offer_of key (Some c) = if can_borrow c then Found.Ready key else if has_slots c then Found.AtLimit else Found.Nothing
 
 -- What the connection at a key offers, if there is a key.
 abbrev pub offer_at : Slab Link → Option ℕ → Found

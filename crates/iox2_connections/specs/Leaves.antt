@@ -1,12 +1,12 @@
 -- A publisher that leaves lets go of its slots.
-use Rattle.std.specs.Prelude.{◌≡◌, ℕ, Bool, cond, not, ◌+◌, ◌&&◌, List, [], length, slice_index}
+use Rattle.std.specs.Prelude.{◌≡◌, ℕ, Bool, if◌then◌else◌, not, ◌+◌, ◌&&◌, List, [], length, slice_index}
 use Rattle.iox2_connections.specs.Link.{Link, other_slots}
 use Rattle.iox2_machine.specs.machine.Numbers.{is_nil}
 use Rattle.iox2_connections.specs.Counters.{times, stands_in}
 
 -- The connection, in which what waits is lost but where it is awaited, and what was given back is reclaimed.
 abbrev pub left_link : (awaited : Bool) → Link → Link
-left_link awaited c = record c { waiting = cond awaited c.waiting []; returned = []; others = cond awaited c.others [] }
+left_link awaited c = record c { waiting = if awaited then c.waiting else []; returned = []; others = if awaited then c.others else [] }
 
 -- Some slot waits or is borrowed.
 abbrev pub holds_slots : Link → Bool

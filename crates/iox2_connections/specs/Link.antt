@@ -1,5 +1,5 @@
 -- What a contract sees of a connection: the slots between one publisher and one subscriber.
-use Rattle.std.specs.Prelude.{◌≡◌, ℕ, zero, suc, ◌+◌, ◌<◌, ◌≤◌, ◌^◌, Bool, true, false, not, ◌&&◌, List, [], ◌∷◌, ◌++◌, length, map, cond, nat_lt, replicate, slice_index_or, slice_set}
+use Rattle.std.specs.Prelude.{◌≡◌, ℕ, zero, suc, ◌+◌, ◌<◌, ◌≤◌, ◌^◌, Bool, true, false, not, ◌&&◌, List, [], ◌∷◌, ◌++◌, length, map, if◌then◌else◌, nat_lt, replicate, slice_index_or, slice_set}
 use Rattle.std.specs.declared.option.Option.{Option}
 use Rattle.std.specs.declared.option.Option.TheVariants.{None, Some}
 use Rattle.iox2_machine.specs.machine.Numbers.{is_nil, without}
@@ -132,7 +132,7 @@ with_mark is_open c = record c { is_open = is_open && not (is_shut c) }
 
 -- A channel, where it is in the state `expected`, is changed so.
 abbrev pub changed_in : (expected : ℕ) → (Channel → Channel) → Channel → Channel
-changed_in expected change channel = cond (is_in_state expected channel) (change channel) channel
+changed_in expected change channel = if is_in_state expected channel then change channel else channel
 
 -- The channel with that number, where it is there and in the state `expected`, is changed so.
 abbrev pub channels_changed : (number expected : ℕ) → (Channel → Channel) → List Channel → List Channel

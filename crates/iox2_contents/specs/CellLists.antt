@@ -1,11 +1,11 @@
 -- The cells of a loan in their list, which no public contract shows.
-use Rattle.std.specs.Prelude.{ℕ, Bool, ◌&&◌, ◌==◌, cond, List, length, nat_lt, slice_set}
+use Rattle.std.specs.Prelude.{ℕ, Bool, ◌&&◌, ◌==◌, if◌then◌else◌, List, length, nat_lt, slice_set}
 use Rattle.std.specs.List.{refill}
 use Rattle.std.specs.declared.option.Option.{Option}
 
 -- 1 if a publisher keeps that many lists, and 0 if it keeps none.
 abbrev pub keeps : (lists : ℕ) → ℕ
-keeps lists = cond (nat_lt 0 lists) 1 0
+keeps lists = if nat_lt 0 lists then 1 else 0
 
 -- The cells of an unwritten loan, for how many there is room in a list of theirs, and 1 where the publisher keeps lists, or 0.
 pub record CellList (T : Type 0) : Type 0 where

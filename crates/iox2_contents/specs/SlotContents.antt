@@ -1,5 +1,5 @@
 -- What contracts see of the contents of a publisher's slots.
-use Rattle.std.specs.Prelude.{◌≡◌, ℕ, Bool, true, false, ◌&&◌, cond, List, [], ◌++◌, length, map, nat_lt, replicate, slice_get, slice_set, sum_by, is_some, IsSomeAnd}
+use Rattle.std.specs.Prelude.{◌≡◌, ℕ, Bool, true, false, ◌&&◌, if◌then◌else◌, List, [], ◌++◌, length, map, nat_lt, replicate, slice_get, slice_set, sum_by, is_some, IsSomeAnd}
 use Rattle.std.specs.Bool.{MatchBool}
 use Rattle.std.specs.List.{All, list_all, refill}
 use Rattle.std.specs.declared.option.Option.{Option}
@@ -27,7 +27,7 @@ SomeAt contents slot P = IsSomeAnd (slice_get contents slot) P
 
 -- How many lists of cells there are for slots whose elements lie in lists, or don't.
 abbrev pub lists_for : (in_lists : Bool) → (lists : ℕ) → ℕ
-lists_for in_lists lists = cond in_lists lists 0
+lists_for in_lists lists = if in_lists then lists else 0
 
 module _ {T U : Type 0} where
   -- The content of a loan that starts: that many unwritten cells, no values, and this user header.
@@ -50,7 +50,7 @@ module _ {T U : Type 0} where
 
   -- How many slots have such cells.
   abbrev pub open_count : List (ContentState T U) → ℕ
-  open_count contents = sum_by (λ content. cond (is_open content) 1 0) contents
+  open_count contents = sum_by (λ content. if is_open content then 1 else 0) contents
 
   -- ---- what a reference into a content leaves
 

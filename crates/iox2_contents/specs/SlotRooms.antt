@@ -1,5 +1,5 @@
 -- Which unwritten cells a slot may have to show, and which lists its cells may have to have, which no public contract shows.
-use Rattle.std.specs.Prelude.{◌≡◌, ◌≢◌, ◌<◌, ◌≤◌, ◌+◌, ℕ, true, false, ◌&&◌, cond, List, [], length, nat_le, nat_lt, slice_get, sum_by, IsSomeAnd}
+use Rattle.std.specs.Prelude.{◌≡◌, ◌≢◌, ◌<◌, ◌≤◌, ◌+◌, ℕ, true, false, ◌&&◌, if◌then◌else◌, List, [], length, nat_le, nat_lt, slice_get, sum_by, IsSomeAnd}
 use Rattle.std.specs.List.{All}
 use Rattle.std.specs.declared.option.Option.TheVariants.{Some}
 use Rattle.iox2_contents.specs.SlotContents.{open_count}
@@ -16,7 +16,7 @@ module _ {T U : Type 0} where
 
   -- One where the slot has a list that is long enough for each slot.
   abbrev pub one_if_long : (most : ℕ) → SlotState T U → ℕ
-  one_if_long most slot = cond (nat_lt 0 slot.content.lists && nat_le most slot.cell_room) 1 0
+  one_if_long most slot = if nat_lt 0 slot.content.lists && nat_le most slot.cell_room then 1 else 0
 
   -- How many slots have such a list.
   abbrev pub long_count : (most : ℕ) → List (SlotState T U) → ℕ

@@ -1,5 +1,5 @@
 -- What a slot has besides its content, which no public contract shows.
-use Rattle.std.specs.Prelude.{◌≡◌, ℕ, Bool, false, ◌&&◌, ◌==◌, cond, List, [], length, map, nat_lt}
+use Rattle.std.specs.Prelude.{◌≡◌, ℕ, Bool, false, ◌&&◌, ◌==◌, if◌then◌else◌, List, [], length, map, nat_lt}
 use Rattle.iox2_contents.specs.CellLists.{keeps}
 use Rattle.iox2_contents.specs.SlotContents.{ContentState}
 use Rattle.iox2_contents.specs.SlotPayload.{lies_in_place}
@@ -13,7 +13,7 @@ pub record SlotState (T U : Type 0) : Type 0 where
 module _ {T U : Type 0} where
   -- The content with that many lists, if it has any.
   abbrev pub with_lists : (lists : ℕ) → ContentState T U → ContentState T U
-  with_lists lists content = record content { lists = cond (nat_lt 0 content.lists) lists 0 }
+  with_lists lists content = record content { lists = if nat_lt 0 content.lists then lists else 0 }
 
   -- The content of a slot of a publisher that keeps that many lists, if any.
   abbrev pub content_of : (lists : ℕ) → SlotState T U → ContentState T U

@@ -1,5 +1,5 @@
 -- What the close of a publisher leaves of a domain's fields.
-use Rattle.std.specs.Prelude.{◌≡◌, ◌⊎◌, ℕ, Bool, true, false, cond, ◌==◌, ◌&&◌, List, slice_index_or, slice_set}
+use Rattle.std.specs.Prelude.{◌≡◌, ◌⊎◌, ℕ, Bool, true, false, if◌then◌else◌, ◌==◌, ◌&&◌, List, slice_index_or, slice_set}
 use Rattle.std.specs.declared.option.Option.{Option}
 use Rattle.std.specs.declared.option.Option.TheVariants.{None, Some}
 use Rattle.std.specs.Option.{option_map_or, option_and_then}
@@ -23,11 +23,11 @@ is_awaited subscribers key c = option_map_or (joins key c) (slice_index_or subsc
 
 -- The connection, where some slot waits or is borrowed.
 abbrev pub if_holding : Link → Option Link
-if_holding c = cond (holds_slots c) (Some c) None
+if_holding c = if holds_slots c then Some c else None
 
 -- What is left of the connection at the key when the publisher p leaves.
 abbrev pub after_close : (p : ℕ) → List (Option SubscriberFields) → (key : ℕ) → Link → Option Link
-after_close p subscribers key c = cond (c.home.publisher == p) (if_holding (left_link (is_awaited subscribers key c) c)) (Some c)
+after_close p subscribers key c = if c.home.publisher == p then if_holding (left_link (is_awaited subscribers key c) c) else Some c
 
 -- ---- some of them
 

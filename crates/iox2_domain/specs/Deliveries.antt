@@ -1,5 +1,5 @@
 -- A publisher's message is delivered, and its send ends.
-use Rattle.std.specs.Prelude.{◌≡◌, ℕ, ◌≤◌, false, cond, drop, List, [], ◌∷◌, ◌++◌, length, map, nat_lt, slice_get, slice_set}
+use Rattle.std.specs.Prelude.{◌≡◌, ℕ, ◌≤◌, false, if◌then◌else◌, drop, List, [], ◌∷◌, ◌++◌, length, map, nat_lt, slice_get, slice_set}
 use Rattle.std.specs.declared.option.Option.{Option}
 use Rattle.std.specs.declared.option.Option.TheVariants.{None, Some}
 use Rattle.std.specs.Option.{option_map}
@@ -50,7 +50,7 @@ pushed history slot = buffer (keep_last history.capacity (history.items ++ slot 
 
 -- The slot that leaves the history for this one, if any. It is this one itself where no history is kept.
 abbrev pub leaving : Buffer ℕ → (slot : ℕ) → Option ℕ
-leaving history slot = cond (nat_lt (length history.items) history.capacity) None (slice_get (history.items ++ slot ∷ []) 0)
+leaving history slot = if nat_lt (length history.items) history.capacity then None else slice_get (history.items ++ slot ∷ []) 0
 
 -- The book with the slot's message sent.
 abbrev pub with_sent : (slot : ℕ) → Book → Book
@@ -88,7 +88,7 @@ with_send outcome f place x slot book = record f {
 
 -- What the machine's send returns.
 abbrev pub result_of_send : DeliveryOutcome → SendResult
-result_of_send (DeliveryOutcome.Complete count has_failed) = cond has_failed (Send_error UnableToDeliver) (Delivered_to count)
+result_of_send (DeliveryOutcome.Complete count has_failed) = if has_failed then Send_error UnableToDeliver else Delivered_to count
 result_of_send (DeliveryOutcome.Suspended progress) = Blocked_send
 
 -- The slot is a loan of the publisher x: it stands once among its loans, and the publisher itself is its one holder.

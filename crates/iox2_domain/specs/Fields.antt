@@ -1,5 +1,5 @@
 -- The fields of a domain, and what they keep. Ports know connections, books and slots by number.
-use Rattle.std.specs.Prelude.{ℕ, Bool, true, false, ◌+◌, ◌==◌, List, [], ◌∷◌, drop, take, map, cond, nat_lt, slice_get, slice_index, slice_index_or}
+use Rattle.std.specs.Prelude.{ℕ, Bool, true, false, ◌+◌, ◌==◌, List, [], ◌∷◌, drop, take, map, if◌then◌else◌, nat_lt, slice_get, slice_index, slice_index_or}
 use Rattle.std.specs.declared.option.Option.{Option}
 use Rattle.std.specs.declared.option.Option.TheVariants.{None, Some}
 use Rattle.std.specs.Option.{option_map, option_and_then, option_map_or}
@@ -63,11 +63,11 @@ module _ {T U : Type 0} where
   -- What lies in a slot, where it is in use.
   abbrev pub message_in : Book → List (ContentState T U) → (slot : ℕ) → Option (KeptMessage T U)
   message_in book contents slot =
-      cond (nat_lt 0 (holders_at book slot))
-      (option_and_then (λ header. option_and_then (λ content.
+      if nat_lt 0 (holders_at book slot)
+      then option_and_then (λ header. option_and_then (λ content.
       option_map (message_of book.publisher (slice_index book.numbers slot) header content)
-      (slice_get book.marks slot)) (slice_get contents slot)) (slice_get book.headers slot))
-      None
+      (slice_get book.marks slot)) (slice_get contents slot)) (slice_get book.headers slot)
+      else None
 
   -- What lies in each slot of a book.
   abbrev pub messages_in : Book → List (ContentState T U) → List (Option (KeptMessage T U))
@@ -91,7 +91,7 @@ module _ {T U : Type 0} where
 -- Of what stands at a publisher's places, that to which its blocked delivery may go: all of it, or none behind the place at which
 -- it waits.
 abbrev pub within_reach : {A : Type 0} → BlockedDelivery → List A → List A
-within_reach b xs = cond b.is_alone (take ((b.progress).place + 1) xs) xs
+within_reach b xs = if b.is_alone then take ((b.progress).place + 1) xs else xs
 
 -- The machine's blocked send, where slots have these numbers and the publisher has these ends.
 abbrev pub blocked_send : (number : ℕ → ℕ) → (ends : List (Option ℕ)) → BlockedDelivery → BlockedSend

@@ -1,5 +1,5 @@
 -- What always holds of the fields of a domain.
-use Rattle.std.specs.Prelude.{◌≡◌, ◌≢◌, ◌⊎◌, ℕ, Bool, true, false, ◌+◌, ◌*◌, ◌<◌, ◌≤◌, ◌==◌, ◌&&◌, cond, List, [], length, map, max, nat_lt, not, sum_by, slice_get, slice_index, slice_index_or, Contains, IsSomeAnd}
+use Rattle.std.specs.Prelude.{◌≡◌, ◌≢◌, ◌⊎◌, ℕ, Bool, true, false, ◌+◌, ◌*◌, ◌<◌, ◌≤◌, ◌==◌, ◌&&◌, if◌then◌else◌, List, [], length, map, max, nat_lt, not, sum_by, slice_get, slice_index, slice_index_or, Contains, IsSomeAnd}
 use Rattle.std.specs.List.{All}
 use Rattle.std.specs.declared.option.Option.{Option}
 use Rattle.std.specs.declared.option.Option.TheVariants.{None, Some}
@@ -109,7 +109,7 @@ pub record IsLinked {T U : Type 0} (f : Fields T U) : Type 0 where
 -- One where the connection is the subscriber q's.
 abbrev pub one_if_receivers : (q : ℕ) → Option Link → ℕ
 one_if_receivers q None = 0
-one_if_receivers q (Some c) = cond (c.home.subscriber == q) 1 0
+one_if_receivers q (Some c) = if c.home.subscriber == q then 1 else 0
 
 -- How many connections the subscriber q has.
 abbrev pub connection_count : Slab Link → (q : ℕ) → ℕ
@@ -217,7 +217,7 @@ pub record HasLoneLoans (books : Slab Book) : Type 0 where
 abbrev pub own_holders : {T U : Type 0} → Fields T U → (p slot : ℕ) → ℕ
 own_holders f p slot =
     option_map_or (λ (x : PublisherFields). times slot x.loans + times slot (x.history).items) (look_up (is_publisher p) f.publishers)
-    (option_map_or (λ b. cond (is_loan_in b slot) 1 0) (look_up (is_book_of p) f.books.slots) 0)
+    (option_map_or (λ b. if is_loan_in b slot then 1 else 0) (look_up (is_book_of p) f.books.slots) 0)
 
 -- Each slot has as many holders as it stands in lists.
 pub record IsCounted {T U : Type 0} (f : Fields T U) : Type 0 where
@@ -249,7 +249,7 @@ pub record HasShapes {T U : Type 0} (f : Fields T U) : Type 0 where
 
 -- How many lists of cells the settings ask for, of a publisher that may have that many loans out.
 abbrev pub lists_wanted : ServiceConfig → (max_loaned_samples : ℕ) → ℕ
-lists_wanted c max_loaned_samples = cond c.lists_cells (max 1 max_loaned_samples) 0
+lists_wanted c max_loaned_samples = if c.lists_cells then max 1 max_loaned_samples else 0
 
 -- How many such a publisher has: none in a domain of single values.
 abbrev pub cell_lists : ServiceConfig → (max_loaned_samples : ℕ) → ℕ

@@ -1,5 +1,5 @@
 -- What a domain keeps, and the machine's state that this is. No key of a connection, no hint and no room stands here.
-use Rattle.std.specs.Prelude.{ℕ, Bool, ◌&&◌, ◌==◌, cond, List, [], ◌∷◌, length, map}
+use Rattle.std.specs.Prelude.{ℕ, Bool, ◌&&◌, ◌==◌, if◌then◌else◌, List, [], ◌∷◌, length, map}
 use Rattle.std.specs.declared.option.Option.{Option}
 use Rattle.std.specs.declared.option.Option.TheVariants.{None, Some}
 use Rattle.std.specs.Option.{option_map, option_and_then}
@@ -118,7 +118,7 @@ module _ {T U : Type 0} where
 
   -- What lies there, with the loan n changed so.
   abbrev pub loan_changed : (n : ℕ) → (Loan T U → Loan T U) → KeptMessage T U → KeptMessage T U
-  loan_changed n change (Lent_message number l) = Lent_message number (cond (number == n) (change l) l)
+  loan_changed n change (Lent_message number l) = Lent_message number (if number == n then change l else l)
   loan_changed n change (Sent_message number entry) = Sent_message number entry
 
 module _ {T U F G : Type 0} where

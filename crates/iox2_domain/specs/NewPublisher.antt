@@ -1,5 +1,5 @@
 -- A publisher enters a domain, with its book and the contents of its slots.
-use Rattle.std.specs.Prelude.{◌≡◌, ◌==◌, ℕ, Bool, true, false, cond, nat_lt, List, [], length, replicate}
+use Rattle.std.specs.Prelude.{◌≡◌, ◌==◌, ℕ, Bool, true, false, if◌then◌else◌, nat_lt, List, [], length, replicate}
 use Rattle.std.specs.List.{All}
 use Rattle.std.specs.declared.option.Option.{Option}
 use Rattle.std.specs.declared.option.Option.TheVariants.{None}
@@ -76,8 +76,8 @@ module _ {T U : Type 0} where
   -- The lowest free place for a publisher, or the first reason to refuse it.
   abbrev pub place_for_publisher : Fields T U → Result ℕ PublisherCreateError
   place_for_publisher f =
-      cond (f.next_port == last_number) (Err UnableToCreatePortTag)
-      (cond (nat_lt (lowest_empty f.publishers) (f.config).max_publishers) (Ok (lowest_empty f.publishers)) (Err ExceedsMaxSupportedPublishers))
+      if f.next_port == last_number then Err UnableToCreatePortTag
+      else if nat_lt (lowest_empty f.publishers) (f.config).max_publishers then Ok (lowest_empty f.publishers) else Err ExceedsMaxSupportedPublishers
 
 -- A book of the publisher with `slots` slots, which names its node. None of the slots is in use. Their contents are
 -- each without cells and with room for `room` elements, and lie in lists if `in_lists` says so. The cells can then be

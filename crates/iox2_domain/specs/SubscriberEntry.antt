@@ -1,5 +1,5 @@
 -- A subscriber enters a domain.
-use Rattle.std.specs.Prelude.{ℕ, cond, nat_lt, ◌==◌}
+use Rattle.std.specs.Prelude.{ℕ, if◌then◌else◌, nat_lt, ◌==◌}
 use Rattle.std.specs.declared.result.Result.{Result}
 use Rattle.std.specs.declared.result.Result.TheVariants.{Ok, Err}
 use Rattle.iox2_machine.specs.machine.Limits.{buffer_limit, last_number}
@@ -20,6 +20,6 @@ module _ {T U : Type 0} where
   -- The lowest free place, for a subscriber with these settings; or the first reason to refuse it.
   abbrev pub place_for_subscriber : Fields T U → SubscriberSettings → Result ℕ SubscriberCreateError
   place_for_subscriber f given =
-      cond (f.next_port == last_number) (Err UnableToCreatePortTag)
-      (cond (nat_lt (buffer_limit f.config) (buffer_for given)) (Err BufferSizeExceedsMaxSupportedBufferSizeOfService)
-      (cond (nat_lt (lowest_empty f.subscribers) (f.config).max_subscribers) (Ok (lowest_empty f.subscribers)) (Err ExceedsMaxSupportedSubscribers)))
+      if f.next_port == last_number then Err UnableToCreatePortTag
+      else if nat_lt (buffer_limit f.config) (buffer_for given) then Err BufferSizeExceedsMaxSupportedBufferSizeOfService
+      else if nat_lt (lowest_empty f.subscribers) (f.config).max_subscribers then Ok (lowest_empty f.subscribers) else Err ExceedsMaxSupportedSubscribers

@@ -1,5 +1,5 @@
 -- What an update changes of a port and of a domain's fields.
-use Rattle.std.specs.Prelude.{◌≡◌, ℕ, Bool, false, cond, List, slice_index_or, slice_set}
+use Rattle.std.specs.Prelude.{◌≡◌, ℕ, Bool, false, if◌then◌else◌, List, slice_index_or, slice_set}
 use Rattle.std.specs.declared.option.Option.{Option}
 use Rattle.std.specs.declared.option.Option.TheVariants.{None, Some}
 use Rattle.std.specs.Option.{option_map, option_map_or, option_and_then}
@@ -85,7 +85,7 @@ is_open_subscriber subscribers place = option_map_or (λ (y : SubscriberFields).
 
 -- The key, where it leads to a connection of the publisher p.
 abbrev pub key_from : Slab Link → (p : ℕ) → Option ℕ → Option ℕ
-key_from connections p key = cond (is_port (publisher_of_key connections key) p) key None
+key_from connections p key = if is_port (publisher_of_key connections key) p then key else None
 
 -- A connection with `count` new channels, in which no slot stands, was made at a key that was free.
 pub record MakesConnection (old : Slab Link) (home : Home) (buffer limit count key : ℕ) (new : Slab Link) : Type 0 where

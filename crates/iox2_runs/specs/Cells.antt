@@ -1,5 +1,5 @@
 -- One cell of a loan, or one value of a message, of however many it has.
-use Rattle.std.specs.Prelude.{ℕ, Bool, cond, length, nat_lt, slice_get, ◌≡◌}
+use Rattle.std.specs.Prelude.{ℕ, Bool, if◌then◌else◌, length, nat_lt, slice_get, ◌≡◌}
 use Rattle.std.specs.declared.option.Option.{Option}
 use Rattle.std.specs.declared.option.Option.TheVariants.{Some}
 use Rattle.iox2_machine.specs.machine.Loans.{with_cell}
@@ -23,4 +23,4 @@ module _ {T U F G : Type 0} where
   abbrev pub WritesAt : (old new : Domain T U F G) → (n at : ℕ) → T → (is_there : Bool) → Type 0
   WritesAt old new n at value is_there =
       (m : Messages T U) (s : State T U) → Shows old m s → (l : Loan T U) × (s.loans n ≡ Some l) × (nat_lt at (length l.cells) ≡ is_there)
-      × Shows new m (cond is_there (with_loan s n (Some (with_cell l at value))) s)
+      × Shows new m (if is_there then with_loan s n (Some (with_cell l at value)) else s)

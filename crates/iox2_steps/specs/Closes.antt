@@ -1,5 +1,5 @@
 -- The steps of a close.
-use Rattle.std.specs.Prelude.{◌≡◌, ◌≢◌, ◌⊎◌, ◌<◌, ℕ, false, cond, List, slice_index_or, IsSomeAnd}
+use Rattle.std.specs.Prelude.{◌≡◌, ◌≢◌, ◌⊎◌, ◌<◌, ℕ, false, if◌then◌else◌, List, slice_index_or, IsSomeAnd}
 use Rattle.std.specs.declared.option.Option.{Option}
 use Rattle.std.specs.declared.option.Option.TheVariants.{None, Some}
 use Rattle.slab.specs.Slab.{get, Updates}
@@ -52,7 +52,7 @@ module _ {T U : Type 0} where
 
   -- q forgets p where nothing of it waits or is borrowed.
   abbrev pub forgotten_if_empty : State T U → (p q : ℕ) → State T U
-  forgotten_if_empty s p q = cond (has_numbers (s.mailboxes p q)) s (subscriber_changed s q (without_publisher p))
+  forgotten_if_empty s p q = if has_numbers (s.mailboxes p q) then s else subscriber_changed s q (without_publisher p)
 
   -- At the key stands a connection of the subscriber at the place, and its publisher is gone.
   pub record IsLeftAt (f : Fields T U) (place key : ℕ) : Type 0 where

@@ -1,5 +1,5 @@
 -- Votes, and the middle one of three.
-use Rattle.std.specs.Prelude.{ℕ, List, [], ◌∷◌, ◌+◌, ◌≡◌, ◌≢◌, ◌≤◌, ◌⊎◌, cond, nat_le}
+use Rattle.std.specs.Prelude.{ℕ, List, [], ◌∷◌, ◌+◌, ◌≡◌, ◌≢◌, ◌≤◌, ◌⊎◌, if◌then◌else◌, nat_le}
 use Rattle.iox2_pubsub.specs.Domains.{Kept}
 use Rattle.iox2_pubsub.specs.Shares.{AllFromEach, Share, share_of}
 use Rattle.iox2_pubsub.specs.declared.subscriber.Subscriber.{Subscriber}
@@ -17,7 +17,7 @@ Picks (vote ∷ votes) value left =
 
 -- 1 if the first is no more than the second, else 0.
 abbrev pub one_if_within : ℕ → ℕ → ℕ
-one_if_within x y = cond (nat_le x y) 1 0
+one_if_within x y = if nat_le x y then 1 else 0
 
 -- The number is one of the three. Two of them are no more than it, and two no less.
 pub record IsMiddle (it a b c : ℕ) : Type 0 where

@@ -1,5 +1,5 @@
 -- How a channel of a connection stands. No message changes this.
-use Rattle.std.specs.Prelude.{ℕ, Bool, true, false, cond, ◌&&◌, ◌-◌, ◌^◌, ◌==◌}
+use Rattle.std.specs.Prelude.{ℕ, Bool, true, false, if◌then◌else◌, ◌&&◌, ◌-◌, ◌^◌, ◌==◌}
 use Rattle.iox2_machine.specs.machine.Numbers.{put_at}
 
 -- A channel without its messages.
@@ -37,7 +37,7 @@ is_hinted state channel = is_in_state state channel && channel.has_hint
 
 -- The channel comes into this state. A change of the state takes the hint away.
 abbrev pub with_state : (state : ℕ) → Channel → Channel
-with_state state channel = cond (is_in_state state channel) channel (record { state = state; has_hint = false })
+with_state state channel = if is_in_state state channel then channel else record { state = state; has_hint = false }
 
 -- The channel has a hint.
 abbrev pub with_hint : Channel → Channel
@@ -46,4 +46,4 @@ with_hint channel = record channel { has_hint = true }
 -- The channel with that number, if it is in the state `expected`, is changed so.
 abbrev pub changed_if : (number expected : ℕ) → (Channel → Channel) → (ℕ → Channel) → ℕ → Channel
 changed_if number expected change channels =
-    cond (is_in_state expected (channels number)) (put_at channels number (change (channels number))) channels
+    if is_in_state expected (channels number) then put_at channels number (change (channels number)) else channels

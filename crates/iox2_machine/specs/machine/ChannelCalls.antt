@@ -1,6 +1,6 @@
 -- What ports ask of the channels of their connections, and how they change them. No message moves by this.
 -- (iceoryx2: `port/details/receiver.rs` and `port/details/sender.rs`, the calls on channels.)
-use Rattle.std.specs.Prelude.{ℕ, suc, Bool, false, cond, List, [], ◌∷◌, ◌≡◌}
+use Rattle.std.specs.Prelude.{ℕ, suc, Bool, false, if◌then◌else◌, List, [], ◌∷◌, ◌≡◌}
 use Rattle.std.specs.List.{list_all, list_any}
 use Rattle.std.specs.Option.{option_and_then, option_map_or}
 use Rattle.std.specs.declared.option.Option.{Option}
@@ -14,7 +14,7 @@ use Rattle.iox2_machine.specs.machine.State.{State, connected_publishers, with_c
 -- The first place, from that one on, at which the port stands.
 abbrev pub place_from : (place : ℕ) → List (Option ℕ) → (id : ℕ) → Option ℕ
 place_from place [] id = None
-place_from place (end ∷ rest) id = cond (is_port end id) (Some place) (place_from (suc place) rest id)
+place_from place (end ∷ rest) id = if is_port end id then Some place else place_from (suc place) rest id
 
 module _ {T U : Type 0} where
   -- ---- a subscriber's connections: with departed publishers that it keeps, and at its ends
@@ -26,7 +26,7 @@ module _ {T U : Type 0} where
   -- The channel with that number is changed so at each connection of the subscriber q where it is in the state `expected`.
   abbrev pub received_changed : State T U → (q number expected : ℕ) → (Channel → Channel) → State T U
   received_changed s q number expected change = record s {
-    channels = λ p. put_at (s.channels p) q (cond (contains (senders_of s q) p) (changed_if number expected change (s.channels p q)) (s.channels p q));
+    channels = λ p. put_at (s.channels p) q (if contains (senders_of s q) p then changed_if number expected change (s.channels p q) else s.channels p q);
   }
 
   -- `set_channel_state`: if the channel is closed, it comes into the state. It is told whether it was closed at each

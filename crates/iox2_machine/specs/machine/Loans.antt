@@ -1,5 +1,5 @@
 -- A loan is granted, changed and given back.
-use Rattle.std.specs.Prelude.{ℕ, Bool, true, false, cond, ◌&&◌, [], ◌∷◌, ◌++◌, length, replicate, ◌≡◌, ◌⊎◌, ◌+◌, ◌*◌, ◌^◌, ◌<◌, ◌≤◌, ◌==◌, max, nat_lt, nat_le, MatchOption, slice_set, is_some}
+use Rattle.std.specs.Prelude.{ℕ, Bool, true, false, if◌then◌else◌, ◌&&◌, [], ◌∷◌, ◌++◌, length, replicate, ◌≡◌, ◌⊎◌, ◌+◌, ◌*◌, ◌^◌, ◌<◌, ◌≤◌, ◌==◌, max, nat_lt, nat_le, MatchOption, slice_set, is_some}
 use Rattle.std.specs.Bool.{MatchBool}
 use Rattle.std.specs.List.{list_all, filter_map}
 use Rattle.std.specs.declared.option.Option.{Option}
@@ -24,8 +24,8 @@ is_static PowerOfTwo = false
 -- (iceoryx2: `port/publisher.rs`, `loan_slice_uninit_impl`, and `port/details/sender.rs`, `allocate`.)
 abbrev pub limit_error : (checks_length : Bool) → Publisher → (len : ℕ) → Option LoanError
 limit_error checks_length x len =
-    cond (checks_length && is_static x.allocation_strategy && nat_lt x.initial_max_slice_len len) (Some ExceedsMaxLoanSize)
-    (cond (nat_le x.max_loaned_samples (length x.loans)) (Some ExceedsMaxLoans) None)
+    if checks_length && is_static x.allocation_strategy && nat_lt x.initial_max_slice_len len then Some ExceedsMaxLoanSize
+    else if nat_le x.max_loaned_samples (length x.loans) then Some ExceedsMaxLoans else None
 
 -- The longest length that the publisher's segments are known to have.
 abbrev pub known_length : Publisher → ℕ

@@ -1,5 +1,5 @@
 -- What lies between one publisher and one subscriber: numbers of messages. Only this file looks into a mailbox.
-use Rattle.std.specs.Prelude.{ℕ, zero, suc, Bool, not, ◌&&◌, List, [], ◌∷◌, ◌++◌, length, drop, map, cond, ◌≡◌, ◌≤◌, ◌==◌, nat_lt}
+use Rattle.std.specs.Prelude.{ℕ, zero, suc, Bool, not, ◌&&◌, List, [], ◌∷◌, ◌++◌, length, drop, map, if◌then◌else◌, ◌≡◌, ◌≤◌, ◌==◌, nat_lt}
 use Rattle.std.specs.List.{filter}
 use Rattle.iox2_machine.specs.machine.Numbers.{contains, without, is_nil, IsOnce}
 
@@ -88,7 +88,7 @@ with_waiting_in (suc k) ns box = record box { others = with_numbers_of (suc k) n
 -- The number waits as the last in the channel; if there was no room, the first leaves.
 abbrev pub with_appended : (channel buffer n : ℕ) → Mailbox → Mailbox
 with_appended channel buffer n box =
-    with_waiting_in channel (cond (has_room channel buffer box) (waiting_in channel box) (drop 1 (waiting_in channel box)) ++ n ∷ []) box
+    with_waiting_in channel ((if has_room channel buffer box then waiting_in channel box else drop 1 (waiting_in channel box)) ++ n ∷ []) box
 
 -- These numbers wait in channel 0, and no others.
 abbrev pub with_waiting : List ℕ → Mailbox → Mailbox
@@ -119,7 +119,7 @@ pub record IsWithin (buffer borrow_limit : ℕ) (box : Mailbox) : Type 0 where
 -- How many messages may wait in a channel other than channel 0, if there are that many channels. For channel 0 it is 0.
 abbrev pub other_room : (channels buffer channel : ℕ) → ℕ
 other_room channels buffer zero = 0
-other_room channels buffer (suc k) = cond (nat_lt (suc k) channels) buffer 0
+other_room channels buffer (suc k) = if nat_lt (suc k) channels then buffer else 0
 
 -- No more than that wait in each of the other channels, which are numbered from 1 to below `channels`.
 abbrev pub OthersWithin : (channels buffer : ℕ) → Mailbox → Type 0

@@ -1,10 +1,10 @@
 -- Words on lists of message numbers and port ids, and on functions that are changed at one argument.
-use Rattle.std.specs.Prelude.{ℕ, Bool, true, false, cond, not, List, [], ◌∷◌, length, drop, ◌≡◌, ◌-◌, ◌==◌, ⊤}
+use Rattle.std.specs.Prelude.{ℕ, Bool, true, false, if◌then◌else◌, not, List, [], ◌∷◌, length, drop, ◌≡◌, ◌-◌, ◌==◌, ⊤}
 use Rattle.std.specs.List.{filter, list_any}
 
 -- The function f with x at k.
 abbrev pub put_at : {X : Type 0} → (ℕ → X) → ℕ → X → ℕ → X
-put_at f k x = λ i. cond (i == k) x (f i)
+put_at f k x = λ i. if i == k then x else f i
 
 -- n stands in the list.
 abbrev pub contains : List ℕ → ℕ → Bool
@@ -26,7 +26,7 @@ last_n n xs = drop (length xs - n) xs
 -- The list with each number once.
 abbrev pub distinct : List ℕ → List ℕ
 distinct [] = []
-distinct (n ∷ ns) = cond (contains ns n) (distinct ns) (n ∷ distinct ns)
+distinct (n ∷ ns) = if contains ns n then distinct ns else n ∷ distinct ns
 
 -- How many different numbers the list has.
 abbrev pub size : List ℕ → ℕ

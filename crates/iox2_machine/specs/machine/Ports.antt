@@ -1,5 +1,5 @@
 -- Ports are made and closed.
-use Rattle.std.specs.Prelude.{ℕ, Bool, true, false, cond, ◌&&◌, [], ◌≡◌, ◌⊎◌, ◌+◌, ◌==◌, min, max, nat_lt, MatchOption}
+use Rattle.std.specs.Prelude.{ℕ, Bool, true, false, if◌then◌else◌, ◌&&◌, [], ◌≡◌, ◌⊎◌, ◌+◌, ◌==◌, min, max, nat_lt, MatchOption}
 use Rattle.std.specs.Bool.{MatchBool}
 use Rattle.std.specs.Option.{option_map, option_map_or}
 use Rattle.std.specs.declared.option.Option.{Option}
@@ -100,8 +100,8 @@ module _ {T U : Type 0} where
   abbrev pub with_buffer_warning : State T U → (q : ℕ) → State T U
   with_buffer_warning s q =
       record s {
-        warnings = cond (nat_lt (s.config).subscriber_expired_connection_buffer (s.config).subscriber_max_borrowed_samples)
-            ((with_warning s (ExpiredBufferRaised q)).warnings) s.warnings;
+        warnings = if nat_lt (s.config).subscriber_expired_connection_buffer (s.config).subscriber_max_borrowed_samples
+            then (with_warning s (ExpiredBufferRaised q)).warnings else s.warnings;
       }
 
   -- A subscriber with the next id stands at the place, and every port of the other side is due.
@@ -123,8 +123,8 @@ module _ {T U : Type 0} where
   -- its end.
   abbrev pub mailbox_after_publisher : State T U → (p : ℕ) → Publisher → (q : ℕ) → Mailbox
   mailbox_after_publisher s p x q =
-      cond (option_map_or (λ (y : Subscriber). y.is_open && is_port (occupant y.ends x.place) p) (s.subscribers q) false)
-      (s.mailboxes p q) (waiting_dropped (s.mailboxes p q))
+      if option_map_or (λ (y : Subscriber). y.is_open && is_port (occupant y.ends x.place) p) (s.subscribers q) false
+      then s.mailboxes p q else waiting_dropped (s.mailboxes p q)
 
   -- The publisher p is gone, its place is free, and what waits from it for nobody is lost.
   abbrev pub publisher_gone : State T U → (p : ℕ) → Publisher → State T U
@@ -145,7 +145,7 @@ module _ {T U : Type 0} where
 
   -- The mailbox of p and a subscriber that closes: what waits from a departed publisher is lost.
   abbrev pub mailbox_after_subscriber : State T U → (q p : ℕ) → Mailbox
-  mailbox_after_subscriber s q p = cond (is_present s p) (s.mailboxes p q) (waiting_dropped (s.mailboxes p q))
+  mailbox_after_subscriber s q p = if is_present s p then s.mailboxes p q else waiting_dropped (s.mailboxes p q)
 
   -- The subscriber q takes no messages any more, and every publisher is due.
   abbrev pub subscriber_shut : State T U → (q : ℕ) → Subscriber → State T U

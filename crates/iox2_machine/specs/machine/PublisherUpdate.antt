@@ -1,6 +1,6 @@
 -- A publisher's update: it goes over the subscribers that are listed now.
 -- (iceoryx2: `port/publisher.rs`, `force_update_connections`, and `port/details/sender.rs`.)
-use Rattle.std.specs.Prelude.{ℕ, Bool, false, cond, List, [], ◌≡◌, ◌⊎◌, MatchOption}
+use Rattle.std.specs.Prelude.{ℕ, Bool, false, if◌then◌else◌, List, [], ◌≡◌, ◌⊎◌, MatchOption}
 use Rattle.std.specs.Bool.{MatchBool}
 use Rattle.std.specs.declared.option.Option.{Option}
 use Rattle.std.specs.declared.option.Option.TheVariants.{None, Some}
@@ -33,8 +33,8 @@ abbrev pub sender_action : (buffers : ℕ → Option ℕ) → (at end : Option �
 sender_action buffers None end = Disconnect
 sender_action buffers (Some q) end =
     elim (buffers q) [
-      | None ↦ cond (is_port end q) (Drop_waiting q) Disconnect
-      | Some buffer ↦ cond (is_port end q) Keep_end (Connect q buffer)
+      | None ↦ if is_port end q then Drop_waiting q else Disconnect
+      | Some buffer ↦ if is_port end q then Keep_end else Connect q buffer
     ]
 
 -- What waits for q is lost.
@@ -94,7 +94,7 @@ module _ {T U : Type 0} where
   -- What the publisher p hands out to a new receiver q: its history, or nothing if channel 0 is closed, which q may
   -- have done if it has its end already.
   abbrev pub history_for : State T U → (p : ℕ) → Publisher → (q : ℕ) → List ℕ
-  history_for s p x q = cond (is_closed (s.channels p q 0)) [] x.history
+  history_for s p x q = if is_closed (s.channels p q 0) then [] else x.history
 
   -- The publisher p, if it is due, goes over the subscribers' places.
   abbrev pub UpdatePublisher : Environment → State T U → (p : ℕ) → State T U → Option ConnectionFailure → Type 0

@@ -1,5 +1,5 @@
 -- A sample is released; what is held no more goes.
-use Rattle.std.specs.Prelude.{ℕ, Bool, false, cond, not, ◌&&◌, ◌||◌}
+use Rattle.std.specs.Prelude.{ℕ, Bool, false, if◌then◌else◌, not, ◌&&◌, ◌||◌}
 use Rattle.std.specs.List.{filter, list_all}
 use Rattle.std.specs.Option.{option_map_or}
 use Rattle.std.specs.declared.option.Option.TheVariants.{None}
@@ -31,7 +31,7 @@ module _ {T U : Type 0} where
 
   -- A closed subscriber that has borrowed nothing is gone.
   abbrev pub freed_if_unused : State T U → (q : ℕ) → State T U
-  freed_if_unused s q = cond (is_unused s q) (place_freed s q) s
+  freed_if_unused s q = if is_unused s q then place_freed s q else s
 
   -- The message n of p is borrowed by q no more.
   abbrev pub unborrowed : State T U → (p q n : ℕ) → State T U

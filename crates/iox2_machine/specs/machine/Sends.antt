@@ -1,5 +1,5 @@
 -- A loan is sent; a send that is blocked is tried again or given up.
-use Rattle.std.specs.Prelude.{ℕ, Bool, false, cond, List, [], ◌∷◌, ◌++◌, take, drop, ◌≡◌, ◌+◌, ◌-◌, ◌^◌, nat_lt, MatchOption}
+use Rattle.std.specs.Prelude.{ℕ, Bool, false, if◌then◌else◌, List, [], ◌∷◌, ◌++◌, take, drop, ◌≡◌, ◌+◌, ◌-◌, ◌^◌, nat_lt, MatchOption}
 use Rattle.std.specs.declared.option.Option.{Option}
 use Rattle.std.specs.declared.option.Option.TheVariants.{None, Some}
 use Rattle.std.specs.declared.time.Duration.{Duration}
@@ -22,7 +22,7 @@ pub data SendResult : Type 0 where
 
 -- The receiver was asked once more; the greatest number of retries stays.
 abbrev pub more_retries : ℕ → ℕ
-more_retries n = cond (nat_lt n (2 ^ 64 - 1)) (n + 1) n
+more_retries n = if nat_lt n (2 ^ 64 - 1) then n + 1 else n
 
 module _ {T U : Type 0} where
   -- The message n stands last in the history of p, whose oldest message leaves if it is full.
@@ -45,7 +45,7 @@ module _ {T U : Type 0} where
   -- A send that reached all receivers ends, with an error if one failed; a suspended one is blocked.
   abbrev pub ConcludeSend : State T U → (p n : ℕ) → DeliveryEnd → State T U → SendResult → Type 0
   ConcludeSend s p n (Complete count has_failed) s' result =
-      (s' ≡ send_ended s p n) × (result ≡ cond has_failed (Send_error UnableToDeliver) (Delivered_to count))
+      (s' ≡ send_ended s p n) × (result ≡ (if has_failed then Send_error UnableToDeliver else Delivered_to count))
   ConcludeSend s p n (Suspended b) s' result = (s' ≡ send_blocked s p b) × (result ≡ Blocked_send)
 
   -- The publisher p's mailboxes, and nothing else, are changed so.

@@ -1,5 +1,5 @@
 -- The machine's state, and how it is read and written.
-use Rattle.std.specs.Prelude.{ℕ, Bool, true, false, cond, ◌||◌, List, [], ◌∷◌, ◌++◌, ◌+◌, min, is_some}
+use Rattle.std.specs.Prelude.{ℕ, Bool, true, false, if◌then◌else◌, ◌||◌, List, [], ◌∷◌, ◌++◌, ◌+◌, min, is_some}
 use Rattle.std.specs.declared.option.Option.{Option}
 use Rattle.std.specs.declared.option.Option.TheVariants.{None, Some}
 use Rattle.std.specs.List.{flat_map}
@@ -81,7 +81,7 @@ module _ {T U : Type 0} where
 
   -- The buffer of a subscriber that takes messages, or none if it is closed: a message put there is skipped.
   abbrev pub receiving_buffer : State T U → (q : ℕ) → Option ℕ
-  receiving_buffer s q = option_and_then (λ (y : Subscriber). cond y.is_open (Some y.buffer) None) (s.subscribers q)
+  receiving_buffer s q = option_and_then (λ (y : Subscriber). if y.is_open then Some y.buffer else None) (s.subscribers q)
 
   -- The subscriber wasn't closed.
   abbrev pub is_open : State T U → (q : ℕ) → Bool
@@ -89,7 +89,7 @@ module _ {T U : Type 0} where
 
   -- The buffer of a subscriber that takes messages of p in that channel, or none if it is closed or the channel is.
   abbrev pub channel_buffer : State T U → (p channel q : ℕ) → Option ℕ
-  channel_buffer s p channel q = cond (is_closed (s.channels p q channel)) None (receiving_buffer s q)
+  channel_buffer s p channel q = if is_closed (s.channels p q channel) then None else receiving_buffer s q
 
   -- The publisher p has its end of the mailbox with q.
   abbrev pub has_sender_end : State T U → (p q : ℕ) → Bool
@@ -127,7 +127,7 @@ module _ {T U : Type 0} where
 
   -- The channels of p and q if these are connected; else new ones, for what was set while they were is forgotten.
   abbrev pub channels_if_linked : State T U → (p q : ℕ) → ℕ → Channel
-  channels_if_linked s p q = cond (is_linked s p q) (s.channels p q) new_channels
+  channels_if_linked s p q = if is_linked s p q then s.channels p q else new_channels
 
   -- The publisher p's channels are new if it isn't connected any more. No two ports are connected twice.
   abbrev pub sender_channels_reset : State T U → (p : ℕ) → State T U

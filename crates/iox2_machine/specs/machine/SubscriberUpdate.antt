@@ -1,6 +1,6 @@
 -- A subscriber's update: it goes over the publishers that are listed now, then over the places that became empty.
 -- (iceoryx2: `port/subscriber.rs`, `force_update_connections`, and `port/details/receiver.rs`.)
-use Rattle.std.specs.Prelude.{ℕ, Bool, true, false, cond, List, [], ◌∷◌, ◌++◌, length, ◌≡◌, ◌⊎◌, ◌==◌, nat_lt, MatchOption}
+use Rattle.std.specs.Prelude.{ℕ, Bool, true, false, if◌then◌else◌, List, [], ◌∷◌, ◌++◌, length, ◌≡◌, ◌⊎◌, ◌==◌, nat_lt, MatchOption}
 use Rattle.std.specs.Bool.{MatchBool}
 use Rattle.std.specs.declared.option.Option.{Option}
 use Rattle.std.specs.declared.option.Option.TheVariants.{None, Some}
@@ -33,7 +33,7 @@ pub data Retirement : Type 0 where
 -- The first of these publishers from which nothing is borrowed.
 abbrev pub first_without_borrows : (ℕ → Mailbox) → List ℕ → Option ℕ
 first_without_borrows boxes [] = None
-first_without_borrows boxes (p ∷ ps) = cond (has_borrows (boxes p)) (first_without_borrows boxes ps) (Some p)
+first_without_borrows boxes (p ∷ ps) = if has_borrows (boxes p) then first_without_borrows boxes ps else Some p
 
 -- The first one is evicted; if there is none, the retirement is refused.
 abbrev pub evict_or_refuse : Option ℕ → Retirement
@@ -46,8 +46,8 @@ evict_or_refuse (Some first) = Evict first
 -- (iceoryx2: `port/details/receiver.rs`, `prepare_connection_removal`.)
 abbrev pub retirement_of : (limit : ℕ) → (boxes : ℕ → Mailbox) → (expired : List ℕ) → (p : ℕ) → Retirement
 retirement_of limit boxes expired p =
-    cond (nat_lt (length expired) limit) Keep_expired
-    (cond (has_borrows (boxes p)) (evict_or_refuse (first_without_borrows boxes expired)) Discard_data)
+    if nat_lt (length expired) limit then Keep_expired
+    else if has_borrows (boxes p) then evict_or_refuse (first_without_borrows boxes expired) else Discard_data
 
 -- What waits from the departed publisher p is lost, with a warning.
 abbrev pub data_discarded : (q : ℕ) → ReceiverSide → (p : ℕ) → ReceiverSide

@@ -1,5 +1,5 @@
 -- What waits for a subscriber.
-use Rattle.std.specs.Prelude.{ℕ, Bool, false, cond, ◌&&◌, ◌||◌, List, []}
+use Rattle.std.specs.Prelude.{ℕ, Bool, false, if◌then◌else◌, ◌&&◌, ◌||◌, List, []}
 use Rattle.std.specs.Option.{option_map_or}
 use Rattle.iox2_machine.specs.machine.Numbers.{contains}
 use Rattle.iox2_machine.specs.machine.Records.{Subscriber}
@@ -13,4 +13,4 @@ receives_from y p = y.is_open && (y.is_due || contains (connected_publishers y) 
 module _ {T U : Type 0} where
   -- The messages of p that wait for q, oldest first: none if q doesn't receive from p.
   abbrev pub waiting_from : State T U → (p q : ℕ) → List ℕ
-  waiting_from s p q = cond (option_map_or (λ (y : Subscriber). receives_from y p) (s.subscribers q) false) (s.mailboxes p q).waiting []
+  waiting_from s p q = if option_map_or (λ (y : Subscriber). receives_from y p) (s.subscribers q) false then (s.mailboxes p q).waiting else []
