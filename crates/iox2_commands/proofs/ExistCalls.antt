@@ -318,7 +318,7 @@ module _ {T U : Type 0} where
           let first : (n : ℕ) × (box : Mailbox) × BorrowsFirst (boxes p) n box = first_waits (boxes p) (and_parts _ _ able).0 in
           (with_mailbox s p q first.1, Got_sample p first.0, ((able, from), first.1, first.2, refl), record { message = k.message; handlers = k.handlers })
 
-      by_data : can_receive_of limit y boxes (connected_publishers y) ≡ false → (b : Bool) → has_any_data limit y boxes ≡ b → ComesTo ReceiveResult (TakeSample s q y)
+      by_data : can_receive_of limit y boxes (connected_publishers y) ≡ false → (b : Bool) → has_any_data y boxes ≡ b → ComesTo ReceiveResult (TakeSample s q y)
       by_data none true f = (s, Receive_error ExceedsMaxBorrows, (refl, f, none, refl), k)
       by_data none false f = (s, No_sample, (f, refl), k)
 
@@ -327,7 +327,7 @@ module _ {T U : Type 0} where
           let one : (p : ℕ) × (can_receive limit (boxes p) ≡ true) × (contains (occupants y.ends) p ≡ true) = passes_at (λ p. can_receive limit (boxes p)) (occupants y.ends) f in
           got one.0 one.1 (subst (λ b. MatchBool b (contains y.expired one.0 ≡ true) (contains (occupants y.ends) one.0 ≡ true)) (sym none) one.2)
       by_ends none false f =
-          by_data (list_any-append (λ p. can_receive limit (boxes p)) y.expired (occupants y.ends) ∙ or_from _ _ none f) (has_any_data limit y boxes) refl
+          by_data (list_any-append (λ p. can_receive limit (boxes p)) y.expired (occupants y.ends) ∙ or_from _ _ none f) (has_any_data y boxes) refl
 
       by_expired : (b : Bool) → can_receive_of limit y boxes y.expired ≡ b → ComesTo ReceiveResult (TakeSample s q y)
       by_expired true f =
@@ -355,7 +355,7 @@ module _ {T U : Type 0} where
   has_samples_comes s q y present k =
       let u : ComesTo (Option ConnectionFailure) (UpdateSubscriber ample_memory s q) = subscriber_updates s q y present k in
       let there : (z : Subscriber) × ((u.0).subscribers q ≡ Some z) = still_there s u.0 q u.1 u.2 in
-      (u.0, u.1, has_any_data (s.config).subscriber_max_borrowed_samples there.0 (λ p. (u.0).mailboxes p q), (u.2, match_some ((u.0).subscribers q) there.0 _ _ there.1 refl), u.3)
+      (u.0, u.1, has_any_data there.0 (λ p. (u.0).mailboxes p q), (u.2, match_some ((u.0).subscribers q) there.0 _ _ there.1 refl), u.3)
 
   -- ---- releases and ports
 

@@ -16,7 +16,7 @@ module _ {T U : Type 0} where
   abbrev pub IsWhetherWaiting : Fields T U → (q : ℕ) → (waits : Bool) → Type 0
   IsWhetherWaiting f q waits =
       MatchOption ((state_of (kept_of f)).subscribers q) ⊥ (λ y.
-      waits ≡ has_any_data (f.config).subscriber_max_borrowed_samples y (λ p. (state_of (kept_of f)).mailboxes p q))
+      waits ≡ has_any_data y (λ p. (state_of (kept_of f)).mailboxes p q))
 
   -- The subscriber q was asked whether any message waits, with this answer or the failure of its update.
   abbrev pub IsAnswer : Environment → State T U → (q : ℕ) → Result Bool ConnectionFailure → State T U → Type 0

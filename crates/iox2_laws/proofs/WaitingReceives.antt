@@ -244,7 +244,7 @@ module _ {T U : Type 0} where
       ∙ contains_first n (h.2).0
 
   -- nothing waits where no connection has anything, and the subscriber isn't due
-  none_wait : (limit : ℕ) (s : State T U) (q : ℕ) (y : Subscriber) → s.subscribers q ≡ Some y → y.is_due ≡ false → has_any_data limit y (λ p. s.mailboxes p q) ≡ false → waiting_for s q ≡ 0
+  none_wait : (limit : ℕ) (s : State T U) (q : ℕ) (y : Subscriber) → s.subscribers q ≡ Some y → y.is_due ≡ false → has_any_data y (λ p. s.mailboxes p q) ≡ false → waiting_for s q ≡ 0
   none_wait limit s q y here undue none = sum_zero (λ p. length (waiting_from s p q)) s.next_port (λ p.
       ap length (by_record s p q (Some y) here)
       ∙ nothing_from y.is_open y.is_due (contains (connected_publishers y) p) (s.mailboxes p q).waiting undue
@@ -363,7 +363,7 @@ module _ {T U : Type 0} (environment : Environment) (s : State T U) (q : ℕ) wh
       let undue : z.is_due ≡ false = update_subscriber_updates environment s q s' None refl h.0 z at in
       (yes z at open_now after says, no z at undue says))
     where
-      yes : (z : Subscriber) → s'.subscribers q ≡ Some z → z.is_open ≡ true → IsWellFormed s' → result ≡ has_any_data (s.config).subscriber_max_borrowed_samples z (λ p. s'.mailboxes p q)
+      yes : (z : Subscriber) → s'.subscribers q ≡ Some z → z.is_open ≡ true → IsWellFormed s' → result ≡ has_any_data z (λ p. s'.mailboxes p q)
           → result ≡ true → 0 < waiting_for s' q
       yes z at open_now after says is =
           let one = passes_at (λ p. has_data (s'.mailboxes p q)) (connected_publishers z) (sym says ∙ is) in
@@ -373,7 +373,7 @@ module _ {T U : Type 0} (environment : Environment) (s : State T U) (q : ℕ) wh
           let some : 0 < length (waiting_from s' one.0 q) = subst (λ (ns : List ℕ). 0 < length ns) (sym all) (some_length (s'.mailboxes one.0 q).waiting one.1) in
           sum_some (λ p. length (waiting_from s' p q)) one.0 s'.next_port known some
 
-      no : (z : Subscriber) → s'.subscribers q ≡ Some z → z.is_due ≡ false → result ≡ has_any_data (s.config).subscriber_max_borrowed_samples z (λ p. s'.mailboxes p q)
+      no : (z : Subscriber) → s'.subscribers q ≡ Some z → z.is_due ≡ false → result ≡ has_any_data z (λ p. s'.mailboxes p q)
           → 0 < waiting_for s' q → result ≡ true
       no z at undue says some = by result refl where
         by : (b : Bool) → result ≡ b → b ≡ true

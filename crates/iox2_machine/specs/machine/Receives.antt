@@ -20,13 +20,12 @@ pub data ReceiveResult : Type 0 where
   No_sample : ReceiveResult
   Receive_error : ReceiveError → ReceiveResult
 
--- The subscriber with that record, and with its mailboxes by the publisher's id. It may borrow that many messages of
--- each publisher.
-module _ (borrow_limit : ℕ) (y : Subscriber) (boxes : ℕ → Mailbox) where
-  -- Something waits from some publisher.
-  abbrev pub has_any_data : Bool
-  has_any_data = list_any (λ p. has_data (boxes p)) (connected_publishers y)
+-- Something waits for the subscriber with that record from some publisher; its mailboxes stand by the publisher's id.
+abbrev pub has_any_data : Subscriber → (ℕ → Mailbox) → Bool
+has_any_data y boxes = list_any (λ p. has_data (boxes p)) (connected_publishers y)
 
+-- The subscriber with that record and those mailboxes, which may borrow that many messages of each publisher.
+module _ (borrow_limit : ℕ) (y : Subscriber) (boxes : ℕ → Mailbox) where
   -- From one of these publishers something may be received.
   abbrev pub can_receive_of : List ℕ → Bool
   can_receive_of ps = list_any (λ p. can_receive borrow_limit (boxes p)) ps
@@ -45,10 +44,10 @@ module _ {T U : Type 0} where
       MayReceiveFrom (s.config).subscriber_max_borrowed_samples y (λ p. s.mailboxes p q) p
       × (box : Mailbox) × BorrowsFirst (s.mailboxes p q) n box × (s' ≡ with_mailbox s p q box)
   TakeSample s q y s' No_sample =
-      (has_any_data (s.config).subscriber_max_borrowed_samples y (λ p. s.mailboxes p q) ≡ false) × (s' ≡ s)
+      (has_any_data y (λ p. s.mailboxes p q) ≡ false) × (s' ≡ s)
   TakeSample s q y s' (Receive_error e) =
       (e ≡ ExceedsMaxBorrows)
-      × (has_any_data (s.config).subscriber_max_borrowed_samples y (λ p. s.mailboxes p q) ≡ true)
+      × (has_any_data y (λ p. s.mailboxes p q) ≡ true)
       × (can_receive_of (s.config).subscriber_max_borrowed_samples y (λ p. s.mailboxes p q) (connected_publishers y) ≡ false)
       × (s' ≡ s)
 
@@ -67,4 +66,4 @@ module _ {T U : Type 0} (environment : Environment) where
   HasSamples s q s' failure result =
       UpdateSubscriber environment s q s' failure
       × MatchOption (s'.subscribers q) ⊥ (λ y.
-      result ≡ has_any_data (s.config).subscriber_max_borrowed_samples y (λ p. s'.mailboxes p q))
+      result ≡ has_any_data y (λ p. s'.mailboxes p q))

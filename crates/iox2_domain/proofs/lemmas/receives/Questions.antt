@@ -30,7 +30,7 @@ use Rattle.iox2_domain.proofs.lemmas.receives.ReceiptSteps.{HasKeys, finds-now, 
 use Rattle.iox2_domain.proofs.lemmas.receives.Reception.{updated, updated-stands, updated-reaches}
 
 -- of a publisher from which something may be received, something waits
-may-receive-waits : (limit : ℕ) (y : Subscriber) (boxes : ℕ → Mailbox) (p : ℕ) → MayReceiveFrom limit y boxes p → has_any_data limit y boxes ≡ true
+may-receive-waits : (limit : ℕ) (y : Subscriber) (boxes : ℕ → Mailbox) (p : ℕ) → MayReceiveFrom limit y boxes p → has_any_data y boxes ≡ true
 may-receive-waits limit y boxes p may =
     any-contains (λ q. has_data (boxes q)) p (connected_publishers y) (among (can_receive_of limit y boxes y.expired) may.1) (both-true _ _ may.0).0
   where
@@ -42,15 +42,15 @@ module _ {T U : Type 0} where
   -- what a subscriber's search finds says whether anything waits
   found-waits : (f : Fields T U) (sound : IsDomain f) (i : ℕ) (y : SubscriberFields) (at : get_or f.subscribers i None ≡ Some y) (found : Found)
       → Finds f.connections y.expired y.keys found
-      → is_something found ≡ has_any_data (f.config).subscriber_max_borrowed_samples (receiver f sound i y at) (λ p. (state_of (kept_of f)).mailboxes p y.id)
+      → is_something found ≡ has_any_data (receiver f sound i y at) (λ p. (state_of (kept_of f)).mailboxes p y.id)
   found-waits f sound i y at found finds = sym (by found (found-for f sound i y at found finds)) where
     ready : (o : Option Link) → IsSomeAnd o (λ c. (c.home.subscriber ≡ y.id) × MayReceiveFrom (f.config).subscriber_max_borrowed_samples (receiver f sound i y at) (λ p. (state_of (kept_of f)).mailboxes p y.id) c.home.publisher)
-        → has_any_data (f.config).subscriber_max_borrowed_samples (receiver f sound i y at) (λ p. (state_of (kept_of f)).mailboxes p y.id) ≡ true
+        → has_any_data (receiver f sound i y at) (λ p. (state_of (kept_of f)).mailboxes p y.id) ≡ true
     ready None h = absurd h
     ready (Some c) h = may-receive-waits (f.config).subscriber_max_borrowed_samples (receiver f sound i y at) (λ p. (state_of (kept_of f)).mailboxes p y.id) c.home.publisher h.1
 
     by : (found : Found) → FindsFor y.id (f.config).subscriber_max_borrowed_samples f.connections (receiver f sound i y at) (λ p. (state_of (kept_of f)).mailboxes p y.id) found
-        → has_any_data (f.config).subscriber_max_borrowed_samples (receiver f sound i y at) (λ p. (state_of (kept_of f)).mailboxes p y.id) ≡ is_something found
+        → has_any_data (receiver f sound i y at) (λ p. (state_of (kept_of f)).mailboxes p y.id) ≡ is_something found
     by (Found.Ready key) h = ready (get f.connections key) h
     by Found.AtLimit h = h.0
     by Found.Nothing h = h
@@ -72,7 +72,7 @@ module _ {T U : Type 0} where
     reached,
     (
       updates,
-      subst (λ (s : State T U). MatchOption (s.subscribers q) ⊥ (λ y. waits ≡ has_any_data (f.config).subscriber_max_borrowed_samples y (λ p. s.mailboxes p q))) reached.state is,
+      subst (λ (s : State T U). MatchOption (s.subscribers q) ⊥ (λ y. waits ≡ has_any_data y (λ p. s.mailboxes p q))) reached.state is,
     ),
   )
 
@@ -97,5 +97,5 @@ module _ {T U : Type 0} where
       subscriber-stands mid u.changes.agrees.parts place z (updated-stands environment f mid place y (Some e) u at) in (
         state_of (kept_of mid),
         updated-reaches environment f mid place y (Some e) u,
-        (has_any_data (f.config).subscriber_max_borrowed_samples ((subscriber_of mid.books mid.connections z).port) (λ p. (state_of (kept_of mid)).mailboxes p y.id), (u.updates, rw shown refl)),
+        (has_any_data ((subscriber_of mid.books mid.connections z).port) (λ p. (state_of (kept_of mid)).mailboxes p y.id), (u.updates, rw shown refl)),
       )
