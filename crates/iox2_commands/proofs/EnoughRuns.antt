@@ -32,13 +32,13 @@ module _ {T U : Type 0} where
       (commands : List (Command T U)) (replies : List (Reply T U)) (events : List (Event T U)) (m' : Messages T U) (s' : State T U)
       → IsWellFormed s → RunFrom environment defaults m s handles commands replies events m' s' → IsWellFormed s' × Advances s s'
   run_sound environment defaults m s handles [] [] [] m' s' w h =
-      (subst IsWellFormed (sym h.1) w, subst (Advances s) (sym h.1) (stays s))
+      (subst IsWellFormed (sym (h.1).1) w, subst (Advances s) (sym (h.1).1) (stays s))
   run_sound environment defaults m s handles (command ∷ commands) (reply ∷ replies) (event ∷ events) m' s' w h =
-      let sound : IsSound s h.4 = step_sound environment h.0 h.1 m s handles w command h.4 h.5 in
-      let rest : IsWellFormed s' × Advances (h.4).state s' =
-      run_sound environment defaults (messages_after (h.4).event m) (h.4).state (handles ++ (h.4).handle ∷ []) commands replies events m' s' sound.well_formed h.8 in
-      (rest.0, advances_trans s (h.4).state s' sound.advances rest.1)
-  run_sound environment defaults m s handles _ _ _ m' s' w h = absurd h
+      let sound : IsSound s (h.1).4 = step_sound environment (h.1).0 (h.1).1 m s handles w command (h.1).4 (h.1).5 in
+      let rest : IsWellFormed s' × Advances ((h.1).4).state s' =
+      run_sound environment defaults (messages_after ((h.1).4).event m) ((h.1).4).state (handles ++ ((h.1).4).handle ∷ []) commands replies events m' s' sound.well_formed (h.0, (h.1).8) in
+      (rest.0, advances_trans s ((h.1).4).state s' sound.advances rest.1)
+  run_sound environment defaults m s handles _ _ _ m' s' w h = absurd h.1
 
   -- In every state that is reached from a new domain, no publisher holds more than the worst case.
   pub reached_states_hold_at_most_worst_case : (environment : Environment) (defaults : Defaults T U) (c : ServiceConfig)

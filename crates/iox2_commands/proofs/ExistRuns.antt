@@ -245,14 +245,14 @@ module _ {T U : Type 0} where
 
   runs : (default_value : T) (default_header : U) (past : PastSends T U) → past.first_port ≡ 0 → (m : Messages T U) (s : State T U) (handles : List Handle) (commands : List (Command T U))
       → HasReached past m s handles → IsFixed s → Runs default_value default_header m s handles commands
-  runs default_value default_header past first m s handles [] reached k = ([], [], m, s, (refl, refl))
+  runs default_value default_header past first m s handles [] reached k = ([], [], m, s, (handles, (refl, refl, refl)))
   runs default_value default_header past first m s handles (command ∷ commands) reached k =
       let v : Ends (Step ample_memory default_value default_header m s handles command) = step_comes default_value default_header past first m s handles reached k command in
       let o : Outcome T U = v.0 in
       let rest : Runs default_value default_header (messages_after o.event m) o.state (handles ++ o.handle ∷ []) commands =
       runs default_value default_header (past_after past o.event) first (messages_after o.event m) o.state (handles ++ o.handle ∷ []) commands
       (goes_on ample_memory default_value default_header past m s handles reached command o v.1) v.2 in
-      (o.reply ∷ rest.0, o.event ∷ rest.1, rest.2, rest.3, (default_value, default_header, refl, refl, o, v.1, refl, refl, rest.4))
+      (o.reply ∷ rest.0, o.event ∷ rest.1, rest.2, rest.3, ((rest.4).0, (default_value, default_header, refl, refl, o, v.1, refl, refl, (rest.4).1)))
 
   -- a new domain is reached
   abbrev nothing_past : PastSends T U

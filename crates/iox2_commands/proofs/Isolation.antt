@@ -23,7 +23,7 @@ use Rattle.iox2_commands.specs.declared.reply.Reply.{Reply}
 use Rattle.iox2_commands.specs.declared.reply.Reply.TheVariants.{PublisherMade, SubscriberMade}
 use Rattle.iox2_commands.proofs.EnoughRuns.{run_sound}
 use Rattle.iox2_commands.proofs.GrowingLists.{found_earlier, found_below}
-use Rattle.iox2_commands.proofs.Points.{run_to, run_from, found_taken, get_taken}
+use Rattle.iox2_commands.proofs.Points.{found_taken, get_taken}
 use Rattle.iox2_commands.proofs.StepLaws.{IsSound, step_sound}
 use Rattle.iox2_commands.proofs.AlikeViews.{View, view_of}
 use Rattle.iox2_commands.proofs.AlikeReceives.{sent_part, IsAlike, alike_equal, alike_sym, alike_trans}
@@ -442,11 +442,10 @@ module _ {T U : Type 0} where
 -- The view of a subscriber is the same at each point of two such runs.
 pub views_stay_alike : {T U : Type 0} → ViewsStayAlike T U
 views_stay_alike {T} {U} default_value default_header c position q n commands reduced replies replies' events events' m m' s s' quiet independent made agree x y =
-    let on = run_to ample_memory (only_defaults default_value default_header) x.messages x.state x.handles (drop n commands) (drop n replies) (drop n events) m s x.after in
     let well : IsWellFormed x.state = (run_sound ample_memory (only_defaults default_value default_header) no_messages (fresh c) [] (take n commands) (take n replies) (take n events) x.messages x.state (fresh_is_well_formed c)
-    (run_from ample_memory (only_defaults default_value default_header) no_messages (fresh c) [] (take n commands) (take n replies) (take n events) x.messages x.state x.handles x.before)).0 in
+    (x.handles, x.before)).0 in
     let below : (j : ℕ) → slice_get (drop n replies) j ≡ Some (SubscriberMade q) → (x.state).next_port ≤ q =
-    λ j e. made_later default_value default_header (drop n commands) x.messages x.state x.handles (drop n replies) (drop n events) m s on.0 [] q j (λ k f. absurd (none-some (SubscriberMade q) f)) well on.1
+    λ j e. made_later default_value default_header (drop n commands) x.messages x.state x.handles (drop n replies) (drop n events) m s (x.after).0 [] q j (λ k f. absurd (none-some (SubscriberMade q) f)) well (x.after).1
     (subst (λ (v : List (Reply T U)). slice_get v j ≡ Some (SubscriberMade q)) (sym (append-nil (drop n replies))) e) in
     (runs_alike default_value default_header c position q commands [] replies reduced replies' independent (take n commands) (take n reduced) (take n replies) (take n replies') (drop n replies) (drop n replies')
     (take n events) (take n events')

@@ -49,26 +49,6 @@ get_taken (x ∷ xs) (suc n) (suc i) h = get_taken xs n i (omega arith)
 -- ---- points
 
 module _ {T U : Type 0} (environment : Environment) (defaults : Defaults T U) where
-  -- each run ends with some handles
-  pub run_to : (m : Messages T U) (s : State T U) (handles : List Handle) (commands : List (Command T U)) (replies : List (Reply T U)) (events : List (Event T U)) (m' : Messages T U) (s' : State T U)
-      → RunFrom environment defaults m s handles commands replies events m' s'
-      → (handles' : List Handle) × RunTo environment defaults m s handles commands replies events m' s' handles'
-  run_to m s handles [] [] [] m' s' h = (handles, (h.0, h.1, refl))
-  run_to m s handles (command ∷ commands) (reply ∷ replies) (event ∷ events) m' s' h =
-      let rest : (handles' : List Handle) × RunTo environment defaults (messages_after (h.4).event m) (h.4).state (handles ++ (h.4).handle ∷ []) commands replies events m' s' handles' =
-      run_to (messages_after (h.4).event m) (h.4).state (handles ++ (h.4).handle ∷ []) commands replies events m' s' h.8 in
-      (rest.0, (h.0, h.1, h.2, h.3, h.4, h.5, h.6, h.7, rest.1))
-  run_to m s handles _ _ _ m' s' h = absurd h
-
-  -- and each of these is a run
-  pub run_from : (m : Messages T U) (s : State T U) (handles : List Handle) (commands : List (Command T U)) (replies : List (Reply T U)) (events : List (Event T U)) (m' : Messages T U) (s' : State T U) (handles' : List Handle)
-      → RunTo environment defaults m s handles commands replies events m' s' handles'
-      → RunFrom environment defaults m s handles commands replies events m' s'
-  run_from m s handles [] [] [] m' s' handles' h = (h.0, h.1)
-  run_from m s handles (command ∷ commands) (reply ∷ replies) (event ∷ events) m' s' handles' h =
-      (h.0, h.1, h.2, h.3, h.4, h.5, h.6, h.7, run_from (messages_after (h.4).event m) (h.4).state (handles ++ (h.4).handle ∷ []) commands replies events m' s' handles' h.8)
-  run_from m s handles _ _ _ m' s' handles' h = absurd h
-
   -- what a run has come to after its first n commands
   abbrev pub Midway : (n : ℕ) → Messages T U → State T U → List Handle → List (Command T U) → List (Reply T U) → List (Event T U) → Messages T U → State T U → Type 0
   Midway n m s handles commands replies events m' s' =
@@ -81,10 +61,10 @@ module _ {T U : Type 0} (environment : Environment) (defaults : Defaults T U) wh
   midway zero m s handles commands replies events m' s' h = (m, s, handles, (refl, refl, refl), h)
   midway (suc n) m s handles [] [] [] m' s' h = (m, s, handles, (refl, refl, refl), h)
   midway (suc n) m s handles (command ∷ commands) (reply ∷ replies) (event ∷ events) m' s' h =
-      let rest : Midway n (messages_after (h.4).event m) (h.4).state (handles ++ (h.4).handle ∷ []) commands replies events m' s' =
-      midway n (messages_after (h.4).event m) (h.4).state (handles ++ (h.4).handle ∷ []) commands replies events m' s' h.8 in
-      (rest.0, rest.1, rest.2, (h.0, h.1, h.2, h.3, h.4, h.5, h.6, h.7, rest.3), rest.4)
-  midway (suc n) m s handles _ _ _ m' s' h = absurd h
+      let rest : Midway n (messages_after ((h.1).4).event m) ((h.1).4).state (handles ++ ((h.1).4).handle ∷ []) commands replies events m' s' =
+      midway n (messages_after ((h.1).4).event m) ((h.1).4).state (handles ++ ((h.1).4).handle ∷ []) commands replies events m' s' (h.0, (h.1).8) in
+      (rest.0, rest.1, rest.2, ((h.1).0, (h.1).1, (h.1).2, (h.1).3, (h.1).4, (h.1).5, (h.1).6, (h.1).7, rest.3), rest.4)
+  midway (suc n) m s handles _ _ _ m' s' h = absurd h.1
 
   -- the reply to the first command
   first_granted : (m : Messages T U) (s : State T U) (handles : List Handle) (commands : List (Command T U)) (replies : List (Reply T U)) (events : List (Event T U)) (m' : Messages T U) (s' : State T U)
@@ -93,8 +73,8 @@ module _ {T U : Type 0} (environment : Environment) (defaults : Defaults T U) wh
       → slice_get replies 0 ≡ Some Loaned
   first_granted m s handles [] [] [] m' s' h command e grants = absurd (none-some command e)
   first_granted m s handles (first ∷ commands) (reply ∷ replies) (event ∷ events) m' s' h command e grants =
-      ap Some (sym h.6 ∙ grants h.0 h.1 h.4 (subst (λ (v : Command T U). Step environment h.0 h.1 m s handles v h.4) (same_Some first command e) h.5))
-  first_granted m s handles _ _ _ m' s' h command e grants = absurd h
+      ap Some (sym (h.1).6 ∙ grants (h.1).0 (h.1).1 (h.1).4 (subst (λ (v : Command T U). Step environment (h.1).0 (h.1).1 m s handles v (h.1).4) (same_Some first command e) (h.1).5))
+  first_granted m s handles _ _ _ m' s' h command e grants = absurd h.1
 
   module _ (m : Messages T U) (s : State T U) (commands : List (Command T U)) (replies : List (Reply T U)) (events : List (Event T U)) (m' : Messages T U) (s' : State T U)
       (run : RunFrom environment defaults m s [] commands replies events m' s') where
@@ -113,7 +93,7 @@ module _ {T U : Type 0} (environment : Environment) (defaults : Defaults T U) wh
       well : IsWellFormed point.state
       well =
           let there : RunFrom environment defaults m s [] (take n commands) (take n replies) (take n events) point.messages point.state =
-          run_from m s [] (take n commands) (take n replies) (take n events) point.messages point.state point.handles point.before in
+          (point.handles, point.before) in
           (run_sound environment defaults m s [] (take n commands) (take n replies) (take n events) point.messages point.state w there).0
 
       at : (command : Command T U) → AsksPermittedLoan (point.state).config x of command

@@ -37,17 +37,17 @@ module _ {T U : Type 0} where
       → (i origin : ℕ) → slice_get replies i ≡ Some (Sample origin) → NamesPublisher past events i origin
   samples_from environment defaults past m s handles [] [] [] m' s' reached h i origin e = absurd (none-some _ e)
   samples_from environment defaults past m s handles (command ∷ commands) (reply ∷ replies) (event ∷ events) m' s' reached h zero origin e =
-      let tells : IsTold past s handles command h.4 = told environment h.0 h.1 past m s handles reached command h.4 h.5 in
-      let found : (q n : ℕ) × ((h.4).event ≡ Message_received origin q n) = tells.origin origin (h.6 ∙ same_Some reply (Sample origin) e) in
+      let tells : IsTold past s handles command (h.1).4 = told environment (h.1).0 (h.1).1 past m s handles reached command (h.1).4 (h.1).5 in
+      let found : (q n : ℕ) × (((h.1).4).event ≡ Message_received origin q n) = tells.origin origin ((h.1).6 ∙ same_Some reply (Sample origin) e) in
       let sent : (entry : Entry T U) × past.WasSent origin found.1 entry × ((entry.header).publisher_id ≡ origin) = (tells.received origin found.0 found.1 found.2).0 in
-      (found.0, found.1, sent.0, ap (λ (v : Event T U). Some v) (sym h.7 ∙ found.2), inl sent.1, sent.2)
+      (found.0, found.1, sent.0, ap (λ (v : Event T U). Some v) (sym (h.1).7 ∙ found.2), inl sent.1, sent.2)
   samples_from environment defaults past m s handles (command ∷ commands) (reply ∷ replies) (event ∷ events) m' s' reached h (suc i) origin e =
-      let rest : NamesPublisher (past_after past (h.4).event) events i origin =
-      samples_from environment defaults (past_after past (h.4).event) (messages_after (h.4).event m) (h.4).state
-      (handles ++ (h.4).handle ∷ []) commands replies events m' s'
-      (goes_on environment h.0 h.1 past m s handles reached command h.4 h.5) h.8 i origin e in
-      (rest.0, rest.1, rest.2, rest.3, sent_in_all past origin rest.1 rest.2 (h.4).event event (take i events) h.7 rest.4, rest.5)
-  samples_from environment defaults past m s handles _ _ _ m' s' reached h i origin e = absurd h
+      let rest : NamesPublisher (past_after past ((h.1).4).event) events i origin =
+      samples_from environment defaults (past_after past ((h.1).4).event) (messages_after ((h.1).4).event m) ((h.1).4).state
+      (handles ++ ((h.1).4).handle ∷ []) commands replies events m' s'
+      (goes_on environment (h.1).0 (h.1).1 past m s handles reached command (h.1).4 (h.1).5) (h.0, (h.1).8) i origin e in
+      (rest.0, rest.1, rest.2, rest.3, sent_in_all past origin rest.1 rest.2 ((h.1).4).event event (take i events) (h.1).7 rest.4, rest.5)
+  samples_from environment defaults past m s handles _ _ _ m' s' reached h i origin e = absurd h.1
 
   -- The reply to a receive names the publisher that sent the message before it was received, and so does the message's
   -- header.
@@ -130,26 +130,26 @@ module _ {T U : Type 0} where
       (λ index e. absurd (none-some _ e), λ e. absurd (none-some _ e), λ e. absurd (none-some _ e))
   held_reads environment defaults past m s handles (command ∷ commands) (reply ∷ replies) (event ∷ events) m' s' reached h at p q n entry sent named only never held zero unreleased =
       let kept : m n ≡ Some entry = reached.kept p n entry sent in
-      let is : (wanted : Command T U) → Some command ≡ Some wanted → Step environment h.0 h.1 m s handles wanted h.4 = λ wanted e.
-      subst (λ (c : Command T U). Step environment h.0 h.1 m s handles c h.4) (same_Some command wanted e) h.5 in
-      let answer : (r : Reply T U) → (h.4).reply ≡ r → Some reply ≡ Some r = λ r e. ap (λ (r : Reply T U). Some r) (sym h.6 ∙ e) in (
-        λ index e. answer _ (read_gives environment h.0 h.1 m s handles at p q n entry named held kept h.4 index (is (Read at index) e)),
-        λ e. answer _ (header_gives environment h.0 h.1 m s handles at p q n entry named held kept h.4 (is (ReadHeader at) e)),
-        λ e. answer _ (user_header_gives environment h.0 h.1 m s handles at p q n entry named held kept h.4 (is (ReadUserHeader at) e)),
+      let is : (wanted : Command T U) → Some command ≡ Some wanted → Step environment (h.1).0 (h.1).1 m s handles wanted (h.1).4 = λ wanted e.
+      subst (λ (c : Command T U). Step environment (h.1).0 (h.1).1 m s handles c (h.1).4) (same_Some command wanted e) (h.1).5 in
+      let answer : (r : Reply T U) → ((h.1).4).reply ≡ r → Some reply ≡ Some r = λ r e. ap (λ (r : Reply T U). Some r) (sym (h.1).6 ∙ e) in (
+        λ index e. answer _ (read_gives environment (h.1).0 (h.1).1 m s handles at p q n entry named held kept (h.1).4 index (is (Read at index) e)),
+        λ e. answer _ (header_gives environment (h.1).0 (h.1).1 m s handles at p q n entry named held kept (h.1).4 (is (ReadHeader at) e)),
+        λ e. answer _ (user_header_gives environment (h.1).0 (h.1).1 m s handles at p q n entry named held kept (h.1).4 (is (ReadUserHeader at) e)),
       )
   held_reads environment defaults past m s handles (command ∷ commands) (reply ∷ replies) (event ∷ events) m' s' reached h at p q n entry sent named only never held (suc i) unreleased =
-      let tells : IsTold past s handles command h.4 = told environment h.0 h.1 past m s handles reached command h.4 h.5 in
+      let tells : IsTold past s handles command (h.1).4 = told environment (h.1).0 (h.1).1 past m s handles reached command (h.1).4 (h.1).5 in
       let spared : IsSpared handles command p q n = λ of e f.
       unreleased 0 (omega arith) (ap (λ (c : Command T U). Some c) (e ∙ ap (λ k. Release k) (only of f))) in
-      held_reads environment defaults (past_after past (h.4).event) (messages_after (h.4).event m) (h.4).state
-      (handles ++ (h.4).handle ∷ []) commands replies events m' s'
-      (goes_on environment h.0 h.1 past m s handles reached command h.4 h.5) h.8 at p q n entry (inl sent)
-      (found_earlier handles ((h.4).handle ∷ []) at (Sample_handle p q n) named)
+      held_reads environment defaults (past_after past ((h.1).4).event) (messages_after ((h.1).4).event m) ((h.1).4).state
+      (handles ++ ((h.1).4).handle ∷ []) commands replies events m' s'
+      (goes_on environment (h.1).0 (h.1).1 past m s handles reached command (h.1).4 (h.1).5) (h.0, (h.1).8) at p q n entry (inl sent)
+      (found_earlier handles (((h.1).4).handle ∷ []) at (Sample_handle p q n) named)
       (λ k e. ⊎_elim (λ old. only k old)
-      (λ new. absurd (again p q n event events (sym h.7 ∙ tells.sampled p q n new.1) never)) (old_or_last handles (h.4).handle k (Sample_handle p q n) e))
+      (λ new. absurd (again p q n event events (sym (h.1).7 ∙ tells.sampled p q n new.1) never)) (old_or_last handles ((h.1).4).handle k (Sample_handle p q n) e))
       (rest_absent p q n event events never) (tells.borrowed p q n spared held)
       i (λ j low e. unreleased (suc j) (omega arith) e)
-  held_reads environment defaults past m s handles _ _ _ m' s' reached h at p q n entry sent named only never held i unreleased = absurd h
+  held_reads environment defaults past m s handles _ _ _ m' s' reached h at p q n entry sent named only never held i unreleased = absurd h.1
 
   -- the sample that was received there has one entry, which each read until its release gives
   abbrev ReadsSo : PastSends T U → List (Command T U) → List (Reply T U) → List (Event T U) → (at p n of : ℕ) → Type 0
@@ -188,37 +188,37 @@ module _ {T U : Type 0} where
   reads_from environment defaults past m s handles [] [] [] m' s' reached h never once of at p q n place e = absurd (none-some _ e)
   reads_from environment defaults past m s handles (command ∷ commands) (reply ∷ replies) (event ∷ events) m' s' reached h never once
       zero at p q n place e =
-      let tells : IsTold past s handles command h.4 = told environment h.0 h.1 past m s handles reached command h.4 h.5 in
+      let tells : IsTold past s handles command (h.1).4 = told environment (h.1).0 (h.1).1 past m s handles reached command (h.1).4 (h.1).5 in
       let this : event ≡ Message_received p q n = same_Some event (Message_received p q n) e in
-      let got : ((entry : Entry T U) × past.WasSent p n entry × ((entry.header).publisher_id ≡ p)) × ((h.4).handle ≡ Sample_handle p q n)
-      × (is_borrowed n (((h.4).state).mailboxes p q) ≡ true) =
-      tells.received p q n (h.7 ∙ this) in
+      let got : ((entry : Entry T U) × past.WasSent p n entry × ((entry.header).publisher_id ≡ p)) × (((h.1).4).handle ≡ Sample_handle p q n)
+      × (is_borrowed n ((((h.1).4).state).mailboxes p q) ≡ true) =
+      tells.received p q n ((h.1).7 ∙ this) in
       let here : at ≡ length handles = omega arith in
-      let last : slice_get (handles ++ (h.4).handle ∷ []) at ≡ Some (Sample_handle p q n) =
-      ap (slice_get (handles ++ (h.4).handle ∷ [])) here ∙ found_last handles (h.4).handle ∙ ap (λ (v : Handle). Some v) got.1 in (
+      let last : slice_get (handles ++ ((h.1).4).handle ∷ []) at ≡ Some (Sample_handle p q n) =
+      ap (slice_get (handles ++ ((h.1).4).handle ∷ [])) here ∙ found_last handles ((h.1).4).handle ∙ ap (λ (v : Handle). Some v) got.1 in (
         (got.0).0,
         inl (got.0).1,
         reads_behind command commands reply replies at (got.0).0
-            (held_reads environment defaults (past_after past (h.4).event) (messages_after (h.4).event m) (h.4).state
-            (handles ++ (h.4).handle ∷ []) commands replies events m' s'
-            (goes_on environment h.0 h.1 past m s handles reached command h.4 h.5) h.8 at p q n (got.0).0 (inl (got.0).1) last
+            (held_reads environment defaults (past_after past ((h.1).4).event) (messages_after ((h.1).4).event m) ((h.1).4).state
+            (handles ++ ((h.1).4).handle ∷ []) commands replies events m' s'
+            (goes_on environment (h.1).0 (h.1).1 past m s handles reached command (h.1).4 (h.1).5) (h.0, (h.1).8) at p q n (got.0).0 (inl (got.0).1) last
             (λ k f. ⊎_elim (λ old. absurd (again p q n event events this (never p q n k old))) (λ new. new.0 ∙ sym here)
-            (old_or_last handles (h.4).handle k (Sample_handle p q n) f))
+            (old_or_last handles ((h.1).4).handle k (Sample_handle p q n) f))
             (once_only p q n event events this (once p q)) got.2),
       )
   reads_from environment defaults past m s handles (command ∷ commands) (reply ∷ replies) (event ∷ events) m' s' reached h never once
       (suc of) at p q n place e =
-      let tells : IsTold past s handles command h.4 = told environment h.0 h.1 past m s handles reached command h.4 h.5 in
-      let rest : ReadsSo (past_after past (h.4).event) commands replies events at p n of =
-      reads_from environment defaults (past_after past (h.4).event) (messages_after (h.4).event m) (h.4).state
-      (handles ++ (h.4).handle ∷ []) commands replies events m' s'
-      (goes_on environment h.0 h.1 past m s handles reached command h.4 h.5) h.8
+      let tells : IsTold past s handles command (h.1).4 = told environment (h.1).0 (h.1).1 past m s handles reached command (h.1).4 (h.1).5 in
+      let rest : ReadsSo (past_after past ((h.1).4).event) commands replies events at p n of =
+      reads_from environment defaults (past_after past ((h.1).4).event) (messages_after ((h.1).4).event m) ((h.1).4).state
+      (handles ++ ((h.1).4).handle ∷ []) commands replies events m' s'
+      (goes_on environment (h.1).0 (h.1).1 past m s handles reached command (h.1).4 (h.1).5) (h.0, (h.1).8)
       (λ p q n k f. ⊎_elim (λ old. rest_absent p q n event events (never p q n k old))
-      (λ new. once_only p q n event events (sym h.7 ∙ tells.sampled p q n new.1) (once p q)) (old_or_last handles (h.4).handle k (Sample_handle p q n) f))
+      (λ new. once_only p q n event events (sym (h.1).7 ∙ tells.sampled p q n new.1) (once p q)) (old_or_last handles ((h.1).4).handle k (Sample_handle p q n) f))
       (λ p q. rest_once p q event events (once p q))
-      of at p q n (omega (arith, longer handles (h.4).handle)) e in
-      (rest.0, sent_in_all past p n rest.0 (h.4).event event (take of events) h.7 rest.1, reads_later command commands reply replies at of rest.0 rest.2)
-  reads_from environment defaults past m s handles _ _ _ m' s' reached h never once of at p q n place e = absurd h
+      of at p q n (omega (arith, longer handles ((h.1).4).handle)) e in
+      (rest.0, sent_in_all past p n rest.0 ((h.1).4).event event (take of events) (h.1).7 rest.1, reads_later command commands reply replies at of rest.0 rest.2)
+  reads_from environment defaults past m s handles _ _ _ m' s' reached h never once of at p q n place e = absurd h.1
 
   -- Each sample has one entry, with which its message was sent before it was received, and every read until the release
   -- gives that entry, where no message is received twice.

@@ -29,7 +29,7 @@ use Rattle.iox2_commands.specs.declared.reply.Reply.{Reply}
 use Rattle.iox2_commands.specs.declared.reply.Reply.TheVariants.{PublisherMade, Unwritten}
 use Rattle.iox2_commands.proofs.EnoughRuns.{run_sound}
 use Rattle.iox2_commands.proofs.Isolation.{subscribers_are_isolated, views_stay_alike}
-use Rattle.iox2_commands.proofs.Points.{found_dropped, found_taken, run_to, run_from}
+use Rattle.iox2_commands.proofs.Points.{found_dropped, found_taken}
 use Rattle.iox2_commands.proofs.StepLaws.{IsSound, step_sound}
 use Rattle.iox2_commands.proofs.AlikeOpen.{state_publisher, state_subscriber, state_loan, state_update, state_question, state_receive, state_send, state_retry}
 use Rattle.iox2_commands.proofs.RefusalUpdates.{option_maps, update_publisher_back, update_subscriber_back}
@@ -363,11 +363,11 @@ module _ {T U : Type 0} where
     -- Publishers are static at the end of a run as at its start.
     run_static : (m : Messages T U) (s : State T U) (handles : List Handle) (commands : List (Command T U)) (replies : List (Reply T U)) (events : List (Event T U))
         (m' : Messages T U) (s' : State T U) → AllStatic s → PublishersAreStatic commands replies → RunFrom fixed_handlers defaults m s handles commands replies events m' s' → AllStatic s'
-    run_static m s handles [] [] [] m' s' k plain h = subst AllStatic (sym h.1) k
+    run_static m s handles [] [] [] m' s' k plain h = subst AllStatic (sym (h.1).1) k
     run_static m s handles (command ∷ commands) (reply ∷ replies) (event ∷ events) m' s' k plain h =
-        run_static (messages_after (h.4).event m) (h.4).state (handles ++ (h.4).handle ∷ []) commands replies events m' s'
-        (step_static h.0 h.1 m s handles k command h.4 (first_static command reply commands replies (h.4).reply h.6 plain) h.5) (λ i. plain (suc i)) h.8
-    run_static m s handles _ _ _ m' s' k plain h = absurd h
+        run_static (messages_after ((h.1).4).event m) ((h.1).4).state (handles ++ ((h.1).4).handle ∷ []) commands replies events m' s'
+        (step_static (h.1).0 (h.1).1 m s handles k command (h.1).4 (first_static command reply commands replies ((h.1).4).reply (h.1).6 plain) (h.1).5) (λ i. plain (suc i)) (h.0, (h.1).8)
+    run_static m s handles _ _ _ m' s' k plain h = absurd h.1
 
     -- A point of a run that met no refusal is one of a run with ample memory.
     point_ample : (c : ServiceConfig) (n : ℕ) (commands : List (Command T U)) (replies : List (Reply T U)) (events : List (Event T U)) (m' : Messages T U) (s' : State T U)
@@ -377,17 +377,16 @@ module _ {T U : Type 0} where
         × RunFrom ample_memory defaults x.messages x.state x.handles (drop n commands) (drop n replies) (drop n events) m' s'
     point_ample c n commands replies events m' s' plain met x =
         let before : RunFrom fixed_handlers defaults no_messages (fresh c) [] (take n commands) (take n replies) (take n events) x.messages x.state =
-        run_from fixed_handlers defaults no_messages (fresh c) [] (take n commands) (take n replies) (take n events) x.messages x.state x.handles x.before in
+        (x.handles, x.before) in
         let sound : IsWellFormed x.state × Advances (fresh {T = T} {U = U} c) x.state =
         run_sound fixed_handlers defaults no_messages (fresh c) [] (take n commands) (take n replies) (take n events) x.messages x.state (fresh_is_well_formed c) before in
         let static : AllStatic x.state =
         run_static no_messages (fresh c) [] (take n commands) (take n replies) (take n events) x.messages x.state (none_static c) (static_taken n commands replies plain) before in
-        let on = run_to fixed_handlers defaults x.messages x.state x.handles (drop n commands) (drop n replies) (drop n events) m' s' x.after in
-        let after = run_ample defaults x.messages x.state x.handles (drop n commands) (drop n replies) (drop n events) m' s' on.0 sound.0 static (static_dropped n commands replies plain)
-        (subst (λ (v : ServiceConfig). RefuseNoPort v (drop n commands) (drop n replies)) (sym (sound.1).config) (refuse_no_port_dropped c n commands replies met.ports)) met.told on.1 in
+        let after = run_ample defaults x.messages x.state x.handles (drop n commands) (drop n replies) (drop n events) m' s' (x.after).0 sound.0 static (static_dropped n commands replies plain)
+        (subst (λ (v : ServiceConfig). RefuseNoPort v (drop n commands) (drop n replies)) (sym (sound.1).config) (refuse_no_port_dropped c n commands replies met.ports)) met.told (x.after).1 in
         let first = run_ample defaults no_messages (fresh c) [] (take n commands) (take n replies) (take n events) x.messages x.state x.handles (fresh_is_well_formed c) (none_static c)
         (static_taken n commands replies plain) (refuse_no_port_taken c n commands replies met.ports) after.1 x.before in
-        (first.0, run_from ample_memory defaults x.messages x.state x.handles (drop n commands) (drop n replies) (drop n events) m' s' on.0 after.0)
+        (first.0, ((x.after).0, after.0))
 
   -- The law of views at each point, for two runs without refusals.
   pub views_without_refusals : ViewsStayAlikeWithoutRefusals T U

@@ -44,16 +44,16 @@ module _ {T U : Type 0} (environment : Environment) (defaults : Defaults T U) (I
       → Inv past m s → RunFrom environment defaults m s past.handles commands replies events m' s'
       → (past' : PastCommands T U) × (past'.commands ≡ past.commands ++ commands) × (past'.replies ≡ past.replies ++ replies) × (past'.events ≡ past.events ++ events) × Inv past' m' s'
   run_induction keep past m m' s s' [] [] [] v h =
-      (past, sym (append-nil past.commands), sym (append-nil past.replies), sym (append-nil past.events), subst (λ (n : Messages T U). Inv past n s') (sym h.0) (subst (Inv past m) (sym h.1) v))
+      (past, sym (append-nil past.commands), sym (append-nil past.replies), sym (append-nil past.events), subst (λ (n : Messages T U). Inv past n s') (sym (h.1).0) (subst (Inv past m) (sym (h.1).1) v))
   run_induction keep past m m' s s' (command ∷ commands) (reply ∷ replies) (event ∷ events) v h =
-      let o : Outcome T U = h.4 in
+      let o : Outcome T U = (h.1).4 in
       let k : (past' : PastCommands T U) × (past'.commands ≡ (past_with past command o).commands ++ commands) × (past'.replies ≡ (past_with past command o).replies ++ replies)
       × (past'.events ≡ (past_with past command o).events ++ events) × Inv past' m' s' =
-      run_induction keep (past_with past command o) (messages_after o.event m) m' o.state s' commands replies events (keep past m s h.0 h.1 command o h.2 h.3 v h.5) h.8 in (
+      run_induction keep (past_with past command o) (messages_after o.event m) m' o.state s' commands replies events (keep past m s (h.1).0 (h.1).1 command o (h.1).2 (h.1).3 v (h.1).5) (h.0, (h.1).8) in (
         k.0,
         k.1 ∙ append_assoc past.commands (command ∷ []) commands,
-        k.2 ∙ append_assoc past.replies (o.reply ∷ []) replies ∙ ap (λ r. past.replies ++ r ∷ replies) h.6,
-        k.3 ∙ append_assoc past.events (o.event ∷ []) events ∙ ap (λ e. past.events ++ e ∷ events) h.7,
+        k.2 ∙ append_assoc past.replies (o.reply ∷ []) replies ∙ ap (λ r. past.replies ++ r ∷ replies) (h.1).6,
+        k.3 ∙ append_assoc past.events (o.event ∷ []) events ∙ ap (λ e. past.events ++ e ∷ events) (h.1).7,
         k.4,
       )
-  run_induction keep past m m' s s' _ _ _ v h = absurd h
+  run_induction keep past m m' s s' _ _ _ v h = absurd h.1

@@ -42,14 +42,17 @@ unconnected_subscriber_connects_later = (
   _ ∷ _ ∷ _ ∷ _ ∷ _ ∷ _ ∷ _ ∷ [],
   _,
   _,
-  (_, (_, None, (_, None, (_, (refl, refl), refl), refl), refl), refl, refl) ▸
-      (_, (_, None, (_, None, (_, (_, None, None, (_, None, None, inr (refl, _, (Warn, tt, refl, refl, refl), refl), (refl, refl), refl), (_, None, None, (refl, refl), (refl, refl), refl), refl), refl), refl), refl), refl, refl) ▸
-      (_, (_, None, (_, (refl, refl), refl), (_, Delivered_to 1, (_, None, (_, (_, None, None, inl (refl, refl), (refl, refl), refl), refl), (Complete 1 false, _, (Accepted, _, (_, (refl, refl), refl), (refl, refl)), (refl, refl))), refl)), refl, refl) ▸
-      (_, (_, No_sample, (_, None, (refl, refl), (refl, refl)), refl), refl, refl) ▸
-      (_, (_, None, (_, None, (_, (_, None, None, inl (refl, refl), (refl, refl), refl), refl), refl), refl), refl, refl) ▸
-      (_, (_, Got_sample 1 1, (_, None, (_, (_, None, None, (_, None, None, inl (refl, refl), (_, None, None, inl (refl, refl), (refl, refl), refl), refl), (_, None, None, (refl, refl), (_, None, None, (refl, refl), (refl, refl), refl), refl), refl), refl), ((refl, refl), _, ([], refl, refl), refl)), refl), refl, refl) ▸
-      (_, refl, refl, refl) ▸
-      (refl, refl),
+  (
+    _,
+    (_, (_, None, (_, None, (_, (refl, refl), refl), refl), refl), refl, refl) ▸
+        (_, (_, None, (_, None, (_, (_, None, None, (_, None, None, inr (refl, _, (Warn, tt, refl, refl, refl), refl), (refl, refl), refl), (_, None, None, (refl, refl), (refl, refl), refl), refl), refl), refl), refl), refl, refl) ▸
+        (_, (_, None, (_, (refl, refl), refl), (_, Delivered_to 1, (_, None, (_, (_, None, None, inl (refl, refl), (refl, refl), refl), refl), (Complete 1 false, _, (Accepted, _, (_, (refl, refl), refl), (refl, refl)), (refl, refl))), refl)), refl, refl) ▸
+        (_, (_, No_sample, (_, None, (refl, refl), (refl, refl)), refl), refl, refl) ▸
+        (_, (_, None, (_, None, (_, (_, None, None, inl (refl, refl), (refl, refl), refl), refl), refl), refl), refl, refl) ▸
+        (_, (_, Got_sample 1 1, (_, None, (_, (_, None, None, (_, None, None, inl (refl, refl), (_, None, None, inl (refl, refl), (refl, refl), refl), refl), (_, None, None, (refl, refl), (_, None, None, (refl, refl), (refl, refl), refl), refl), refl), refl), ((refl, refl), _, ([], refl, refl), refl)), refl), refl, refl) ▸
+        (_, refl, refl, refl) ▸
+        (refl, refl, refl),
+  ),
   refl,
 )
 
@@ -66,15 +69,18 @@ unconnected_publisher_connects_later = (
   _ ∷ _ ∷ _ ∷ _ ∷ _ ∷ _ ∷ _ ∷ _ ∷ [],
   _,
   _,
-  (_, (_, None, (_, None, (_, (_, None, None, (refl, refl), (refl, refl), refl), refl), refl), refl), refl, refl) ▸
-      (_, (_, None, (_, Some (FailedToEstablishConnection OutOfMemory), (_, (_, Some (FailedToEstablishConnection OutOfMemory), None, inr (refl, _, (DegradeAndFail, tt, refl, refl, refl), refl), (refl, refl), refl), refl), refl), refl), refl, refl) ▸
-      (_, (_, None, (_, (refl, refl), refl), (_, Delivered_to 0, (_, None, (refl, refl), (Complete 0 false, _, (refl, refl), (refl, refl))), refl)), refl, refl) ▸
-      (_, (_, No_sample, (_, None, (_, (_, None, None, (_, None, None, inl (refl, refl), (refl, refl), refl), (_, None, None, (refl, refl), (refl, refl), refl), refl), refl), (refl, refl)), refl), refl, refl) ▸
-      (_, (_, None, (_, None, (_, (_, None, None, (_, None, None, inl (refl, refl), (refl, refl), refl), (_, None, None, (refl, refl), (refl, refl), refl), refl), refl), refl), refl), refl, refl) ▸
-      (_, (_, None, (_, (refl, refl), refl), (_, Delivered_to 2, (_, None, (_, (_, None, None, inl (refl, refl), (_, None, None, inl (refl, refl), (refl, refl), refl), refl), refl), (Complete 2 false, _, (Accepted, _, (_, (refl, refl), refl), (Accepted, _, (_, (refl, refl), refl), (refl, refl))), (refl, refl))), refl)), refl, refl) ▸
-      (_, (_, Got_sample 2 2, (_, None, (refl, refl), ((refl, refl), _, ([], refl, refl), refl)), refl), refl, refl) ▸
-      (_, refl, refl, refl) ▸
-      (refl, refl),
+  (
+    _,
+    (_, (_, None, (_, None, (_, (_, None, None, (refl, refl), (refl, refl), refl), refl), refl), refl), refl, refl) ▸
+        (_, (_, None, (_, Some (FailedToEstablishConnection OutOfMemory), (_, (_, Some (FailedToEstablishConnection OutOfMemory), None, inr (refl, _, (DegradeAndFail, tt, refl, refl, refl), refl), (refl, refl), refl), refl), refl), refl), refl, refl) ▸
+        (_, (_, None, (_, (refl, refl), refl), (_, Delivered_to 0, (_, None, (refl, refl), (Complete 0 false, _, (refl, refl), (refl, refl))), refl)), refl, refl) ▸
+        (_, (_, No_sample, (_, None, (_, (_, None, None, (_, None, None, inl (refl, refl), (refl, refl), refl), (_, None, None, (refl, refl), (refl, refl), refl), refl), refl), (refl, refl)), refl), refl, refl) ▸
+        (_, (_, None, (_, None, (_, (_, None, None, (_, None, None, inl (refl, refl), (refl, refl), refl), (_, None, None, (refl, refl), (refl, refl), refl), refl), refl), refl), refl), refl, refl) ▸
+        (_, (_, None, (_, (refl, refl), refl), (_, Delivered_to 2, (_, None, (_, (_, None, None, inl (refl, refl), (_, None, None, inl (refl, refl), (refl, refl), refl), refl), refl), (Complete 2 false, _, (Accepted, _, (_, (refl, refl), refl), (Accepted, _, (_, (refl, refl), refl), (refl, refl))), (refl, refl))), refl)), refl, refl) ▸
+        (_, (_, Got_sample 2 2, (_, None, (refl, refl), ((refl, refl), _, ([], refl, refl), refl)), refl), refl, refl) ▸
+        (_, refl, refl, refl) ▸
+        (refl, refl, refl),
+  ),
   refl,
 )
 

@@ -39,20 +39,23 @@ growing_publisher_keeps_older_samples = (
   _ ∷ _ ∷ _ ∷ _ ∷ _ ∷ _ ∷ _ ∷ _ ∷ _ ∷ _ ∷ _ ∷ _ ∷ _ ∷ [],
   _,
   _,
-  (_, (_, None, (_, None, (_, (_, None, None, (refl, refl), (refl, refl), refl), refl), refl), refl), refl, refl) ▸
-      (_, (_, None, (_, None, (_, (_, None, None, inl (refl, refl), (refl, refl), refl), refl), refl), refl), refl, refl) ▸
-      (_, (_, None, (omega arith, inr refl, 1, inl refl, refl), refl), refl, refl) ▸
-      (_, refl, refl, refl) ▸
-      (_, (_, Delivered_to 1, (_, None, (refl, refl), (Complete 1 false, _, (Accepted, _, (_, (refl, refl), refl), (refl, refl)), (refl, refl))), refl), refl, refl) ▸
-      (_, (_, Got_sample 2 1, (_, None, (_, (_, None, None, (_, None, None, inl (refl, refl), (refl, refl), refl), (_, None, None, (refl, refl), (refl, refl), refl), refl), refl), ((refl, refl), _, ([], refl, refl), refl)), refl), refl, refl) ▸
-      (_, (_, None, (omega arith, inr refl, 2, inr (refl, omega arith, (let longer : 1 < 4 = omega arith in λ h. not_up_to 4 1 longer h.1)), refl), refl), refl, refl) ▸
-      (_, refl, refl, refl) ▸
-      (_, (_, Delivered_to 1, (_, None, (refl, refl), (Complete 1 false, _, (Accepted, _, (_, (refl, refl), refl), (refl, refl)), (refl, refl))), refl), refl, refl) ▸
-      (_, refl, refl, refl) ▸
-      (_, refl, refl, refl) ▸
-      (_, (_, Some InternalFailure, (refl, inr (inr refl, (let longer : 4 < 18446744073709551615 = omega arith in λ h. not_up_to 18446744073709551615 4 longer h.1))), refl), refl, refl) ▸
-      (_, (_, None, (omega arith, inr refl, 2, inl refl, refl), refl), refl, refl) ▸
-      (refl, refl),
+  (
+    _,
+    (_, (_, None, (_, None, (_, (_, None, None, (refl, refl), (refl, refl), refl), refl), refl), refl), refl, refl) ▸
+        (_, (_, None, (_, None, (_, (_, None, None, inl (refl, refl), (refl, refl), refl), refl), refl), refl), refl, refl) ▸
+        (_, (_, None, (omega arith, inr refl, 1, inl refl, refl), refl), refl, refl) ▸
+        (_, refl, refl, refl) ▸
+        (_, (_, Delivered_to 1, (_, None, (refl, refl), (Complete 1 false, _, (Accepted, _, (_, (refl, refl), refl), (refl, refl)), (refl, refl))), refl), refl, refl) ▸
+        (_, (_, Got_sample 2 1, (_, None, (_, (_, None, None, (_, None, None, inl (refl, refl), (refl, refl), refl), (_, None, None, (refl, refl), (refl, refl), refl), refl), refl), ((refl, refl), _, ([], refl, refl), refl)), refl), refl, refl) ▸
+        (_, (_, None, (omega arith, inr refl, 2, inr (refl, omega arith, (let longer : 1 < 4 = omega arith in λ h. not_up_to 4 1 longer h.1)), refl), refl), refl, refl) ▸
+        (_, refl, refl, refl) ▸
+        (_, (_, Delivered_to 1, (_, None, (refl, refl), (Complete 1 false, _, (Accepted, _, (_, (refl, refl), refl), (refl, refl)), (refl, refl))), refl), refl, refl) ▸
+        (_, refl, refl, refl) ▸
+        (_, refl, refl, refl) ▸
+        (_, (_, Some InternalFailure, (refl, inr (inr refl, (let longer : 4 < 18446744073709551615 = omega arith in λ h. not_up_to 18446744073709551615 4 longer h.1))), refl), refl, refl) ▸
+        (_, (_, None, (omega arith, inr refl, 2, inl refl, refl), refl), refl, refl) ▸
+        (refl, refl, refl),
+  ),
   refl,
 )
 
@@ -68,10 +71,13 @@ growing_publisher_keeps_its_limit_of_loans = (
   _ ∷ _ ∷ _ ∷ _ ∷ [],
   _,
   _,
-  (_, (_, None, (_, None, (_, (refl, refl), refl), refl), refl), refl, refl) ▸
-      (_, (_, None, (omega arith, inr refl, 1, inl refl, refl), refl), refl, refl) ▸
-      (_, (_, None, (omega arith, inr refl, 2, inr (refl, omega arith, (let full : 1 ≤ 1 = omega arith in λ h. not_below 1 1 full h.0)), refl), refl), refl, refl) ▸
-      (_, (_, Some ExceedsMaxLoans, (refl, refl), refl), refl, refl) ▸
-      (refl, refl),
+  (
+    _,
+    (_, (_, None, (_, None, (_, (refl, refl), refl), refl), refl), refl, refl) ▸
+        (_, (_, None, (omega arith, inr refl, 1, inl refl, refl), refl), refl, refl) ▸
+        (_, (_, None, (omega arith, inr refl, 2, inr (refl, omega arith, (let full : 1 ≤ 1 = omega arith in λ h. not_below 1 1 full h.0)), refl), refl), refl, refl) ▸
+        (_, (_, Some ExceedsMaxLoans, (refl, refl), refl), refl, refl) ▸
+        (refl, refl, refl),
+  ),
   refl,
 )

@@ -20,17 +20,8 @@ any_defaults = record { IsDefaultValue = λ value. Unit {0}; IsDefaultHeader = �
 abbrev pub only_defaults : {T U : Type 0} → (default_value : T) → (default_header : U) → Defaults T U
 only_defaults default_value default_header = record { IsDefaultValue = λ value. value ≡ default_value; IsDefaultHeader = λ header. header ≡ default_header }
 
--- These commands get these replies, one step after another, with these events, and the messages and the state end so.
--- Each step may use any value that counts as a default.
-abbrev pub RunFrom : {T U : Type 0} → Environment → Defaults T U → Messages T U → State T U → List Handle → List (Command T U) → List (Reply T U) → List (Event T U) → Messages T U → State T U → Type 0
-RunFrom environment defaults m s handles [] [] [] m' s' = (m' ≡ m) × (s' ≡ s)
-RunFrom {T} {U} environment defaults m s handles (command ∷ commands) (reply ∷ replies) (event ∷ events) m' s' =
-    (default_value : T) × (default_header : U) × defaults.IsDefaultValue default_value × defaults.IsDefaultHeader default_header
-    × (o : Outcome T U) × Step environment default_value default_header m s handles command o × (o.reply ≡ reply) × (o.event ≡ event)
-    × RunFrom environment defaults (messages_after o.event m) o.state (handles ++ o.handle ∷ []) commands replies events m' s'
-RunFrom environment defaults m s handles _ _ _ m' s' = ⊥
-
--- A run as `RunFrom` has it, that ends with these handles.
+-- These commands get these replies, one step after another, with these events, and the messages, the state and the handles
+-- end so. Each step may use any value that counts as a default.
 abbrev pub RunTo : {T U : Type 0} → Environment → Defaults T U → Messages T U → State T U → List Handle → List (Command T U) → List (Reply T U)
     → List (Event T U) → Messages T U → State T U → List Handle → Type 0
 RunTo environment defaults m s handles [] [] [] m' s' handles' = (m' ≡ m) × (s' ≡ s) × (handles' ≡ handles)
@@ -39,6 +30,12 @@ RunTo {T} {U} environment defaults m s handles (command ∷ commands) (reply ∷
     × (o : Outcome T U) × Step environment default_value default_header m s handles command o × (o.reply ≡ reply) × (o.event ≡ event)
     × RunTo environment defaults (messages_after o.event m) o.state (handles ++ o.handle ∷ []) commands replies events m' s' handles'
 RunTo environment defaults m s handles _ _ _ m' s' handles' = ⊥
+
+-- A run that ends with some handles.
+abbrev pub RunFrom : {T U : Type 0} → Environment → Defaults T U → Messages T U → State T U → List Handle → List (Command T U) → List (Reply T U)
+    → List (Event T U) → Messages T U → State T U → Type 0
+RunFrom environment defaults m s handles commands replies events m' s' =
+    (handles' : List Handle) × RunTo environment defaults m s handles commands replies events m' s' handles'
 
 -- A run begins with no handles: its commands name only what it made itself.
 abbrev pub Run : {T U : Type 0} → Environment → Defaults T U → Messages T U → State T U → List (Command T U) → List (Reply T U) → List (Event T U) → Messages T U → State T U → Type 0

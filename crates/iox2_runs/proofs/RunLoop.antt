@@ -23,7 +23,7 @@ use Rattle.iox2_runs.specs.declared.runs.made.Made.{Made}
 use Rattle.iox2_commands.proofs.Faithful.{is_faithful}
 use Rattle.iox2_commands.proofs.OneDefault.{uses_one_default}
 use Rattle.iox2_commands.proofs.Points.{grants_loans}
-use Rattle.iox2_runs.proofs.RunsOn.{run_of, run_more, received_once}
+use Rattle.iox2_runs.proofs.RunsOn.{run_more, received_once}
 
 module _ {T U : Type 0} (environment : Environment) (defaults : Defaults T U) where
   -- From each state that the domain showed, the commands ran to one that it shows now, with what the table keeps.
@@ -94,7 +94,7 @@ module _ {T U : Type 0} (environment : Environment) (defaults : Defaults T U) wh
       × IsFaithful commands replies events × GrantsLoans environment defaults m s commands replies events m' s'
   is_run old new commands replies table ran = λ m s shown.
       let now = ran m s shown in
-      let run = run_of environment defaults m now.2 s now.3 [] now.1 commands replies now.0 now.5 in (
+      let run : Run environment defaults m s commands replies now.0 now.2 now.3 = (now.1, now.5) in (
         now.0,
         now.2,
         now.3,
@@ -120,7 +120,7 @@ module _ {T U : Type 0} (defaults : Defaults T U) where
         shown = now.4;
         run = run;
         faithful = is_faithful fixed_handlers defaults m now.2 s now.3 commands replies now.0 shown.well_formed
-            (run_of fixed_handlers defaults m now.2 s now.3 [] now.1 commands replies now.0 now.5);
+            (now.1, now.5);
         grants = grants_loans fixed_handlers (only_defaults default_value default_header) m s commands replies now.0 now.2 now.3
-            (run_of fixed_handlers (only_defaults default_value default_header) m now.2 s now.3 [] now.1 commands replies now.0 run) shown.well_formed;
+            (now.1, run) shown.well_formed;
       }

@@ -6,32 +6,12 @@ use Rattle.iox2_machine.specs.machine.State.{State, Messages}
 use Rattle.iox2_machine.specs.machine.WellFormed.{IsWellFormed}
 use Rattle.iox2_commands.specs.Outcomes.{Handle, Event, Outcome, messages_after}
 use Rattle.iox2_commands.specs.Step.{Step}
-use Rattle.iox2_commands.specs.Runs.{Defaults, RunFrom, RunTo, received}
+use Rattle.iox2_commands.specs.Runs.{Defaults, RunTo, received}
 use Rattle.iox2_commands.specs.declared.command.Command.{Command}
 use Rattle.iox2_commands.specs.declared.reply.Reply.{Reply}
 use Rattle.iox2_commands.proofs.Order.{receives_in_order}
 
 module _ {T U : Type 0} (environment : Environment) (defaults : Defaults T U) where
-  -- a run that ends with these handles is a run
-  pub run_of : (m m' : Messages T U) (s s' : State T U) (handles handles' : List Handle) (commands : List (Command T U)) (replies : List (Reply T U)) (events : List (Event T U))
-      → RunTo environment defaults m s handles commands replies events m' s' handles' → RunFrom environment defaults m s handles commands replies events m' s'
-  run_of m m' s s' handles handles' [] [] [] h = (h.0, h.1)
-  run_of m m' s s' handles handles' (command ∷ commands) (reply ∷ replies) (event ∷ events) h = (
-    h.0,
-    h.1,
-    h.2,
-    h.3,
-    h.4,
-    h.5,
-    h.6,
-    h.7,
-    run_of (messages_after (h.4).event m) m' (h.4).state s' (handles ++ (h.4).handle ∷ []) handles' commands replies events h.8,
-  )
-  run_of m m' s s' handles handles' [] [] (event ∷ events) h = absurd h
-  run_of m m' s s' handles handles' [] (reply ∷ replies) events h = absurd h
-  run_of m m' s s' handles handles' (command ∷ commands) [] events h = absurd h
-  run_of m m' s s' handles handles' (command ∷ commands) (reply ∷ replies) [] h = absurd h
-
   -- one command more
   pub run_more : (m m' : Messages T U) (s s' : State T U) (handles handles' : List Handle) (commands : List (Command T U)) (replies : List (Reply T U)) (events : List (Event T U))
       → RunTo environment defaults m s handles commands replies events m' s' handles'
@@ -74,4 +54,4 @@ module _ {T U : Type 0} (environment : Environment) (defaults : Defaults T U) wh
   pub received_once : (m m' : Messages T U) (s s' : State T U) (handles' : List Handle) (commands : List (Command T U)) (replies : List (Reply T U)) (events : List (Event T U))
       → IsWellFormed s → RunTo environment defaults m s [] commands replies events m' s' handles' → (p q : ℕ) → IsOnce (received p q events)
   received_once m m' s s' handles' commands replies events well h p q =
-      (receives_in_order environment defaults m m' s s' commands replies events well (run_of m m' s s' [] handles' commands replies events h) p q).2
+      (receives_in_order environment defaults m m' s s' commands replies events well (handles', h) p q).2

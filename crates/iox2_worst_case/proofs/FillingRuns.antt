@@ -71,12 +71,12 @@ module _ {T U : Type 0} (c : ServiceConfig) (most slots : ℕ) where
       (commands : List (Command T U)) (replies : List (Reply T U)) (events : List (Event T U))
       → IsWellFormed s → Leads Post s handles commands → RunFrom ample_memory defaults m s handles commands replies events m' s'
       → RefusesAt defaults m s handles commands replies events m' s' ⊎ GrantsAll Post replies s'
-  run_leads Post defaults m m' s s' handles [] [] [] w h run = inr (refl, handles, subst (λ (v : State T U). Post v handles) (sym run.1) h)
+  run_leads Post defaults m m' s s' handles [] [] [] w h run = inr (refl, handles, subst (λ (v : State T U). Post v handles) (sym (run.1).1) h)
   run_leads Post defaults m m' s s' handles (command ∷ commands) (reply ∷ replies) (event ∷ events) w h run =
-      let o : Outcome T U = run.4 in
-      let sound : IsSound s o = step_sound ample_memory run.0 run.1 m s handles w command o run.5 in
+      let o : Outcome T U = (run.1).4 in
+      let sound : IsSound s o = step_sound ample_memory (run.1).0 (run.1).1 m s handles w command o (run.1).5 in
       ⊎_elim
-      (λ refused. inl (0, command, o.reply, refl, ap (λ r. Some r) (sym run.6), m, s, handles, (refl, refl, refl), run, refused))
+      (λ refused. inl (0, command, o.reply, refl, ap (λ r. Some r) (sym (run.1).6), m, s, handles, (refl, refl, refl), run, refused))
       (λ granted. ⊎_elim
       (λ later. inl (
         suc later.0,
@@ -87,16 +87,16 @@ module _ {T U : Type 0} (c : ServiceConfig) (most slots : ℕ) where
         later.5,
         later.6,
         later.7,
-        (run.0, run.1, run.2, run.3, o, run.5, run.6, run.7, later.8),
+        ((run.1).0, (run.1).1, (run.1).2, (run.1).3, o, (run.1).5, (run.1).6, (run.1).7, later.8),
         later.9,
         later.10,
       ))
-      (λ all. inr (both (is_granted reply) (list_all is_granted replies) (ap is_granted (sym run.6) ∙ granted.0) all.0, all.1, all.2))
-      (run_leads Post defaults (messages_after o.event m) m' o.state s' (handles ++ o.handle ∷ []) commands replies events sound.well_formed granted.1 run.8))
-      (h run.0 run.1 m o run.5 sound.well_formed)
+      (λ all. inr (both (is_granted reply) (list_all is_granted replies) (ap is_granted (sym (run.1).6) ∙ granted.0) all.0, all.1, all.2))
+      (run_leads Post defaults (messages_after o.event m) m' o.state s' (handles ++ o.handle ∷ []) commands replies events sound.well_formed granted.1 (run.0, (run.1).8)))
+      (h (run.1).0 (run.1).1 m o (run.1).5 sound.well_formed)
     where
       both : (a b : Bool) → a ≡ true → b ≡ true → (a && b) ≡ true
       both true true e f = refl
       both true false e f = f
       both false b e f = e
-  run_leads Post defaults m m' s s' handles _ _ _ w h run = absurd run
+  run_leads Post defaults m m' s s' handles _ _ _ w h run = absurd run.1
