@@ -21,6 +21,7 @@ use Rattle.iox2_laws.proofs.Cases.{by_option, by_bool, by_options}
 use Rattle.iox2_laws.proofs.Puts.{put_at-same}
 use Rattle.iox2_laws.proofs.PublisherUpdates.{update_publisher_changes, update_publisher_advances}
 use Rattle.iox2_machine.specs.machine.Environments.{ample_memory}
+use Rattle.iox2_laws.specs.Sendings.{sending}
 use Rattle.iox2_commands.specs.Isolation.{is_skipped, is_discarding, never_waits, IsIndependentPublisher}
 use Rattle.iox2_commands.specs.Step.{after_send}
 use Rattle.iox2_commands.proofs.AlikeViews.{View, view_of, row_put, own_buffer, own_buffer_seen}
@@ -146,7 +147,7 @@ module _ {T U : Type 0} (q : ℕ) where
   -- What a delivery comes to.
   pub delivered : (s s' : State T U) (p n channel retries : ℕ) (elapsed : Duration) (place : ℕ) (ends : List (Option ℕ)) (count : ℕ) (x : Publisher) (result : SendResult)
       → s.publishers p ≡ Some x → never_waits s.config x.backpressure_strategy x.backpressure_handler ≡ true
-      → DeliverAndConclude ample_memory s p n channel retries elapsed place ends count false s' result
+      → DeliverAndConclude ample_memory s p (sending n channel retries place ends count false) elapsed s' result
       → (total : ℕ) × (result ≡ Delivered_to total) × (view_of q s' ≡ delivered_view p n channel ends (view_of q s))
   delivered s s' p n channel retries elapsed place ends count x result e independent h =
       by_option ((total : ℕ) × (result ≡ Delivered_to total) × (view_of q s' ≡ delivered_view p n channel ends (view_of q s))) (s.publishers p) _ _ h (λ _ v. absurd v) (λ z f h.
@@ -175,7 +176,8 @@ module _ {T U : Type 0} (q : ℕ) where
       let there : (published s p n).publishers p ≡ Some x' =
       put_at-same s.publishers p _ ∙ ap (option_map {T = Publisher} {U = Publisher} (λ x. record x { history = last_n (s.config).history_size (x.history ++ n ∷ []) })) e in
       delivered (published s p n) s' p n 0 0 no_time 0 x.ends 0 x' result there independent
-      (subst (λ (y : Publisher). DeliverAndConclude ample_memory (published s p n) p n 0 0 no_time 0 y.ends 0 false s' result) same h))
+      (subst (λ (y : Publisher). DeliverAndConclude ample_memory (published s p n) p
+      (sending n 0 0 0 y.ends 0 false) no_time s' result) same h))
 
   -- a loan is given back in both
   pub loan_discarded_alike : (a b : State T U) (n : ℕ) (l : Loan T U) → view_of q a ≡ view_of q b → view_of q (loan_discarded a n l) ≡ view_of q (loan_discarded b n l)

@@ -14,6 +14,7 @@ use Rattle.iox2_machine.specs.machine.Receives.{Receive as Receives, ReceiveResu
 use Rattle.iox2_machine.specs.machine.Releases.{released}
 use Rattle.iox2_machine.specs.machine.SingleCalls.{GrantWrittenLoan}
 use Rattle.iox2_machine.specs.declared.errors.LoanError.{LoanError}
+use Rattle.iox2_laws.specs.Sendings.{sending}
 use Rattle.iox2_laws.proofs.Cases.{by_option}
 use Rattle.iox2_laws.proofs.MailboxLemmas.{borrowed-appended}
 use Rattle.iox2_laws.proofs.MailboxWalks.{deliver_keeps}
@@ -48,7 +49,8 @@ module _ {T U : Type 0} where
 
   -- a delivery, whether or not it is blocked
   delivered_borrows : (environment : Environment) (s : State T U) (p n channel retries : ℕ) (elapsed : Duration) (place : ℕ) (ends : List (Option ℕ)) (count : ℕ) (has_failed : Bool) (s' : State T U) (result : SendResult)
-      → DeliverAndConclude environment s p n channel retries elapsed place ends count has_failed s' result → SameBorrows s s'
+      → DeliverAndConclude environment s p (sending n channel retries place ends count has_failed) elapsed s' result
+      → SameBorrows s s'
   delivered_borrows environment s p n channel retries elapsed place ends count has_failed s' result h =
       by_option (SameBorrows s s') (s.publishers p) _ _ h (λ _ v. absurd v) (λ x present h.
       let are : (q : ℕ) → (h.1 q).borrowed ≡ (s.mailboxes p q).borrowed =

@@ -9,6 +9,7 @@ use Rattle.iox2_machine.specs.machine.State.{State, channel_buffer, is_blocked, 
 use Rattle.iox2_machine.specs.machine.Delivery.{DeliveryEnd, Complete, Suspended, no_time}
 use Rattle.iox2_machine.specs.machine.Sends.{SendResult, ConcludeSend, SendToConnection, DeliverAndConclude, with_mailboxes}
 use Rattle.iox2_machine.specs.machine.WellFormed.{IsWellFormed}
+use Rattle.iox2_laws.specs.Sendings.{sending}
 use Rattle.iox2_laws.proofs.Cases.{by_option}
 use Rattle.iox2_laws.proofs.ConnectionSends.{underway_there}
 use Rattle.iox2_laws.proofs.ConnectionSendsLeave.{send_to_connection_loans}
@@ -49,7 +50,8 @@ module _ {T U : Type 0} where
         (underway_there s w p n channel place l found refl x here free known) d b refl)
 
     delivered_keeps : (environment : Environment) (s' : State T U) (result : SendResult)
-        → DeliverAndConclude environment (with_loan s n None) p n channel 0 no_time place at 0 false s' result → IsWellFormed s'
+        → DeliverAndConclude environment (with_loan s n None) p (sending n channel 0 place at 0 false) no_time s' result
+        → IsWellFormed s'
     delivered_keeps environment s' result h =
         by_option (IsWellFormed s') (s.publishers p) _ _ h (λ _ v. absurd v) (λ y _ k.
         concluded k.0 k.1 s' result

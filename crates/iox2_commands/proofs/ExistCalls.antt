@@ -41,6 +41,7 @@ use Rattle.iox2_laws.proofs.Cases.{by_option, by_bool, match_some}
 use Rattle.iox2_laws.proofs.Puts.{at_each, found_put, found_removed, found_mapped, put_at-same}
 use Rattle.iox2_laws.proofs.PublisherUpdates.{update_publisher_changes}
 use Rattle.iox2_machine.specs.machine.Environments.{ample_memory}
+use Rattle.iox2_laws.specs.Sendings.{sending}
 use Rattle.iox2_commands.proofs.ExistUpdates.{ComesWith, anything, comes_option, comes_bool, is_fixed, AllFixed, deliver_comes, update_publisher_comes, update_subscriber_comes}
 use Rattle.iox2_laws.proofs.WaitingReceives.{passes_at}
 use Rattle.iox2_commands.proofs.ChannelOutcomes.{OnChannels}
@@ -261,7 +262,8 @@ module _ {T U : Type 0} where
   conclude_comes s p n (Suspended b) k = (send_blocked s p b, Blocked_send, (refl, refl), changed_fixed s p (λ x. record x { blocked = Some b }) (λ x. refl) k)
 
   pub delivers : (s : State T U) (p : ℕ) (x : Publisher) → s.publishers p ≡ Some x → IsFixed s → (n channel retries : ℕ) (elapsed : Duration) (place : ℕ) (ends : List (Option ℕ)) (count : ℕ) (has_failed : Bool)
-      → ComesTo SendResult (DeliverAndConclude ample_memory s p n channel retries elapsed place ends count has_failed)
+      → ComesTo SendResult
+      (DeliverAndConclude ample_memory s p (sending n channel retries place ends count has_failed) elapsed)
   delivers s p x present k n channel retries elapsed place ends count has_failed =
       let d : ComesWith DeliveryEnd (ℕ → Mailbox) (Deliver ample_memory s.config p x.backpressure_strategy x.backpressure_handler (channel_buffer s p channel) n channel retries elapsed place ends count has_failed (s.mailboxes p)) (anything DeliveryEnd (ℕ → Mailbox)) =
       deliver_comes s.config p x.backpressure_strategy x.backpressure_handler (k.handlers p x present) (channel_buffer s p channel) n channel retries elapsed place ends count has_failed (s.mailboxes p) in
@@ -270,7 +272,8 @@ module _ {T U : Type 0} where
 
   publish_comes : (s : State T U) (p : ℕ) (x : Publisher) → s.publishers p ≡ Some x → IsFixed s → (n : ℕ) → ComesTo SendResult (Publish ample_memory s p n)
   publish_comes s p x present k n =
-      let d : ComesTo SendResult (DeliverAndConclude ample_memory (published s p n) p n 0 0 no_time 0 x.ends 0 false) =
+      let d : ComesTo SendResult
+      (DeliverAndConclude ample_memory (published s p n) p (sending n 0 0 0 x.ends 0 false) no_time) =
       delivers (published s p n) p (remembers x) (put_at-same s.publishers p (option_map remembers (s.publishers p)) ∙ ap (option_map remembers) present)
       (changed_fixed (with_loan s n None) p remembers (λ x. refl) (with_loan_fixed s n None k)) n 0 0 no_time 0 x.ends 0 false in
       (d.0, d.1, match_some (s.publishers p) x _ _ present d.2, d.3)

@@ -25,6 +25,7 @@ use Rattle.iox2_machine.specs.declared.errors.PublisherCreateError.{PublisherCre
 use Rattle.iox2_machine.specs.declared.errors.SubscriberCreateError.{SubscriberCreateError}
 use Rattle.iox2_machine.specs.declared.warning.Warning.{Warning}
 use Rattle.iox2_machine.specs.declared.warning.Warning.TheVariants.{PublisherPartlyConnected, SubscriberPartlyConnected}
+use Rattle.iox2_laws.specs.Sendings.{sending}
 use Rattle.iox2_laws.proofs.Cases.{by_option, by_bool}
 use Rattle.iox2_laws.proofs.CallCases.{grant_cases, publisher_cases, subscriber_cases}
 use Rattle.iox2_laws.proofs.Puts.{at_each, found_put, found_removed, found_mapped, put_at-same}
@@ -314,7 +315,8 @@ module _ {T U : Type 0} where
     -- A message that was sent is delivered, and the send ends or is blocked.
     pub deliver_follows : (environment : Environment) (s : State T U) (p n channel retries : ℕ) (elapsed : Duration) (place : ℕ) (ends : List (Option ℕ)) (count : ℕ)
         (has_failed : Bool) (s' : State T U) (result : SendResult)
-        → scope.WasSent p n → IsTraced scope s → DeliverAndConclude environment s p n channel retries elapsed place ends count has_failed s' result → Follows scope s s'
+        → scope.WasSent p n → IsTraced scope s → DeliverAndConclude environment s p
+        (sending n channel retries place ends count has_failed) elapsed s' result → Follows scope s s'
     deliver_follows environment s p n channel retries elapsed place ends count has_failed s' result sent t h =
         by_option (Follows scope s s') (s.publishers p) _ _ h (λ _ v. absurd v) (λ x present k.
         let d : AreGood (MayHold scope p) (s.mailboxes p) k.1 × ((b : BlockedSend) → k.0 ≡ Suspended b → b.message ≡ n) =

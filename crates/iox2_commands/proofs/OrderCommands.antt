@@ -34,6 +34,7 @@ use Rattle.iox2_commands.proofs.OrderStates.{publish_ordered, connection_ordered
 use Rattle.iox2_commands.proofs.OrderReceives.{got_after, receive_ordered}
 use Rattle.iox2_commands.proofs.ChannelOutcomes.{OnChannels, on_channels}
 use Rattle.iox2_machine.specs.machine.Delivery.{no_time}
+use Rattle.iox2_laws.specs.Sendings.{sending}
 use Rattle.std.specs.declared.time.Duration.{Duration}
 
 -- ---- handles name what the run made
@@ -189,7 +190,8 @@ module _ {T U : Type 0} (p0 n0 : ℕ) (out : ℕ → List ℕ) (got : ℕ → �
   concluded s p n (Suspended b) s' result h = inr (inl h.1)
 
   delivery_sends : (environment : Environment) (s : State T U) (p n channel retries : ℕ) (elapsed : Duration) (place : ℕ) (ends : List (Option ℕ)) (count : ℕ) (has_failed : Bool)
-      (s' : State T U) (result : SendResult) → DeliverAndConclude environment s p n channel retries elapsed place ends count has_failed s' result → SentWith result
+      (s' : State T U) (result : SendResult) → DeliverAndConclude environment s p
+      (sending n channel retries place ends count has_failed) elapsed s' result → SentWith result
   delivery_sends environment s p n channel retries elapsed place ends count has_failed s' result h =
       by_option (SentWith result) (s.publishers p) _ _ h (λ _ v. absurd v) (λ y _ h. concluded (with_mailboxes s p h.1) p n h.0 s' result h.3)
 

@@ -11,6 +11,7 @@ use Rattle.iox2_machine.specs.machine.State.{State, is_open, channel_buffer, wit
 use Rattle.iox2_machine.specs.machine.Delivery.{DeliveryEnd, Complete, Suspended, no_time}
 use Rattle.iox2_machine.specs.machine.Sends.{SendResult, published, send_ended, send_blocked, with_mailboxes, ConcludeSend, DeliverAndConclude, Publish, Retry, GiveUp, more_retries}
 use Rattle.iox2_machine.specs.machine.WellFormed.{LeadsTo, IsInjective, IsWellFormed, BlockedIsWellFormed}
+use Rattle.iox2_laws.specs.Sendings.{sending}
 use Rattle.iox2_laws.proofs.SendLaws.{injective_take, injective_drop}
 use Rattle.iox2_laws.proofs.Cases.{by_option}
 use Rattle.iox2_laws.proofs.Puts.{at_each, found_put, found_removed, put_at-same, put_at-other}
@@ -146,7 +147,8 @@ module _ {T U : Type 0} where
       -- A delivery of the blocked message goes on at these ends, which are among those that haven't got it.
       pub deliver_ordered : (channel retries : ℕ) (elapsed : Duration) (place : ℕ) (ends : List (Option ℕ)) (count : ℕ) (has_failed : Bool) (s' : State T U) (result : SendResult)
           → IsInjective ends → ((q : ℕ) → LeadsTo ends q → LeadsTo b.ends q)
-          → DeliverAndConclude environment t p b.message channel retries elapsed place ends count has_failed s' result → Ordered p0 n0 out got s'
+          → DeliverAndConclude environment t p (sending b.message channel retries place ends count has_failed) elapsed
+          s' result → Ordered p0 n0 out got s'
       deliver_ordered channel retries elapsed place ends count has_failed s' result apart among h =
           let v : BlockedInOrder p0 out got from p b = w.blocked p x b new present waits in
           let start : Serving p0 (got p) v.before b.message ends (t.mailboxes p) = record {
@@ -281,11 +283,13 @@ module _ {T U : Type 0} where
           (pending_ordered s p n x l w v new held present first_to_all refl longer (IsSubsequence-last_n (s.config).history_size (x.history ++ n ∷ [])))
           new (put_at-same s.publishers p (Some (record x { history = longer; blocked = Some first_to_all }))) refl published_row
           0 0 no_time 0 x.ends 0 false s' result (v.publishers p x present).ends_apart (λ q l. l)
-          (subst (λ (r : Publisher). DeliverAndConclude environment (published s p n) p n 0 0 no_time 0 r.ends 0 false s' result) same j))
+          (subst (λ (r : Publisher). DeliverAndConclude environment (published s p n) p
+          (sending n 0 0 0 r.ends 0 false) no_time s' result) same j))
 
       -- A message is delivered to one connection.
       pub connection_ordered : (environment : Environment) (channel place : ℕ) (s' : State T U) (result : SendResult)
-          → DeliverAndConclude environment (with_loan s n None) p n channel 0 no_time place (take 1 (drop place x.ends)) 0 false s' result
+          → DeliverAndConclude environment (with_loan s n None) p
+          (sending n channel 0 place (take 1 (drop place x.ends)) 0 false) no_time s' result
           → Ordered p0 n0 (put_at out p (out p ++ n ∷ [])) got s'
       connection_ordered environment channel place s' result h =
           deliver_ordered p0 n0 (put_at out p (out p ++ n ∷ [])) got environment

@@ -17,6 +17,7 @@ use Rattle.iox2_machine.specs.declared.errors.LoanError.{LoanError}
 use Rattle.iox2_machine.specs.declared.errors.SendError.TheVariants.{ConnectionBrokenSinceSenderNoLongerExists, LoanError as NotLoaned, ConnectionError, UnableToDeliver}
 use Rattle.iox2_machine.specs.declared.errors.PublisherCreateError.{PublisherCreateError}
 use Rattle.iox2_machine.specs.declared.errors.SubscriberCreateError.{SubscriberCreateError}
+use Rattle.iox2_laws.specs.Sendings.{sending}
 use Rattle.iox2_laws.proofs.Cases.{by_option}
 use Rattle.iox2_commands.specs.Outcomes.{Handle, No_handle, Sample_handle, Event, No_event, Message_sent, Message_received, Outcome, replied, done, skipped}
 use Rattle.iox2_commands.specs.Step.{Step, after_publisher, after_subscriber, after_loan, after_send, after_retry, after_update, after_receive, after_question, unblocked_at, subscriber_at, loan_at, unwritten_at, written_at, with_cell_at, sendable_at, blocked_at, sample_at, if_single_units, if_fixed_size, if_dynamic, if_channel}
@@ -192,7 +193,8 @@ module _ {T U : Type 0} where
     delivery_answers : (environment : Environment) (at : State T U) (p n channel retries : ℕ) (elapsed : Duration) (place : ℕ) (ends : List (Option ℕ)) (count : ℕ) (has_failed : Bool)
         (s' : State T U) (result : SendResult) (R : SendResult → Type 0)
         → ((count : ℕ) → R (Delivered_to count)) → R Blocked_send → R (Send_error UnableToDeliver)
-        → DeliverAndConclude environment at p n channel retries elapsed place ends count has_failed s' result → R result
+        → DeliverAndConclude environment at p (sending n channel retries place ends count has_failed) elapsed s' result
+        → R result
     delivery_answers environment at p n channel retries elapsed place ends count has_failed s' result R delivered blocked failed h =
         by_option (R result) (at.publishers p) _ _ h (λ _ v. absurd v) (λ _ _ j. concluded j.0 (with_mailboxes at p j.1) j.3)
       where

@@ -19,6 +19,7 @@ use Rattle.iox2_machine.specs.declared.errors.ConnectionFailure.{ConnectionFailu
 use Rattle.iox2_machine.specs.declared.errors.LoanError.{LoanError}
 use Rattle.iox2_machine.specs.declared.errors.PublisherCreateError.{PublisherCreateError}
 use Rattle.iox2_machine.specs.declared.errors.SubscriberCreateError.{SubscriberCreateError}
+use Rattle.iox2_laws.specs.Sendings.{sending}
 use Rattle.iox2_laws.proofs.Cases.{by_option}
 use Rattle.iox2_laws.proofs.OperationWalks.{publisher_update_by_steps, subscriber_update_by_steps, receive_by_steps}
 use Rattle.iox2_laws.proofs.CallCases.{grant_cases, publisher_cases, subscriber_cases}
@@ -140,7 +141,8 @@ module _ {T U : Type 0} where
 
   -- a delivery ends or is held up
   delivered_static : (environment : Environment) (s s' : State T U) (p n channel retries : ℕ) (elapsed : Duration) (place : ℕ) (ends : List (Option ℕ)) (count : ℕ) (has_failed : Bool) (result : SendResult)
-      → DeliverAndConclude environment s p n channel retries elapsed place ends count has_failed s' result → AllStatic s → AllStatic s'
+      → DeliverAndConclude environment s p (sending n channel retries place ends count has_failed) elapsed s' result
+      → AllStatic s → AllStatic s'
   delivered_static environment s s' p n channel retries elapsed place ends count has_failed result h k =
       by_option (AllStatic s') (s.publishers p) _ _ h (λ _ v. absurd v) (λ z _ h.
       concluded_static (with_mailboxes s p h.1) s' p n h.0 result h.3 (record { publishers = k.publishers }))

@@ -29,6 +29,7 @@ use Rattle.iox2_machine.specs.declared.errors.SendError.TheVariants.{ConnectionE
 use Rattle.iox2_machine.specs.declared.service_config.ServiceConfig.{ServiceConfig}
 use Rattle.iox2_machine.specs.declared.warning.Warning.{Warning}
 use Rattle.iox2_machine.specs.declared.warning.Warning.TheVariants.{ExpiredBufferRaised}
+use Rattle.iox2_laws.specs.Sendings.{sending}
 use Rattle.iox2_laws.proofs.Cases.{by_option, by_bool}
 use Rattle.iox2_laws.proofs.CallCases.{grant_cases}
 use Rattle.iox2_commands.specs.Refusals.{TellNoRefusal}
@@ -122,7 +123,8 @@ module _ {T U : Type 0} where
 
   -- a delivery takes no memory, and warns of nothing
   delivered_ample : (s s' : State T U) (p n channel retries : ℕ) (elapsed : Duration) (place : ℕ) (ends : List (Option ℕ)) (count : ℕ) (has_failed : Bool) (result : SendResult)
-      → DeliverAndConclude fixed_handlers s p n channel retries elapsed place ends count has_failed s' result → DeliverAndConclude ample_memory s p n channel retries elapsed place ends count has_failed s' result
+      → DeliverAndConclude fixed_handlers s p (sending n channel retries place ends count has_failed) elapsed s' result
+      → DeliverAndConclude ample_memory s p (sending n channel retries place ends count has_failed) elapsed s' result
   delivered_ample s s' p n channel retries elapsed place ends count has_failed result h =
       option_maps (s.publishers p) _ _ _ _ h (λ v. v) (λ z _ h. (
         h.0,
@@ -132,7 +134,8 @@ module _ {T U : Type 0} where
       ))
 
   delivered_same : (s s' : State T U) (p n channel retries : ℕ) (elapsed : Duration) (place : ℕ) (ends : List (Option ℕ)) (count : ℕ) (has_failed : Bool) (result : SendResult)
-      → DeliverAndConclude fixed_handlers s p n channel retries elapsed place ends count has_failed s' result → s'.warnings ≡ s.warnings
+      → DeliverAndConclude fixed_handlers s p (sending n channel retries place ends count has_failed) elapsed s' result
+      → s'.warnings ≡ s.warnings
   delivered_same s s' p n channel retries elapsed place ends count has_failed result h =
       by_option (s'.warnings ≡ s.warnings) (s.publishers p) _ _ h (λ _ v. absurd v) (λ z _ h.
       concluded_same (with_mailboxes s p h.1) s' p n h.0 result h.3)

@@ -72,7 +72,8 @@ module _ (q limit : ℕ) (connections : Slab Link) (y : Subscriber) (boxes : ℕ
   -- the limit; or none waits.
   abbrev pub FindsFor : Found → Type 0
   FindsFor (Found.Ready key) = IsSomeAnd (get connections key) (λ (c : Link). (c.home.subscriber ≡ q) × MayReceiveFrom limit y boxes c.home.publisher)
-  FindsFor Found.AtLimit = (has_any_data y boxes ≡ true) × (can_receive_of limit y boxes (connected_publishers y) ≡ false)
+  FindsFor Found.AtLimit =
+      (has_any_data y boxes ≡ true) × (can_receive_of limit y boxes (connected_publishers y) ≡ false)
   FindsFor Found.Nothing = has_any_data y boxes ≡ false
 
 -- Whatever numbers the slots have, this is what the subscriber with these keys finds: a connection to receive from, where

@@ -6,7 +6,8 @@ use Rattle.iox2_connections.specs.Counters.{times, stands_in}
 
 -- The connection, in which what waits is lost but where it is awaited, and what was given back is reclaimed.
 abbrev pub left_link : (awaited : Bool) → Link → Link
-left_link awaited c = record c { waiting = if awaited then c.waiting else []; returned = []; others = if awaited then c.others else [] }
+left_link awaited c =
+    record c { waiting = if awaited then c.waiting else []; returned = []; others = if awaited then c.others else [] }
 
 -- Some slot waits or is borrowed.
 abbrev pub holds_slots : Link → Bool

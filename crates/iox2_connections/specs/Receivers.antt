@@ -1,5 +1,6 @@
 -- The subscribers at their places, as a publisher that delivers sees them.
-use Rattle.std.specs.Prelude.{◌≡◌, ◌<◌, ℕ, length, Bool, true, false, if◌then◌else◌, not, ◌&&◌, ◌==◌, List, [], slice_index_or}
+use Rattle.std.specs.Prelude.{◌≡◌, ◌<◌, ℕ, length, Bool, true, false, if◌then◌else◌, not, ◌&&◌, ◌==◌, List, []}
+use Rattle.std.specs.Prelude.{slice_index_or}
 use Rattle.std.specs.declared.option.Option.{Option}
 use Rattle.std.specs.declared.option.Option.TheVariants.{None, Some}
 use Rattle.std.specs.Option.{option_and_then}
@@ -25,7 +26,8 @@ buffers_of receivers q = option_and_then buffer_if_open (look_up (has_id q) rece
 
 -- The buffers of the receivers that take messages of the publisher p in that channel, by id: they are open, and so is the channel.
 abbrev pub taking_buffers : Slab Link → (p channel : ℕ) → List (Option ReceiverDetails) → ℕ → Option ℕ
-taking_buffers connections p channel receivers q = if is_closed (channels_in connections p q channel) then None else buffers_of receivers q
+taking_buffers connections p channel receivers q =
+    if is_closed (channels_in connections p q channel) then None else buffers_of receivers q
 
 -- It is the receiver with that id, and open.
 abbrev pub is_open_one : (q : ℕ) → Option ReceiverDetails → Bool

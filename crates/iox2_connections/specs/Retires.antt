@@ -16,7 +16,8 @@ has_borrowed (Some c) = not (is_nil c.borrowed)
 -- The first of these keys whose connection has nothing borrowed.
 abbrev pub first_unborrowed : Slab Link → List ℕ → Option ℕ
 first_unborrowed connections [] = None
-first_unborrowed connections (key ∷ keys) = if has_borrowed (get connections key) then first_unborrowed connections keys else Some key
+first_unborrowed connections (key ∷ keys) =
+    if has_borrowed (get connections key) then first_unborrowed connections keys else Some key
 
 -- The connection at this key is evicted; where there is none, the retirement is refused.
 abbrev pub evict_or_refuse : Option ℕ → Retirement
@@ -27,4 +28,5 @@ evict_or_refuse (Some key) = Evict key
 abbrev pub chosen : Slab Link → (limit : ℕ) → (expired : List ℕ) → (key : ℕ) → Retirement
 chosen connections limit expired key =
     if nat_lt (length expired) limit then KeepExpired
-    else if has_borrowed (get connections key) then evict_or_refuse (first_unborrowed connections expired) else DiscardData
+    else if has_borrowed (get connections key) then evict_or_refuse
+    (first_unborrowed connections expired) else DiscardData

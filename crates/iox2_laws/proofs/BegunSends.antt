@@ -11,6 +11,7 @@ use Rattle.iox2_machine.specs.machine.State.{State, channel_buffer, with_loan}
 use Rattle.iox2_machine.specs.machine.Delivery.{Deliver, DeliveryEnd, Complete, Suspended, no_time}
 use Rattle.iox2_machine.specs.machine.Sends.{SendResult, ConcludeSend, send_blocked, with_mailboxes, DeliverAndConclude, SendToConnection}
 use Rattle.iox2_machine.specs.machine.WellFormed.{IsWellFormed}
+use Rattle.iox2_laws.specs.Sendings.{sending}
 use Rattle.iox2_laws.proofs.Cases.{by_option, match_some}
 use Rattle.iox2_laws.proofs.Puts.{put_at-own, put_at-same, put_at-twice}
 use Rattle.iox2_laws.proofs.DeliveryLaws.{Delivered, blocked_keeps}
@@ -47,11 +48,13 @@ module _ {T U : Type 0} where
   -- what goes on from there is a send to that connection
   pub begun_goes_on : (environment : Environment) (s : State T U) (n : ℕ) (l : Loan T U) (channel place : ℕ) (x : Publisher) → s.publishers l.publisher ≡ Some x
       → (s' : State T U) (result : SendResult)
-      → DeliverAndConclude environment (begun s l.publisher n (begun_send x n channel place)) l.publisher n channel 0 no_time place (take 1 (drop place x.ends)) 0 false s' result
+      → DeliverAndConclude environment (begun s l.publisher n (begun_send x n channel place)) l.publisher
+      (sending n channel 0 place (take 1 (drop place x.ends)) 0 false) no_time s' result
       → SendToConnection environment s n l channel place s' result
   begun_goes_on environment s n l channel place x here s' result h =
       match_some (s.publishers l.publisher) x _ _ here
-      (by_option (DeliverAndConclude environment (with_loan s n None) l.publisher n channel 0 no_time place (take 1 (drop place x.ends)) 0 false s' result)
+      (by_option (DeliverAndConclude environment (with_loan s n None) l.publisher
+      (sending n channel 0 place (take 1 (drop place x.ends)) 0 false) no_time s' result)
       ((begun s l.publisher n b).publishers l.publisher) _ _ h (λ _ v. absurd v) (λ x1 at k.
       let same : record x { blocked = Some b } ≡ x1 =
       same_Some (record x { blocked = Some b }) x1 (sym (put_at-same s.publishers l.publisher (option_map waits (s.publishers l.publisher)) ∙ ap (option_map waits) here) ∙ at) in

@@ -18,6 +18,7 @@ use Rattle.iox2_machine.specs.declared.errors.ConnectionFailure.{ConnectionFailu
 use Rattle.iox2_machine.specs.declared.errors.LoanError.{LoanError}
 use Rattle.iox2_machine.specs.declared.errors.PublisherCreateError.{PublisherCreateError}
 use Rattle.iox2_machine.specs.declared.errors.SubscriberCreateError.{SubscriberCreateError}
+use Rattle.iox2_laws.specs.Sendings.{sending}
 use Rattle.iox2_laws.specs.Laws.{Advances}
 use Rattle.iox2_laws.proofs.Cases.{by_option}
 use Rattle.iox2_laws.proofs.CallCases.{grant_cases}
@@ -197,7 +198,8 @@ module _ {T U : Type 0} where
   -- A delivery leaves the loans.
   pub deliver_and_conclude_loans : (environment : Environment) (s : State T U) (p n channel retries : ℕ) (elapsed : Duration) (place : ℕ) (ends : List (Option ℕ))
       (count : ℕ) (has_failed : Bool) (s' : State T U) (result : SendResult)
-      → DeliverAndConclude environment s p n channel retries elapsed place ends count has_failed s' result → s'.loans ≡ s.loans
+      → DeliverAndConclude environment s p (sending n channel retries place ends count has_failed) elapsed s' result
+      → s'.loans ≡ s.loans
   deliver_and_conclude_loans environment s p n channel retries elapsed place ends count has_failed s' result =
       delivery_by_steps SameLoans SameLoans (loans_stay.trans) environment s p n channel retries elapsed place ends count has_failed s' result
       (record { delivers = λ a boxes _. refl; ended = λ a _. refl; blocked = λ a b _. refl })

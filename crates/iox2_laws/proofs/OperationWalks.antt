@@ -23,6 +23,7 @@ use Rattle.iox2_machine.specs.declared.errors.PublisherCreateError.{PublisherCre
 use Rattle.iox2_machine.specs.declared.errors.SubscriberCreateError.{SubscriberCreateError}
 use Rattle.iox2_machine.specs.declared.warning.Warning.{Warning}
 use Rattle.iox2_machine.specs.declared.warning.Warning.TheVariants.{PublisherPartlyConnected, SubscriberPartlyConnected}
+use Rattle.iox2_laws.specs.Sendings.{sending}
 use Rattle.iox2_laws.specs.Laws.{Advances}
 use Rattle.iox2_laws.proofs.Cases.{by_option, by_bool}
 use Rattle.iox2_laws.proofs.CallCases.{grant_cases, publisher_cases, subscriber_cases}
@@ -76,7 +77,8 @@ module _ {T U : Type 0} (Before Whole : State T U → State T U → Type 0) (goe
   -- A delivery by its steps.
   pub delivery_by_steps : (environment : Environment) (s : State T U) (p n channel retries : ℕ) (elapsed : Duration) (place : ℕ) (ends : List (Option ℕ)) (count : ℕ)
       (has_failed : Bool) (s' : State T U) (result : SendResult) → DeliverySteps environment p n Before Whole result
-      → DeliverAndConclude environment s p n channel retries elapsed place ends count has_failed s' result → Whole s s'
+      → DeliverAndConclude environment s p (sending n channel retries place ends count has_failed) elapsed s' result
+      → Whole s s'
   delivery_by_steps environment s p n channel retries elapsed place ends count has_failed s' result steps h =
       by_option (Whole s s') (s.publishers p) _ _ h (λ _ v. absurd v) (λ x _ h.
       let at : DeliveryPoint = record { channel = channel; retries = retries; elapsed = elapsed; place = place; ends = ends; count = count; has_failed = has_failed } in

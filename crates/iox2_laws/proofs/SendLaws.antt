@@ -23,6 +23,7 @@ use Rattle.iox2_laws.proofs.Altered.{same_state, altered}
 use Rattle.iox2_laws.proofs.LoanLaws.{loan_lost_keeps, loan_discarded_keeps}
 use Rattle.iox2_laws.proofs.DeliveryLaws.{Delivered, deliver_is, IsUnderway, ended_keeps, blocked_keeps, AreFrom, rest_of}
 use Rattle.iox2_machine.specs.machine.Limits.{channel_count}
+use Rattle.iox2_laws.specs.Sendings.{sending}
 
 -- all ends but the first lead where the ends do
 later_ends : (ends : List (Option ℕ)) (q : ℕ) → LeadsTo (drop 1 ends) q → LeadsTo ends q
@@ -79,7 +80,8 @@ module _ {T U : Type 0} where
       (place : ℕ) (ends : List (Option ℕ))
       (count : ℕ) (has_failed : Bool) (s' : State T U) (result : SendResult)
       → IsWellFormed s → s.publishers p ≡ Some x → x.blocked ≡ Some b → AreFrom x.ends ends place → count ≤ place → ((q : ℕ) → LeadsTo ends q → LeadsTo b.ends q)
-      → DeliverAndConclude environment s p b.message b.channel retries elapsed place ends count has_failed s' result → IsWellFormed s'
+      → DeliverAndConclude environment s p
+      (sending b.message b.channel retries place ends count has_failed) elapsed s' result → IsWellFormed s'
   delivery_goes_on_keeps environment s p x b retries elapsed place ends count has_failed s' result w here waits tail few inside h =
       by_option (IsWellFormed s') (s.publishers p) _ _ h (λ _ v. absurd v) (λ x2 _ h.
       let d : Delivered (channel_buffer s p b.channel) b.message b.channel x.ends ends (s.mailboxes p) h.0 h.1 =
@@ -114,7 +116,8 @@ module _ {T U : Type 0} where
   pub deliver_and_conclude_keeps : (environment : Environment) (s : State T U) (p : ℕ) (x : Publisher) (b : BlockedSend) (retries : ℕ) (elapsed : Duration)
       (s' : State T U) (result : SendResult)
       → IsWellFormed s → s.publishers p ≡ Some x → x.blocked ≡ Some b
-      → DeliverAndConclude environment s p b.message b.channel retries elapsed b.place b.ends b.count b.has_failed s' result → IsWellFormed s'
+      → DeliverAndConclude environment s p
+      (sending b.message b.channel retries b.place b.ends b.count b.has_failed) elapsed s' result → IsWellFormed s'
   deliver_and_conclude_keeps environment s p x b retries elapsed s' result w here waits h =
       delivery_goes_on_keeps environment s p x b retries elapsed b.place b.ends b.count b.has_failed s' result w here waits
       (((w.publishers p x here).blocked b waits).ends) (((w.publishers p x here).blocked b waits).count_bound) (λ q h. h) h
@@ -239,7 +242,8 @@ module _ {T U : Type 0} where
   pub deliver_and_conclude_advances : (environment : Environment) (s : State T U) (p n channel retries : ℕ) (elapsed : Duration) (place : ℕ) (ends : List (Option ℕ))
       (count : ℕ) (has_failed : Bool)
       (s' : State T U) (result : SendResult)
-      → DeliverAndConclude environment s p n channel retries elapsed place ends count has_failed s' result → Advances s s'
+      → DeliverAndConclude environment s p (sending n channel retries place ends count has_failed) elapsed s' result
+      → Advances s s'
   deliver_and_conclude_advances environment s p n channel retries elapsed place ends count has_failed s' result =
       delivery_by_steps Advances Advances (advance.trans) environment s p n channel retries elapsed place ends count has_failed s' result (deliveries_advance environment p n result)
 

@@ -21,6 +21,7 @@ use Rattle.iox2_machine.specs.machine.SingleCalls.{HoldsBlocked}
 use Rattle.iox2_machine.specs.declared.backpressure.BackpressureStrategy.{BackpressureStrategy}
 use Rattle.iox2_machine.specs.declared.backpressure.BackpressureAction.{BackpressureAction}
 use Rattle.iox2_machine.specs.declared.service_config.ServiceConfig.{ServiceConfig}
+use Rattle.iox2_laws.specs.Sendings.{sending}
 use Rattle.iox2_laws.proofs.Cases.{by_option, by_bool}
 use Rattle.iox2_laws.proofs.CallCases.{publisher_cases}
 use Rattle.iox2_laws.proofs.OperationWalks.{DeliverySteps, delivered-unblocked, retry_by_steps, give_up_by_steps, send_by_steps}
@@ -125,7 +126,8 @@ module _ {T U : Type 0} where
 
   pub delivered_waits_with : (environment : Environment) (s : State T U) (p n channel retries : ℕ) (elapsed : Duration) (place : ℕ) (ends : List (Option ℕ)) (count : ℕ)
       (has_failed : Bool) (s' : State T U) (result : SendResult)
-      → DeliverAndConclude environment s p n channel retries elapsed place ends count has_failed s' result → result ≡ Blocked_send → HoldsBlocked s' p n
+      → DeliverAndConclude environment s p (sending n channel retries place ends count has_failed) elapsed s' result
+      → result ≡ Blocked_send → HoldsBlocked s' p n
   delivered_waits_with environment s p n channel retries elapsed place ends count has_failed s' result h is =
       by_option (HoldsBlocked s' p n) (s.publishers p) _ _ h (λ _ v. absurd v) (λ x present h.
       concluded_waits_with (with_mailboxes s p h.1) p n x present h.0 s' result
@@ -168,7 +170,8 @@ module _ {T U : Type 0} where
 
   delivered_frees : (environment : Environment) (s : State T U) (p n channel retries : ℕ) (elapsed : Duration) (place : ℕ) (ends : List (Option ℕ)) (count : ℕ)
       (has_failed : Bool) (s' : State T U) (result : SendResult) → (result ≡ Blocked_send → ⊥)
-      → DeliverAndConclude environment s p n channel retries elapsed place ends count has_failed s' result → (x' : Publisher) → s'.publishers p ≡ Some x' → x'.blocked ≡ None
+      → DeliverAndConclude environment s p (sending n channel retries place ends count has_failed) elapsed s' result
+      → (x' : Publisher) → s'.publishers p ≡ Some x' → x'.blocked ≡ None
   delivered_frees environment s p n channel retries elapsed place ends count has_failed s' result free h =
       by_option ((x' : Publisher) → s'.publishers p ≡ Some x' → x'.blocked ≡ None) (s.publishers p) _ _ h (λ _ v. absurd v)
       (λ x _ k. concluded_frees (with_mailboxes s p k.1) p n k.0 s' result free k.3)

@@ -21,6 +21,7 @@ use Rattle.iox2_machine.specs.declared.errors.LoanError.{LoanError}
 use Rattle.iox2_machine.specs.declared.errors.ReceiveError.{ReceiveError}
 use Rattle.iox2_machine.specs.declared.errors.SubscriberCreateError.{SubscriberCreateError}
 use Rattle.iox2_machine.specs.declared.warning.Warning.TheVariants.{SubscriberPartlyConnected}
+use Rattle.iox2_laws.specs.Sendings.{sending}
 use Rattle.iox2_laws.proofs.OperationWalks.{IsPreorder, unchanged, DeliverySteps, grant_by_steps, publisher_update_by_steps, receive_by_steps, delivery_by_steps, retry_by_steps, give_up_by_steps, send_by_steps}
 use Rattle.iox2_laws.proofs.Cases.{by_option, by_bool}
 use Rattle.iox2_laws.proofs.CallCases.{subscriber_cases}
@@ -77,7 +78,8 @@ module _ {T U : Type 0} where
       })
 
   pub goes_on_subscribers : (environment : Environment) (s : State T U) (p n channel retries : ℕ) (elapsed : Duration) (place : ℕ) (ends : List (Option ℕ)) (count : ℕ) (has_failed : Bool) (s' : State T U)
-      (result : SendResult) → DeliverAndConclude environment s p n channel retries elapsed place ends count has_failed s' result → s'.subscribers ≡ s.subscribers
+      (result : SendResult) → DeliverAndConclude environment s p
+      (sending n channel retries place ends count has_failed) elapsed s' result → s'.subscribers ≡ s.subscribers
   goes_on_subscribers environment s p n channel retries elapsed place ends count has_failed s' result =
       delivery_by_steps SameSubscribers SameSubscribers (subscribers_stay.trans) environment s p n channel retries elapsed place ends count has_failed s' result (deliveries_stay_subscribed environment p n result)
 

@@ -19,6 +19,7 @@ use Rattle.iox2_machine.specs.declared.service_config.ServiceConfig.{ServiceConf
 use Rattle.iox2_machine.specs.declared.backpressure.BackpressureStrategy.{BackpressureStrategy}
 use Rattle.iox2_machine.specs.declared.backpressure.BackpressureAction.{BackpressureAction}
 use Rattle.iox2_machine.specs.declared.errors.ConnectionFailure.{ConnectionFailure}
+use Rattle.iox2_laws.specs.Sendings.{sending}
 use Rattle.iox2_laws.proofs.Cases.{by_option, by_bool}
 use Rattle.iox2_laws.proofs.SenderSides.{in_history_for, length-history_for_le}
 use Rattle.iox2_laws.proofs.Puts.{put_at-same, put_at-other, at_each}
@@ -195,7 +196,8 @@ module _ {T U : Type 0} where
 
 module _ {T U : Type 0} where
   goes_on_waits : (environment : Environment) (s : State T U) (p n channel retries : ℕ) (elapsed : Duration) (place : ℕ) (ends : List (Option ℕ)) (count : ℕ) (has_failed : Bool) (s' : State T U)
-      (result : SendResult) → IsOnce (occupants ends) → DeliverAndConclude environment s p n channel retries elapsed place ends count has_failed s' result
+      (result : SendResult) → IsOnce (occupants ends)
+      → DeliverAndConclude environment s p (sending n channel retries place ends count has_failed) elapsed s' result
       → (q : ℕ) → waiting_for s' q ≤ waiting_for s q + 1
   goes_on_waits environment s p n channel retries elapsed place ends count has_failed s' result once h q =
       by_option (waiting_for s' q ≤ waiting_for s q + 1) (s.publishers p) _ _ h (λ _ v. absurd v) (λ x _ k.

@@ -11,6 +11,7 @@ use Rattle.iox2_machine.specs.Defaults.{default_config}
 use Rattle.iox2_machine.specs.declared.allocation.AllocationStrategy.TheVariants.{Static}
 use Rattle.iox2_machine.specs.declared.backpressure.BackpressureStrategy.TheVariants.{DiscardData}
 use Rattle.iox2_machine.specs.declared.degradation.DegradationAction.TheVariants.{Warn}
+use Rattle.iox2_laws.specs.Sendings.{sending}
 
 -- the subscriber, with an end to the publisher
 abbrev reader : Subscriber
@@ -72,7 +73,7 @@ abbrev holding : Mailbox → State ℕ ℕ → State ℕ ℕ
 holding box s = with_mailboxes s 2 (put_at (s.mailboxes 2) 1 box)
 
 -- the message 8 goes into channel 1 of the connection at place 0
-sent : DeliverAndConclude ample_memory joined 2 8 1 0 no_time 0 (take 1 (drop 0 (Some 1 ∷ []))) 0 false
+sent : DeliverAndConclude ample_memory joined 2 (sending 8 1 0 0 (take 1 (drop 0 (Some 1 ∷ []))) 0 false) no_time
     (send_ended (holding (with_appended 1 1 8 empty_mailbox) joined) 2 8) (Delivered_to 1)
 sent = (
   Complete 1 false,
@@ -82,7 +83,7 @@ sent = (
 )
 
 -- behind the last place it goes to nobody
-unsent : DeliverAndConclude ample_memory joined 2 8 1 0 no_time 5 (take 1 (drop 5 (Some 1 ∷ []))) 0 false
+unsent : DeliverAndConclude ample_memory joined 2 (sending 8 1 0 5 (take 1 (drop 5 (Some 1 ∷ []))) 0 false) no_time
     (send_ended (with_mailboxes joined 2 (joined.mailboxes 2)) 2 8) (Delivered_to 0)
 unsent = (Complete 0 false, joined.mailboxes 2, (refl, refl), (refl, refl))
 
@@ -91,9 +92,11 @@ abbrev strict : State ℕ ℕ
 strict = record joined { config = record (default_config 1) { enable_safe_overflow = false } }
 
 -- a channel that has no room takes nothing where the strategy discards, though another has room
-discarded : DeliverAndConclude ample_memory (holding two strict) 2 11 1 0 no_time 0 (take 1 (drop 0 (Some 1 ∷ []))) 0 false
+discarded : DeliverAndConclude ample_memory (holding two strict) 2
+    (sending 11 1 0 0 (take 1 (drop 0 (Some 1 ∷ []))) 0 false) no_time
     (send_ended (holding two (holding two strict)) 2 11) (Delivered_to 0)
-    × DeliverAndConclude ample_memory (holding two strict) 2 11 3 0 no_time 0 (take 1 (drop 0 (Some 1 ∷ []))) 0 false
+    × DeliverAndConclude ample_memory (holding two strict) 2
+    (sending 11 3 0 0 (take 1 (drop 0 (Some 1 ∷ []))) 0 false) no_time
     (send_ended (holding (with_appended 3 1 11 two) (holding two strict)) 2 11) (Delivered_to 1)
 discarded = (
   (

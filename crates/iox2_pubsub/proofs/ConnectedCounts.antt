@@ -18,6 +18,7 @@ use Rattle.iox2_machine.specs.machine.State.{State, connected_publishers}
 use Rattle.iox2_machine.specs.machine.Waiting.{receives_from, waiting_from}
 use Rattle.iox2_machine.specs.machine.WellFormed.{IsWellFormed}
 use Rattle.iox2_machine.specs.declared.errors.ConnectionFailure.{ConnectionFailure}
+use Rattle.iox2_laws.specs.Sendings.{sending}
 use Rattle.iox2_laws.proofs.Cases.{by_option, by_bool}
 use Rattle.iox2_laws.proofs.NumberLemmas.{contains_in_append}
 use Rattle.iox2_laws.proofs.PlaceLemmas.{leads_to}
@@ -92,7 +93,8 @@ module _ {T U : Type 0} where
   }
 
   pub goes-on-touches : (environment : Environment) (s : State T U) (p n channel retries : ℕ) (elapsed : Duration) (place : ℕ) (ends : List (Option ℕ)) (count : ℕ) (has_failed : Bool) (s' : State T U)
-      (result : SendResult) → DeliverAndConclude environment s p n channel retries elapsed place ends count has_failed s' result → TouchesOnly s s' p
+      (result : SendResult) → DeliverAndConclude environment s p
+      (sending n channel retries place ends count has_failed) elapsed s' result → TouchesOnly s s' p
   goes-on-touches environment s p n channel retries elapsed place ends count has_failed s' result h = record {
     others = by_option (OthersLie s s' p) (s.publishers p) _ _ h (λ _ v. absurd v) (λ x _ k. goes-on-lies s p n k.1 k.0 s' result k.3);
     subscribers = goes_on_subscribers environment s p n channel retries elapsed place ends count has_failed s' result h;

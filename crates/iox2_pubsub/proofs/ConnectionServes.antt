@@ -16,6 +16,7 @@ use Rattle.iox2_machine.specs.machine.Sends.{Blocked_send, DeliverAndConclude, D
 use Rattle.iox2_machine.specs.machine.State.{State, Messages, channel_buffer, with_loan}
 use Rattle.iox2_machine.specs.declared.errors.SendError.{SendError}
 use Rattle.iox2_machine.specs.declared.key.Key.{Key}
+use Rattle.iox2_laws.specs.Sendings.{sending}
 use Rattle.iox2_laws.proofs.Cases.{by_option}
 use Rattle.iox2_laws.proofs.ConnectionSendsLeave.{send_to_connection_remains}
 use Rattle.iox2_laws.proofs.NumberLemmas.{contains_first, contains_one}
@@ -97,11 +98,15 @@ module _ {T U F G : Type 0} (old new : Kept T U F G) (m : Messages T U) (s : Sta
       let same : found.0 ≡ place = let first : place ≡ 0 + found.0 = found.1 in omega (arith, first) in
       ap (occupant ends) (sym same) ∙ found.2
 
-  delivers : DeliverAndConclude environment (with_loan s n None) l.publisher n 0 0 no_time place (take 1 (drop place ends)) 0 false s' (result_of_send result)
+  delivers : DeliverAndConclude environment (with_loan s n None) l.publisher
+      (sending n 0 0 place (take 1 (drop place ends)) 0 false) no_time s' (result_of_send result)
   delivers =
-      by_option (DeliverAndConclude environment (with_loan s n None) l.publisher n 0 0 no_time place (take 1 (drop place ends)) 0 false s' (result_of_send result)) (s.publishers l.publisher) _ _ h
+      by_option (DeliverAndConclude environment (with_loan s n None) l.publisher
+      (sending n 0 0 place (take 1 (drop place ends)) 0 false) no_time s' (result_of_send result))
+      (s.publishers l.publisher) _ _ h
       (λ none _. absurd (none-some c.publisher (sym none ∙ c.stands)))
-      (λ x present k. subst (λ (z : Publisher). DeliverAndConclude environment (with_loan s n None) l.publisher n 0 0 no_time place (take 1 (drop place z.ends)) 0 false s' (result_of_send result))
+      (λ x present k. subst (λ (z : Publisher). DeliverAndConclude environment (with_loan s n None) l.publisher
+      (sending n 0 0 place (take 1 (drop place z.ends)) 0 false) no_time s' (result_of_send result))
       (same_Some x c.publisher (sym present ∙ c.stands)) k)
 
   comes : Comes s s' l.publisher n subscriber.id (c.subscriber).buffer (result_of_send result)
@@ -159,7 +164,8 @@ module _ {T U F G : Type 0} (old new : Kept T U F G) (m : Messages T U) (s : Sta
       let one : take 1 (drop place ends) ≡ Some subscriber.id ∷ [] = one-end ends place subscriber.id stands in
       let counted : reached ≡ length (filter (takes_in (s.config).enable_safe_overflow (channel_buffer s l.publisher 0) (s.mailboxes l.publisher)) (occupants (take 1 (drop place ends)))) =
       goes-on-counts environment (with_loan s n None) l.publisher n place (take 1 (drop place ends)) reached s' (subst (λ (es : List (Option ℕ)). IsOnce (occupants es)) (sym one) (refl, tt))
-      (subst (DeliverAndConclude environment (with_loan s n None) l.publisher n 0 0 no_time place (take 1 (drop place ends)) 0 false s') is delivers) in
+      (subst (DeliverAndConclude environment (with_loan s n None) l.publisher
+      (sending n 0 0 place (take 1 (drop place ends)) 0 false) no_time s') is delivers) in
       let same : reached ≡ length (filter (takes_next s l.publisher) (subscriber.id ∷ [])) =
       counted ∙ ap (λ (es : List (Option ℕ)). length (filter (takes_in (s.config).enable_safe_overflow (channel_buffer s l.publisher 0) (s.mailboxes l.publisher)) (occupants es))) one
       ∙ ap (λ (b : Bool). length (cond b (subscriber.id ∷ []) [])) (connected-takes environment s shown.well_formed l.publisher subscriber.id c) in

@@ -27,6 +27,7 @@ use Rattle.iox2_machine.specs.declared.degradation.DegradationAction.{Degradatio
 use Rattle.iox2_machine.specs.declared.errors.ConnectionFailure.{ConnectionFailure}
 use Rattle.iox2_machine.specs.declared.errors.LoanError.{LoanError}
 use Rattle.iox2_machine.specs.declared.errors.SubscriberCreateError.{SubscriberCreateError}
+use Rattle.iox2_laws.specs.Sendings.{sending}
 use Rattle.iox2_laws.proofs.Cases.{by_option, by_bool}
 use Rattle.iox2_laws.proofs.OperationWalks.{IsPreorder, receive_by_steps}
 use Rattle.iox2_laws.proofs.CallCases.{grant_cases}
@@ -226,12 +227,14 @@ module _ {T U : Type 0} where
   -- ---- blocked sends
 
   pub goes-on-ends : (environment : Environment) (s : State T U) (p n channel retries : ℕ) (elapsed : Duration) (place : ℕ) (ends : List (Option ℕ)) (count : ℕ) (has_failed : Bool) (s' : State T U)
-      (result : SendResult) → DeliverAndConclude environment s p n channel retries elapsed place ends count has_failed s' result → EndsStay s s'
+      (result : SendResult) → DeliverAndConclude environment s p
+      (sending n channel retries place ends count has_failed) elapsed s' result → EndsStay s s'
   goes-on-ends environment s p n channel retries elapsed place ends count has_failed s' result h =
       by_option (EndsStay s s') (s.publishers p) _ _ h (λ _ v. absurd v) (λ x _ k. concluded-ends s p n k.1 k.0 s' result k.3)
 
   pub goes-on-channels : (environment : Environment) (s : State T U) (p n channel retries : ℕ) (elapsed : Duration) (place : ℕ) (ends : List (Option ℕ)) (count : ℕ) (has_failed : Bool) (s' : State T U)
-      (result : SendResult) → DeliverAndConclude environment s p n channel retries elapsed place ends count has_failed s' result → s'.channels ≡ s.channels
+      (result : SendResult) → DeliverAndConclude environment s p
+      (sending n channel retries place ends count has_failed) elapsed s' result → s'.channels ≡ s.channels
   goes-on-channels environment s p n channel retries elapsed place ends count has_failed s' result h =
       by_option (s'.channels ≡ s.channels) (s.publishers p) _ _ h (λ _ v. absurd v) (λ x _ k. concluded-channels s p n k.1 k.0 s' result k.3)
 

@@ -16,6 +16,7 @@ use Rattle.iox2_machine.specs.declared.backpressure.BackpressureStrategy.{Backpr
 use Rattle.iox2_machine.specs.declared.errors.SendError.{SendError}
 use Rattle.iox2_machine.specs.declared.errors.SendError.TheVariants.{UnableToDeliver}
 use Rattle.iox2_machine.specs.declared.service_config.ServiceConfig.{ServiceConfig}
+use Rattle.iox2_laws.specs.Sendings.{sending}
 use Rattle.iox2_laws.proofs.Cases.{by_option, by_bool}
 use Rattle.iox2_laws.proofs.NumberLemmas.{contains_in_cons, contains_later}
 use Rattle.iox2_laws.proofs.Puts.{put_at-same, put_at-other}
@@ -151,7 +152,8 @@ module _ {T U : Type 0} where
   Leaves s s' p n q result = (s'.mailboxes p q ≡ s.mailboxes p q) × (result ≡ Blocked_send → PassesBy s' p n q)
 
   module _ (environment : Environment) (s : State T U) (p n retries : ℕ) (elapsed : Duration) (place : ℕ) (ends : List (Option ℕ)) (count : ℕ) (has_failed : Bool) (s' : State T U) (result : SendResult)
-      (h : DeliverAndConclude environment s p n 0 retries elapsed place ends count has_failed s' result) (q : ℕ) where
+      (h : DeliverAndConclude environment s p (sending n 0 retries place ends count has_failed) elapsed s' result)
+      (q : ℕ) where
     abbrev Delivers : Publisher → DeliveryEnd → (ℕ → Mailbox) → Type 0
     Delivers z how boxes = Deliver environment s.config p z.backpressure_strategy z.backpressure_handler (channel_buffer s p 0) n 0 retries elapsed place ends count has_failed (s.mailboxes p) how boxes
 

@@ -14,6 +14,7 @@ use Rattle.iox2_machine.specs.machine.Sends.{Send, Publish, Retry, GiveUp, Deliv
 use Rattle.iox2_machine.specs.machine.State.{State, channel_buffer, is_blocked, receiving_buffer}
 use Rattle.iox2_machine.specs.machine.WellFormed.{LeadsTo, IsWellFormed}
 use Rattle.iox2_machine.specs.declared.errors.ConnectionFailure.{ConnectionFailure}
+use Rattle.iox2_laws.specs.Sendings.{sending}
 use Rattle.iox2_laws.proofs.Cases.{by_option, by_bool}
 use Rattle.iox2_laws.proofs.NumberLemmas.{contains_first, contains_in_cons, contains_later}
 use Rattle.iox2_laws.proofs.PlaceLemmas.{IsOnce-occupants, contains-occupants, leads_to, occupant-drop, once-behind}
@@ -83,10 +84,13 @@ module _ {T U : Type 0} (environment : Environment) where
   module _ (s : State T U) (p n q : ℕ) (elapsed : Duration) (s' : State T U) (result : SendResult) where
     -- in channel 0, by the message's number
     pub retried : (b : BlockedSend) → b.message ≡ n → b.channel ≡ 0 → Retry environment s p b elapsed s' result
-        → DeliverAndConclude environment s p n 0 (more_retries b.retries) elapsed b.place b.ends b.count b.has_failed s' result
+        → DeliverAndConclude environment s p
+        (sending n 0 (more_retries b.retries) b.place b.ends b.count b.has_failed) elapsed s' result
     retried b message channel h =
-        subst (λ (i : ℕ). DeliverAndConclude environment s p n i (more_retries b.retries) elapsed b.place b.ends b.count b.has_failed s' result) channel
-        (subst (λ (k : ℕ). DeliverAndConclude environment s p k b.channel (more_retries b.retries) elapsed b.place b.ends b.count b.has_failed s' result) message h)
+        subst (λ (i : ℕ). DeliverAndConclude environment s p
+        (sending n i (more_retries b.retries) b.place b.ends b.count b.has_failed) elapsed s' result) channel
+        (subst (λ (k : ℕ). DeliverAndConclude environment s p
+        (sending k b.channel (more_retries b.retries) b.place b.ends b.count b.has_failed) elapsed s' result) message h)
 
     pub retry-comes : (w : IsWellFormed s) (goes : GoesTo s p n q) (c : Connects s p q) → Retry environment s p goes.blocked elapsed s' result → Comes s s' p n q (c.subscriber).buffer result
     retry-comes w goes c h =
@@ -174,10 +178,13 @@ next-not-passed {T} {U} s w p n q next passes =
 
 module _ {T U : Type 0} (environment : Environment) (s : State T U) (p n q : ℕ) (s' : State T U) (result : SendResult) where
   pub given-up : (b : BlockedSend) → b.message ≡ n → b.channel ≡ 0 → GiveUp environment s p b s' result
-      → DeliverAndConclude environment s p n 0 0 no_time (b.place + 1) (drop 1 b.ends) b.count b.has_failed s' result
+      → DeliverAndConclude environment s p
+      (sending n 0 0 (b.place + 1) (drop 1 b.ends) b.count b.has_failed) no_time s' result
   given-up b message channel h =
-      subst (λ (i : ℕ). DeliverAndConclude environment s p n i 0 no_time (b.place + 1) (drop 1 b.ends) b.count b.has_failed s' result) channel
-      (subst (λ (k : ℕ). DeliverAndConclude environment s p k b.channel 0 no_time (b.place + 1) (drop 1 b.ends) b.count b.has_failed s' result) message h)
+      subst (λ (i : ℕ). DeliverAndConclude environment s p
+      (sending n i 0 (b.place + 1) (drop 1 b.ends) b.count b.has_failed) no_time s' result) channel
+      (subst (λ (k : ℕ). DeliverAndConclude environment s p
+      (sending k b.channel 0 (b.place + 1) (drop 1 b.ends) b.count b.has_failed) no_time s' result) message h)
 
   pub give-up-comes : (w : IsWellFormed s) (goes : GoesTo s p n q) (c : Connects s p q) → (waits_for s p ≡ Some q → ⊥) → GiveUp environment s p goes.blocked s' result → Comes s s' p n q (c.subscriber).buffer result
   give-up-comes w goes c away h =

@@ -16,6 +16,7 @@ use Rattle.iox2_machine.specs.declared.backpressure.BackpressureStrategy.{Backpr
 use Rattle.iox2_machine.specs.declared.errors.SendError.{SendError}
 use Rattle.iox2_machine.specs.declared.errors.SendError.TheVariants.{UnableToDeliver}
 use Rattle.iox2_machine.specs.declared.service_config.ServiceConfig.{ServiceConfig}
+use Rattle.iox2_laws.specs.Sendings.{sending}
 use Rattle.iox2_laws.proofs.Cases.{by_option, by_bool}
 use Rattle.iox2_laws.proofs.Puts.{put_at-same}
 use Rattle.iox2_domain.specs.Kept.{Kept, state_of}
@@ -71,7 +72,8 @@ module _ {T U : Type 0} where
 
   delivered-ahead : (environment : Environment) (s : State T U) (p n channel retries : ℕ) (elapsed : Duration) (place : ℕ) (ends : List (Option ℕ)) (count : ℕ)
       (has_failed : Bool) (s' : State T U) (result : SendResult)
-      → DeliverAndConclude environment s p n channel retries elapsed place ends count has_failed s' result → result ≡ Blocked_send → IsAhead s' p (length ends)
+      → DeliverAndConclude environment s p (sending n channel retries place ends count has_failed) elapsed s' result
+      → result ≡ Blocked_send → IsAhead s' p (length ends)
   delivered-ahead environment s p n channel retries elapsed place ends count has_failed s' result h is =
       by_option (IsAhead s' p (length ends)) (s.publishers p) _ _ h (λ _ v. absurd v) (λ x present h.
       concluded-ahead (with_mailboxes s p h.1) p n x present (length ends) h.0 s' result

@@ -22,6 +22,7 @@ use Rattle.iox2_laws.proofs.PortsStay.{update_publisher_stays}
 use Rattle.iox2_laws.proofs.PublisherUpdates.{update_publisher_keeps}
 use Rattle.iox2_laws.proofs.UpToDate.{update_publisher_subscribers}
 use Rattle.iox2_machine.specs.declared.service_config.ServiceConfig.{ServiceConfig}
+use Rattle.iox2_laws.specs.Sendings.{sending}
 use Rattle.iox2_pubsub.specs.ConnectedPorts.{Connects}
 use Rattle.iox2_pubsub.proofs.ConnectedSends.{update-publisher-connected}
 use Rattle.iox2_pubsub.proofs.DeliveryCounts.{deliver-counts, takers-le, takes_in}
@@ -53,7 +54,7 @@ module _ {T U : Type 0} where
 
   -- how many a delivery into channel 0 counts that begins with none
   pub goes-on-counts : (environment : Environment) (s : State T U) (p n place : ℕ) (ends : List (Option ℕ)) (count : ℕ) (s' : State T U) → IsOnce (occupants ends)
-      → DeliverAndConclude environment s p n 0 0 no_time place ends 0 false s' (Delivered_to count)
+      → DeliverAndConclude environment s p (sending n 0 0 place ends 0 false) no_time s' (Delivered_to count)
       → count ≡ length (filter (takes_in (s.config).enable_safe_overflow (channel_buffer s p 0) (s.mailboxes p)) (occupants ends))
   goes-on-counts environment s p n place ends count s' once h =
       by_option (count ≡ length (filter (takes_in (s.config).enable_safe_overflow (channel_buffer s p 0) (s.mailboxes p)) (occupants ends))) (s.publishers p) _ _ h (λ _ v. absurd v)
@@ -94,7 +95,8 @@ module _ {T U : Type 0} where
             let c = each q at in
             contains-occupants x.ends q (subst (λ (z : Publisher). LeadsTo z.ends q) (same_Some c.publisher x (sym c.stands ∙ present)) c.sends)
 
-        counted : (x : Publisher) → s.publishers p ≡ Some x → DeliverAndConclude environment (published s p n) p n 0 0 no_time 0 x.ends 0 false s' (Delivered_to count) → CountsOf s p ids count
+        counted : (x : Publisher) → s.publishers p ≡ Some x → DeliverAndConclude environment (published s p n) p
+            (sending n 0 0 0 x.ends 0 false) no_time s' (Delivered_to count) → CountsOf s p ids count
         counted x present k =
             let apart : IsOnce (occupants x.ends) = IsOnce-occupants x.ends (w.publishers p x present).ends_apart in
             let here : ℕ → Bool = takes_in (s.config).enable_safe_overflow (channel_buffer s p 0) (s.mailboxes p) in

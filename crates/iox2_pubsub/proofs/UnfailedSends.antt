@@ -13,6 +13,7 @@ use Rattle.iox2_machine.specs.declared.backpressure.BackpressureAction.{Backpres
 use Rattle.iox2_machine.specs.declared.backpressure.BackpressureStrategy.{BackpressureStrategy}
 use Rattle.iox2_machine.specs.declared.errors.SendError.TheVariants.{ConnectionBrokenSinceSenderNoLongerExists, ConnectionError, UnableToDeliver}
 use Rattle.iox2_machine.specs.declared.service_config.ServiceConfig.{ServiceConfig}
+use Rattle.iox2_laws.specs.Sendings.{sending}
 use Rattle.iox2_laws.proofs.Cases.{by_option, by_bool}
 use Rattle.iox2_laws.proofs.PortsStay.{update_publisher_stays}
 use Rattle.iox2_laws.proofs.Puts.{put_at-same}
@@ -88,7 +89,8 @@ module _ {T U : Type 0} where
       )
 
   pub delivered-unfailed : (environment : Environment) (s : State T U) (p n channel retries : ℕ) (elapsed : Duration) (place : ℕ) (ends : List (Option ℕ)) (count : ℕ) (has_failed : Bool) (s' : State T U) (result : SendResult)
-      → IsMild s p → has_failed ≡ false → DeliverAndConclude environment s p n channel retries elapsed place ends count has_failed s' result → IsUnfailed s' p result
+      → IsMild s p → has_failed ≡ false → DeliverAndConclude environment s p
+      (sending n channel retries place ends count has_failed) elapsed s' result → IsUnfailed s' p result
   delivered-unfailed environment s p n channel retries elapsed place ends count has_failed s' result mild none h =
       by_option (IsUnfailed s' p result) (s.publishers p) _ _ h (λ _ v. absurd v) (λ x present h.
       concluded-unfailed (with_mailboxes s p h.1) p n x present h.0 s' result

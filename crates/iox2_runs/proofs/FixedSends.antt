@@ -18,6 +18,7 @@ use Rattle.iox2_runs.proofs.TableSteps.{Nobody}
 use Rattle.std.specs.Prelude.{MatchOption}
 use Rattle.iox2_machine.specs.machine.Delivery.{no_time}
 use Rattle.iox2_machine.specs.declared.errors.SendError.TheVariants.{ConnectionBrokenSinceSenderNoLongerExists}
+use Rattle.iox2_laws.specs.Sendings.{sending}
 
 -- a handler that always gives the same answer is no box
 pub fixed_unboxed : (answer : Option BackpressureAction) → option_map {U = Handler BackpressureAction} (λ action. Fixed action) answer ≡ Some Custom → ⊥
@@ -72,9 +73,11 @@ module _ {T U : Type 0} (environment : Environment) where
     where
       by : (o : Option Publisher)
           → MatchOption o ((s' ≡ with_loan s n None) × (result ≡ Send_error ConnectionBrokenSinceSenderNoLongerExists))
-          (λ x. DeliverAndConclude environment (with_loan s n None) l.publisher n channel 0 no_time place (take 1 (drop place x.ends)) 0 false s' result)
+          (λ x. DeliverAndConclude environment (with_loan s n None) l.publisher
+          (sending n channel 0 place (take 1 (drop place x.ends)) 0 false) no_time s' result)
           → MatchOption o ((s' ≡ with_loan s n None) × (result ≡ Send_error ConnectionBrokenSinceSenderNoLongerExists))
-          (λ x. DeliverAndConclude fixed_handlers (with_loan s n None) l.publisher n channel 0 no_time place (take 1 (drop place x.ends)) 0 false s' result)
+          (λ x. DeliverAndConclude fixed_handlers (with_loan s n None) l.publisher
+          (sending n channel 0 place (take 1 (drop place x.ends)) 0 false) no_time s' result)
       by None h = h
       by (Some x) h =
           concludes-alike environment fixed_handlers l.publisher n channel 0 no_time place (take 1 (drop place x.ends)) 0 false (with_loan s n None) s' result

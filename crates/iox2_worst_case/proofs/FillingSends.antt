@@ -19,6 +19,7 @@ use Rattle.iox2_machine.specs.declared.backpressure.BackpressureStrategy.TheVari
 use Rattle.iox2_commands.specs.Outcomes.{Handle, Loan_handle, Outcome}
 use Rattle.iox2_commands.specs.Step.{Step, sendable_at, after_send}
 use Rattle.iox2_machine.specs.machine.Environments.{ample_memory}
+use Rattle.iox2_laws.specs.Sendings.{sending}
 use Rattle.iox2_commands.specs.declared.command.Command.TheVariants.{Send as SendLoan}
 use Rattle.iox2_commands.specs.declared.reply.Reply.TheVariants.{Delivered}
 use Rattle.iox2_worst_case.proofs.FillingNumbers.{ports_from, recent, recent_next}
@@ -98,7 +99,8 @@ module _ {T U : Type 0} (c : ServiceConfig) (most available : ℕ) (s : State T 
   published_so : (s' : State T U) (result : SendResult) → Publish ample_memory s 1 (suc sent) s' result
       → (count : ℕ) × (boxes' : ℕ → Mailbox) × (boxes' ≡ wanted) × (s' ≡ after boxes') × (result ≡ Delivered_to count)
   published_so s' result h =
-      let there : DeliverAndConclude ample_memory now 1 (suc sent) 0 0 no_time 0 (ports_from 2 made) 0 false s' result =
+      let there : DeliverAndConclude ample_memory now 1
+      (sending (suc sent) 0 0 0 (ports_from 2 made) 0 false) no_time s' result =
       at_some (s.publishers 1) before _ _ f.publisher h in
       let x : Publisher = record before { history = last_n (s.config).history_size (before.history ++ suc sent ∷ []) } in
       let present : now.publishers 1 ≡ Some x =

@@ -24,6 +24,18 @@ pub data SendResult : Type 0 where
 abbrev pub more_retries : ℕ → ℕ
 more_retries n = if nat_lt n (2 ^ 64 - 1) then n + 1 else n
 
+-- A send of n into a channel, to these ends, which stand from that place on. No receiver was asked yet.
+abbrev pub fresh_send : (n channel place : ℕ) → List (Option ℕ) → BlockedSend
+fresh_send n channel place ends = record {
+  message = n;
+  channel = channel;
+  place = place;
+  ends = ends;
+  retries = 0;
+  count = 0;
+  has_failed = false;
+}
+
 module _ {T U : Type 0} where
   -- The message n stands last in the history of p, whose oldest message leaves if it is full.
   -- (iceoryx2: `port/publisher.rs`, `add_sample_to_history`.)
@@ -53,21 +65,22 @@ module _ {T U : Type 0} where
   with_mailboxes s p boxes = record s { mailboxes = put_at s.mailboxes p boxes }
 
 module _ {T U : Type 0} (environment : Environment) where
-  -- The message n of p is put into the channel at these ends, which stand from that place on, and the send ends or is
-  -- blocked.
-  abbrev pub DeliverAndConclude : State T U → (p n channel retries : ℕ) → Duration → (place : ℕ) → List (Option ℕ) → (count : ℕ) → (has_failed : Bool) → State T U → SendResult → Type 0
-  DeliverAndConclude s p n channel retries elapsed place ends count has_failed s' result =
+  -- A send of p goes on: its message is put into its channel at the ends that remain, and it ends or is blocked.
+  abbrev pub DeliverAndConclude : State T U → (p : ℕ) → BlockedSend → (elapsed : Duration) → State T U → SendResult
+      → Type 0
+  DeliverAndConclude s p b elapsed s' result =
       MatchOption (s.publishers p) ⊥ (λ x.
       (how : DeliveryEnd) × (boxes : ℕ → Mailbox)
-      × Deliver environment s.config p x.backpressure_strategy x.backpressure_handler (channel_buffer s p channel) n
-      channel retries elapsed place ends count has_failed (s.mailboxes p) how boxes
-      × ConcludeSend (with_mailboxes s p boxes) p n how s' result)
+      × Deliver environment s.config p x.backpressure_strategy x.backpressure_handler
+      (channel_buffer s p b.channel) b.message
+      b.channel b.retries elapsed b.place b.ends b.count b.has_failed (s.mailboxes p) how boxes
+      × ConcludeSend (with_mailboxes s p boxes) p b.message how s' result)
 
   -- The message n of p is published and delivered to all its receivers.
   abbrev pub Publish : State T U → (p n : ℕ) → State T U → SendResult → Type 0
   Publish s p n s' result =
       MatchOption (s.publishers p) ⊥ (λ x.
-      DeliverAndConclude (published s p n) p n 0 0 no_time 0 x.ends 0 false s' result)
+      DeliverAndConclude (published s p n) p (fresh_send n 0 0 x.ends) no_time s' result)
 
   -- The loan n is sent. Of a closed publisher it is lost. Else connections are updated first: if that fails the loan is
   -- given back, and no message was sent.
@@ -89,14 +102,15 @@ module _ {T U : Type 0} (environment : Environment) where
   SendToConnection s n l channel place s' result =
       MatchOption (s.publishers l.publisher)
       ((s' ≡ with_loan s n None) × (result ≡ Send_error ConnectionBrokenSinceSenderNoLongerExists))
-      (λ x. DeliverAndConclude (with_loan s n None) l.publisher n channel 0 no_time place (take 1 (drop place x.ends)) 0 false s' result)
+      (λ x. DeliverAndConclude (with_loan s n None) l.publisher
+      (fresh_send n channel place (take 1 (drop place x.ends))) no_time s' result)
 
   -- The blocked send of p is tried again from the receiver that it waits for. Connections aren't updated.
   abbrev pub Retry : State T U → (p : ℕ) → BlockedSend → (elapsed : Duration) → State T U → SendResult → Type 0
   Retry s p b elapsed s' result =
-      DeliverAndConclude s p b.message b.channel (more_retries b.retries) elapsed b.place b.ends b.count b.has_failed s' result
+      DeliverAndConclude s p (record b { retries = more_retries b.retries }) elapsed s' result
 
   -- The blocked send of p goes on behind the receiver that it waits for, which is skipped.
   abbrev pub GiveUp : State T U → (p : ℕ) → BlockedSend → State T U → SendResult → Type 0
   GiveUp s p b s' result =
-      DeliverAndConclude s p b.message b.channel 0 no_time (b.place + 1) (drop 1 b.ends) b.count b.has_failed s' result
+      DeliverAndConclude s p (record b { place = b.place + 1; ends = drop 1 b.ends; retries = 0 }) no_time s' result

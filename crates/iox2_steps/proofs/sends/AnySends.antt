@@ -15,6 +15,7 @@ use Rattle.iox2_machine.specs.machine.Sends.{SendResult, Send_error, DeliverAndC
 use Rattle.iox2_machine.specs.machine.State.{State, channel_buffer, with_loan}
 use Rattle.iox2_machine.specs.declared.errors.ConnectionFailure.{ConnectionFailure}
 use Rattle.iox2_machine.specs.declared.errors.SendError.TheVariants.{ConnectionBrokenSinceSenderNoLongerExists, ConnectionError}
+use Rattle.iox2_laws.specs.Sendings.{sending}
 use Rattle.iox2_laws.proofs.Puts.{put_at-same}
 use Rattle.iox2_connections.proofs.AnyEnvironment.{AllowsAsMuch, Deliver-any}
 use Rattle.iox2_steps.proofs.updates.AnyBoxes.{AllowsUpdates, update-alike}
@@ -32,7 +33,9 @@ module _ {T U : Type 0} (e e' : Environment) where
         channel retries elapsed place ends count has_failed (s.mailboxes p) how boxes
         × ConcludeSend (with_mailboxes s p boxes) p n how s' result
 
-    pub concludes-alike : MayAnswerAsMuch s p → DeliverAndConclude e s p n channel retries elapsed place ends count has_failed s' result → DeliverAndConclude e' s p n channel retries elapsed place ends count has_failed s' result
+    pub concludes-alike : MayAnswerAsMuch s p → DeliverAndConclude e s p
+        (sending n channel retries place ends count has_failed) elapsed s' result
+        → DeliverAndConclude e' s p (sending n channel retries place ends count has_failed) elapsed s' result
     concludes-alike allows h = by (s.publishers p) (λ x is. allows x is) h where
       by : (o : Option Publisher) → ((x : Publisher) → o ≡ Some x → AllowsAsMuch e e' p x.backpressure_handler) → MatchOption o ⊥ (Concludes e) → MatchOption o ⊥ (Concludes e')
       by None allowed h = h
@@ -58,8 +61,10 @@ module _ {T U : Type 0} (e e' : Environment) where
     pub publishes-alike : (s' : State T U) (result : SendResult) → Publish e s p n s' result → Publish e' s p n s' result
     publishes-alike s' result h = by (s.publishers p) h where
       by : (o : Option Publisher)
-          → MatchOption o ⊥ (λ x. DeliverAndConclude e (published s p n) p n 0 0 no_time 0 x.ends 0 false s' result)
-          → MatchOption o ⊥ (λ x. DeliverAndConclude e' (published s p n) p n 0 0 no_time 0 x.ends 0 false s' result)
+          → MatchOption o ⊥
+          (λ x. DeliverAndConclude e (published s p n) p (sending n 0 0 0 x.ends 0 false) no_time s' result)
+          → MatchOption o ⊥
+          (λ x. DeliverAndConclude e' (published s p n) p (sending n 0 0 0 x.ends 0 false) no_time s' result)
       by None h = h
       by (Some x) h = concludes-alike p n 0 0 no_time 0 x.ends 0 false (published s p n) s' result published-allows h
 

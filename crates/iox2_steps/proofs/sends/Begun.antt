@@ -21,6 +21,7 @@ use Rattle.iox2_machine.specs.machine.WellFormed.{IsWellFormed}
 use Rattle.iox2_machine.specs.Stored.{IsHeldMessage, In_history, In_mailbox, In_blocked_send}
 use Rattle.iox2_machine.specs.declared.errors.SendError.{SendError}
 use Rattle.iox2_machine.specs.declared.errors.SendError.TheVariants.{UnableToDeliver}
+use Rattle.iox2_laws.specs.Sendings.{sending}
 use Rattle.iox2_connections.specs.Counters.{times}
 use Rattle.iox2_connections.specs.Homes.{IsSenders}
 use Rattle.iox2_connections.specs.Mailboxes.{sender_ends, subscriber_of_key}
@@ -231,10 +232,17 @@ module _ {T U : Type 0} (f : Fields T U) (sound : IsDomain f) (i : ℕ) (x : Pub
 
     sends : SendToConnection environment (seen f) n l channel connection (state_of (kept_of f2)) (result_of_send outcome)
     sends = begun_goes_on environment (seen f) n l channel connection (seen_publisher f x) (ap (seen f).publishers its ∙ (publisher-stands f sound.parts i x here)) (state_of (kept_of f2)) (result_of_send outcome)
-        (subst (λ (p : ℕ). DeliverAndConclude environment (begun (seen f) p n waits) p n channel 0 no_time connection (take 1 (drop connection (seen_publisher f x).ends)) 0 false (state_of (kept_of f2)) (result_of_send outcome)) (sym its)
-        (subst (λ (t : State T U). DeliverAndConclude environment t x.id n channel 0 no_time connection (take 1 (drop connection (seen_publisher f x).ends)) 0 false (state_of (kept_of f2)) (result_of_send outcome)) state1
-        (subst (λ (ends : List (Option ℕ)). DeliverAndConclude environment (state_of (kept_of f1)) x.id n channel 0 no_time connection ends 0 false (state_of (kept_of f2)) (result_of_send outcome)) ends1
-        (subst (λ (m : ℕ). DeliverAndConclude environment (state_of (kept_of f1)) x.id m channel 0 no_time connection (drop connection (sender_ends f1.connections (within_reach w x.keys))) 0 false (state_of (kept_of f2)) (result_of_send outcome)) number1
+        (subst (λ (p : ℕ). DeliverAndConclude environment (begun (seen f) p n waits) p
+        (sending n channel 0 connection (take 1 (drop connection (seen_publisher f x).ends)) 0 false) no_time
+        (state_of (kept_of f2)) (result_of_send outcome)) (sym its)
+        (subst (λ (t : State T U). DeliverAndConclude environment t x.id
+        (sending n channel 0 connection (take 1 (drop connection (seen_publisher f x).ends)) 0 false) no_time
+        (state_of (kept_of f2)) (result_of_send outcome)) state1
+        (subst (λ (ends : List (Option ℕ)). DeliverAndConclude environment (state_of (kept_of f1)) x.id
+        (sending n channel 0 connection ends 0 false) no_time (state_of (kept_of f2)) (result_of_send outcome)) ends1
+        (subst (λ (m : ℕ). DeliverAndConclude environment (state_of (kept_of f1)) x.id
+        (sending m channel 0 connection (drop connection (sender_ends f1.connections (within_reach w x.keys))) 0 false)
+        no_time (state_of (kept_of f2)) (result_of_send outcome)) number1
         went.concludes))))
 
     -- no entry but that of the message is newly kept

@@ -14,6 +14,7 @@ use Rattle.iox2_machine.specs.machine.Records.{Publisher, BlockedSend, Environme
 use Rattle.iox2_machine.specs.machine.Sends.{DeliverAndConclude, Retry, GiveUp, more_retries}
 use Rattle.iox2_machine.specs.machine.State.{State}
 use Rattle.iox2_machine.specs.machine.WellFormed.{BlockedIsWellFormed}
+use Rattle.iox2_laws.specs.Sendings.{sending}
 use Rattle.iox2_connections.specs.Counters.{times, HoldsItself}
 use Rattle.iox2_connections.specs.Mailboxes.{sender_ends, subscriber_of_key}
 use Rattle.iox2_connections.specs.Receivers.{HasReclaimed}
@@ -119,7 +120,9 @@ module _ {T U : Type 0} (environment : Environment) (f0 f1 f2 : Fields T U) (sou
       agrees = went.agrees;
       retries = subst (λ (c : BlockedSend). Retry environment (state_of (kept_of f0)) x.id c elapsed (state_of (kept_of f2)) (result_of_send outcome)) waiting-same
           (subst (λ (s : State T U). Retry environment s x.id (waiting_send f1 x w) elapsed (state_of (kept_of f2)) (result_of_send outcome)) reclaimed.state
-          (subst (λ (ends : List (Option ℕ)). DeliverAndConclude environment (state_of (kept_of f1)) x.id (numbers_of f1.books x.id w.slot) w.channel (more_retries (w.progress).retries) elapsed (w.progress).place (drop (w.progress).place ends) (w.progress).count (w.progress).has_failed
+          (subst (λ (ends : List (Option ℕ)). DeliverAndConclude environment (state_of (kept_of f1)) x.id
+          (sending (numbers_of f1.books x.id w.slot) w.channel (more_retries (w.progress).retries) (w.progress).place
+          (drop (w.progress).place ends) (w.progress).count (w.progress).has_failed) elapsed
           (state_of (kept_of f2)) (result_of_send outcome)) (reach-ends f1.connections w x.keys) went.concludes));
       entries = λ m entry e. reclaimed.entries m entry (went.entries m entry e);
       places = places-then reclaimed.places went.places;
@@ -136,7 +139,9 @@ module _ {T U : Type 0} (environment : Environment) (f0 f1 f2 : Fields T U) (sou
       agrees = went.agrees;
       gives_up = subst (λ (c : BlockedSend). GiveUp environment (state_of (kept_of f0)) x.id c (state_of (kept_of f2)) (result_of_send outcome)) waiting-same
           (subst (λ (s : State T U). GiveUp environment s x.id (waiting_send f1 x w) (state_of (kept_of f2)) (result_of_send outcome)) reclaimed.state
-          (subst (λ (ends : List (Option ℕ)). DeliverAndConclude environment (state_of (kept_of f1)) x.id (numbers_of f1.books x.id w.slot) w.channel 0 no_time ((w.progress).place + 1) ends (w.progress).count (w.progress).has_failed (state_of (kept_of f2)) (result_of_send outcome))
+          (subst (λ (ends : List (Option ℕ)). DeliverAndConclude environment (state_of (kept_of f1)) x.id
+          (sending (numbers_of f1.books x.id w.slot) w.channel 0 ((w.progress).place + 1) ends (w.progress).count
+          (w.progress).has_failed) no_time (state_of (kept_of f2)) (result_of_send outcome))
           (ap (drop ((w.progress).place + 1)) (reach-ends f1.connections w x.keys) ∙ sym (drop-drop 1 (w.progress).place (within_reach w (sender_ends f1.connections x.keys)))) went.concludes));
       entries = λ m entry e. reclaimed.entries m entry (went.entries m entry e);
       places = places-then reclaimed.places went.places;

@@ -20,6 +20,7 @@ use Rattle.iox2_machine.specs.machine.Sends.{ConcludeSend, DeliverAndConclude, w
 use Rattle.iox2_machine.specs.Stored.{IsHeldMessage, In_history, In_mailbox, In_blocked_send}
 use Rattle.iox2_machine.specs.machine.State.{State, channel_buffer}
 use Rattle.iox2_machine.specs.machine.WellFormed.{IsWellFormed, IsInjective, LeadsTo}
+use Rattle.iox2_laws.specs.Sendings.{sending}
 use Rattle.iox2_connections.specs.Counters.{times, with_counters, one_holder_less}
 use Rattle.iox2_connections.specs.Deliveries.{end_of}
 use Rattle.iox2_connections.specs.declared.sender.Progress.{Progress}
@@ -68,7 +69,9 @@ use Rattle.iox2_domain.proofs.lemmas.fields.PlacesKept.{places-then}
 -- or is blocked again. No entry is newly kept.
 pub record ConcludesAs {T U : Type 0} (environment : Environment) (old new : Fields T U) (x : PublisherFields) (n channel : ℕ) (keys : List (Option ℕ)) (start : Progress) (elapsed : Duration) (result : SendResult) : Type 0 where
   pub agrees : IsDomain new
-  pub concludes : DeliverAndConclude environment (state_of (kept_of old)) x.id n channel start.retries elapsed start.place (drop start.place (sender_ends old.connections keys)) start.count start.has_failed
+  pub concludes : DeliverAndConclude environment (state_of (kept_of old)) x.id
+      (sending n channel start.retries start.place
+      (drop start.place (sender_ends old.connections keys)) start.count start.has_failed) elapsed
       (state_of (kept_of new)) result
   pub entries : (m : ℕ) (entry : Entry T U) → entries_of (kept_of new) m ≡ Some entry → entries_of (kept_of old) m ≡ Some entry
   pub places : KeepsPlaces old new
@@ -354,7 +357,9 @@ module _ {T U : Type 0} (environment : Environment) (f : Fields T U) (sound : Is
   ends-so (DeliveryOutcome.Complete count has_failed) is = (is, refl)
   ends-so (DeliveryOutcome.Suspended progress) is = (is, refl)
 
-  concludes : DeliverAndConclude environment s x.id n w.channel start.retries elapsed start.place (drop start.place reach) start.count start.has_failed (state_of (kept_of after)) (result_of_send outcome)
+  concludes : DeliverAndConclude environment s x.id
+      (sending n w.channel start.retries start.place (drop start.place reach) start.count start.has_failed) elapsed
+      (state_of (kept_of after)) (result_of_send outcome)
   concludes = match_some (s.publishers x.id) port ⊥ _ stands (how, boxes x.id, delivers, ends-so outcome after-shown)
 
   -- the ends that remain are some of its publisher's from there on
@@ -437,7 +442,9 @@ module _ {T U : Type 0} (environment : Environment) (f : Fields T U) (sound : Is
         (rebooked-kept mid parts i x changed here book book-stands own counters (can-conclude outcome) owned
         (recounted-kept f sound x.id x.book d.book d.stands own d.holders d.connections d.recounts owned))
         well entries-after;
-    concludes = subst (λ (ends : List (Option ℕ)). DeliverAndConclude environment s x.id n w.channel start.retries elapsed start.place (drop start.place ends) start.count start.has_failed (state_of (kept_of after)) (result_of_send outcome)) (sym reach-is) concludes;
+    concludes = subst (λ (ends : List (Option ℕ)). DeliverAndConclude environment s x.id
+        (sending n w.channel start.retries start.place (drop start.place ends) start.count start.has_failed) elapsed
+        (state_of (kept_of after)) (result_of_send outcome)) (sym reach-is) concludes;
     entries = λ m entry e. recounted-entries f sound x.id x.book d.book d.stands own d.holders d.connections d.recounts m entry
         (rebooked-entries mid parts i x changed here book book-stands own counters (can-conclude outcome) m entry e);
     places = places-then (recounted-places f sound x.id x.book d.book d.stands own d.holders d.connections d.recounts)
