@@ -48,13 +48,15 @@ def tokens_of(files):
 
 
 def by_line(data, rows):
-    """The tokens of a file by line, of which the kit counts bytes from the file's start."""
+    """The tokens of a file by line, of which the kit counts bytes from the file's start. Of Rattle only what is antt counts."""
     lines = data.split(b"\n")
     begins, found = [0], [[] for _ in lines]
     for line in lines:
         begins.append(begins[-1] + len(line) + 1)
     for row in rows:
-        number, start, end, _, text = row.split(" ", 4)
+        number, start, end, kind, text = row.split(" ", 4)
+        if kind in ("Code", "Literal"):
+            continue
         at = int(number) - 1
         before = lines[at][: int(start) - begins[at]].decode()
         shown = lines[at][int(start) - begins[at] : int(end) - begins[at]].decode()
